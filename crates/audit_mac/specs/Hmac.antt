@@ -1,0 +1,23 @@
+-- HMAC (RFC 2104, section 2) with SHA-256 (FIPS 180-4), over whole lists of bytes.
+use Rattle.std.specs.Prelude.{ℕ, ◌-◌, List, ◌++◌, length, map, replicate, bit_xor, nat_lt, if◌then◌else◌}
+use Rattle.sha2.specs.Sha256.{sha256}
+
+-- the length of a block of SHA-256, B in the RFC
+abbrev pub block_len : ℕ
+block_len = 64
+
+-- a key longer than a block is replaced by its digest
+abbrev pub short_key : List ℕ → List ℕ
+short_key key = if nat_lt block_len (length key) then sha256 key else key
+
+-- the key, padded with zeros to a block
+abbrev pub key_block : List ℕ → List ℕ
+key_block key = short_key key ++ replicate (block_len - length (short_key key)) 0
+
+-- each byte of the key's block with a byte of padding, by exclusive or
+abbrev pub masked_key : List ℕ → ℕ → List ℕ
+masked_key key pad = map (λ byte. bit_xor byte pad) (key_block key)
+
+-- H(K xor opad, H(K xor ipad, text))
+unfoldable pub hmac : List ℕ → List ℕ → List ℕ
+hmac key text = sha256 (masked_key key 0x5c ++ sha256 (masked_key key 0x36 ++ text))
