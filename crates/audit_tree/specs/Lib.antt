@@ -1,0 +1,4 @@
+pub mod History
+pub mod Layers
+pub mod Paths
+pub mod Subtree
