@@ -1,0 +1,25 @@
+use Rattle.std.proofs.Common.{◌≡◌, ◌++◌, ◌*◌, ◌<◌, [], ℕ, length, get_or, drop, sym, ap, ◌∙◌, arith}
+use Rattle.std.specs.List.{concat}
+use Rattle.std.proofs.lemmas.List.{drop_all, take_rest}
+use Rattle.audit_proof.specs.declared.bytes.TheConstants.{HEAD_LEN, HASH_LEN, INCREMENT_MARK}
+use Rattle.audit_proof.specs.ProofBytes.{first_hashes}
+use Rattle.audit_proof.proofs.WrittenBytes.{length-first_hashes, concat-first_hashes}
+use Rattle.audit_proof.proofs.ReadBytes.{bytes_from_head}
+use Rattle.audit_proof.proofs.codec.read_increment.Goals as goal
+
+pub returns-clause-written : goal.returns-clause-written
+returns-clause-written c =
+    let head = c.in-Some.head in
+    let body = drop HEAD_LEN c.args.bytes.now in
+    let rest = take_rest c.args.bytes.now HEAD_LEN in
+    let small : (i : ℕ) → get_or c.args.bytes.now i 0 < 256 = λ i. omega (arith, c.type_inv.bytes i) in
+    let hashes : c.in_ok-hashes.hashes.items ≡ first_hashes head.number body =
+    c.in_ok-hashes.ensures ∙ ap (first_hashes head.number) rest in
+    let none : drop (HASH_LEN * head.number) body ≡ [] =
+    drop_all (HASH_LEN * head.number) body (omega (arith, c.if-body-head.false, ap length rest)) in
+    bytes_from_head INCREMENT_MARK c.args.bytes.now head c.in_ok-hashes.hashes.items []
+    (sym c.in-Some.ensures.head) small
+    (ap length hashes ∙ length-first_hashes head.number body)
+    (ap (λ hs. concat hs ++ []) hashes
+    ∙ ap (λ bs. concat (first_hashes head.number body) ++ bs) (sym none)
+    ∙ concat-first_hashes head.number body)

@@ -1,0 +1,71 @@
+-- The way up from a node of a history tree with the hashes of a proof, from the root down: at each
+-- node into the half that holds the leaf, then the sibling's hash is taken from the list.
+use Rattle.std.specs.Prelude.{ℕ, zero, suc, ◌+◌, ◌-◌, ◌^◌, nat_le, nat_lt, List, [], ◌∷◌, Option, None, Some, if◌then◌else◌}
+use Rattle.audit_tree.specs.Subtree.{parent_of}
+use Rattle.audit_proof.specs.declared.steps.Versions.{Versions}
+
+-- a value and the hashes that are left over, or nothing where a hash was missing
+abbrev pub Climbed : Type 0 → Type 0
+Climbed V = Option (V × List (List ℕ))
+
+-- how a value goes up from a layer: alone, with the hash on its right, with the hash on its left
+pub record Steps (V : Type 0) : Type 0 where
+  pub alone : ℕ → V → V
+  pub with_right : ℕ → V → List ℕ → V
+  pub with_left : ℕ → V → List ℕ → V
+
+module _ {V : Type 0} where
+  -- one layer up with no hash, and with the next one
+  abbrev pub up_alone : (V → V) → Climbed V → Climbed V
+  up_alone f None = None
+  up_alone f (Some (value, rest)) = Some (f value, rest)
+
+  abbrev pub up_with : (V → List ℕ → V) → Climbed V → Climbed V
+  up_with f None = None
+  up_with f (Some (value, [])) = None
+  up_with f (Some (value, hash ∷ rest)) = Some (f value hash, rest)
+
+  -- From a node of layer `from` to the one that stands `height` layers higher. The upper node has
+  -- `count` leaves from its start on, and the lower one holds the leaf at this place among them.
+  unfoldable pub climb : Steps V → ℕ → ℕ → ℕ → ℕ → V → List (List ℕ) → Climbed V
+  climb steps from zero place count value hashes = Some (value, hashes)
+  climb steps from (suc height) place count value hashes =
+      let layer = from + height in
+      let half = 2 ^ layer in
+      if nat_lt place half
+      then (if nat_le count half
+      then up_alone (steps.alone layer) (climb steps from height place count value hashes)
+      else up_with (steps.with_right layer) (climb steps from height place count value hashes))
+      else up_with (steps.with_left layer) (climb steps from height (place - half) (count - half) value hashes)
+
+-- the value, where all hashes are used
+abbrev pub whole : {V : Type 0} → Climbed V → Option V
+whole None = None
+whole (Some (value, [])) = Some value
+whole (Some (value, hash ∷ rest)) = None
+
+-- how one value goes up
+abbrev pub one_value : (List ℕ → List ℕ) → Steps (List ℕ)
+one_value H = record {
+  alone = λ layer value. parent_of H value [];
+  with_right = λ layer value hash. parent_of H value hash;
+  with_left = λ layer value hash. parent_of H hash value;
+}
+
+-- How the value in an older tree and the one in a newer tree go up together. A hash on the left is
+-- in both trees, and one on the right in the newer alone. The older value stops at its root's layer.
+abbrev pub two_values : (List ℕ → List ℕ) → ℕ → Steps Versions
+two_values H top = record {
+  alone = λ layer value. record {
+    older = if nat_lt layer top then parent_of H value.older [] else value.older;
+    newer = parent_of H value.newer [];
+  };
+  with_right = λ layer value hash. record {
+    older = if nat_lt layer top then parent_of H value.older [] else value.older;
+    newer = parent_of H value.newer hash;
+  };
+  with_left = λ layer value hash. record {
+    older = parent_of H hash value.older;
+    newer = parent_of H hash value.newer;
+  };
+}

@@ -1,0 +1,6 @@
+pub mod Acceptance
+pub mod Climb
+pub mod Collision
+pub mod Meeting
+pub mod ProofBytes
+pub mod Reached

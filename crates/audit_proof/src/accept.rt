@@ -1,0 +1,126 @@
+ghost use Rattle.std.specs.Prelude.{◌≡◌, ◌↔◌, ℕ, List, IsTrue};
+ghost use Rattle.sha2.specs.Sha256.{sha256};
+ghost use Rattle.audit_tree.specs.Subtree.{depth};
+ghost use Rattle.audit_proof.specs.Acceptance.{AcceptsLeaf, AcceptsMembership, AcceptsIncrement, IsMadeMembership, IsMadeIncrement};
+
+use crate::climb::climb_from;
+use crate::commitment::Commitment;
+use crate::laws::{Sha256Texts, TextHash};
+use crate::node_text::Hash;
+use crate::steps::{OneValue, TwoValues, Versions};
+use audit_tree::{MAX_COUNT, leaf_hash};
+
+// The least depth of a tree with room for so many leaves.
+pub fn depth_of(count: u64) -> u32
+    ensures { result ≡ depth count }
+{
+    if count <= 1 {
+        return 0;
+    }
+    (count - 1).ilog2() + 1
+}
+
+// Whether two values are the same.
+pub fn is_same(left: &Hash, right: &Hash) -> bool
+    ensures { IsTrue result ↔ (left.now ≡ right.now) }
+{
+    left.as_slice() == right.as_slice()
+}
+
+// Whether a membership proof is accepted for a leaf hash.
+pub fn accepts_leaf<T: TextHash>(
+    hash: &T,
+    commitment: &Commitment,
+    index: u64,
+    leaf: Hash,
+    hashes: &[Hash],
+) -> bool
+    ensures { IsTrue result ↔ AcceptsLeaf T.value_of commitment.now index leaf hashes.now }
+{
+    if commitment.count <= index || MAX_COUNT < commitment.count {
+        return false;
+    }
+    let depth = depth_of(commitment.count);
+    match climb_from(
+        &OneValue { hash },
+        0,
+        depth,
+        index,
+        commitment.count,
+        leaf,
+        hashes,
+    ) {
+        Some(top) => top.used == hashes.len() && is_same(&top.value, &commitment.root),
+        None => false,
+    }
+}
+
+/// Whether a membership proof shows that the entry at an index is this one, under a commitment:
+/// false where the index isn't below the count or the count is over `MAX_COUNT`, and where a hash
+/// is missing or left over. It takes no memory.
+pub fn accepts_member(commitment: &Commitment, index: u64, entry: &[u8], hashes: &[Hash]) -> bool
+    ensures exact { IsTrue result ↔ AcceptsMembership sha256 commitment.now index entry.now hashes.now }
+
+    // What a tree makes is accepted under its root.
+    ensures made { (leaves : List (List ℕ)) → IsMadeMembership leaves commitment.now index entry.now hashes.now → IsTrue result }
+{
+    accepts_leaf(&Sha256Texts, commitment, index, leaf_hash(entry), hashes)
+}
+
+// Whether these are the roots of two commitments.
+fn are_roots(versions: &Versions, older: &Commitment, newer: &Commitment) -> bool
+    ensures { IsTrue result ↔ (versions.now ≡ record { older = older.now.root; newer = newer.now.root }) }
+{
+    is_same(&versions.older, &older.root) && is_same(&versions.newer, &newer.root)
+}
+
+// Whether an incremental proof is accepted.
+fn accepts_versions<T: TextHash>(
+    hash: &T,
+    older: &Commitment,
+    newer: &Commitment,
+    hashes: &[Hash],
+) -> bool
+    ensures { IsTrue result ↔ AcceptsIncrement T.value_of older.now newer.now hashes.now }
+{
+    if older.count == 0 || newer.count < older.count || MAX_COUNT < newer.count {
+        return false;
+    }
+    let Some((first, rest)) = hashes.split_first() else {
+        return false;
+    };
+    let layer = older.count.trailing_zeros();
+    let height = depth_of(newer.count) - layer;
+    let climber = TwoValues {
+        hash,
+        older_depth: depth_of(older.count),
+    };
+    let both = Versions {
+        older: *first,
+        newer: *first,
+    };
+    match climb_from(
+        &climber,
+        layer,
+        height,
+        older.count - 1,
+        newer.count,
+        both,
+        rest,
+    ) {
+        Some(top) => top.used == rest.len() && are_roots(&top.value, older, newer),
+        None => false,
+    }
+}
+
+/// Whether an incremental proof shows that the newer tree goes on from the older one: false where
+/// not `1 <= older.count <= newer.count <= MAX_COUNT`, and where a hash is missing or left over. It
+/// takes no memory.
+pub fn accepts_increment(older: &Commitment, newer: &Commitment, hashes: &[Hash]) -> bool
+    ensures exact { IsTrue result ↔ AcceptsIncrement sha256 older.now newer.now hashes.now }
+
+    // What a tree makes is accepted under its roots.
+    ensures made { (leaves : List (List ℕ)) → IsMadeIncrement leaves older.now newer.now hashes.now → IsTrue result }
+{
+    accepts_versions(&Sha256Texts, older, newer, hashes)
+}

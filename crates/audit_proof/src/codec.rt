@@ -1,0 +1,126 @@
+ghost use Rattle.std.specs.Prelude.{◌≡◌, ◌≤◌, ◌↔◌, Some, None, vec_len, IfOk};
+ghost use Rattle.audit_proof.specs.ProofBytes.{member_in, member_bytes, member_of, increment_in, increment_bytes, increment_of};
+ghost use Rattle.audit_proof.specs.declared.bytes.TheConstants.{MAX_MEMBER_HASHES, MAX_INCREMENT_HASHES, MAX_ENTRY};
+
+use crate::bytes::{
+    HASH_LEN, HEAD_LEN, INCREMENT_MARK, MAX_ENTRY, MAX_INCREMENT_HASHES, MAX_MEMBER_HASHES,
+    MEMBER_MARK, read_hashes, read_head, write_proof,
+};
+use crate::increment_proof::IncrementProof;
+use crate::member_proof::MemberProof;
+use std::alloc::{AllocError, Global};
+use thiserror::Error;
+
+/// Why bytes were not read as a proof.
+#[derive(Clone, Copy, Debug, PartialEq, Eq, Error)]
+pub enum ReadFault {
+    /// The bytes are no proof's.
+    #[error("the bytes are not a proof")]
+    BadProof,
+    /// Memory was refused.
+    #[error("out of memory")]
+    Memory,
+}
+
+impl From<AllocError> for ReadFault {
+    ghost use Rattle.std.specs.Prelude.{◌≡◌};
+    ghost use Rattle.audit_proof.specs.declared.codec.ReadFault.TheVariants.{Memory};
+
+    ghost from_gives = { λ _ fault. fault ≡ Memory };
+
+    fn from(_: AllocError) -> Self {
+        ReadFault::Memory
+    }
+}
+
+/// The bytes of a membership proof.
+pub fn write_member(alloc: Global, proof: &MemberProof) -> Result<Vec<u8>, AllocError>
+    requires few { vec_len proof.now.hashes ≤ MAX_MEMBER_HASHES }
+    requires short { vec_len proof.now.entry ≤ MAX_ENTRY }
+    ensures ok { IfOk result (λ bytes. bytes.items ≡ member_bytes (member_in proof.now)) }
+
+    // They are read as this proof.
+    ensures read { member_of (member_bytes (member_in proof.now)) ≡ Some (member_in proof.now) }
+{
+    write_proof(
+        alloc,
+        MEMBER_MARK,
+        proof.index,
+        proof.count,
+        &proof.hashes,
+        &proof.entry,
+    )
+}
+
+/// A membership proof read from its bytes. The index and the count aren't judged.
+pub fn read_member(alloc: Global, bytes: &[u8]) -> Result<MemberProof, ReadFault>
+    ensures bad { (result ≡ Err ReadFault.BadProof) ↔ (member_of bytes.now ≡ None) }
+    ensures ok { IfOk result (λ proof. member_of bytes.now ≡ Some (member_in proof)) }
+
+    // They are the bytes that are written for it.
+    ensures written { IfOk result (λ proof. bytes.now ≡ member_bytes (member_in proof)) }
+{
+    let Some(head) = read_head(MEMBER_MARK, bytes) else {
+        return Err(ReadFault::BadProof);
+    };
+    if MAX_MEMBER_HASHES < head.number {
+        return Err(ReadFault::BadProof);
+    }
+    let body = &bytes[HEAD_LEN..];
+    let length = HASH_LEN * head.number;
+    if body.len() < length || length + MAX_ENTRY < body.len() {
+        return Err(ReadFault::BadProof);
+    }
+    let hashes = read_hashes(alloc, body, head.number)?;
+    let entry = Vec::from_slice(alloc, &body[length..])?;
+    Ok(MemberProof {
+        index: head.first,
+        count: head.second,
+        hashes,
+        entry,
+    })
+}
+
+/// The bytes of an incremental proof.
+pub fn write_increment(alloc: Global, proof: &IncrementProof) -> Result<Vec<u8>, AllocError>
+    requires { vec_len proof.now.hashes ≤ MAX_INCREMENT_HASHES }
+    ensures ok { IfOk result (λ bytes. bytes.items ≡ increment_bytes (increment_in proof.now)) }
+
+    // They are read as this proof.
+    ensures read { increment_of (increment_bytes (increment_in proof.now)) ≡ Some (increment_in proof.now) }
+{
+    write_proof(
+        alloc,
+        INCREMENT_MARK,
+        proof.older,
+        proof.newer,
+        &proof.hashes,
+        &[],
+    )
+}
+
+/// An incremental proof read from its bytes. The counts aren't judged.
+pub fn read_increment(alloc: Global, bytes: &[u8]) -> Result<IncrementProof, ReadFault>
+    ensures bad { (result ≡ Err ReadFault.BadProof) ↔ (increment_of bytes.now ≡ None) }
+    ensures ok { IfOk result (λ proof. increment_of bytes.now ≡ Some (increment_in proof)) }
+
+    // They are the bytes that are written for it.
+    ensures written { IfOk result (λ proof. bytes.now ≡ increment_bytes (increment_in proof)) }
+{
+    let Some(head) = read_head(INCREMENT_MARK, bytes) else {
+        return Err(ReadFault::BadProof);
+    };
+    if MAX_INCREMENT_HASHES < head.number {
+        return Err(ReadFault::BadProof);
+    }
+    let body = &bytes[HEAD_LEN..];
+    if body.len() != HASH_LEN * head.number {
+        return Err(ReadFault::BadProof);
+    }
+    let hashes = read_hashes(alloc, body, head.number)?;
+    Ok(IncrementProof {
+        older: head.first,
+        newer: head.second,
+        hashes,
+    })
+}

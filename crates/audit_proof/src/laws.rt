@@ -1,0 +1,77 @@
+//! The laws of proofs over any hash function of texts.
+
+ghost use Rattle.std.specs.Prelude.{◌≡◌, ◌≢◌, ◌↔◌, ℕ, List, IfOk};
+ghost use Rattle.sha2.specs.Sha256.{sha256};
+ghost use Rattle.audit_proof.specs.Acceptance.{AcceptsBoth};
+ghost use Rattle.audit_proof.specs.Collision.{IsCollision};
+
+use crate::accept::accepts_leaf;
+use crate::collision::{CollideFault, Collision, disagreement, is_same_text, leaf_text};
+use crate::commitment::Commitment;
+use crate::node_text::Hash;
+use sha2::{Digest, Sha256};
+use std::alloc::Global;
+
+/// A hash function of texts.
+pub trait TextHash: Drop {
+    // The value of a text.
+    ghost value_of: { List ℕ → List ℕ };
+
+    /// The value of a text.
+    fn hash(&self, text: &[u8]) -> Hash
+        ensures { result ≡ value_of text.now };
+}
+
+/// SHA-256 of texts.
+#[derive(Drop)]
+pub struct Sha256Texts;
+
+impl TextHash for Sha256Texts {
+    ghost value_of = { sha256 };
+
+    fn hash(&self, text: &[u8]) -> Hash {
+        Sha256::digest(text)
+    }
+}
+
+/// Two different texts with one value of a hash function, from two membership proofs of one index
+/// under one commitment that are accepted over it, with different entries.
+///
+/// The leaf texts are made before the proofs are judged, so memory may be refused where
+/// `collide_two` would refuse a proof or equal entries.
+pub fn collide_two_with<T: TextHash>(
+    alloc: Global,
+    hash: &T,
+    commitment: &Commitment,
+    index: u64,
+    entry1: &[u8],
+    hashes1: &[Hash],
+    entry2: &[u8],
+    hashes2: &[Hash],
+) -> Result<Collision, CollideFault>
+    ensures not_accepted { result ≢ Err CollideFault.Memory
+        → ((result ≡ Err CollideFault.NotAccepted)
+        ↔ ¬ (AcceptsBoth T.value_of commitment.now index entry1.now hashes1.now entry2.now hashes2.now)) }
+    ensures no_disagreement { result ≢ Err CollideFault.Memory
+        → ((result ≡ Err CollideFault.NoDisagreement)
+        ↔ (AcceptsBoth T.value_of commitment.now index entry1.now hashes1.now entry2.now hashes2.now
+        × (entry1.now ≡ entry2.now))) }
+    ensures ok { IfOk result (λ c. AcceptsBoth T.value_of commitment.now index entry1.now hashes1.now entry2.now hashes2.now
+        × (entry1.now ≢ entry2.now) × IsCollision T.value_of c.left.items c.right.items) }
+{
+    let left = leaf_text(alloc, entry1)?;
+    let right = leaf_text(alloc, entry2)?;
+    if !accepts_leaf(hash, commitment, index, hash.hash(&left), hashes1) {
+        return Err(CollideFault::NotAccepted);
+    }
+    if !accepts_leaf(hash, commitment, index, hash.hash(&right), hashes2) {
+        return Err(CollideFault::NotAccepted);
+    }
+    if is_same_text(entry1, entry2) {
+        return Err(CollideFault::NoDisagreement);
+    }
+    let collision = disagreement(
+        alloc, hash, commitment, index, &left, hashes1, &right, hashes2,
+    )?;
+    Ok(collision)
+}

@@ -1,0 +1,27 @@
+//! Proofs of a history tree, as an auditor uses them: whether a membership or an incremental proof
+//! is accepted under a commitment, two different texts of one digest where two accepted proofs
+//! disagree, and the bytes of both proofs.
+#![tactic(auto)]
+
+mod accept;
+mod bytes;
+mod climb;
+mod codec;
+mod collision;
+mod commitment;
+mod increment_proof;
+pub mod laws;
+mod meeting;
+mod member_proof;
+mod node_text;
+mod steps;
+#[cfg(test)]
+mod tests;
+
+pub use accept::{accepts_increment, accepts_member};
+pub use bytes::{MAX_ENTRY, MAX_INCREMENT_HASHES, MAX_MEMBER_HASHES};
+pub use codec::{ReadFault, read_increment, read_member, write_increment, write_member};
+pub use collision::{CollideFault, Collision, collide_two};
+pub use commitment::Commitment;
+pub use increment_proof::IncrementProof;
+pub use member_proof::MemberProof;
