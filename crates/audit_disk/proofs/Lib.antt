@@ -1,0 +1,14 @@
+pub mod HeldLemmas
+pub mod MemDiskCalls
+pub mod MemoryCalls
+pub mod MemoryLemmas
+pub mod Moments
+pub mod ShiftedCalls
+pub mod GateCalls
+pub mod Replays
+pub mod FreshDisks
+pub mod Images
+pub mod Windows
+pub mod FileSectors
+pub mod FileCalls
+pub mod MemFileCalls

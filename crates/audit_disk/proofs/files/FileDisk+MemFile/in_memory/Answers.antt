@@ -1,0 +1,10 @@
+use Rattle.std.proofs.Common.{replicate}
+use Rattle.std.proofs.lemmas.List.{length-replicate}
+use Rattle.audit_disk.specs.MemDisk.{disk_view}
+use Rattle.audit_disk.specs.declared.sectors.TheConstants.{SECTOR_SIZE}
+use Rattle.audit_disk.proofs.MemFileCalls.{unused_file}
+use Rattle.audit_disk.proofs.files.FileDisk+MemFile.in_memory.Goals as goal
+
+pub over-requires-clause-unused : goal.over-requires-clause-unused
+over-requires-clause-unused c =
+    unused_file (disk_view c.in_ok-disk.disk) (replicate c.args.sectors (replicate SECTOR_SIZE 0)) c.args.sectors c.in_ok-disk.ensures (length-replicate c.args.sectors (replicate SECTOR_SIZE 0))

@@ -1,0 +1,7 @@
+use Rattle.std.proofs.Common.{◌≡◌, replicate}
+use Rattle.audit_disk.specs.Held.{bytes_of}
+use Rattle.audit_disk.specs.declared.sectors.TheConstants.{SECTOR_SIZE}
+use Rattle.audit_disk.proofs.replay.zero_blocks.Given as goal
+
+abbrev pub invariant-loop : goal.invariant-loop
+invariant-loop l = bytes_of l.blocks.items ≡ replicate l.counter (replicate SECTOR_SIZE 0)

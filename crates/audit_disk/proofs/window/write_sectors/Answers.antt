@@ -1,0 +1,21 @@
+use Rattle.std.proofs.Common.{◌≡◌, [], take, length, sym, ◌∙◌, subst, arith}
+use Rattle.std.proofs.lemmas.List.{take_more, length-take-le}
+use Rattle.audit_disk.specs.Window.{WritesSectors}
+use Rattle.audit_disk.proofs.Windows.{window_write, writes_push}
+use Rattle.audit_disk.proofs.window.write_sectors.Goals as goal
+
+pub returns-in_err-write-clause-any_moment : goal.returns-in_err-write-clause-any_moment
+returns-in_err-write-clause-any_moment g c =
+    window_write c.loop-k.invariant.moments c.in_err-write.ensures (omega arith) (omega arith)
+
+pub loop-k-preserved : goal.loop-k-preserved
+loop-k-preserved g c =
+    let before = take c.loop-k.k c.args.sectors.now in
+    let moments = c.loop-k.invariant.moments in
+    let long : length before ≡ c.loop-k.k = length-take-le c.loop-k.k c.args.sectors.now (omega arith) in
+    let more = writes_push moments.continues c.loop-k.invariant.written c.in_ok-write.ensures (omega arith) (omega arith) in
+    record {
+      moments = window_write moments c.in_ok-write.ensures (omega arith) (omega arith);
+      written = subst (WritesSectors (g.D.Sectors.view c.args.disk.now) (g.D.Sectors.view c.write.new.self) c.args.at) (sym (take_more c.args.sectors.now c.loop-k.k [] (omega arith))) more;
+      failures = c.in_ok-write.ensures.failures ∙ c.loop-k.invariant.failures;
+    }

@@ -1,0 +1,20 @@
+-- A record of calls that grows.
+use Rattle.std.specs.Prelude.{◌≡◌, ◌+◌, ◌<◌, ◌≤◌, [], ◌∷◌, ◌++◌}
+use Rattle.audit_disk.specs.View.{last_count}
+use Rattle.audit_disk.specs.Calls.{Ticks, HasRisen}
+use Rattle.audit_disk.specs.declared.call.Effect.{Effect}
+use Rattle.audit_disk.specs.declared.call_log.CallLog.{CallLog}
+
+-- one call more, at the next moment
+pub record Notes (old new : CallLog) (effect : Effect) : Type 0 where
+  pub calls : new.calls.items ≡ old.calls.items ++ record { moment = new.clock; effect = effect } ∷ []
+  pub free : old.clock < last_count
+  pub clock : new.clock ≡ old.clock + 1
+  pub failures : new.failures ≡ old.failures
+
+-- a failed call, which reached nothing
+pub record Refuses (old new : CallLog) : Type 0 where
+  pub calls : new.calls.items ≡ old.calls.items
+  pub clock : Ticks old.clock new.clock
+  pub failures : HasRisen old.failures new.failures
+  pub more : old.failures ≤ new.failures

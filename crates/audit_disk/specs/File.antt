@@ -1,0 +1,68 @@
+-- A file of bytes that is written in whole sectors.
+use Rattle.std.specs.Prelude.{◌≡◌, ◌⊎◌, ℕ, zero, suc, ◌+◌, ◌*◌, ◌%◌, ◌<◌, ◌≤◌, List, [], ◌∷◌, ◌++◌, length, take, drop, Result, OnOk, OnErr}
+use Rattle.audit_disk.specs.Image.{Sector, Image}
+use Rattle.audit_disk.specs.View.{last_count}
+use Rattle.audit_disk.specs.declared.sectors.TheConstants.{SECTOR_SIZE}
+
+-- the file with other bytes from that offset on
+abbrev pub overlaid : List ℕ → ℕ → List ℕ → List ℕ
+overlaid file offset bytes = take offset file ++ bytes ++ drop (offset + length bytes) file
+
+-- the sectors that stand in a file, one after the other
+abbrev pub sectors_of : ℕ → List ℕ → Image
+sectors_of zero file = []
+sectors_of (suc count) file = take SECTOR_SIZE file ∷ sectors_of count (drop SECTOR_SIZE file)
+
+-- What is known of a file: the crash model, where a write at a multiple of the sector's size is whole or not there.
+pub record FileView : Type 1 where
+  -- what reads give
+  pub bytes : List ℕ
+  -- how many writes and syncs were asked of it
+  pub moment : ℕ
+  -- what a crash at that moment could have left
+  pub left_at : ℕ → List ℕ → Type 0
+  -- it is a file as described here
+  pub honest : Type 0
+  pub bytes_left : honest → left_at moment bytes
+  pub same_length : honest → (at : ℕ) (file : List ℕ) → left_at at file → length file ≡ length bytes
+
+-- some calls were made
+pub record GoesOn (old new : FileView) : Type 0 where
+  pub honest : old.honest → new.honest
+  pub was_honest : new.honest → old.honest
+  pub kept : old.honest → (at : ℕ) (file : List ℕ) → at ≤ old.moment → old.left_at at file → new.left_at at file
+  pub no_other : old.honest → (at : ℕ) (file : List ℕ) → at ≤ old.moment → new.left_at at file → old.left_at at file
+
+pub record IsFileRead {E : Type 0} (old new : FileView) (offset : ℕ) (into : Sector) (result : Result (Unit {0}) E) : Type 0 where
+  pub goes_on : GoesOn old new
+  pub moment : old.honest → new.moment ≡ old.moment
+  pub same : old.honest → new.bytes ≡ old.bytes
+  pub found : old.honest → OnOk result (into ≡ take SECTOR_SIZE (drop offset old.bytes))
+
+pub record IsFileWrite {E : Type 0} (old new : FileView) (offset : ℕ) (bytes : Sector) (result : Result (Unit {0}) E) : Type 0 where
+  pub goes_on : GoesOn old new
+  pub moment : old.honest → old.moment < last_count → new.moment ≡ old.moment + 1
+  pub stands : old.honest → OnOk result (new.bytes ≡ overlaid old.bytes offset bytes)
+  pub stands_err : old.honest → OnErr result ((new.bytes ≡ old.bytes) ⊎ (new.bytes ≡ overlaid old.bytes offset bytes))
+  pub images : old.honest → (file : List ℕ) → new.left_at new.moment file
+      → old.left_at old.moment file ⊎ ((before : List ℕ) × old.left_at old.moment before × (file ≡ overlaid before offset bytes))
+  pub unwritten : old.honest → (file : List ℕ) → old.left_at old.moment file → new.left_at new.moment file
+  pub written : old.honest → OnOk result ((file : List ℕ) → old.left_at old.moment file → new.left_at new.moment (overlaid file offset bytes))
+
+pub record IsFileSync {E : Type 0} (old new : FileView) (result : Result (Unit {0}) E) : Type 0 where
+  pub goes_on : GoesOn old new
+  pub moment : old.honest → old.moment < last_count → new.moment ≡ old.moment + 1
+  pub same : old.honest → new.bytes ≡ old.bytes
+  pub only : old.honest → OnOk result ((file : List ℕ) → new.left_at new.moment file → file ≡ old.bytes)
+  pub no_other : old.honest → OnErr result ((file : List ℕ) → new.left_at new.moment file → old.left_at old.moment file)
+  pub kept : old.honest → OnErr result ((file : List ℕ) → old.left_at old.moment file → new.left_at new.moment file)
+
+-- a whole sector stands at that offset
+pub record IsSectorOffset (file : FileView) (offset : ℕ) : Type 0 where
+  pub multiple : offset % SECTOR_SIZE ≡ 0
+  pub within : file.honest → offset + SECTOR_SIZE ≤ length file.bytes
+
+-- as many bytes as so many sectors have, and no call was made
+pub record IsUnusedFile (file : FileView) (sectors : ℕ) : Type 0 where
+  pub sized : file.honest → length file.bytes ≡ SECTOR_SIZE * sectors
+  pub moment : file.honest → file.moment ≡ 0

@@ -1,0 +1,26 @@
+-- A device in a file.
+use Rattle.std.specs.Prelude.{◌≡◌, ℕ}
+use Rattle.audit_disk.specs.View.{View}
+use Rattle.audit_disk.specs.File.{sectors_of}
+use Rattle.audit_disk.specs.FileView.{file_view, sectors_fit}
+use Rattle.audit_disk.specs.declared.file_disk.FileDisk.{FileDisk}
+use Rattle.audit_disk.specs.declared.sector_file.SectorFile as files
+
+module _ {F : Type 0} {g : files.Ghosts F} where
+  -- everything that is known of it as a device
+  abbrev pub file_disk_view : FileDisk F g → View
+  file_disk_view disk = file_view (g.file disk.file) disk.sectors disk.clock disk.failures (sectors_fit disk.sectors disk.fits) disk.sized
+
+  -- the sectors of this file, of which no call was made
+  pub record IsOverFile (disk : FileDisk F g) (file : F) (count : ℕ) : Type 0 where
+    pub size : (file_disk_view disk).size ≡ count
+    pub content : (file_disk_view disk).content ≡ sectors_of count (g.file file).bytes
+    pub clock : (file_disk_view disk).clock ≡ 0
+    pub failures : (file_disk_view disk).failures ≡ 0
+    pub honest : (g.file file).honest → (file_disk_view disk).honest
+    pub was_honest : (file_disk_view disk).honest → (g.file file).honest
+
+  -- no call was made of it
+  pub record IsFreshFile (disk : FileDisk F g) : Type 0 where
+    pub clock : (file_disk_view disk).clock ≡ 0
+    pub failures : (file_disk_view disk).failures ≡ 0

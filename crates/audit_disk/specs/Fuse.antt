@@ -1,0 +1,19 @@
+-- What a fuse shows.
+use Rattle.std.specs.Prelude.{ℕ}
+use Rattle.audit_disk.specs.View.{View}
+use Rattle.audit_disk.specs.Gate.{gate_view}
+use Rattle.audit_disk.specs.declared.fuse.Fuse.{Fuse}
+use Rattle.audit_disk.specs.declared.sectors.Sectors as sectors
+
+module _ {D : Type 0} {g : sectors.Ghosts D} where
+  -- the device behind it
+  abbrev pub fuse_inner : Fuse D g → D
+  fuse_inner fuse = fuse.gate.inner
+
+  -- everything that is known of it as a device
+  abbrev pub fuse_view : Fuse D g → View
+  fuse_view fuse = gate_view fuse.gate
+
+  -- how many writes and syncs it still lets pass
+  abbrev pub calls_left : Fuse D g → ℕ
+  calls_left fuse = fuse.left

@@ -1,0 +1,60 @@
+-- What the sectors of a device hold: its last synced content, and what was written to it since.
+use Rattle.std.specs.Prelude.{◌≡◌, ℕ, zero, suc, List, [], ◌∷◌, ◌++◌, map}
+use Rattle.audit_disk.specs.Image.{Sector, Image}
+use Rattle.audit_disk.specs.declared.block.Block.{Block}
+
+-- one sector: its last synced content, and each content that was written to it since, the oldest first
+pub record Held : Type 0 where
+  pub synced : Block
+  pub since : List Block
+
+-- the p-th content that was written since, the synced one where p is 0, the last one where p is too large
+abbrev pub chosen : Block → List Block → ℕ → Block
+chosen synced [] p = synced
+chosen synced (block ∷ since) zero = synced
+chosen synced (block ∷ since) (suc p) = chosen block since p
+
+-- the content that was written last
+abbrev pub newest : Block → List Block → Block
+newest synced [] = synced
+newest synced (block ∷ since) = newest block since
+
+-- the bytes of these blocks
+abbrev pub bytes_of : List Block → Image
+bytes_of blocks = map (λ (block : Block). block.bytes) blocks
+
+-- what reads give
+abbrev pub content_of : List Held → Image
+content_of [] = []
+content_of (held ∷ rest) = (newest held.synced held.since).bytes ∷ content_of rest
+
+-- a crash leaves in the sector its synced content or any that was written since
+abbrev pub MayHold : Held → Sector → Type 0
+MayHold held bytes = (p : ℕ) × (bytes ≡ (chosen held.synced held.since p).bytes)
+
+-- a crash may leave this image: each sector for itself
+abbrev pub IsImageOf : List Held → Image → Type 0
+IsImageOf [] [] = Unit {0}
+IsImageOf [] (bytes ∷ image) = ⊥
+IsImageOf (held ∷ rest) [] = ⊥
+IsImageOf (held ∷ rest) (bytes ∷ image) = MayHold held bytes × IsImageOf rest image
+
+-- the image that a crash leaves by these picks, 0 where a pick is missing
+abbrev pub crashed : List Held → List ℕ → Image
+crashed [] pick = []
+crashed (held ∷ rest) [] = held.synced.bytes ∷ crashed rest []
+crashed (held ∷ rest) (p ∷ pick) = (chosen held.synced held.since p).bytes ∷ crashed rest pick
+
+-- a sector with nothing pending
+abbrev pub settled : Block → Held
+settled block = record { synced = block; since = [] }
+
+-- after a write to one sector
+abbrev pub after_write : List Held → ℕ → Block → List Held
+after_write [] at block = []
+after_write (held ∷ rest) zero block = record { synced = held.synced; since = held.since ++ block ∷ [] } ∷ rest
+after_write (held ∷ rest) (suc at) block = held ∷ after_write rest at block
+
+-- after a sync
+abbrev pub after_sync : List Held → List Held
+after_sync held = map (λ (sector : Held). settled (newest sector.synced sector.since)) held

@@ -1,0 +1,36 @@
+-- What a device in memory shows.
+use Rattle.std.specs.Prelude.{◌≡◌, ℕ, List, map, length, ◌≤◌, [], ◌∷◌}
+use Rattle.audit_disk.specs.Image.{Image}
+use Rattle.audit_disk.specs.View.{View}
+use Rattle.audit_disk.specs.Moments.{IsSettled}
+use Rattle.audit_disk.specs.Held.{Held, settled, bytes_of, crashed}
+use Rattle.audit_disk.specs.Memory.{after_calls, memory_view}
+use Rattle.audit_disk.specs.declared.mem_disk.MemDisk.{MemDisk}
+
+-- everything that is known of it as a device
+abbrev pub disk_view : MemDisk → View
+disk_view disk = memory_view disk.start.items (bytes_of disk.content.items) disk.log.calls.items disk.log.clock disk.log.failures disk.current disk.log.stamped disk.sized
+
+-- what its sectors hold
+abbrev pub disk_held : MemDisk → List Held
+disk_held disk = after_calls disk.log.calls.items (map settled disk.start.items)
+
+-- an honest device with this content, all of it synced, of which no call was made
+pub record IsFresh (view : View) (image : Image) : Type 0 where
+  pub size : view.size ≡ length image
+  pub content : view.content ≡ image
+  pub clock : view.clock ≡ 0
+  pub failures : view.failures ≡ 0
+  pub honest : view.honest
+  pub settled : IsSettled view
+
+-- Each pick is 0 or the number of a content that was written since the sync.
+abbrev pub ArePicks : List Held → List ℕ → Type 0
+ArePicks [] [] = Unit {0}
+ArePicks [] (p ∷ pick) = ⊥
+ArePicks (held ∷ rest) [] = ⊥
+ArePicks (held ∷ rest) (p ∷ pick) = (p ≤ length held.since) × ArePicks rest pick
+
+-- Each image that a crash now may leave is the one of some picks.
+abbrev pub IsEachPicked : View → List Held → Type 0
+IsEachPicked view held = (image : Image) → view.left_at view.clock image → (pick : List ℕ) × ArePicks held pick × (crashed held pick ≡ image)

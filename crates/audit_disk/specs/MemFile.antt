@@ -1,0 +1,37 @@
+-- A file in memory: the sectors of a device, one after the other.
+use Rattle.std.specs.Prelude.{◌≡◌, ℕ, zero, suc, ◌*◌, ◌<◌, List, [], ◌∷◌, ◌++◌, length, refl}
+use Rattle.std.proofs.Common.{sym, ◌∙◌, ap, arith}
+use Rattle.std.proofs.lemmas.List.{length-append}
+use Rattle.audit_disk.specs.Image.{Image, IsWhole, sector_at}
+use Rattle.audit_disk.specs.View.{View}
+use Rattle.audit_disk.specs.File.{FileView}
+use Rattle.audit_disk.specs.declared.sectors.TheConstants.{SECTOR_SIZE}
+
+-- the sectors of an image as bytes
+abbrev pub joined : Image → List ℕ
+joined [] = []
+joined (bytes ∷ image) = bytes ++ joined image
+
+pub length-joined : (size : ℕ) (image : Image) → IsWhole size image → length (joined image) ≡ SECTOR_SIZE * size
+length-joined size image whole = all size image whole.sectors whole.each
+  where
+    all : (size : ℕ) (image : Image) → length image ≡ size → ((at : ℕ) → at < size → length (sector_at image at) ≡ SECTOR_SIZE) → length (joined image) ≡ SECTOR_SIZE * size
+    all zero [] is each = refl
+    all (suc size) [] is each = absurd (omega arith)
+    all zero (bytes ∷ image) is each = absurd (omega arith)
+    all (suc size) (bytes ∷ image) is each =
+        omega (arith, length-append bytes (joined image), each zero (omega arith), all size image (omega arith) (λ at lt. each (suc at) (omega arith)))
+
+-- the file that stands in a device
+abbrev pub joined_view : View → FileView
+joined_view device = record {
+  bytes = joined device.content;
+  moment = device.clock;
+  left_at = λ moment file. device.honest × ((image : Image) × device.left_at moment image × (file ≡ joined image));
+  honest = device.honest;
+  bytes_left = λ honest. (honest, (device.content, device.content_left honest, refl));
+  same_length = λ honest at file left.
+      ap length left.1.2
+      ∙ length-joined device.size left.1.0 (device.whole honest at left.1.0 left.1.1)
+      ∙ sym (length-joined device.size device.content (device.whole honest device.clock device.content (device.content_left honest)));
+}

@@ -1,0 +1,9 @@
+-- What a file in memory shows.
+use Rattle.audit_disk.specs.File.{FileView}
+use Rattle.audit_disk.specs.MemDisk.{disk_view}
+use Rattle.audit_disk.specs.MemFile.{joined_view}
+use Rattle.audit_disk.specs.declared.mem_file.MemFile.{MemFile}
+
+-- everything that is known of it as a file
+abbrev pub mem_file_view : MemFile → FileView
+mem_file_view file = joined_view (disk_view file.disk)

@@ -1,0 +1,30 @@
+-- A device behind one that doesn't pass every call on: its clock counts the calls that were missed, too.
+use Rattle.std.specs.Prelude.{◌≡◌, ℕ, ◌+◌, ◌-◌, ◌<◌, ◌≤◌, min, max}
+use Rattle.std.proofs.Common.{sym, subst, arith}
+use Rattle.audit_disk.specs.View.{View}
+
+-- The moment of the inner clock: the calls that it missed were made when it stood at that place.
+abbrev pub inner_moment : ℕ → ℕ → ℕ → ℕ
+inner_moment place missed moment = min moment (max place (moment - missed))
+
+pub inner_moment_now : (place missed clock : ℕ) → place ≤ clock → inner_moment place missed (clock + missed) ≡ clock
+inner_moment_now place missed clock le = omega arith
+
+-- the inner device, where it missed some calls at a place of its clock, and some calls failed that it didn't see
+abbrev pub shifted : (inner : View) (place missed refused : ℕ) → place ≤ inner.clock → View
+shifted inner place missed refused in_step = record {
+  size = inner.size;
+  content = inner.content;
+  clock = inner.clock + missed;
+  left_at = λ moment image. inner.left_at (inner_moment place missed moment) image;
+  failures = inner.failures + refused;
+  honest = inner.honest;
+  size_fits = inner.size_fits;
+  content_left = λ honest.
+      subst (λ (moment : ℕ). inner.left_at moment inner.content) (sym (inner_moment_now place missed inner.clock in_step)) (inner.content_left honest);
+  whole = λ honest moment image left. inner.whole honest (inner_moment place missed moment) image left;
+}
+
+-- a call may be missed here: none was missed before, or no call has passed since
+abbrev pub MayMiss : ℕ → ℕ → ℕ → Type 0
+MayMiss place missed clock = 0 < missed → place ≡ clock

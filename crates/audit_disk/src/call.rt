@@ -1,0 +1,15 @@
+use crate::block::Block;
+
+/// What a call did to the medium.
+#[derive(Clone, Copy)]
+pub(crate) enum Effect {
+    Write(usize, Block),
+    Sync,
+}
+
+/// A call that reached the medium, and the clock after it.
+#[derive(Clone, Copy)]
+pub(crate) struct Call {
+    pub(crate) moment: u64,
+    pub(crate) effect: Effect,
+}

@@ -1,0 +1,54 @@
+ghost use Rattle.std.specs.Prelude.{◌≡◌, ◌≤◌, [], OnOk, OnErr};
+ghost use Rattle.audit_disk.specs.Memory.{latest};
+
+use crate::DeviceFault;
+use crate::call::{Call, Effect};
+use std::alloc::Global;
+
+/// The calls that reached the medium, the clock and the count of failures.
+#[derive(Drop)]
+pub(crate) struct CallLog {
+    pub(crate) calls: Vec<Call>,
+    pub(crate) clock: u64,
+    pub(crate) failures: u64,
+    ghost stamped: { latest calls.items ≤ clock },
+}
+
+impl CallLog {
+    ghost use Rattle.audit_disk.specs.CallLog.{Notes, Refuses};
+
+    pub(crate) fn new(alloc: Global) -> Self
+        ensures calls { result.calls.items ≡ [] }
+        ensures clock { result.clock ≡ 0 }
+        ensures failures { result.failures ≡ 0 }
+    {
+        CallLog {
+            calls: Vec::new(alloc),
+            clock: 0,
+            failures: 0,
+        }
+    }
+
+    /// Notes a call that is about to reach the medium. A refused growth is a failed call.
+    pub(crate) fn note(&mut self, effect: Effect) -> Result<(), DeviceFault>
+        ensures ok { OnOk result (Notes self.old self.new effect) }
+        ensures err { OnErr result (Refuses self.old self.new) }
+    {
+        if self.clock == u64::MAX {
+            self.failures = self.failures.saturating_add(1);
+            return Err(DeviceFault);
+        }
+        self.clock += 1;
+        let call = Call {
+            moment: self.clock,
+            effect,
+        };
+        match self.calls.push(call) {
+            Ok(()) => Ok(()),
+            Err(_) => {
+                self.failures = self.failures.saturating_add(1);
+                Err(DeviceFault)
+            }
+        }
+    }
+}

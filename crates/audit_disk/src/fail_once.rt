@@ -1,0 +1,116 @@
+ghost use Rattle.std.specs.Prelude.{◌≡◌, ◌≢◌, ◌<◌, IsErr, IsSome, IsTrue, ◌↔◌};
+ghost use Rattle.audit_disk.specs.View.{last_count};
+ghost use Rattle.audit_disk.specs.Moments.{IsUnused, LooksLike};
+ghost use Rattle.audit_disk.specs.Calls.{IsRead, IsWrite, IsSync};
+ghost use Rattle.audit_disk.specs.Shifted.{shifted};
+ghost use Rattle.audit_disk.specs.Countdown.{one_less};
+
+use crate::gate::Gate;
+use crate::{DeviceFault, SECTOR_SIZE, Sectors};
+
+/// A device of whose reads, writes and syncs one fails and reaches nothing. The calls before and behind it pass.
+#[derive(Drop)]
+pub struct FailOnce<D: Sectors> {
+    gate: Gate<D>,
+    left: Option<u64>,
+    ghost unmissed: { IsSome left → gate.missed ≡ 0 },
+}
+
+impl<D: Sectors> FailOnce<D> {
+    ghost use Rattle.audit_disk.specs.FailOnce.{fail_once_inner, fail_once_view, calls_before};
+
+    /// Lets so many calls pass before the one that fails.
+    pub fn new(inner: D, calls: u64) -> Self
+        ensures inner { fail_once_inner result ≡ inner }
+        ensures unused { IsUnused (D.view inner) (fail_once_view result) }
+        ensures left { calls_before result ≡ Some calls }
+    {
+        FailOnce {
+            gate: Gate::new(inner),
+            left: Some(calls),
+        }
+    }
+
+    /// The device, as it is.
+    pub fn into_inner(self) -> D
+        ensures inner { result ≡ fail_once_inner self }
+        ensures alike { LooksLike (fail_once_view self) (D.view result) }
+    {
+        self.gate.into_inner()
+    }
+}
+
+/// Counts a call, and tells whether it passes.
+fn passes(left: &mut Option<u64>) -> bool
+    ensures passes { IsTrue result ↔ (left.old ≢ Some 0) }
+    ensures left { left.new ≡ one_less left.old }
+{
+    match *left {
+        Some(0) => {
+            *left = None;
+            false
+        }
+        Some(calls) => {
+            *left = Some(calls - 1);
+            true
+        }
+        None => true,
+    }
+}
+
+impl<D: Sectors> Sectors for FailOnce<D> {
+    ghost use Rattle.audit_disk.specs.FailOnce.{fail_once_inner, fail_once_view, calls_before};
+
+    ghost view = { λ disk. shifted (D.view disk.gate.inner) disk.gate.place disk.gate.missed disk.gate.refused disk.gate.in_step };
+
+    fn size(&self) -> u64 {
+        self.gate.inner.size()
+    }
+
+    fn calls(&self) -> u64 {
+        self.gate.calls()
+    }
+
+    fn read(&mut self, at: u64, into: &mut [u8; SECTOR_SIZE]) -> Result<(), DeviceFault>
+        requires { at < (D.view (fail_once_inner self.old)).size }
+        ensures read { IsRead (fail_once_view self.old) (fail_once_view self.new)
+            at into.new result }
+        ensures passes { calls_before self.old ≢ Some 0
+            → IsRead (D.view (fail_once_inner self.old)) (D.view (fail_once_inner self.new)) at into.new result }
+        ensures fails { calls_before self.old ≡ Some 0 → IsErr result }
+        ensures unseen { calls_before self.old ≡ Some 0
+            → fail_once_inner self.new ≡ fail_once_inner self.old }
+        ensures left { calls_before self.new ≡ one_less (calls_before self.old) }
+    {
+        let passes = passes(&mut self.left);
+        self.gate.read(passes, at, into)
+    }
+
+    fn write(&mut self, at: u64, bytes: &[u8; SECTOR_SIZE]) -> Result<(), DeviceFault>
+        requires { at < (D.view (fail_once_inner self.old)).size }
+        ensures write { IsWrite (fail_once_view self.old)
+            (fail_once_view self.new) at bytes.now result }
+        ensures passes { calls_before self.old ≢ Some 0 → (fail_once_view self.old).clock < last_count
+            → IsWrite (D.view (fail_once_inner self.old)) (D.view (fail_once_inner self.new)) at bytes.now result }
+        ensures fails { calls_before self.old ≡ Some 0 → IsErr result }
+        ensures unseen { calls_before self.old ≡ Some 0
+            → fail_once_inner self.new ≡ fail_once_inner self.old }
+        ensures left { calls_before self.new ≡ one_less (calls_before self.old) }
+    {
+        let passes = passes(&mut self.left);
+        self.gate.write(passes, at, bytes)
+    }
+
+    fn sync(&mut self) -> Result<(), DeviceFault>
+        ensures sync { IsSync (fail_once_view self.old) (fail_once_view self.new) result }
+        ensures passes { calls_before self.old ≢ Some 0 → (fail_once_view self.old).clock < last_count
+            → IsSync (D.view (fail_once_inner self.old)) (D.view (fail_once_inner self.new)) result }
+        ensures fails { calls_before self.old ≡ Some 0 → IsErr result }
+        ensures unseen { calls_before self.old ≡ Some 0
+            → fail_once_inner self.new ≡ fail_once_inner self.old }
+        ensures left { calls_before self.new ≡ one_less (calls_before self.old) }
+    {
+        let passes = passes(&mut self.left);
+        self.gate.sync(passes)
+    }
+}

@@ -1,0 +1,24 @@
+use std::io;
+use thiserror::Error;
+
+/// A file that can't be a device.
+#[derive(Clone, Copy, Debug, PartialEq, Eq, Error)]
+pub enum FileFault {
+    /// It couldn't be made, opened, measured or synced.
+    #[error("the file failed")]
+    Io,
+    /// Its length is no multiple of the sector's size, or no file has so many sectors.
+    #[error("the length is no whole number of sectors")]
+    Length,
+}
+
+impl From<io::Error> for FileFault {
+    ghost use Rattle.std.specs.Prelude.{◌≡◌};
+    ghost use Rattle.audit_disk.specs.declared.file_fault.FileFault.TheVariants.{Io};
+
+    ghost from_gives = { λ _ fault. fault ≡ Io };
+
+    fn from(_: io::Error) -> Self {
+        FileFault::Io
+    }
+}

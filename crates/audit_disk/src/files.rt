@@ -1,0 +1,76 @@
+//! Devices in files of the operating system.
+ghost use Rattle.std.specs.Prelude.{◌≡◌, ◌*◌, ◌^◌, ◌<◌, ◌≤◌, ◌↔◌, IfOk, IsErrOf};
+ghost use Rattle.audit_disk.specs.declared.sectors.TheConstants.{SECTOR_SIZE};
+ghost use Rattle.audit_disk.specs.FileDisk.{IsFreshFile, file_disk_view};
+
+use crate::os_file::OsFile;
+use crate::{FileDisk, FileFault, MemDisk, MemFile, SECTOR_SIZE};
+use std::alloc::{AllocError, Global};
+use std::fs::{self, Files, OpenFile, OpenOptions};
+use std::io;
+use std::os::unix::fs::FileExt;
+use std::path::Path;
+
+impl<F: FileExt + OpenFile + Drop> FileDisk<OsFile<F>> {
+    /// Makes a file of so many zero sectors. A file that is there is not overwritten: that is a fault.
+    pub fn create<R: Files<File = F>>(
+        rt: &R,
+        path: &str,
+        sectors: u64,
+    ) -> Result<FileDisk<OsFile<F>>, FileFault>
+        ensures size { IfOk result (λ disk. (file_disk_view disk).size ≡ sectors) }
+        ensures fresh { IfOk result IsFreshFile }
+        ensures length { IsErrOf result FileFault.Length ↔ (2 ^ 64 ≤ SECTOR_SIZE * sectors) }
+    {
+        let Some(length) = sectors.checked_mul(SECTOR_SIZE as u64) else {
+            return Err(FileFault::Length);
+        };
+        let file = OpenOptions::new()
+            .read(true)
+            .write(true)
+            .create_new(true)
+            .open(rt, path)?;
+        file.set_len(length)?;
+        file.sync_all()?;
+        sync_folder(rt, path)?;
+        Ok(FileDisk::over(OsFile { file }, sectors))
+    }
+
+    /// Opens a file as a device. Its length has to be a multiple of 512.
+    pub fn open<R: Files<File = F>>(rt: &R, path: &str) -> Result<FileDisk<OsFile<F>>, FileFault>
+        ensures { IfOk result IsFreshFile }
+    {
+        let file = OpenOptions::new().read(true).write(true).open(rt, path)?;
+        let length = file.metadata()?.len();
+        if length % SECTOR_SIZE as u64 != 0 {
+            return Err(FileFault::Length);
+        }
+        Ok(FileDisk::over(OsFile { file }, length / SECTOR_SIZE as u64))
+    }
+}
+
+impl FileDisk<MemFile> {
+    /// A device in a file in memory, of so many zero sectors, for tests. It is honest.
+    pub fn in_memory(alloc: Global, sectors: u64) -> Result<FileDisk<MemFile>, AllocError>
+        requires { SECTOR_SIZE * sectors < 2 ^ 64 }
+
+        ensures honest { IfOk result (λ disk. (file_disk_view disk).honest) }
+        ensures size { IfOk result (λ disk. (file_disk_view disk).size ≡ sectors) }
+        ensures fresh { IfOk result IsFreshFile }
+    {
+        let disk = MemDisk::new(alloc, sectors)?;
+        Ok(FileDisk::over(MemFile { disk }, sectors))
+    }
+}
+
+/// Puts the name of a new file on the medium, where its folder can be opened.
+fn sync_folder<R: Files<File = F>, F: OpenFile + Drop>(rt: &R, path: &str) -> io::Result<()> {
+    let folder = match Path::new(path).parent() {
+        Some(folder) if !folder.as_str().is_empty() => folder,
+        _ => Path::new("."),
+    };
+    if let Ok(folder) = fs::open(rt, folder) {
+        folder.sync_all()?;
+    }
+    Ok(())
+}

@@ -1,0 +1,95 @@
+ghost use Rattle.std.specs.Prelude.{◌≡◌, ◌-◌, ◌<◌, IsErr};
+ghost use Rattle.audit_disk.specs.View.{last_count};
+ghost use Rattle.audit_disk.specs.Moments.{IsUnused, LooksLike};
+ghost use Rattle.audit_disk.specs.Calls.{IsRead, IsWrite, IsSync};
+ghost use Rattle.audit_disk.specs.Shifted.{shifted, MayMiss};
+
+use crate::gate::Gate;
+use crate::{DeviceFault, SECTOR_SIZE, Sectors};
+
+/// A device that stops after so many device calls, as at a crash: from then on every call fails, reads too, and
+/// reaches nothing. Device calls are writes and syncs.
+#[derive(Drop)]
+pub struct Fuse<D: Sectors> {
+    gate: Gate<D>,
+    left: u64,
+    ghost unmissed: { 0 < left → gate.missed ≡ 0 },
+    ghost may_shut: { MayMiss gate.place gate.missed (D.view gate.inner).clock },
+}
+
+impl<D: Sectors> Fuse<D> {
+    ghost use Rattle.audit_disk.specs.Fuse.{fuse_inner, fuse_view, calls_left};
+
+    /// Lets so many writes and syncs pass.
+    pub fn new(inner: D, calls: u64) -> Self
+        ensures inner { fuse_inner result ≡ inner }
+        ensures unused { IsUnused (D.view inner) (fuse_view result) }
+        ensures left { calls_left result ≡ calls }
+    {
+        Fuse {
+            gate: Gate::new(inner),
+            left: calls,
+        }
+    }
+
+    /// The device, as it is.
+    pub fn into_inner(self) -> D
+        ensures inner { result ≡ fuse_inner self }
+        ensures alike { LooksLike (fuse_view self) (D.view result) }
+    {
+        self.gate.into_inner()
+    }
+}
+
+impl<D: Sectors> Sectors for Fuse<D> {
+    ghost use Rattle.audit_disk.specs.Fuse.{fuse_inner, fuse_view, calls_left};
+
+    ghost view = { λ fuse. shifted (D.view fuse.gate.inner) fuse.gate.place fuse.gate.missed fuse.gate.refused fuse.gate.in_step };
+
+    fn size(&self) -> u64 {
+        self.gate.inner.size()
+    }
+
+    fn calls(&self) -> u64 {
+        self.gate.calls()
+    }
+
+    fn read(&mut self, at: u64, into: &mut [u8; SECTOR_SIZE]) -> Result<(), DeviceFault>
+        requires { at < (D.view (fuse_inner self.old)).size }
+        ensures read { IsRead (fuse_view self.old) (fuse_view self.new) at into.new result }
+        ensures passes { 0 < calls_left self.old
+            → IsRead (D.view (fuse_inner self.old)) (D.view (fuse_inner self.new)) at into.new result }
+        ensures fails { calls_left self.old ≡ 0 → IsErr result }
+        ensures unseen { calls_left self.old ≡ 0 → fuse_inner self.new ≡ fuse_inner self.old }
+        ensures left { calls_left self.new ≡ calls_left self.old }
+    {
+        self.gate.read(self.left > 0, at, into)
+    }
+
+    fn write(&mut self, at: u64, bytes: &[u8; SECTOR_SIZE]) -> Result<(), DeviceFault>
+        requires { at < (D.view (fuse_inner self.old)).size }
+        ensures write { IsWrite (fuse_view self.old) (fuse_view self.new) at bytes.now result }
+        ensures passes { 0 < calls_left self.old → (fuse_view self.old).clock < last_count
+            → IsWrite (D.view (fuse_inner self.old)) (D.view (fuse_inner self.new)) at bytes.now result }
+        ensures fails { calls_left self.old ≡ 0 → IsErr result }
+        ensures unseen { calls_left self.old ≡ 0 → fuse_inner self.new ≡ fuse_inner self.old }
+        ensures left { calls_left self.new ≡ calls_left self.old - 1 }
+    {
+        let passes = self.left > 0;
+        self.left = self.left.saturating_sub(1);
+        self.gate.write(passes, at, bytes)
+    }
+
+    fn sync(&mut self) -> Result<(), DeviceFault>
+        ensures sync { IsSync (fuse_view self.old) (fuse_view self.new) result }
+        ensures passes { 0 < calls_left self.old → (fuse_view self.old).clock < last_count
+            → IsSync (D.view (fuse_inner self.old)) (D.view (fuse_inner self.new)) result }
+        ensures fails { calls_left self.old ≡ 0 → IsErr result }
+        ensures unseen { calls_left self.old ≡ 0 → fuse_inner self.new ≡ fuse_inner self.old }
+        ensures left { calls_left self.new ≡ calls_left self.old - 1 }
+    {
+        let passes = self.left > 0;
+        self.left = self.left.saturating_sub(1);
+        self.gate.sync(passes)
+    }
+}

@@ -1,0 +1,142 @@
+ghost use Rattle.std.specs.Prelude.{◌≡◌, ◌+◌, ◌^◌, ◌<◌, ◌≤◌, IsTrue, IsFalse, IsErr};
+ghost use Rattle.audit_disk.specs.Calls.{HasRisen, IsRead, IsWrite, IsSync};
+
+use crate::{DeviceFault, SECTOR_SIZE, Sectors};
+
+/// A device behind a gate: a call is passed on, or it fails and the device doesn't see it.
+#[derive(Drop)]
+pub(crate) struct Gate<D: Sectors> {
+    pub(crate) inner: D,
+    pub(crate) place: u64,
+    pub(crate) missed: u64,
+    pub(crate) refused: u64,
+    ghost in_step: { place ≤ (D.view inner).clock },
+    ghost fits: { (D.view inner).clock + missed < 2 ^ 64 },
+}
+
+impl<D: Sectors> Gate<D> {
+    ghost use Rattle.audit_disk.specs.Gate.{gate_view, MayShut, IsBelowEnd, Misses};
+
+    pub(crate) fn new(inner: D) -> Self
+        ensures inner { result.inner ≡ inner }
+        ensures missed { result.missed ≡ 0 }
+        ensures refused { result.refused ≡ 0 }
+    {
+        let _ = inner.calls();
+        Gate {
+            inner,
+            place: 0,
+            missed: 0,
+            refused: 0,
+        }
+    }
+
+    /// The clock, with the calls that were missed.
+    pub(crate) fn calls(&self) -> u64
+        ensures { result ≡ (D.view self.now.inner).clock + self.now.missed }
+    {
+        self.inner.calls() + self.missed
+    }
+
+    pub(crate) fn read(
+        &mut self,
+        passes: bool,
+        at: u64,
+        into: &mut [u8; SECTOR_SIZE],
+    ) -> Result<(), DeviceFault>
+        requires { at < (D.view self.old.inner).size }
+
+        ensures read { IsRead (gate_view self.old) (gate_view self.new) at into.new result }
+        ensures passed { IsTrue passes
+            → IsRead (D.view self.old.inner) (D.view self.new.inner) at into.new result }
+        ensures failed { IsFalse passes → IsErr result }
+        ensures unseen { IsFalse passes → self.new.inner ≡ self.old.inner }
+        ensures place { self.new.place ≡ self.old.place }
+        ensures missed { self.new.missed ≡ self.old.missed }
+    {
+        if passes {
+            return self.inner.read(at, into);
+        }
+        Err(self.refuse())
+    }
+
+    pub(crate) fn write(
+        &mut self,
+        passes: bool,
+        at: u64,
+        bytes: &[u8; SECTOR_SIZE],
+    ) -> Result<(), DeviceFault>
+        requires within { at < (D.view self.old.inner).size }
+        requires may_shut { IsFalse passes → MayShut self.old }
+
+        ensures write { IsWrite (gate_view self.old) (gate_view self.new) at bytes.now result }
+        ensures passed { IsTrue passes → IsBelowEnd self.old
+            → IsWrite (D.view self.old.inner) (D.view self.new.inner) at bytes.now result }
+        ensures failed { IsFalse passes → IsErr result }
+        ensures unseen { IsFalse passes → self.new.inner ≡ self.old.inner }
+        ensures shut { IsFalse passes → MayShut self.new }
+        ensures missed { IsTrue passes → self.new.missed ≡ self.old.missed }
+    {
+        if !passes {
+            return Err(self.miss());
+        }
+        if self.calls() == u64::MAX {
+            return Err(self.refuse());
+        }
+        self.inner.write(at, bytes)
+    }
+
+    pub(crate) fn sync(&mut self, passes: bool) -> Result<(), DeviceFault>
+        requires { IsFalse passes → MayShut self.old }
+
+        ensures sync { IsSync (gate_view self.old) (gate_view self.new) result }
+        ensures passed { IsTrue passes → IsBelowEnd self.old
+            → IsSync (D.view self.old.inner) (D.view self.new.inner) result }
+        ensures failed { IsFalse passes → IsErr result }
+        ensures unseen { IsFalse passes → self.new.inner ≡ self.old.inner }
+        ensures shut { IsFalse passes → MayShut self.new }
+        ensures missed { IsTrue passes → self.new.missed ≡ self.old.missed }
+    {
+        if !passes {
+            return Err(self.miss());
+        }
+        if self.calls() == u64::MAX {
+            return Err(self.refuse());
+        }
+        self.inner.sync()
+    }
+
+    /// Counts a failure that the device doesn't see.
+    fn refuse(&mut self) -> DeviceFault
+        ensures inner { self.new.inner ≡ self.old.inner }
+        ensures place { self.new.place ≡ self.old.place }
+        ensures missed { self.new.missed ≡ self.old.missed }
+        ensures refused { HasRisen self.old.refused self.new.refused }
+        ensures more { self.old.refused ≤ self.new.refused }
+    {
+        self.refused = self.refused.saturating_add(1);
+        DeviceFault
+    }
+
+    /// Counts a write or a sync that the device doesn't see.
+    fn miss(&mut self) -> DeviceFault
+        requires { MayShut self.old }
+        ensures inner { self.new.inner ≡ self.old.inner }
+        ensures missed { Misses self.old self.new }
+        ensures refused { HasRisen self.old.refused self.new.refused }
+        ensures more { self.old.refused ≤ self.new.refused }
+    {
+        if self.calls() != u64::MAX {
+            self.place = self.inner.calls();
+            self.missed += 1;
+        }
+        self.refuse()
+    }
+
+    /// The device, as it is.
+    pub(crate) fn into_inner(self) -> D
+        ensures { result ≡ self.inner }
+    {
+        self.inner
+    }
+}

@@ -1,0 +1,104 @@
+ghost use Rattle.std.specs.Prelude.{◌≡◌, ◌^◌, ◌<◌, length, map};
+ghost use Rattle.audit_disk.specs.Held.{settled, content_of, bytes_of};
+ghost use Rattle.audit_disk.specs.Memory.{after_calls, memory_view};
+
+use crate::block::Block;
+use crate::call::Effect;
+use crate::call_log::CallLog;
+use crate::replay::{blocks_of, crashed_blocks, zero_blocks};
+use crate::{DeviceFault, SECTOR_SIZE, Sectors};
+use std::alloc::{AllocError, Global};
+
+/// A device in memory, for tests. It is honest, and keeps a record of its calls, so that any crash can be tried.
+/// A growth that is refused there is a failed call, which reaches nothing.
+#[derive(Drop)]
+pub struct MemDisk {
+    start: Vec<Block>,
+    content: Vec<Block>,
+    log: CallLog,
+    ghost current: { bytes_of content.items ≡ content_of (after_calls log.calls.items (map settled start.items)) },
+    ghost sized: { length start.items < 2 ^ 64 },
+}
+
+impl Sectors for MemDisk {
+    ghost use Rattle.std.specs.Prelude.{IsOk};
+    ghost use Rattle.audit_disk.specs.Calls.{IsRead};
+    ghost use Rattle.audit_disk.specs.MemDisk.{disk_view};
+
+    ghost view = { λ disk. memory_view disk.start.items (bytes_of disk.content.items) disk.log.calls.items disk.log.clock disk.log.failures disk.current disk.log.stamped disk.sized };
+
+    fn size(&self) -> u64 {
+        self.start.len() as u64
+    }
+
+    fn calls(&self) -> u64 {
+        self.log.clock
+    }
+
+    /// It takes no memory, so it never fails.
+    fn read(&mut self, at: u64, into: &mut [u8; SECTOR_SIZE]) -> Result<(), DeviceFault>
+        requires { at < (disk_view self.old).size }
+        ensures read { IsRead (disk_view self.old) (disk_view self.new) at into.new result }
+        ensures succeeds { IsOk result }
+    {
+        *into = self.content[at as usize].bytes;
+        Ok(())
+    }
+
+    fn write(&mut self, at: u64, bytes: &[u8; SECTOR_SIZE]) -> Result<(), DeviceFault> {
+        let block = Block { bytes: *bytes };
+        self.log.note(Effect::Write(at as usize, block))?;
+        self.content[at as usize] = block;
+        Ok(())
+    }
+
+    fn sync(&mut self) -> Result<(), DeviceFault> {
+        self.log.note(Effect::Sync)?;
+        Ok(())
+    }
+}
+
+impl MemDisk {
+    ghost use Rattle.std.specs.Prelude.{ℕ, IfOk, replicate};
+    ghost use Rattle.audit_disk.specs.Held.{crashed};
+    ghost use Rattle.audit_disk.specs.MemDisk.{disk_view, disk_held, IsFresh, IsEachPicked};
+
+    /// A device of so many zero sectors, all of them synced.
+    pub fn new(alloc: Global, sectors: u64) -> Result<MemDisk, AllocError>
+        ensures { IfOk result (λ disk. IsFresh (disk_view disk) (replicate sectors (replicate SECTOR_SIZE 0))) }
+    {
+        MemDisk::with_content(alloc, zero_blocks(alloc, sectors)?)
+    }
+
+    /// A device with this content, all of it synced.
+    pub fn from_sectors(alloc: Global, sectors: &[[u8; SECTOR_SIZE]]) -> Result<MemDisk, AllocError>
+        ensures { IfOk result (λ disk. IsFresh (disk_view disk) sectors.now) }
+    {
+        MemDisk::with_content(alloc, blocks_of(alloc, sectors)?)
+    }
+
+    /// What a crash now may leave, as a device: in sector k its last synced content where `pick[k]` is 0 or
+    /// missing or nothing was written to it since, the p-th content written since where it is p, and the last
+    /// one where p is too large. Every image that a crash may leave is that of some picks.
+    pub fn crash(&self, alloc: Global, pick: &[u64]) -> Result<MemDisk, AllocError>
+        ensures device { IfOk result (λ disk. IsFresh (disk_view disk)
+            (crashed (disk_held self.now) pick.now)) }
+        ensures image { (disk_view self.now).left_at (disk_view self.now).clock
+            (crashed (disk_held self.now) pick.now) }
+        ensures every { IsEachPicked (disk_view self.now) (disk_held self.now) }
+    {
+        let left = crashed_blocks(alloc, &self.start, &self.log.calls, pick)?;
+        MemDisk::with_content(alloc, left)
+    }
+
+    fn with_content(alloc: Global, content: Vec<Block>) -> Result<MemDisk, AllocError>
+        ensures { IfOk result (λ disk. IsFresh (disk_view disk) (bytes_of content.items)) }
+    {
+        let start = Vec::from_slice(alloc, &content)?;
+        Ok(MemDisk {
+            start,
+            content,
+            log: CallLog::new(alloc),
+        })
+    }
+}

@@ -1,0 +1,49 @@
+ghost use Rattle.std.specs.Prelude.{◌≡◌};
+ghost use Rattle.audit_disk.specs.Held.{settled};
+
+use crate::block::Block;
+
+/// How far a sector has come in the calls that a crash replays.
+#[derive(Clone, Copy)]
+pub(crate) struct Progress {
+    /// What was written last.
+    pub(crate) newest: Block,
+    /// What the crash leaves, if it comes now.
+    pub(crate) landed: Block,
+    /// Which content since the last sync the crash is to leave.
+    pub(crate) pick: u64,
+    /// How many contents are missing up to that one.
+    pub(crate) left: u64,
+}
+
+impl Progress {
+    ghost use Rattle.audit_disk.specs.Progress.{IsProgress, pushed, synced};
+
+    pub(crate) fn new(block: Block, pick: u64) -> Self
+        ensures { IsProgress (settled block) pick result }
+    {
+        Progress {
+            newest: block,
+            landed: block,
+            pick,
+            left: pick,
+        }
+    }
+
+    pub(crate) fn write(&mut self, block: Block)
+        ensures { self.new ≡ pushed self.old block }
+    {
+        self.newest = block;
+        if self.left > 0 {
+            self.landed = block;
+            self.left -= 1;
+        }
+    }
+
+    pub(crate) fn sync(&mut self)
+        ensures { self.new ≡ synced self.old }
+    {
+        self.landed = self.newest;
+        self.left = self.pick;
+    }
+}
