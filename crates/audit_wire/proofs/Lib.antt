@@ -1,0 +1,5 @@
+pub mod Filling
+pub mod Bodies
+pub mod Framing
+pub mod Readings
+pub mod Runs

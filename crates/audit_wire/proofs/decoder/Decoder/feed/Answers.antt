@@ -1,0 +1,11 @@
+use Rattle.audit_wire.proofs.Runs.{fed_answer, fed_requests, kept, rest_partial}
+use Rattle.audit_wire.proofs.decoder.Decoder.feed.Goals as goal
+
+pub returns-clause-requests : goal.returns-clause-requests
+returns-clause-requests c = λ later. fed_requests c.args.self.now c.args.piece.now c.advance.result c.advance.new.self later c.advance.ensures
+
+pub returns-clause-rest : goal.returns-clause-rest
+returns-clause-rest c = rest_partial c.advance.new.self (kept c.args.self.now c.args.piece.now c.advance.result c.advance.new.self c.advance.ensures)
+
+pub returns-clause-taken : goal.returns-clause-taken
+returns-clause-taken c = fed_answer c.args.self.now c.args.piece.now c.advance.result c.advance.new.self c.advance.ensures

@@ -1,0 +1,5 @@
+use Rattle.audit_wire.proofs.Runs.{put_back_requests}
+use Rattle.audit_wire.proofs.decoder.Decoder.put_back.Goals as goal
+
+pub returns-clause-requests : goal.returns-clause-requests
+returns-clause-requests c = λ byte later taken. put_back_requests c.args.self.now c.undo.new.self byte later c.undo.ensures.progress c.requires c.undo.ensures.before.begun taken

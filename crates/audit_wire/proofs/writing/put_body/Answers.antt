@@ -1,0 +1,12 @@
+use Rattle.std.proofs.Common.{append_assoc}
+use Rattle.audit_wire.proofs.writing.put_body.Goals as goal
+
+pub returns-in-Acknowledgement-clause-items : goal.returns-in-Acknowledgement-clause-items
+returns-in-Acknowledgement-clause-items c =
+    rw (c.in-Acknowledgement.is, c.put-in-Acknowledgement-2.ensures.items, c.put-in-Acknowledgement.ensures.items, c.put.ensures.items, c.put_head.ensures.items, c.to_be_bytes.ensures, c.to_be_bytes-in-Acknowledgement.ensures)
+    (simp append_assoc)
+
+pub returns-in-Commitment-clause-items : goal.returns-in-Commitment-clause-items
+returns-in-Commitment-clause-items c =
+    rw (c.in-Commitment.is, c.put-in-Commitment-2.ensures.items, c.put-in-Commitment.ensures.items, c.put_head-in-Commitment.ensures.items, c.to_be_bytes-in-Commitment.ensures)
+    (simp append_assoc)

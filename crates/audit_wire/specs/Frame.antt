@@ -1,0 +1,36 @@
+-- A frame: the length of its body in two bytes, big-endian, and then the body.
+use Rattle.std.specs.Prelude.{ℕ, ◌<◌, ◌≤◌, Bool, ◌&&◌, nat_le, List, [], ◌∷◌, ◌++◌, length, slice_index}
+use Rattle.std.specs.Int.{w16, to_be_bytes, from_be_bytes}
+use Rattle.audit_wire.specs.declared.limits.TheConstants.{MAX_BODY}
+
+-- bytes, where a list may hold any numbers
+abbrev pub AreBytes : List ℕ → Type 0
+AreBytes bytes = (place : ℕ) → slice_index bytes place < 256
+
+-- the frame of a body
+abbrev pub frame : List ℕ → List ℕ
+frame body = to_be_bytes w16 (length body) ++ body
+
+-- the size that two bytes of length announce
+abbrev pub size_of : ℕ → ℕ → ℕ
+size_of high low = from_be_bytes w16 (high ∷ low ∷ [])
+
+-- a size that the body of a request may have, as a fact and as a test
+abbrev pub IsBodySize : ℕ → Type 0
+IsBodySize size = (1 ≤ size) × (size ≤ MAX_BODY)
+
+abbrev pub is_body_size : ℕ → Bool
+is_body_size size = nat_le 1 size && nat_le size MAX_BODY
+
+-- less than a whole frame: it may still become the frame of a request
+abbrev pub IsPartial : List ℕ → Type 0
+IsPartial [] = Unit {0}
+IsPartial (high ∷ []) = Unit {0}
+IsPartial (high ∷ low ∷ body) = IsBodySize (size_of high low) × (length body < size_of high low)
+
+-- a length that no request has, and nothing behind it
+abbrev pub IsBadLength : List ℕ → Type 0
+IsBadLength [] = ⊥
+IsBadLength (high ∷ []) = ⊥
+IsBadLength (high ∷ low ∷ []) = ¬ IsBodySize (size_of high low)
+IsBadLength (high ∷ low ∷ next ∷ body) = ⊥

@@ -1,0 +1,72 @@
+-- The body of a request: the kind in one byte, the request tag in four, and the fields of its kind.
+use Rattle.std.specs.Prelude.{◌≢◌, ℕ, ◌+◌, ◌<◌, ◌≤◌, ◌^◌, not, ◌&&◌, ◌==◌, nat_le, if◌then◌else◌, List, [], ◌∷◌, ◌++◌, length, take, drop, Option, Some, None}
+use Rattle.std.specs.Int.{Width, w32, w64, byte_len, to_be_bytes, from_be_bytes}
+use Rattle.audit_wire.specs.declared.limits.TheConstants.{MAX_PAYLOAD, RESERVED_KIND}
+use Rattle.audit_wire.specs.declared.request.Request.{Request}
+use Rattle.audit_wire.specs.declared.request.Request.TheVariants as request
+use Rattle.audit_wire.specs.declared.request_kind.RequestKind.{RequestKind}
+use Rattle.audit_wire.specs.declared.request_kind.RequestKind.TheVariants as kind
+
+-- the body of each request
+abbrev pub request_body : Request → List ℕ
+request_body (request.Append tag event_kind payload) = 1 ∷ (to_be_bytes w32 tag ++ to_be_bytes w32 event_kind ++ payload)
+request_body (request.Commitment tag) = 2 ∷ to_be_bytes w32 tag
+request_body (request.Membership tag index count) = 3 ∷ (to_be_bytes w32 tag ++ to_be_bytes w64 index ++ to_be_bytes w64 count)
+request_body (request.Incremental tag older newer) = 4 ∷ (to_be_bytes w32 tag ++ to_be_bytes w64 older ++ to_be_bytes w64 newer)
+request_body (request.Entry tag index) = 5 ∷ (to_be_bytes w32 tag ++ to_be_bytes w64 index)
+
+-- a request that has a body: its numbers fit their fields, and an append has a kind and a payload that it may have
+abbrev pub IsRequest : Request → Type 0
+IsRequest (request.Append tag event_kind payload) = (tag < 2 ^ 32) × (event_kind < 2 ^ 32) × (event_kind ≢ RESERVED_KIND) × (length payload ≤ MAX_PAYLOAD)
+IsRequest (request.Commitment tag) = tag < 2 ^ 32
+IsRequest (request.Membership tag index count) = (tag < 2 ^ 32) × (index < 2 ^ 64) × (count < 2 ^ 64)
+IsRequest (request.Incremental tag older newer) = (tag < 2 ^ 32) × (older < 2 ^ 64) × (newer < 2 ^ 64)
+IsRequest (request.Entry tag index) = (tag < 2 ^ 32) × (index < 2 ^ 64)
+
+-- the kind that the first byte of a body stands for
+abbrev pub kind_at : ℕ → Option RequestKind
+kind_at byte =
+    if byte == 1 then Some kind.Append else
+    if byte == 2 then Some kind.Commitment else
+    if byte == 3 then Some kind.Membership else
+    if byte == 4 then Some kind.Incremental else
+    if byte == 5 then Some kind.Entry else None
+
+-- the number of this width that stands at a place
+abbrev pub number_at : Width → ℕ → List ℕ → ℕ
+number_at width place bytes = from_be_bytes width (take (byte_len width) (drop place bytes))
+
+-- what the bytes behind the first one say, for each kind
+unfoldable pub append_in : List ℕ → Option Request
+append_in fields =
+    if (nat_le 8 (length fields) && nat_le (length fields) (8 + MAX_PAYLOAD)) && not (number_at w32 4 fields == RESERVED_KIND)
+    then Some (request.Append (number_at w32 0 fields) (number_at w32 4 fields) (drop 8 fields)) else None
+
+unfoldable pub commitment_in : List ℕ → Option Request
+commitment_in fields = if length fields == 4 then Some (request.Commitment (number_at w32 0 fields)) else None
+
+unfoldable pub membership_in : List ℕ → Option Request
+membership_in fields =
+    if length fields == 20
+    then Some (request.Membership (number_at w32 0 fields) (number_at w64 4 fields) (number_at w64 12 fields)) else None
+
+unfoldable pub incremental_in : List ℕ → Option Request
+incremental_in fields =
+    if length fields == 20
+    then Some (request.Incremental (number_at w32 0 fields) (number_at w64 4 fields) (number_at w64 12 fields)) else None
+
+unfoldable pub entry_in : List ℕ → Option Request
+entry_in fields = if length fields == 12 then Some (request.Entry (number_at w32 0 fields) (number_at w64 4 fields)) else None
+
+abbrev pub fields_in : Option RequestKind → List ℕ → Option Request
+fields_in None fields = None
+fields_in (Some kind.Append) fields = append_in fields
+fields_in (Some kind.Commitment) fields = commitment_in fields
+fields_in (Some kind.Membership) fields = membership_in fields
+fields_in (Some kind.Incremental) fields = incremental_in fields
+fields_in (Some kind.Entry) fields = entry_in fields
+
+-- the request that a body is
+unfoldable pub request_in : List ℕ → Option Request
+request_in [] = None
+request_in (first ∷ fields) = fields_in (kind_at first) fields

@@ -1,0 +1,92 @@
+-- What a byte stream holds so far: the whole frames at its front, then one malformed place where the
+-- next is, and nothing after it; and the rest that is no whole frame.
+use Rattle.std.specs.Prelude.{◌≡◌, ◌≢◌, ℕ, zero, suc, ◌≤◌, Bool, true, false, nat_le, if◌then◌else◌, List, [], ◌∷◌, ◌++◌, length, take, drop, Option, Some, None}
+use Rattle.std.specs.List.{flat_map, AllByRecursion}
+use Rattle.audit_wire.specs.declared.request.Request.{Request}
+use Rattle.audit_wire.specs.Frame.{frame, size_of, IsBodySize, is_body_size, IsPartial}
+use Rattle.audit_wire.specs.Request.{request_body, request_in, IsRequest}
+
+pub record Framed (Item : Type 0) : Type 0 where
+  pub items : List Item
+  pub malformed : Bool
+  pub rest : List ℕ
+
+-- nothing but a rest
+abbrev pub begun : {Item : Type 0} → List ℕ → Framed Item
+begun bytes = record { items = []; malformed = false; rest = bytes }
+
+-- nothing but a malformed place
+abbrev pub spoiled : {Item : Type 0} → Framed Item
+spoiled = record { items = []; malformed = true; rest = [] }
+
+-- one item more at the front, or several
+abbrev pub in_front : {Item : Type 0} → Item → Framed Item → Framed Item
+in_front item framed = record { items = item ∷ framed.items; malformed = framed.malformed; rest = framed.rest }
+
+abbrev pub all_in_front : {Item : Type 0} → List Item → Framed Item → Framed Item
+all_in_front items framed = record { items = items ++ framed.items; malformed = framed.malformed; rest = framed.rest }
+
+-- ---- the bodies of the frames
+
+-- at most so many bodies of a stream
+unfoldable pub bodies_within : ℕ → List ℕ → Framed (List ℕ)
+bodies_within zero bytes = begun bytes
+bodies_within (suc count) [] = begun []
+bodies_within (suc count) (high ∷ []) = begun (high ∷ [])
+bodies_within (suc count) (high ∷ low ∷ bytes) =
+    if is_body_size (size_of high low)
+    then (if nat_le (size_of high low) (length bytes)
+    then in_front (take (size_of high low) bytes) (bodies_within count (drop (size_of high low) bytes))
+    else begun (high ∷ low ∷ bytes))
+    else spoiled
+
+-- the bodies of a stream, of which it has no more than bytes
+unfoldable pub framed_bodies : List ℕ → Framed (List ℕ)
+framed_bodies bytes = bodies_within (length bytes) bytes
+
+-- ---- the requests
+
+-- a body at the front: a request, or else a malformed place
+abbrev pub read_first : Option Request → Framed Request → Framed Request
+read_first None behind = spoiled
+read_first (Some request) behind = in_front request behind
+
+abbrev pub requests_of : List (List ℕ) → Framed Request → Framed Request
+requests_of [] behind = behind
+requests_of (body ∷ bodies) behind = read_first (request_in body) (requests_of bodies behind)
+
+abbrev pub requests_in : Framed (List ℕ) → Framed Request
+requests_in bodies = requests_of bodies.items (record { items = []; malformed = bodies.malformed; rest = bodies.rest })
+
+-- the requests framed in a byte stream
+unfoldable pub framed_requests : List ℕ → Framed Request
+framed_requests bytes = requests_in (framed_bodies bytes)
+
+-- what a stream holds when more bytes come, from what it held before
+abbrev pub continued : Framed Request → List ℕ → Framed Request
+continued framed more = if framed.malformed then framed else all_in_front framed.items (framed_requests (framed.rest ++ more))
+
+-- ---- the same as a relation, which says nothing of how a stream is read
+
+abbrev pub request_frame : Request → List ℕ
+request_frame request = frame (request_body request)
+
+-- a place where no request's frame is or can come to be: a length that no request has, or a whole body that is no request's
+abbrev pub IsMalformedPlace : List ℕ → Type 0
+IsMalformedPlace [] = ⊥
+IsMalformedPlace (high ∷ []) = ⊥
+IsMalformedPlace (high ∷ low ∷ bytes) =
+    IsBodySize (size_of high low) → (size_of high low ≤ length bytes)
+    × ((request : Request) → IsRequest request → request_body request ≢ take (size_of high low) bytes)
+
+-- what stands behind the requests
+abbrev pub EndsIn : Bool → List ℕ → List ℕ → Type 0
+EndsIn false rest place = IsPartial place × (rest ≡ place)
+EndsIn true rest place = IsMalformedPlace place × (rest ≡ [])
+
+-- the stream is the frames of these requests, and then a malformed place or the rest
+pub record IsReading (bytes : List ℕ) (framed : Framed Request) : Type 0 where
+  pub each : AllByRecursion IsRequest framed.items
+  pub place : List ℕ
+  pub whole : bytes ≡ flat_map request_frame framed.items ++ place
+  pub ends : EndsIn framed.malformed framed.rest place

@@ -1,0 +1,20 @@
+-- A view of a request, and what it shows.
+use Rattle.std.specs.Prelude.{Option, Some, None, Result, Ok, Err}
+use Rattle.audit_wire.specs.declared.request.Request.{Request}
+use Rattle.audit_wire.specs.declared.request.Request.TheVariants as request
+use Rattle.audit_wire.specs.declared.view.RequestView.{RequestView}
+use Rattle.audit_wire.specs.declared.view.RequestView.TheVariants as view
+use Rattle.audit_wire.specs.declared.malformed.Malformed.{Malformed}
+
+-- the request that a view shows
+abbrev pub request_shown : RequestView → Request
+request_shown (view.Append tag kind payload) = request.Append tag kind payload.now
+request_shown (view.Commitment tag) = request.Commitment tag
+request_shown (view.Membership tag index count) = request.Membership tag index count
+request_shown (view.Incremental tag older newer) = request.Incremental tag older newer
+request_shown (view.Entry tag index) = request.Entry tag index
+
+-- the request that was read, if one was
+abbrev pub request_read : Result RequestView Malformed → Option Request
+request_read (Ok view) = Some (request_shown view)
+request_read (Err fault) = None

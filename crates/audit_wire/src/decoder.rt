@@ -1,0 +1,174 @@
+ghost use Rattle.std.specs.Prelude.{◌≡◌, ◌≢◌, ◌↔◌, ◌+◌, ◌-◌, ◌<◌, ◌≤◌, ℕ, List, [], ◌∷◌, ◌++◌, length, take, drop, min, IsTrue, IfOk, vec_len, vec_capacity};
+ghost use Rattle.audit_wire.specs.Frame.{IsPartial};
+ghost use Rattle.audit_wire.specs.Progress.{reading, rest_of, body_of, HasJustTaken, IsProgress, IsFed, IsAnswer, PutsBack, taken_of, handed_out, left_by, requests_ahead};
+ghost use Rattle.audit_wire.specs.Stream.{requests_of};
+ghost use Rattle.audit_wire.specs.Filled.{IsFilled};
+
+use crate::fed::Fed;
+use crate::limits::{LENGTH_BYTES, MAX_BODY, MAX_FRAME};
+use crate::room::put;
+use std::alloc::{AllocError, Global};
+use std::marker::Model;
+
+/// What a decoder is about.
+#[derive(Clone, Copy, Debug, PartialEq, Eq)]
+enum State {
+    /// A frame is begun, or will be with the next byte.
+    Reading,
+    /// A body was handed out, and is lent until the next feed.
+    Whole,
+    /// A malformed length was told.
+    Malformed,
+    /// A malformed length was told, and more came after it.
+    Closed,
+}
+
+/// Finds the frames of a byte stream that comes in any pieces.
+///
+/// Contracts see where it stands in the stream: the bytes of the frame that is begun, the body that
+/// is just whole, the malformed length that just came, or that everything is dropped. For every cut
+/// of a stream into pieces, the bodies that are handed out and the bytes that are held back are a
+/// function of the bytes so far.
+#[derive(Debug, Drop)]
+pub struct Decoder {
+    /// The bytes since the end of the frame before.
+    frame: Vec<u8>,
+    state: State,
+}
+
+impl Model for Decoder {
+    ghost use Rattle.std.specs.Prelude.{vec_capacity};
+    ghost use Rattle.audit_wire.specs.Progress.{Progress};
+
+    ghost Value = { Progress };
+
+    ghost use Rattle.audit_wire.specs.Decoder.{progress_of, IsKept};
+
+    ghost view = { λ decoder. progress_of decoder.state decoder.frame.items };
+
+    ghost invariant = { λ decoder. IsKept decoder.state decoder.frame.items (vec_capacity decoder.frame) };
+}
+
+impl Decoder {
+    /// A decoder at the front of a stream. It takes all the room that it will ever have, for one
+    /// frame: no other call takes memory. The only error is that memory is refused.
+    pub fn new(alloc: Global) -> Result<Decoder, AllocError>
+        ensures { IfOk result (λ decoder. decoder ≡ reading []) }
+    {
+        Ok(Decoder {
+            frame: Vec::with_capacity(alloc, MAX_FRAME)?,
+            state: State::Reading,
+        })
+    }
+
+    /// Takes the next piece of the stream, up to the first body that is whole or length that is
+    /// malformed. After a malformed length every piece is taken and dropped.
+    pub fn feed(&mut self, piece: &[u8]) -> Fed
+        // What the piece does: where the frame that is begun goes on, becomes whole or is malformed.
+        ensures fed { IsFed self.old piece.now result self.new }
+        // A body or a malformed length takes at least one byte, which may be given back.
+        ensures taken { IsAnswer result (length piece.now) self.new }
+        // The requests of the stream are those of the body that is handed out, and those ahead after it.
+        ensures requests { (later : List ℕ) → requests_ahead self.old (piece.now ++ later)
+            ≡ requests_of (handed_out self.new) (requests_ahead self.new (left_by result piece.now ++ later)) }
+        ensures rest { IsPartial (rest_of self.new) }
+    {
+        self.advance(piece)
+    }
+
+    fn advance(&mut self, piece: &[u8]) -> Fed
+        ensures { IsFed self.old piece.now result self.new }
+    {
+        match self.state {
+            State::Malformed | State::Closed => {
+                self.state = State::Closed;
+                return Fed::More;
+            }
+            State::Whole => self.frame.clear(),
+            State::Reading => {}
+        }
+        let fed = take_up(&mut self.frame, piece);
+        self.state = match fed {
+            Fed::More => State::Reading,
+            Fed::Body { taken: _ } => State::Whole,
+            Fed::Malformed { taken: _ } => State::Malformed,
+        };
+        fed
+    }
+
+    /// The body that the last feed made whole, and nothing where it made none.
+    pub fn body(&self) -> &[u8]
+        ensures { result.now ≡ body_of self.now }
+    {
+        match self.state {
+            State::Whole => &self.frame[LENGTH_BYTES..],
+            _ => &[],
+        }
+    }
+
+    /// Right after a body or a malformed length: gives back the last byte that was taken, as if it
+    /// had not come.
+    pub fn put_back(&mut self)
+        requires { HasJustTaken self.old }
+        ensures before { PutsBack self.old self.new }
+        // With that byte again, the stream's requests are those that they were after it.
+        ensures requests { (byte : ℕ) (later : List ℕ) → taken_of self.old ≡ rest_of self.new ++ byte ∷ []
+            → requests_ahead self.new (byte ∷ later) ≡ requests_of (handed_out self.old) (requests_ahead self.old later) }
+    {
+        self.undo();
+    }
+
+    fn undo(&mut self)
+        requires { HasJustTaken self.old }
+        ensures before { PutsBack self.old self.new }
+        ensures progress { IsProgress self.old }
+    {
+        let _ = self.frame.pop();
+        self.state = State::Reading;
+    }
+
+    /// Whether a frame is begun and not whole.
+    pub fn pending(&self) -> bool
+        ensures { IsTrue result ↔ (rest_of self.now ≢ []) }
+    {
+        self.state == State::Reading && !self.frame.is_empty()
+    }
+}
+
+/// Takes what the frame that is begun still lacks.
+fn take_up(frame: &mut Vec<u8>, piece: &[u8]) -> Fed
+    requires begun { IsPartial frame.old.items }
+    requires room { MAX_FRAME ≤ vec_capacity frame.old }
+    ensures taken { IsFilled frame.old.items piece.now result frame.new.items }
+    ensures capacity { vec_capacity frame.old ≤ vec_capacity frame.new }
+{
+    let of_length = fill(frame, piece, LENGTH_BYTES);
+    if frame.len() < LENGTH_BYTES {
+        return Fed::More;
+    }
+    let size = u16::from_be_bytes([frame[0], frame[1]]) as usize;
+    if size == 0 || size > MAX_BODY {
+        return Fed::Malformed { taken: of_length };
+    }
+    let of_body = fill(frame, &piece[of_length..], LENGTH_BYTES + size);
+    if frame.len() < LENGTH_BYTES + size {
+        return Fed::More;
+    }
+    Fed::Body {
+        taken: of_length + of_body,
+    }
+}
+
+/// Takes from the front of a piece until the frame has `size` bytes or the piece ends, and answers
+/// how many bytes that were.
+fn fill(frame: &mut Vec<u8>, piece: &[u8], size: usize) -> usize
+    requires has { vec_len frame.old ≤ vec_capacity frame.old }
+    requires room { size ≤ vec_capacity frame.old }
+    ensures taken { result ≡ min (size - length frame.old.items) (length piece.now) }
+    ensures items { frame.new.items ≡ frame.old.items ++ take result piece.now }
+    ensures capacity { vec_capacity frame.old ≤ vec_capacity frame.new }
+{
+    let taken = size.saturating_sub(frame.len()).min(piece.len());
+    put(frame, &piece[..taken]);
+    taken
+}

@@ -1,0 +1,46 @@
+//! Frames between a client and the audit store.
+//!
+//! A frame is a length in two bytes and a body of that many bytes. A [`Decoder`] takes a byte stream
+//! in any pieces and hands out the bodies; [`read_request`] reads a body as a request, and
+//! [`write_reply`] writes the frame of a reply. Numbers are unsigned and big-endian.
+#![tactic(auto)]
+
+mod byte_list;
+mod decoder;
+mod fed;
+mod hash_list;
+mod laws;
+mod limits;
+mod malformed;
+mod reading;
+mod refusal;
+mod reply;
+mod reply_kind;
+mod request;
+mod request_kind;
+mod room;
+mod view;
+mod writing;
+
+pub use byte_list::ByteList;
+pub use decoder::Decoder;
+pub use fed::Fed;
+pub use hash_list::HashList;
+pub use laws::{
+    every_cut_gives_one_reading, every_request_is_read_back, more_bytes_keep_the_requests,
+    one_reading_of_a_stream,
+};
+pub use limits::{
+    LENGTH_BYTES, MAX_BODY, MAX_ENTRY, MAX_FRAME, MAX_INCREMENT_HASHES, MAX_MEMBER_HASHES,
+    MAX_PAYLOAD, RESERVED_KIND,
+};
+pub use malformed::Malformed;
+pub use reading::read_request;
+pub use refusal::Refusal;
+pub use reply::Reply;
+pub use request::Request;
+pub use view::RequestView;
+pub use writing::write_reply;
+
+#[cfg(test)]
+mod tests;

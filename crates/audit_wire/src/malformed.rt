@@ -1,0 +1,6 @@
+use thiserror::Error;
+
+/// The bytes are no request: refusal number 20.
+#[derive(Clone, Copy, Debug, PartialEq, Eq, Error)]
+#[error("malformed request")]
+pub struct Malformed;

@@ -1,0 +1,151 @@
+ghost use Rattle.std.specs.Prelude.{◌≡◌, ◌+◌, ◌≤◌, length, IfOk, Some};
+ghost use Rattle.std.specs.Int.{w32, w64};
+ghost use Rattle.audit_wire.specs.declared.request.Request.{Request};
+ghost use Rattle.audit_wire.specs.Request.{request_body, request_in, IsRequest, number_at, append_in, commitment_in, membership_in, incremental_in, entry_in};
+ghost use Rattle.audit_wire.specs.View.{request_shown, request_read};
+
+use crate::limits::{MAX_PAYLOAD, RESERVED_KIND};
+use crate::malformed::Malformed;
+use crate::request_kind::RequestKind;
+use crate::view::RequestView;
+
+// Where the fields stand behind a body's first byte: the request tag, then an append's kind and
+// payload, or one number or two.
+const TAG_AT: usize = 0;
+
+const KIND_AT: usize = 4;
+
+const PAYLOAD_AT: usize = 8;
+
+const FIRST_NUMBER_AT: usize = 4;
+
+const SECOND_NUMBER_AT: usize = 12;
+
+// How many bytes stand there where no number follows the tag, one, or two.
+const NO_NUMBER: usize = 4;
+
+const ONE_NUMBER: usize = 12;
+
+const TWO_NUMBERS: usize = 20;
+
+/// Reads the body of a frame as a request, and borrows an append's payload. Takes no memory.
+pub fn read_request(body: &[u8]) -> Result<RequestView<'_>, Malformed>
+    // What is read has this body.
+    ensures found { IfOk result (λ view. IsRequest (request_shown view) × (body.now ≡ request_body (request_shown view))) }
+    // The body of a request is read as that request.
+    ensures only { (request : Request) → IsRequest request → body.now ≡ request_body request → request_read result ≡ Some request }
+    // Each body is read by the grammar.
+    ensures exact { request_read result ≡ request_in body.now }
+{
+    read_by_kind(body)
+}
+
+#[tactic(auto, unfolding(crate::specs::Request::request_in))]
+fn read_by_kind(body: &[u8]) -> Result<RequestView<'_>, Malformed>
+    ensures { request_read result ≡ request_in body.now }
+{
+    let [first, fields @ ..] = body else {
+        return Err(Malformed);
+    };
+    let Some(kind) = RequestKind::from_byte(*first) else {
+        return Err(Malformed);
+    };
+    match kind {
+        RequestKind::Append => append_of(fields),
+        RequestKind::Commitment => commitment_of(fields),
+        RequestKind::Membership => membership_of(fields),
+        RequestKind::Incremental => incremental_of(fields),
+        RequestKind::Entry => entry_of(fields),
+    }
+}
+
+#[tactic(auto, unfolding(crate::specs::Request::append_in))]
+fn append_of(fields: &[u8]) -> Result<RequestView<'_>, Malformed>
+    ensures { request_read result ≡ append_in fields.now }
+{
+    if fields.len() < PAYLOAD_AT || fields.len() > PAYLOAD_AT + MAX_PAYLOAD {
+        return Err(Malformed);
+    }
+    let kind = u32_at(fields, KIND_AT);
+    if kind == RESERVED_KIND {
+        return Err(Malformed);
+    }
+    Ok(RequestView::Append {
+        tag: u32_at(fields, TAG_AT),
+        kind,
+        payload: &fields[PAYLOAD_AT..],
+    })
+}
+
+#[tactic(auto, unfolding(crate::specs::Request::commitment_in))]
+fn commitment_of(fields: &[u8]) -> Result<RequestView<'_>, Malformed>
+    ensures { request_read result ≡ commitment_in fields.now }
+{
+    if fields.len() != NO_NUMBER {
+        return Err(Malformed);
+    }
+    Ok(RequestView::Commitment {
+        tag: u32_at(fields, TAG_AT),
+    })
+}
+
+#[tactic(auto, unfolding(crate::specs::Request::membership_in))]
+fn membership_of(fields: &[u8]) -> Result<RequestView<'_>, Malformed>
+    ensures { request_read result ≡ membership_in fields.now }
+{
+    if fields.len() != TWO_NUMBERS {
+        return Err(Malformed);
+    }
+    Ok(RequestView::Membership {
+        tag: u32_at(fields, TAG_AT),
+        index: u64_at(fields, FIRST_NUMBER_AT),
+        count: u64_at(fields, SECOND_NUMBER_AT),
+    })
+}
+
+#[tactic(auto, unfolding(crate::specs::Request::incremental_in))]
+fn incremental_of(fields: &[u8]) -> Result<RequestView<'_>, Malformed>
+    ensures { request_read result ≡ incremental_in fields.now }
+{
+    if fields.len() != TWO_NUMBERS {
+        return Err(Malformed);
+    }
+    Ok(RequestView::Incremental {
+        tag: u32_at(fields, TAG_AT),
+        older: u64_at(fields, FIRST_NUMBER_AT),
+        newer: u64_at(fields, SECOND_NUMBER_AT),
+    })
+}
+
+#[tactic(auto, unfolding(crate::specs::Request::entry_in))]
+fn entry_of(fields: &[u8]) -> Result<RequestView<'_>, Malformed>
+    ensures { request_read result ≡ entry_in fields.now }
+{
+    if fields.len() != ONE_NUMBER {
+        return Err(Malformed);
+    }
+    Ok(RequestView::Entry {
+        tag: u32_at(fields, TAG_AT),
+        index: u64_at(fields, FIRST_NUMBER_AT),
+    })
+}
+
+/// The four bytes at a place, as a number.
+fn u32_at(fields: &[u8], place: usize) -> u32
+    requires { place + 4 ≤ length fields.now }
+    ensures { result ≡ number_at w32 place fields.now }
+{
+    let bytes = &fields[place..place + 4];
+    u32::from_be_bytes([bytes[0], bytes[1], bytes[2], bytes[3]])
+}
+
+/// The eight bytes at a place, as a number.
+fn u64_at(fields: &[u8], place: usize) -> u64
+    requires { place + 8 ≤ length fields.now }
+    ensures { result ≡ number_at w64 place fields.now }
+{
+    let bytes = &fields[place..place + 8];
+    u64::from_be_bytes([
+        bytes[0], bytes[1], bytes[2], bytes[3], bytes[4], bytes[5], bytes[6], bytes[7],
+    ])
+}

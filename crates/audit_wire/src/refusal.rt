@@ -1,0 +1,29 @@
+ghost use Rattle.std.specs.Prelude.{◌≡◌};
+
+/// Why a request was refused, by its code on the wire.
+#[derive(Clone, Copy, Debug, PartialEq, Eq)]
+pub enum Refusal {
+    /// An entry on the device is damaged.
+    DamagedLog = 4,
+    /// The event doesn't fit on the device.
+    Full = 7,
+    /// No such index or count.
+    NoSuchVersion = 8,
+    /// The generations of the device are used up.
+    Worn = 9,
+    /// The device failed.
+    Device = 11,
+    /// The bytes were no request.
+    Malformed = 20,
+}
+
+impl Refusal {
+    ghost use Rattle.audit_wire.specs.Reply.{refusal_code};
+
+    /// The code on the wire.
+    pub fn code(self) -> u8
+        ensures { result ≡ refusal_code self }
+    {
+        self as u8
+    }
+}

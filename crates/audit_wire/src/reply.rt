@@ -1,0 +1,42 @@
+use crate::byte_list::ByteList;
+use crate::hash_list::HashList;
+use crate::refusal::Refusal;
+
+/// The reply to a request, with the request's tag.
+#[derive(Debug, Drop)]
+pub enum Reply {
+    /// The event is in the log at `index`, and this is the log's commitment now.
+    Acknowledgement {
+        tag: u32,
+        index: u64,
+        count: u64,
+        root: [u8; 32],
+    },
+    /// The newest commitment.
+    Commitment {
+        tag: u32,
+        count: u64,
+        root: [u8; 32],
+    },
+    /// A membership proof and the entry that it is of.
+    Membership {
+        tag: u32,
+        hashes: HashList,
+        entry: ByteList,
+    },
+    /// An incremental proof.
+    Incremental {
+        tag: u32,
+        hashes: HashList,
+    },
+    /// An entry.
+    Entry {
+        tag: u32,
+        entry: ByteList,
+    },
+    /// The request was refused. A malformed one has no tag, and 0 stands for it.
+    Refused {
+        tag: u32,
+        refusal: Refusal,
+    },
+}

@@ -1,0 +1,33 @@
+use crate::byte_list::ByteList;
+
+/// A request of a client. `tag` is the client's own number, handed back in the reply.
+#[derive(Debug, Drop)]
+pub enum Request {
+    /// Append an event of this kind.
+    Append {
+        tag: u32,
+        kind: u32,
+        payload: ByteList,
+    },
+    /// The newest commitment.
+    Commitment {
+        tag: u32,
+    },
+    /// A membership proof of the entry `index` under `count`.
+    Membership {
+        tag: u32,
+        index: u64,
+        count: u64,
+    },
+    /// An incremental proof from count `older` to count `newer`.
+    Incremental {
+        tag: u32,
+        older: u64,
+        newer: u64,
+    },
+    /// The entry `index`.
+    Entry {
+        tag: u32,
+        index: u64,
+    },
+}

@@ -1,0 +1,29 @@
+ghost use Rattle.std.specs.Prelude.{◌≡◌};
+
+/// The kinds of requests. A body begins with its kind in one byte.
+#[derive(Clone, Copy, Debug, PartialEq, Eq)]
+pub(crate) enum RequestKind {
+    Append,
+    Commitment,
+    Membership,
+    Incremental,
+    Entry,
+}
+
+impl RequestKind {
+    ghost use Rattle.audit_wire.specs.Request.{kind_at};
+
+    /// The kind that a first byte stands for.
+    pub(crate) fn from_byte(byte: u8) -> Option<RequestKind>
+        ensures { result ≡ kind_at byte }
+    {
+        match byte {
+            1 => Some(RequestKind::Append),
+            2 => Some(RequestKind::Commitment),
+            3 => Some(RequestKind::Membership),
+            4 => Some(RequestKind::Incremental),
+            5 => Some(RequestKind::Entry),
+            _ => None,
+        }
+    }
+}

@@ -1,0 +1,61 @@
+ghost use Rattle.std.specs.Prelude.{◌≡◌, IfOk};
+
+use crate::byte_list::ByteList;
+use crate::request::Request;
+use std::alloc::{AllocError, Global};
+
+/// A request as it stands in a frame's body, whose payload it borrows. See [`Request`].
+#[derive(Clone, Copy, Debug, PartialEq, Eq)]
+pub enum RequestView<'a> {
+    Append {
+        tag: u32,
+        kind: u32,
+        payload: &'a [u8],
+    },
+    Commitment {
+        tag: u32,
+    },
+    Membership {
+        tag: u32,
+        index: u64,
+        count: u64,
+    },
+    Incremental {
+        tag: u32,
+        older: u64,
+        newer: u64,
+    },
+    Entry {
+        tag: u32,
+        index: u64,
+    },
+}
+
+impl<'a> RequestView<'a> {
+    ghost use Rattle.audit_wire.specs.View.{request_shown};
+
+    /// The request with a payload of its own. The only error is that memory is refused.
+    pub fn own(self, alloc: Global) -> Result<Request, AllocError>
+        ensures { IfOk result (λ request. request ≡ request_shown self.entry) }
+    {
+        Ok(match self {
+            RequestView::Append { tag, kind, payload } => Request::Append {
+                tag,
+                kind,
+                payload: ByteList::from_vec(Vec::from_slice(alloc, payload)?),
+            },
+            RequestView::Commitment { tag } => Request::Commitment { tag },
+            RequestView::Membership { tag, index, count } => Request::Membership {
+                tag,
+                index,
+                count,
+            },
+            RequestView::Incremental { tag, older, newer } => Request::Incremental {
+                tag,
+                older,
+                newer,
+            },
+            RequestView::Entry { tag, index } => Request::Entry { tag, index },
+        })
+    }
+}

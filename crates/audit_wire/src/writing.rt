@@ -1,0 +1,122 @@
+ghost use Rattle.std.specs.Prelude.{◌≡◌, ◌+◌, ◌^◌, ◌<◌, ◌≤◌, ◌∷◌, ◌++◌, length, IsOk, OnOk, OnErr, vec_len, vec_capacity};
+ghost use Rattle.std.specs.Int.{w32, to_be_bytes};
+ghost use Rattle.audit_wire.specs.Frame.{frame};
+ghost use Rattle.audit_wire.specs.Reply.{reply_body, reply_byte, hash_list, IsReply};
+
+use crate::hash_list::HashList;
+use crate::limits::LENGTH_BYTES;
+use crate::reply::Reply;
+use crate::reply_kind::ReplyKind;
+use crate::room::put;
+use std::alloc::{AllocError, Global};
+
+// A body begins with its kind in one byte and the request tag in four. An index or a count has
+// eight bytes; a number of hashes and a code have one.
+const HEAD: usize = 5;
+
+const NUMBER: usize = 8;
+
+/// Adds the frame of a reply to the end of `out`. The only error is that memory is refused, which
+/// leaves the bytes of `out` as they were.
+pub fn write_reply(_alloc: Global, reply: &Reply, out: &mut Vec<u8>) -> Result<(), AllocError>
+    requires { IsReply reply.now }
+    ensures ok { OnOk result (out.new.items ≡ out.old.items ++ frame (reply_body reply.now)) }
+    ensures err { OnErr result (out.new.items ≡ out.old.items) }
+    // Where there is room for the frame, none is asked for; and room is never given back.
+    ensures room { vec_len out.old + length (frame (reply_body reply.now)) ≤ vec_capacity out.old → IsOk result }
+    ensures capacity { vec_capacity out.old ≤ vec_capacity out.new }
+{
+    let size = body_size(reply);
+    out.reserve(LENGTH_BYTES + size)?;
+    put(out, &(size as u16).to_be_bytes());
+    put_body(out, reply);
+    Ok(())
+}
+
+/// How many bytes the body of a reply has.
+fn body_size(reply: &Reply) -> usize
+    requires { IsReply reply.now }
+    ensures size { result ≡ length (reply_body reply.now) }
+    ensures fits { result < 2 ^ 16 }
+{
+    match reply {
+        Reply::Acknowledgement { root, .. } => HEAD + 2 * NUMBER + hash_size(root),
+        Reply::Commitment { root, .. } => HEAD + NUMBER + hash_size(root),
+        Reply::Membership { hashes, entry, .. } => {
+            HEAD + 1 + hashes.as_bytes().len() + entry.as_slice().len()
+        }
+        Reply::Incremental { hashes, .. } => HEAD + 1 + hashes.as_bytes().len(),
+        Reply::Entry { entry, .. } => HEAD + entry.as_slice().len(),
+        Reply::Refused { .. } => HEAD + 1,
+    }
+}
+
+fn hash_size(hash: &[u8; 32]) -> usize
+    ensures value { result ≡ length hash.now }
+    ensures few { result ≤ 32 }
+{
+    hash.len()
+}
+
+/// Adds the body of a reply, for which there is room.
+fn put_body(out: &mut Vec<u8>, reply: &Reply)
+    requires reply { IsReply reply.now }
+    requires room { vec_len out.old + length (reply_body reply.now) ≤ vec_capacity out.old }
+    ensures items { out.new.items ≡ out.old.items ++ reply_body reply.now }
+    ensures capacity { vec_capacity out.old ≤ vec_capacity out.new }
+{
+    match reply {
+        Reply::Acknowledgement {
+            tag,
+            index,
+            count,
+            root,
+        } => {
+            put_head(out, ReplyKind::Acknowledgement, *tag);
+            put(out, &index.to_be_bytes());
+            put(out, &count.to_be_bytes());
+            put(out, root);
+        }
+        Reply::Commitment { tag, count, root } => {
+            put_head(out, ReplyKind::Commitment, *tag);
+            put(out, &count.to_be_bytes());
+            put(out, root);
+        }
+        Reply::Membership { tag, hashes, entry } => {
+            put_head(out, ReplyKind::Membership, *tag);
+            put_hashes(out, hashes);
+            put(out, entry.as_slice());
+        }
+        Reply::Incremental { tag, hashes } => {
+            put_head(out, ReplyKind::Incremental, *tag);
+            put_hashes(out, hashes);
+        }
+        Reply::Entry { tag, entry } => {
+            put_head(out, ReplyKind::Entry, *tag);
+            put(out, entry.as_slice());
+        }
+        Reply::Refused { tag, refusal } => {
+            put_head(out, ReplyKind::Refused, *tag);
+            put(out, &[refusal.code()]);
+        }
+    }
+}
+
+fn put_head(out: &mut Vec<u8>, kind: ReplyKind, tag: u32)
+    requires { vec_len out.old + 5 ≤ vec_capacity out.old }
+    ensures items { out.new.items ≡ out.old.items ++ reply_byte kind ∷ to_be_bytes w32 tag }
+    ensures capacity { vec_capacity out.old ≤ vec_capacity out.new }
+{
+    put(out, &[kind.byte()]);
+    put(out, &tag.to_be_bytes());
+}
+
+fn put_hashes(out: &mut Vec<u8>, hashes: &HashList)
+    requires few { length hashes.now < 2 ^ 8 }
+    requires room { vec_len out.old + length (hash_list hashes.now) ≤ vec_capacity out.old }
+    ensures items { out.new.items ≡ out.old.items ++ hash_list hashes.now }
+    ensures capacity { vec_capacity out.old ≤ vec_capacity out.new }
+{
+    put(out, &[hashes.as_slice().len() as u8]);
+    put(out, hashes.as_bytes());
+}
