@@ -1,0 +1,10 @@
+pub mod FirstLine
+pub mod Decimal
+pub mod Words
+pub mod EventLines
+pub mod KeyLine
+pub mod Scripts
+pub mod Refusals
+pub mod Taking
+pub mod Writing
+pub mod LogLines

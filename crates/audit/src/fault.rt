@@ -1,0 +1,119 @@
+use audit_chain::ChainError;
+use audit_tree::TreeError;
+use hex::FromHexError;
+use std::alloc::{AllocError, AllocFailed};
+use thiserror::Error;
+
+/// What is wrong with a line of a replay's input.
+#[derive(Clone, Copy, Debug, Drop, Error, PartialEq, Eq)]
+pub enum LineFault {
+    #[error("bad key line")]
+    BadKeyLine,
+    #[error("bad event line")]
+    BadEventLine,
+    /// The kind of the event is the reserved one.
+    #[error("reserved kind")]
+    ReservedKind,
+    /// The payload is longer than an event's may be.
+    #[error("payload too long")]
+    PayloadTooLong,
+}
+
+impl LineFault {
+    /// The words that are printed for it.
+    pub fn name(self) -> &'static str {
+        match self {
+            LineFault::BadKeyLine => "bad key line",
+            LineFault::BadEventLine => "bad event line",
+            LineFault::ReservedKind => "reserved kind",
+            LineFault::PayloadTooLong => "payload too long",
+        }
+    }
+}
+
+/// Why a line gave no event.
+#[derive(Clone, Copy, Debug, Drop, Error, PartialEq, Eq)]
+pub enum LineError {
+    #[error(transparent)]
+    Fault(LineFault),
+    #[error("out of memory")]
+    Memory,
+}
+
+impl From<FromHexError> for LineError {
+    ghost use Rattle.std.specs.Prelude.{◌≡◌};
+    ghost use Rattle.audit.specs.HexErrors.{error_of_hex};
+
+    ghost from_gives = { λ error given. given ≡ error_of_hex error };
+
+    fn from(error: FromHexError) -> Self {
+        match error {
+            FromHexError::OutOfMemory => LineError::Memory,
+            _ => LineError::Fault(LineFault::BadEventLine),
+        }
+    }
+}
+
+/// Why a replay stopped. After `InputTooLong`, `Line` and `Read` nothing was written. After `Write` and
+/// `Memory` nothing is said of how much went out.
+#[derive(Clone, Copy, Debug, Drop, Error, PartialEq, Eq)]
+pub enum ReplayFault {
+    /// The input is longer than `INPUT_LIMIT`.
+    #[error("input too long")]
+    InputTooLong,
+    /// The first bad line, counted from 1.
+    #[error("line {line}: {cause}")]
+    Line { line: u64, cause: LineFault },
+    #[error("the input can't be read")]
+    Read,
+    #[error("the output can't be written")]
+    Write,
+    #[error("out of memory")]
+    Memory,
+}
+
+impl From<AllocError> for ReplayFault {
+    ghost use Rattle.std.specs.Prelude.{◌≡◌};
+    ghost use Rattle.audit.specs.declared.fault.ReplayFault.TheVariants.{Memory};
+
+    ghost from_gives = { λ _ fault. fault ≡ Memory };
+
+    fn from(_: AllocError) -> Self {
+        ReplayFault::Memory
+    }
+}
+
+impl<T: Drop> From<AllocFailed<T>> for ReplayFault {
+    ghost use Rattle.std.specs.Prelude.{◌≡◌};
+    ghost use Rattle.audit.specs.declared.fault.ReplayFault.TheVariants.{Memory};
+
+    ghost from_gives = { λ _ fault. fault ≡ Memory };
+
+    fn from(_: AllocFailed<T>) -> Self {
+        ReplayFault::Memory
+    }
+}
+
+impl From<ChainError> for ReplayFault {
+    ghost use Rattle.std.specs.Prelude.{◌≡◌};
+    ghost use Rattle.audit.specs.declared.fault.ReplayFault.TheVariants.{Memory};
+
+    ghost from_gives = { λ _ fault. fault ≡ Memory };
+
+    // Sealing is refused for want of memory alone.
+    fn from(_: ChainError) -> Self {
+        ReplayFault::Memory
+    }
+}
+
+impl From<TreeError> for ReplayFault {
+    ghost use Rattle.std.specs.Prelude.{◌≡◌};
+    ghost use Rattle.audit.specs.declared.fault.ReplayFault.TheVariants.{Memory};
+
+    ghost from_gives = { λ _ fault. fault ≡ Memory };
+
+    // A log of a replay is never full, so that a push is refused for want of memory alone.
+    fn from(_: TreeError) -> Self {
+        ReplayFault::Memory
+    }
+}
