@@ -1,0 +1,46 @@
+use audit_wire::{Decoder, Fed, read_request};
+use std::rt::Clock;
+use std::time::Instant;
+
+// The pieces that a decoder is fed, in bytes.
+const PIECE_LEN: usize = 4096;
+
+// A body of an append: its byte, a tag, a kind and a payload of 100 bytes.
+const BODY_LEN: usize = 109;
+
+/// The time of so many appends of 100 bytes through a decoder, in pieces.
+pub fn measure(rt: &(impl Clock + Eprint + AllocGlobal), frames: u32) -> anyhow::Result<()> {
+    let mut stream = Vec::new(rt.alloc());
+    for _ in 0..frames {
+        stream.extend_from_slice(&[0, BODY_LEN as u8])?;
+        stream.extend_from_slice(&[1; BODY_LEN])?;
+    }
+    let start = Instant::now(rt)?;
+    let mut decoder = Decoder::new(rt.alloc())?;
+    let mut requests = 0u64;
+    for piece in stream.chunks(PIECE_LEN) {
+        requests = requests.saturating_add(feed(&mut decoder, piece));
+    }
+    let time = start.elapsed(rt)?.as_nanos();
+    let bytes = stream.len();
+    eprintln!(rt; "frames {requests} bytes {bytes} nanoseconds {time}")?;
+    Ok(())
+}
+
+// The number of good requests that end in the piece.
+fn feed(decoder: &mut Decoder, piece: &[u8]) -> u64 {
+    let mut requests = 0u64;
+    let mut rest = piece;
+    for _ in 0..piece.len() {
+        match decoder.feed(rest) {
+            Fed::Body { taken } => {
+                rest = rest.get(taken..).unwrap_or(&[]);
+                if read_request(decoder.body()).is_ok() {
+                    requests = requests.saturating_add(1);
+                }
+            }
+            Fed::More | Fed::Malformed { .. } => break,
+        }
+    }
+    requests
+}
