@@ -1,9 +1,10 @@
 use crate::{
-    DeviceFault, FailOnce, FileDisk, FileFault, Fuse, MemDisk, SECTOR_SIZE, Sectors, publish,
-    write_sectors,
+    DeviceFault, FailOnce, FileDisk, FileFault, Fuse, MemDisk, OsFile, SECTOR_SIZE, Sectors,
+    publish, write_sectors,
 };
 use std::env;
 use std::fs::{self, OpenOptions};
+use std::os::unix::fs::PermissionsExt;
 use std::process::Abort;
 use std::test::Fail;
 
@@ -295,5 +296,27 @@ fn a_real_file_keeps_its_sectors(rt: HostRuntime) -> Result<(), Fail> {
     fs::remove_file(&rt, path)?;
     assert_eq!(rt; FileDisk::open(&rt, path).err(), Some(FileFault::Io));
     assert_eq!(rt; FileDisk::open(&rt, "/").err(), Some(FileFault::Io));
+    Ok(())
+}
+
+// The gate runs the tests as a user whom the mode of a file binds; a superuser may write every file.
+#[test]
+fn a_file_that_may_only_be_read_takes_no_write(rt: HostRuntime) -> Result<(), Fail> {
+    let mut folder = env::temp_dir(&rt)?;
+    folder.push("audit_disk_read_only")?;
+    let path = folder.as_str();
+    let _ = fs::remove_file(&rt, path);
+    drop(FileDisk::create(&rt, path, 1)?);
+
+    let file = OpenOptions::new().read(true).open(&rt, path)?;
+    let mut disk = FileDisk::over(OsFile { file }, 1);
+    assert!(rt; !put(&rt, &mut disk, 0, b'x'));
+    assert_eq!(rt; (found(&rt, &mut disk, 0)?, disk.calls()), (0, 1));
+
+    fs::set_permissions(&rt, path, fs::Permissions::from_mode(0o444))?;
+    let writable = OpenOptions::new().write(true).open(&rt, path).is_ok();
+    let opened = FileDisk::open(&rt, path);
+    assert_eq!(rt; opened.err(), if writable { None } else { Some(FileFault::Io) });
+    fs::remove_file(&rt, path)?;
     Ok(())
 }
