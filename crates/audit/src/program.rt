@@ -65,8 +65,8 @@ fn explain<W: Write, M: Write>(error: &Error, output: &mut W, messages: &mut M) 
         let _ = write!(messages, "{error}");
         return Status::Usage;
     }
-    match write!(output, "{error}") {
-        Ok(()) => Status::Done,
-        Err(_) => refuse(ReplayFault::Write, messages),
+    if write!(output, "{error}").is_err() || output.flush().is_err() {
+        return refuse(ReplayFault::Write, messages);
     }
+    Status::Done
 }

@@ -1,7 +1,7 @@
 // What is printed is that of an independent model, which shares no code with the program.
 use crate::program::run;
 use crate::status::Status;
-use std::alloc::Global;
+use std::alloc::{AllocError, Global};
 use std::io::{self, ErrorKind, Read, Write};
 use std::process::Abort;
 use std::str;
@@ -192,6 +192,34 @@ fn an_input_of_the_limit_and_one_byte_more(rt: HostRuntime) {
     }
 }
 
+// 2,082 events of zeros with payloads of the limit, and one that fills an input up to its limit.
+#[test]
+fn a_log_of_the_longest_input(rt: HostRuntime) -> Result<(), Fail> {
+    let alloc = rt.alloc();
+    let mut input = Vec::from_slice(alloc, KEY_LINE.as_bytes())?;
+    for digits in [8048; 2082] {
+        push_event(alloc, &mut input, digits)?;
+    }
+    push_event(alloc, &mut input, 2464)?;
+    assert_eq!(rt; input.len(), 16_777_216);
+    let found = outcome_of(alloc, &["audit"], &mut input.as_slice());
+    assert_eq!(rt; found.status, Status::Done);
+    assert!(rt;
+        found.output.ends_with(
+            b"\ncommit 2083 39c237e4f860bd7153046ab2b236064f7d85158077aa61f75fa5e0423c9bad0c\n"
+        )
+    );
+    Ok(())
+}
+
+// A line of an event of kind 1 whose payload is zeros, spelled in so many digits.
+fn push_event(alloc: Global, input: &mut Vec<u8>, digits: usize) -> Result<(), AllocError> {
+    input.extend_from_slice(b"event 1 ")?;
+    input.extend_from_slice(&vec![in alloc; b'0'; digits]?)?;
+    input.push(b'\n')?;
+    Ok(())
+}
+
 #[test]
 fn a_reader_or_a_writer_that_fails(rt: HostRuntime) -> Result<(), Fail> {
     let alloc = rt.alloc();
@@ -209,31 +237,70 @@ fn a_reader_or_a_writer_that_fails(rt: HostRuntime) -> Result<(), Fail> {
         assert_eq!(rt; found.output.len(), 0);
         assert_eq!(rt; found.status, Status::Device);
     }
-    for room in [0, 1, 100, 154, 155, 200] {
-        let mut messages = Vec::new(alloc);
-        let mut output = FailingWriter { room };
-        let status = run(
-            alloc,
-            &["audit"],
-            &mut text.as_bytes(),
-            &mut output,
-            &mut messages,
+    // The first line has 157 bytes, and both together 231.
+    for room in [0, 1, 100, 156, 157, 158, 230, 231] {
+        let mut output = FailingWriter {
+            room,
+            flushes: true,
+        };
+        let status = status_over(&rt, alloc, &["audit"], text.as_bytes(), &mut output);
+        assert_eq!(rt;
+            status,
+            if room < 231 {
+                Status::Device
+            } else {
+                Status::Done
+            }
         );
-        assert_eq!(rt; messages.as_slice(), b"audit: file fault\n".as_slice());
+    }
+    for words in [["audit", "replay"], ["audit", "--help"]] {
+        let mut output = FailingWriter {
+            room: usize::MAX,
+            flushes: false,
+        };
+        let status = status_over(&rt, alloc, &words, text.as_bytes(), &mut output);
         assert_eq!(rt; status, Status::Device);
     }
     Ok(())
+}
+
+// The status of a run that tells a fault of its output, or nothing.
+fn status_over(
+    rt: &impl Abort,
+    alloc: Global,
+    words: &[&str],
+    input: &[u8],
+    output: &mut FailingWriter,
+) -> Status {
+    let mut input = input;
+    let mut messages = Vec::new(alloc);
+    let status = run(alloc, words, &mut input, output, &mut messages);
+    let told = if status == Status::Done {
+        b"".as_slice()
+    } else {
+        b"audit: file fault\n".as_slice()
+    };
+    assert_eq!(rt; messages.as_slice(), told);
+    status
+}
+
+fn tells(output: &[u8], words: &str) -> bool {
+    match str::from_utf8(output) {
+        Ok(text) => text.contains(words),
+        Err(_) => false,
+    }
 }
 
 #[test]
 fn help_and_usage(rt: HostRuntime) {
     let help = outcome_of(rt.alloc(), &["audit", "--help"], &mut b"".as_slice());
     assert_eq!(rt; help.status, Status::Done);
-    assert!(rt; !help.output.is_empty() && help.messages.is_empty());
+    assert!(rt; tells(&help.output, "Usage: audit") && tells(&help.output, "replay"));
+    assert!(rt; help.messages.is_empty());
     for words in [["audit", "repaly"], ["audit", "--fast"]] {
         let usage = outcome_of(rt.alloc(), &words, &mut b"".as_slice());
         assert_eq!(rt; usage.status, Status::Usage);
-        assert!(rt; usage.output.is_empty() && !usage.messages.is_empty());
+        assert!(rt; usage.output.is_empty() && tells(&usage.messages, "Usage: audit"));
     }
     let codes = [
         Status::Done,
@@ -288,10 +355,11 @@ impl Read for FailingReader<'_> {
     }
 }
 
-// A writer that takes so many bytes, and then fails.
+// A writer that takes so many bytes, and then fails; it may fail to flush them.
 #[derive(Drop)]
 struct FailingWriter {
     room: usize,
+    flushes: bool,
 }
 
 impl Write for FailingWriter {
@@ -305,6 +373,10 @@ impl Write for FailingWriter {
     }
 
     fn flush(&mut self) -> io::Result<()> {
-        Ok(())
+        if self.flushes {
+            Ok(())
+        } else {
+            Err(io::Error::from(ErrorKind::Other))
+        }
     }
 }

@@ -14,6 +14,14 @@ request_shown (view.Membership tag index count) = request.Membership tag index c
 request_shown (view.Incremental tag older newer) = request.Incremental tag older newer
 request_shown (view.Entry tag index) = request.Entry tag index
 
+-- a request that has no payload
+abbrev pub IsQuery : RequestView → Type 0
+IsQuery (view.Append tag kind payload) = ⊥
+IsQuery (view.Commitment tag) = Unit {0}
+IsQuery (view.Membership tag index count) = Unit {0}
+IsQuery (view.Incremental tag older newer) = Unit {0}
+IsQuery (view.Entry tag index) = Unit {0}
+
 -- the request that was read, if one was
 abbrev pub request_read : Result RequestView Malformed → Option Request
 request_read (Ok view) = Some (request_shown view)

@@ -74,21 +74,39 @@ fn requests_are_read_whole_cut_anywhere_and_byte_by_byte(rt: HostRuntime) -> Res
     Ok(())
 }
 
-#[test]
-fn an_owned_append_has_its_payload(rt: HostRuntime) -> Result<(), Fail> {
-    let view = RequestView::Append {
-        tag: 7,
-        kind: 1,
-        payload: b"hi",
-    };
-    match view.own(rt.alloc())? {
-        Request::Append { tag, kind, payload } => {
-            assert_eq!(rt; (tag, kind), (7, 1));
-            assert_eq!(rt; payload.as_slice(), b"hi".as_slice());
-            assert_eq!(rt; payload.into_vec().as_slice(), b"hi".as_slice());
-        }
-        _ => assert!(rt; false, "an append"),
+// The view that an owned request gives again.
+fn view_of(request: &Request) -> RequestView<'_> {
+    match request {
+        Request::Append { tag, kind, payload } => RequestView::Append {
+            tag: *tag,
+            kind: *kind,
+            payload: payload.as_slice(),
+        },
+        Request::Commitment { tag } => RequestView::Commitment { tag: *tag },
+        Request::Membership { tag, index, count } => RequestView::Membership {
+            tag: *tag,
+            index: *index,
+            count: *count,
+        },
+        Request::Incremental { tag, older, newer } => RequestView::Incremental {
+            tag: *tag,
+            older: *older,
+            newer: *newer,
+        },
+        Request::Entry { tag, index } => RequestView::Entry {
+            tag: *tag,
+            index: *index,
+        },
     }
+}
+
+#[test]
+fn an_owned_request_is_what_its_view_shows(rt: HostRuntime) -> Result<(), Fail> {
+    for (_, request) in &REQUESTS {
+        assert_eq!(rt; view_of(&request.own(rt.alloc())?), *request);
+    }
+    let payload = ByteList::from_vec(Vec::from_slice(rt.alloc(), b"hi")?);
+    assert_eq!(rt; payload.into_vec().as_slice(), b"hi".as_slice());
     let hashes = HashList::from_vec(Vec::from_slice(rt.alloc(), &[ROOT])?);
     assert_eq!(rt; hashes.as_slice(), [ROOT].as_slice());
     assert_eq!(rt; hashes.into_vec().len(), 1);
@@ -255,16 +273,64 @@ fn replies_have_the_bytes_of_the_formats(rt: HostRuntime) -> Result<(), Fail> {
         root: [0; 32],
     };
     check_reply(&rt, alloc, &commitment, &EMPTY_COMMITMENT)?;
-    let refused = Reply::Refused {
-        tag: 0,
-        refusal: Refusal::Malformed,
+    for (tag, refusal, code) in [
+        (0, Refusal::Malformed, 20),
+        (2, Refusal::Full, 7),
+        (3, Refusal::DamagedLog, 4),
+        (4, Refusal::NoSuchVersion, 8),
+        (5, Refusal::Worn, 9),
+        (6, Refusal::Device, 11),
+    ] {
+        let frame = [0x00, 0x06, 0xff, 0x00, 0x00, 0x00, tag, code];
+        let refused = Reply::Refused {
+            tag: u32::from(tag),
+            refusal,
+        };
+        check_reply(&rt, alloc, &refused, &frame)?;
+    }
+    Ok(())
+}
+
+// A reply of the greatest length of its kind.
+fn check_longest(
+    rt: &impl Abort,
+    alloc: Global,
+    reply: &Reply,
+    len: usize,
+    begins: &[u8],
+) -> Result<(), AllocError>
+    requires { IsReply reply.now }
+{
+    let mut out = Vec::new(alloc);
+    write_reply(alloc, reply, &mut out)?;
+    assert_eq!(rt; out.len(), len);
+    assert!(rt; out.starts_with(begins) && out.ends_with(&[7; 32]));
+    Ok(())
+}
+
+#[test]
+fn the_longest_replies(rt: HostRuntime) -> Result<(), Fail> {
+    let alloc = rt.alloc();
+    let hashes = Vec::from_slice(alloc, &[[7; 32]; 25])?;
+    let increment = Reply::Incremental {
+        tag: 6,
+        hashes: HashList::from_vec(hashes),
     };
-    check_reply(&rt, alloc, &refused, &MALFORMED)?;
-    let full = Reply::Refused {
-        tag: 2,
-        refusal: Refusal::Full,
+    let begins = [0x03, 0x26, 0x84, 0x00, 0x00, 0x00, 0x06, 25];
+    check_longest(&rt, alloc, &increment, 808, &begins)?;
+    let membership = Reply::Membership {
+        tag: 5,
+        hashes: HashList::from_vec(Vec::from_slice(alloc, &[[7; 32]; 24])?),
+        entry: ByteList::from_vec(vec![in alloc; 7; 4096]?),
     };
-    check_reply(&rt, alloc, &full, &FULL)?;
+    let begins = [0x13, 0x06, 0x83, 0x00, 0x00, 0x00, 0x05, 24];
+    check_longest(&rt, alloc, &membership, 4872, &begins)?;
+    let entry = Reply::Entry {
+        tag: 4,
+        entry: ByteList::from_vec(vec![in alloc; 7; 4096]?),
+    };
+    let begins = [0x10, 0x05, 0x85, 0x00, 0x00, 0x00, 0x04, 7];
+    check_longest(&rt, alloc, &entry, 4103, &begins)?;
     Ok(())
 }
 

@@ -1,4 +1,4 @@
-ghost use Rattle.std.specs.Prelude.{◌≡◌, IfOk};
+ghost use Rattle.std.specs.Prelude.{◌≡◌, IfOk, IsOk};
 
 use crate::byte_list::ByteList;
 use crate::request::Request;
@@ -32,11 +32,12 @@ pub enum RequestView<'a> {
 }
 
 impl<'a> RequestView<'a> {
-    ghost use Rattle.audit_wire.specs.View.{request_shown};
+    ghost use Rattle.audit_wire.specs.View.{request_shown, IsQuery};
 
-    /// The request with a payload of its own. The only error is that memory is refused.
+    /// The request with a payload of its own. The only error is that memory is refused for a payload.
     pub fn own(self, alloc: Global) -> Result<Request, AllocError>
-        ensures { IfOk result (λ request. request ≡ request_shown self.entry) }
+        ensures shown { IfOk result (λ request. request ≡ request_shown self.entry) }
+        ensures query { IsQuery self.entry → IsOk result }
     {
         Ok(match self {
             RequestView::Append { tag, kind, payload } => Request::Append {
