@@ -1,7 +1,7 @@
 -- Siblings and the way up.
 use Rattle.std.proofs.Common.{◌≡◌, ◌≢◌, ℕ, zero, suc, ◌+◌, ◌-◌, ◌*◌, ◌/◌, ◌%◌, ◌^◌, ◌<◌, ◌≤◌, List, [], ◌∷◌, ◌++◌, length, take, drop, refl, sym, ap, ◌∙◌, arith, inl, inr, length-drop, length-take, add-suc, add-one}
 use Rattle.std.proofs.lemmas.Bool.{eq-eqb, ne_eqb, cases_eq, cases_lt}
-use Rattle.std.proofs.lemmas.List.{drop-drop, append-nil}
+use Rattle.std.proofs.lemmas.List.{drop-drop, append-nil, length-append}
 use Rattle.std.proofs.lemmas.Nat.{shr-shr, shr_split, pow_pos, mod_below}
 use Rattle.std.proofs.Math.Nat.{pow-suc, mod-eq_of_lt, mul-mod_left, div-eq_of_lt, zero-mul}
 use Rattle.audit_tree.specs.Subtree.{subtree_hash, node_at}
@@ -63,6 +63,29 @@ module _ (H : List ℕ → List ℕ) (leaves : List (List ℕ)) (count place : �
   sibling_at-right layer even more =
       rw (ne_eqb (place / 2 ^ layer % 2) 1 even)
       (cond-lt (start_of place layer + 2 ^ layer) count _ _ more)
+
+  -- a layer has at most one
+  pub sibling_at-few : (layer : ℕ) → length (sibling_at H leaves count place layer) ≤ 1
+  sibling_at-few layer =
+      elim (cases_eq (place / 2 ^ layer % 2) 1) [
+        | inl odd ↦ omega (arith, ap length (sibling_at-left layer odd))
+        | inr even ↦ elim (cases_lt (start_of place layer + 2 ^ layer) count) [
+          | inl more ↦ omega (arith, ap length (sibling_at-right layer even more))
+          | inr last ↦ omega (arith, ap length (sibling_at-none layer even last))
+        ]
+      ]
+
+  -- so many layers have at most as many
+  pub siblings_at-few : (from height : ℕ) → length (siblings_at H leaves count place from height) ≤ height
+  unfolding siblings_at
+  siblings_at-few from zero = omega arith
+  siblings_at-few from (suc height) =
+      omega (
+        arith,
+        siblings_at-few from height,
+        sibling_at-few (from + height),
+        length-append (siblings_at H leaves count place from height) (sibling_at H leaves count place (from + height)),
+      )
 
 module _ (H : List ℕ → List ℕ) (from : ℕ) where
   pub path-none : (place : ℕ) (leaves : List (List ℕ)) → path H from 0 place leaves ≡ []
