@@ -40,45 +40,75 @@ fn counted_tree(alloc: Global, count: u8) -> Result<Tree, TreeError> {
     Ok(tree)
 }
 
+// The tree's count, and its root over so many leaves of the sample.
+fn assert_sample_root(rt: &impl Abort, alloc: Global, tree: &Tree, count: u64) -> Result<(), Fail> {
+    let expected = match count {
+        0 => "0000000000000000000000000000000000000000000000000000000000000000",
+        1 => "6e340b9cffb37a989ca544e6bb780a2c78901d3fb33738768511a30617afa01d",
+        2 => "fac54203e7cc696cf0dfcb42c92a1d9dbaf70ad9e621f4bd8d98662f00e3c125",
+        3 => "8ce927e8575c4251922503a589ad2fa22b2b56370dde793885e5d7c7baefc6b5",
+        _ => "d37ee418976dd95753c1c73862b9398fa2a2cf9b4ff0fdfe8b30cd95209614b7",
+    };
+    assert_eq!(rt; tree.count(), count);
+    assert_hex(rt, alloc, &tree.root(), expected)
+}
+
+// The digests of a list, in turn.
+fn assert_hex_list(
+    rt: &impl Abort,
+    alloc: Global,
+    hashes: &[Hash],
+    expected: &str,
+) -> Result<(), Fail> {
+    let mut text = String::new(alloc);
+    for hash in hashes {
+        text.push_str(hex(alloc, hash)?.as_str())?;
+    }
+    assert_eq!(rt; text.as_str(), expected);
+    Ok(())
+}
+
 #[test]
-fn roots_of_the_sample_tree(rt: HostRuntime) -> Result<(), Fail> {
+fn hashes_of_the_sample_tree(rt: HostRuntime) -> Result<(), Fail> {
     let mut tree = Tree::new(rt.alloc());
-    assert_eq!(&rt; tree.count(), 0);
-    assert_hex(
-        &rt,
-        rt.alloc(),
-        &tree.root(),
-        "0000000000000000000000000000000000000000000000000000000000000000",
-    )?;
+    assert_sample_root(&rt, rt.alloc(), &tree, 0)?;
     tree.push(leaf_hash(b""))?;
-    assert_hex(
-        &rt,
-        rt.alloc(),
-        &tree.root(),
-        "6e340b9cffb37a989ca544e6bb780a2c78901d3fb33738768511a30617afa01d",
-    )?;
+    assert_sample_root(&rt, rt.alloc(), &tree, 1)?;
     tree.push(leaf_hash(&[0x00]))?;
-    assert_hex(
-        &rt,
-        rt.alloc(),
-        &tree.root(),
-        "fac54203e7cc696cf0dfcb42c92a1d9dbaf70ad9e621f4bd8d98662f00e3c125",
-    )?;
+    assert_sample_root(&rt, rt.alloc(), &tree, 2)?;
     tree.push(leaf_hash(&[0x10]))?;
-    assert_hex(
-        &rt,
-        rt.alloc(),
-        &tree.root(),
-        "8ce927e8575c4251922503a589ad2fa22b2b56370dde793885e5d7c7baefc6b5",
-    )?;
+    assert_sample_root(&rt, rt.alloc(), &tree, 3)?;
     tree.push(leaf_hash(&[0x20, 0x21]))?;
-    assert_eq!(&rt; tree.count(), 4);
-    assert_hex(
+    assert_sample_root(&rt, rt.alloc(), &tree, 4)?;
+    assert_hex_list(
         &rt,
         rt.alloc(),
-        &tree.root(),
-        "d37ee418976dd95753c1c73862b9398fa2a2cf9b4ff0fdfe8b30cd95209614b7",
+        &tree.membership(0, 4)?,
+        "96a296d224f285c67bee93c30f8a309157f0daa35dc5b87e410b78630a09cfc7\
+         5f083f0a1a33ca076a95279832580db3e0ef4584bdff1f54c8a360f50de3031e",
     )?;
+    assert_hex_list(
+        &rt,
+        rt.alloc(),
+        &tree.incremental(2, 4)?,
+        "fac54203e7cc696cf0dfcb42c92a1d9dbaf70ad9e621f4bd8d98662f00e3c125\
+         5f083f0a1a33ca076a95279832580db3e0ef4584bdff1f54c8a360f50de3031e",
+    )?;
+    Ok(())
+}
+
+#[test]
+fn reserved_room_takes_the_sample(rt: HostRuntime) -> Result<(), Fail> {
+    let mut tree = Tree::new(rt.alloc());
+    tree.reserve(4)?;
+    tree.push_reserved(leaf_hash(b""));
+    assert_sample_root(&rt, rt.alloc(), &tree, 1)?;
+    tree.push_reserved(leaf_hash(&[0x00]));
+    assert_sample_root(&rt, rt.alloc(), &tree, 2)?;
+    tree.push_reserved(leaf_hash(&[0x10]));
+    assert_sample_root(&rt, rt.alloc(), &tree, 3)?;
+    tree.push_reserved(leaf_hash(&[0x20, 0x21]));
+    assert_sample_root(&rt, rt.alloc(), &tree, 4)?;
     Ok(())
 }
 
@@ -210,6 +240,33 @@ fn all_counts_to_33_match_the_definitions(rt: HostRuntime) -> Result<(), Fail> {
     Ok(())
 }
 
+// The memberships under the count of these first leaves, and the increments to it.
+fn assert_plain_proofs(
+    rt: &impl Abort,
+    alloc: Global,
+    tree: &Tree,
+    first: &[Hash],
+) -> Result<(), Fail> {
+    let count = first.len();
+    if 64 < count {
+        return Err("too many leaves".into());
+    }
+    for index in 0..count {
+        let path = plain::membership(alloc, first, index)?;
+        assert_eq!(rt;
+            tree.membership(index as u64, count as u64)?.as_slice(),
+            path.as_slice()
+        );
+        let older = index + 1;
+        let path = plain::increment(alloc, first, older)?;
+        assert_eq!(rt;
+            tree.incremental(older as u64, count as u64)?.as_slice(),
+            path.as_slice()
+        );
+    }
+    Ok(())
+}
+
 #[test]
 fn all_counts_to_33_match_the_plain_program(rt: HostRuntime) -> Result<(), Fail> {
     let mut tree = Tree::new(rt.alloc());
@@ -219,22 +276,22 @@ fn all_counts_to_33_match_the_plain_program(rt: HostRuntime) -> Result<(), Fail>
         let leaf = leaf_hash(&[place]);
         tree.push(leaf)?;
         leaves.push(leaf)?;
-        let count = leaves.len();
-        if 64 < count {
+        if 64 < leaves.len() {
             return Err("too many leaves".into());
         }
         assert_eq!(&rt; tree.root(), plain::root(&leaves));
-        let depth = depths::depth_of(count as u64);
-        if 32 < depth {
-            return Err("too deep".into());
-        }
-        for index in 0..count {
-            let path = plain::siblings(rt.alloc(), &leaves, 0, depth, index)?;
-            assert_eq!(&rt;
-                tree.membership(index as u64, count as u64)?.as_slice(),
-                path.as_slice()
-            );
-        }
+        assert_plain_proofs(&rt, rt.alloc(), &tree, &leaves)?;
+    }
+    Ok(())
+}
+
+#[test]
+fn older_counts_match_the_plain_program(rt: HostRuntime) -> Result<(), Fail> {
+    let tree = counted_tree(rt.alloc(), 33)?;
+    let mut leaves = Vec::new(rt.alloc());
+    for place in 0..33u8 {
+        leaves.push(leaf_hash(&[place]))?;
+        assert_plain_proofs(&rt, rt.alloc(), &tree, &leaves)?;
     }
     Ok(())
 }

@@ -3,7 +3,7 @@
 ghost use Rattle.std.specs.Prelude.{◌≡◌, ◌+◌, ◌^◌, ◌<◌, ◌≤◌, length, drop, IfOk};
 ghost use Rattle.sha2.specs.Sha256.{sha256};
 ghost use Rattle.audit_tree.specs.Subtree.{subtree_hash, root_of};
-ghost use Rattle.audit_tree.specs.Paths.{path};
+ghost use Rattle.audit_tree.specs.Paths.{path, membership_path, increment_path};
 
 use crate::depths::depth_of;
 use crate::hashes::{Hash, lone_hash, pair_hash};
@@ -79,5 +79,29 @@ pub fn siblings(
     if half < leaves.len() {
         hashes.push(node(right_side(leaves, below), below))?;
     }
+    Ok(hashes)
+}
+
+// The membership proof of a leaf under the count of these leaves.
+pub fn membership(alloc: Global, leaves: &[Hash], leaf: usize) -> Result<Vec<Hash>, AllocError>
+    requires leaf { leaf < length leaves.now }
+    requires few { length leaves.now ≤ 64 }
+    ensures { IfOk result (λ hashes. hashes.items ≡ membership_path sha256 leaves.now leaf) }
+{
+    siblings(alloc, leaves, 0, depth_of(leaves.len() as u64), leaf)
+}
+
+// The incremental proof from an older count to that of these leaves.
+pub fn increment(alloc: Global, leaves: &[Hash], older: usize) -> Result<Vec<Hash>, AllocError>
+    requires some { 0 < older }
+    requires known { older ≤ length leaves.now }
+    requires few { length leaves.now ≤ 64 }
+    ensures { IfOk result (λ hashes. hashes.items ≡ increment_path sha256 leaves.now older) }
+{
+    let layer = older.trailing_zeros();
+    let height = depth_of(leaves.len() as u64) - layer;
+    let last = &leaves[older - (1 << layer)..];
+    let mut hashes = siblings(alloc, leaves, layer, height, older - 1)?;
+    hashes.insert(0, node(last, layer))?;
     Ok(hashes)
 }
