@@ -4,7 +4,7 @@ use Rattle.std.proofs.lemmas.List.{length-map}
 use Rattle.audit_disk.specs.Image.{Sector, Image}
 use Rattle.audit_disk.specs.Held.{Held, settled, content_of, bytes_of, IsImageOf, crashed}
 use Rattle.audit_disk.specs.Memory.{after_calls, held_at}
-use Rattle.audit_disk.specs.MemDisk.{disk_view, disk_held, IsFresh, IsEachPicked}
+use Rattle.audit_disk.specs.MemDisk.{disk_view, disk_held, IsFresh, HoldsOnly, IsEachPicked}
 use Rattle.audit_disk.specs.declared.block.Block.{Block}
 use Rattle.audit_disk.specs.declared.call.Call.{Call}
 use Rattle.audit_disk.specs.declared.call_log.CallLog.{CallLog}
@@ -43,6 +43,9 @@ fresh start content log current sized same none clock failures = record {
         settled_image start other (subst (λ (calls : List Call). IsImageOf (held_at start calls log.clock) other) none left) ∙ ap bytes_of same;
   };
 }
+
+pub fresh_held : (start content : List Block) (log : CallLog) → start ≡ content → log.calls.items ≡ [] → HoldsOnly (after_calls log.calls.items (map settled start)) (bytes_of content)
+fresh_held start content log same none = (start, ap (λ (calls : List Call). after_calls calls (map settled start)) none, ap bytes_of same)
 
 -- the image of each pick may be left, and each image that may be left is that of some pick
 pub crash_image : (disk : MemDisk) (pick : List ℕ) → (disk_view disk).left_at disk.log.clock (crashed (disk_held disk) pick)

@@ -5,13 +5,15 @@ use Rattle.std.proofs.lemmas.List.{map-set, length-map, get_or-map}
 use Rattle.audit_disk.specs.Image.{Sector}
 use Rattle.audit_disk.specs.View.{View, last_count}
 use Rattle.audit_disk.specs.Calls.{Outcome, IsRead, IsWrite, IsSync}
-use Rattle.audit_disk.specs.Held.{Held, settled, content_of, bytes_of}
+use Rattle.audit_disk.specs.Held.{Held, settled, content_of, bytes_of, after_write, after_sync}
 use Rattle.audit_disk.specs.Memory.{after_calls, memory_view, length-after_calls}
 use Rattle.audit_disk.specs.CallLog.{Notes, Refuses}
+use Rattle.audit_disk.specs.MemDisk.{HoldsWrite, HoldsSync}
 use Rattle.audit_disk.specs.declared.block.Block.{Block}
 use Rattle.audit_disk.specs.declared.call.Call.{Call}
 use Rattle.audit_disk.specs.declared.call.Effect.TheVariants.{Write, Sync}
 use Rattle.audit_disk.specs.declared.call_log.CallLog.{CallLog}
+use Rattle.audit_disk.proofs.MemoryLemmas.{after_calls-append}
 use Rattle.audit_disk.proofs.MemoryCalls.{IsCurrent, current_after_write, current_after_sync, read_done, write_done, write_failed, sync_done, sync_failed}
 
 length-content_of : (held : List Held) → length (content_of held) ≡ length held
@@ -85,3 +87,29 @@ module _ (start content : List Block) (log : CallLog) (current : IsCurrent start
     sync_refused (Err fault) failed refuses current' sized' =
         sync_failed start (bytes_of content) (bytes_of content) log.calls.items log'.calls.items log.clock log'.clock log.failures log'.failures current current' log.stamped log'.stamped sized sized'
         refuses.calls (later refuses) refuses.more refl refuses.clock refuses.failures fault
+
+-- what the sectors hold after a call, by the record of calls
+module _ (start : List Block) (log log' : CallLog) where
+  abbrev pub held_by : CallLog → List Held
+  held_by kept = after_calls kept.calls.items (map settled start)
+
+  pub held_written : (at : ℕ) (block : Block) → Notes log log' (Write at block) → held_by log' ≡ after_write (held_by log) at block
+  held_written at block notes =
+      ap (λ (calls : List Call). after_calls calls (map settled start)) notes.calls
+      ∙ after_calls-append log.calls.items (record { moment = log'.clock; effect = Write at block } ∷ []) (map settled start)
+
+  pub held_synced : Notes log log' Sync → held_by log' ≡ after_sync (held_by log)
+  held_synced notes =
+      ap (λ (calls : List Call). after_calls calls (map settled start)) notes.calls
+      ∙ after_calls-append log.calls.items (record { moment = log'.clock; effect = Sync } ∷ []) (map settled start)
+
+  held_refused : Refuses log log' → held_by log' ≡ held_by log
+  held_refused refuses = ap (λ (calls : List Call). after_calls calls (map settled start)) refuses.calls
+
+  pub refused_write : (at : ℕ) (bytes : Sector) (result : Outcome) → IsErr result → Refuses log log' → HoldsWrite (held_by log) (held_by log') at bytes result
+  refused_write at bytes (Ok done) failed refuses = absurd (false≢true failed)
+  refused_write at bytes (Err fault) failed refuses = held_refused refuses
+
+  pub refused_sync : (result : Outcome) → IsErr result → Refuses log log' → HoldsSync (held_by log) (held_by log') result
+  refused_sync (Ok done) failed refuses = absurd (false≢true failed)
+  refused_sync (Err fault) failed refuses = held_refused refuses

@@ -1,10 +1,12 @@
 -- What a device in memory shows.
-use Rattle.std.specs.Prelude.{◌≡◌, ℕ, List, map, length, ◌≤◌, [], ◌∷◌}
-use Rattle.audit_disk.specs.Image.{Image}
+use Rattle.std.specs.Prelude.{◌≡◌, ℕ, List, map, length, ◌≤◌, [], ◌∷◌, MatchResult}
+use Rattle.audit_disk.specs.Image.{Sector, Image}
 use Rattle.audit_disk.specs.View.{View}
+use Rattle.audit_disk.specs.Calls.{Outcome}
 use Rattle.audit_disk.specs.Moments.{IsSettled}
-use Rattle.audit_disk.specs.Held.{Held, settled, bytes_of, crashed}
+use Rattle.audit_disk.specs.Held.{Held, settled, bytes_of, crashed, after_write, after_sync}
 use Rattle.audit_disk.specs.Memory.{after_calls, memory_view}
+use Rattle.audit_disk.specs.declared.block.Block.{Block}
 use Rattle.audit_disk.specs.declared.mem_disk.MemDisk.{MemDisk}
 
 -- everything that is known of it as a device
@@ -14,6 +16,18 @@ disk_view disk = memory_view disk.start.items (bytes_of disk.content.items) disk
 -- what its sectors hold
 abbrev pub disk_held : MemDisk → List Held
 disk_held disk = after_calls disk.log.calls.items (map settled disk.start.items)
+
+-- the sectors hold this image, and nothing was written to them since
+abbrev pub HoldsOnly : List Held → Image → Type 0
+HoldsOnly held image = (blocks : List Block) × (held ≡ map settled blocks) × (bytes_of blocks ≡ image)
+
+-- a write that succeeded added these bytes to what its sector holds, and one that failed added nothing
+abbrev pub HoldsWrite : List Held → List Held → ℕ → Sector → Outcome → Type 0
+HoldsWrite old new at bytes result = MatchResult result (λ _. (block : Block) × (block.bytes ≡ bytes) × (new ≡ after_write old at block)) (λ _. new ≡ old)
+
+-- a sync that succeeded left each sector its last content alone, and one that failed left all
+abbrev pub HoldsSync : List Held → List Held → Outcome → Type 0
+HoldsSync old new result = MatchResult result (λ _. new ≡ after_sync old) (λ _. new ≡ old)
 
 -- an honest device with this content, all of it synced, of which no call was made
 pub record IsFresh (view : View) (image : Image) : Type 0 where

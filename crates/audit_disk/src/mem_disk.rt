@@ -22,8 +22,8 @@ pub struct MemDisk {
 
 impl Sectors for MemDisk {
     ghost use Rattle.std.specs.Prelude.{IsOk};
-    ghost use Rattle.audit_disk.specs.Calls.{IsRead};
-    ghost use Rattle.audit_disk.specs.MemDisk.{disk_view};
+    ghost use Rattle.audit_disk.specs.Calls.{IsRead, IsWrite, IsSync};
+    ghost use Rattle.audit_disk.specs.MemDisk.{disk_view, disk_held, HoldsWrite, HoldsSync};
 
     ghost view = { λ disk. memory_view disk.start.items (bytes_of disk.content.items) disk.log.calls.items disk.log.clock disk.log.failures disk.current disk.log.stamped disk.sized };
 
@@ -39,20 +39,30 @@ impl Sectors for MemDisk {
     fn read(&mut self, at: u64, into: &mut [u8; SECTOR_SIZE]) -> Result<(), DeviceFault>
         requires { at < (disk_view self.old).size }
         ensures read { IsRead (disk_view self.old) (disk_view self.new) at into.new result }
+        ensures held { disk_held self.new ≡ disk_held self.old }
         ensures succeeds { IsOk result }
     {
         *into = self.content[at as usize].bytes;
         Ok(())
     }
 
-    fn write(&mut self, at: u64, bytes: &[u8; SECTOR_SIZE]) -> Result<(), DeviceFault> {
+    /// Where the record of its calls can't grow, it fails, and nothing is reached.
+    fn write(&mut self, at: u64, bytes: &[u8; SECTOR_SIZE]) -> Result<(), DeviceFault>
+        requires { at < (disk_view self.old).size }
+        ensures write { IsWrite (disk_view self.old) (disk_view self.new) at bytes.now result }
+        ensures held { HoldsWrite (disk_held self.old) (disk_held self.new) at bytes.now result }
+    {
         let block = Block { bytes: *bytes };
         self.log.note(Effect::Write(at as usize, block))?;
         self.content[at as usize] = block;
         Ok(())
     }
 
-    fn sync(&mut self) -> Result<(), DeviceFault> {
+    /// Where the record of its calls can't grow, it fails, and as much as before is pending.
+    fn sync(&mut self) -> Result<(), DeviceFault>
+        ensures sync { IsSync (disk_view self.old) (disk_view self.new) result }
+        ensures held { HoldsSync (disk_held self.old) (disk_held self.new) result }
+    {
         self.log.note(Effect::Sync)?;
         Ok(())
     }
@@ -61,18 +71,20 @@ impl Sectors for MemDisk {
 impl MemDisk {
     ghost use Rattle.std.specs.Prelude.{ℕ, IfOk, replicate};
     ghost use Rattle.audit_disk.specs.Held.{crashed};
-    ghost use Rattle.audit_disk.specs.MemDisk.{disk_view, disk_held, IsFresh, IsEachPicked};
+    ghost use Rattle.audit_disk.specs.MemDisk.{disk_view, disk_held, IsFresh, HoldsOnly, IsEachPicked};
 
     /// A device of so many zero sectors, all of them synced.
     pub fn new(alloc: Global, sectors: u64) -> Result<MemDisk, AllocError>
-        ensures { IfOk result (λ disk. IsFresh (disk_view disk) (replicate sectors (replicate SECTOR_SIZE 0))) }
+        ensures fresh { IfOk result (λ disk. IsFresh (disk_view disk) (replicate sectors (replicate SECTOR_SIZE 0))) }
+        ensures held { IfOk result (λ disk. HoldsOnly (disk_held disk) (replicate sectors (replicate SECTOR_SIZE 0))) }
     {
         MemDisk::with_content(alloc, zero_blocks(alloc, sectors)?)
     }
 
     /// A device with this content, all of it synced.
     pub fn from_sectors(alloc: Global, sectors: &[[u8; SECTOR_SIZE]]) -> Result<MemDisk, AllocError>
-        ensures { IfOk result (λ disk. IsFresh (disk_view disk) sectors.now) }
+        ensures fresh { IfOk result (λ disk. IsFresh (disk_view disk) sectors.now) }
+        ensures held { IfOk result (λ disk. HoldsOnly (disk_held disk) sectors.now) }
     {
         MemDisk::with_content(alloc, blocks_of(alloc, sectors)?)
     }
@@ -83,6 +95,8 @@ impl MemDisk {
     pub fn crash(&self, alloc: Global, pick: &[u64]) -> Result<MemDisk, AllocError>
         ensures device { IfOk result (λ disk. IsFresh (disk_view disk)
             (crashed (disk_held self.now) pick.now)) }
+        ensures held { IfOk result (λ disk. HoldsOnly (disk_held disk)
+            (crashed (disk_held self.now) pick.now)) }
         ensures image { (disk_view self.now).left_at (disk_view self.now).clock
             (crashed (disk_held self.now) pick.now) }
         ensures every { IsEachPicked (disk_view self.now) (disk_held self.now) }
@@ -92,7 +106,8 @@ impl MemDisk {
     }
 
     fn with_content(alloc: Global, content: Vec<Block>) -> Result<MemDisk, AllocError>
-        ensures { IfOk result (λ disk. IsFresh (disk_view disk) (bytes_of content.items)) }
+        ensures fresh { IfOk result (λ disk. IsFresh (disk_view disk) (bytes_of content.items)) }
+        ensures held { IfOk result (λ disk. HoldsOnly (disk_held disk) (bytes_of content.items)) }
     {
         let start = Vec::from_slice(alloc, &content)?;
         Ok(MemDisk {

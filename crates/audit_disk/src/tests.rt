@@ -316,7 +316,10 @@ fn a_file_that_may_only_be_read_takes_no_write(rt: HostRuntime) -> Result<(), Fa
     fs::set_permissions(&rt, path, fs::Permissions::from_mode(0o444))?;
     let writable = OpenOptions::new().write(true).open(&rt, path).is_ok();
     let opened = FileDisk::open(&rt, path);
-    assert_eq!(rt; opened.err(), if writable { None } else { Some(FileFault::Io) });
+    assert_eq!(rt;
+        opened.err(),
+        if writable { None } else { Some(FileFault::Io) }
+    );
     fs::remove_file(&rt, path)?;
     Ok(())
 }

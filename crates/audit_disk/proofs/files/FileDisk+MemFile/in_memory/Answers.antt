@@ -7,4 +7,4 @@ use Rattle.audit_disk.proofs.files.FileDisk+MemFile.in_memory.Goals as goal
 
 pub over-requires-clause-unused : goal.over-requires-clause-unused
 over-requires-clause-unused c =
-    unused_file (disk_view c.in_ok-disk.disk) (replicate c.args.sectors (replicate SECTOR_SIZE 0)) c.args.sectors c.in_ok-disk.ensures (length-replicate c.args.sectors (replicate SECTOR_SIZE 0))
+    unused_file (disk_view c.in_ok-disk.disk) (replicate c.args.sectors (replicate SECTOR_SIZE 0)) c.args.sectors c.in_ok-disk.ensures.fresh (length-replicate c.args.sectors (replicate SECTOR_SIZE 0))

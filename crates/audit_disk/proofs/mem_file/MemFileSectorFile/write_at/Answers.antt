@@ -9,4 +9,4 @@ write-requires c = offset_within (disk_view c.args.self.now.disk) c.args.offset 
 pub returns : goal.returns
 returns c =
     write_joined (disk_view c.args.self.now.disk) (disk_view c.write.new.self) (c.args.offset / 512) c.args.offset c.write.result (omega (arith, c.requires.multiple))
-    (offset_within (disk_view c.args.self.now.disk) c.args.offset tt (c.requires.within tt)) c.told-bytes c.write.ensures
+    (offset_within (disk_view c.args.self.now.disk) c.args.offset tt (c.requires.within tt)) c.told-bytes c.write.ensures.write
