@@ -1,5 +1,6 @@
 -- A device in a file.
-use Rattle.std.specs.Prelude.{◌≡◌, ℕ}
+use Rattle.std.specs.Prelude.{◌≡◌, ℕ, List}
+use Rattle.audit_disk.specs.Image.{Image}
 use Rattle.audit_disk.specs.View.{View}
 use Rattle.audit_disk.specs.File.{sectors_of}
 use Rattle.audit_disk.specs.FileView.{file_view, sectors_fit}
@@ -19,6 +20,9 @@ module _ {F : Type 0} {g : files.Ghosts F} where
     pub failures : (file_disk_view disk).failures ≡ 0
     pub honest : (g.file file).honest → (file_disk_view disk).honest
     pub was_honest : (file_disk_view disk).honest → (g.file file).honest
+    -- a crash now may leave the sectors of each file that may be left, and nothing else
+    pub left : (g.file file).honest → (bytes : List ℕ) → (g.file file).left_at (g.file file).moment bytes → (file_disk_view disk).left_at 0 (sectors_of count bytes)
+    pub no_other : (image : Image) → (file_disk_view disk).left_at 0 image → (bytes : List ℕ) × (g.file file).left_at (g.file file).moment bytes × (image ≡ sectors_of count bytes)
 
   -- no call was made of it
   pub record IsFreshFile (disk : FileDisk F g) : Type 0 where

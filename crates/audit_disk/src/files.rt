@@ -1,7 +1,8 @@
 //! Devices in files of the operating system.
-ghost use Rattle.std.specs.Prelude.{◌≡◌, ◌*◌, ◌^◌, ◌<◌, ◌≤◌, ◌↔◌, IfOk, IsErrOf};
+ghost use Rattle.std.specs.Prelude.{◌≡◌, ◌*◌, ◌^◌, ◌<◌, ◌≤◌, ◌↔◌, IfOk, IsErrOf, replicate};
 ghost use Rattle.audit_disk.specs.declared.sectors.TheConstants.{SECTOR_SIZE};
 ghost use Rattle.audit_disk.specs.FileDisk.{IsFreshFile, file_disk_view};
+ghost use Rattle.audit_disk.specs.MemDisk.{IsFresh};
 
 use crate::os_file::OsFile;
 use crate::{FileDisk, FileFault, MemDisk, MemFile, SECTOR_SIZE};
@@ -54,9 +55,7 @@ impl FileDisk<MemFile> {
     pub fn in_memory(alloc: Global, sectors: u64) -> Result<FileDisk<MemFile>, AllocError>
         requires { SECTOR_SIZE * sectors < 2 ^ 64 }
 
-        ensures honest { IfOk result (λ disk. (file_disk_view disk).honest) }
-        ensures size { IfOk result (λ disk. (file_disk_view disk).size ≡ sectors) }
-        ensures fresh { IfOk result IsFreshFile }
+        ensures { IfOk result (λ disk. IsFresh (file_disk_view disk) (replicate sectors (replicate SECTOR_SIZE 0))) }
     {
         let disk = MemDisk::new(alloc, sectors)?;
         Ok(FileDisk::over(MemFile { disk }, sectors))

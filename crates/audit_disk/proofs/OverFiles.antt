@@ -1,0 +1,51 @@
+-- A device over a file of which no call was made.
+use Rattle.std.proofs.Common.{◌≡◌, ℕ, zero, suc, ◌<◌, List, [], ◌∷◌, ◌++◌, length, drop, refl, sym, ◌∙◌, ap, subst, arith}
+use Rattle.std.proofs.lemmas.List.{take_at, drop_at}
+use Rattle.audit_disk.specs.Image.{Sector, Image, sector_at}
+use Rattle.audit_disk.specs.View.{View}
+use Rattle.audit_disk.specs.File.{sectors_of, FileView}
+use Rattle.audit_disk.specs.FileView.{file_moment}
+use Rattle.audit_disk.specs.MemFile.{joined, joined_view}
+use Rattle.audit_disk.specs.MemDisk.{IsFresh}
+use Rattle.audit_disk.specs.declared.sectors.TheConstants.{SECTOR_SIZE}
+
+-- the moment of the file is the start of the clock
+pub moment_in : (file : FileView) (bytes : List ℕ) → file.left_at (file_moment file.moment 0 0) bytes → file.left_at file.moment bytes
+moment_in file bytes left = let same : file_moment file.moment 0 0 ≡ file.moment = omega arith in subst (λ (m : ℕ). file.left_at m bytes) same left
+
+pub moment_out : (file : FileView) (bytes : List ℕ) → file.left_at file.moment bytes → file.left_at (file_moment file.moment 0 0) bytes
+moment_out file bytes left = let same : file.moment ≡ file_moment file.moment 0 0 = omega arith in subst (λ (m : ℕ). file.left_at m bytes) same left
+
+-- the sectors of a whole image's bytes are that image
+sectors_of-joined : (count : ℕ) (image : Image) → length image ≡ count → ((at : ℕ) → at < count → length (sector_at image at) ≡ SECTOR_SIZE) → sectors_of count (joined image) ≡ image
+sectors_of-joined zero [] many each = refl
+sectors_of-joined zero (bytes ∷ image) many each = absurd (omega arith)
+sectors_of-joined (suc count) [] many each = absurd (omega arith)
+sectors_of-joined (suc count) (bytes ∷ image) many each =
+    let long : length bytes ≡ SECTOR_SIZE = each zero (omega arith) in
+    ap (λ (s : Sector). s ∷ sectors_of count (drop SECTOR_SIZE (bytes ++ joined image))) (take_at bytes (joined image) SECTOR_SIZE long)
+    ∙ ap (λ (file : List ℕ). bytes ∷ sectors_of count file) (drop_at bytes (joined image) SECTOR_SIZE long)
+    ∙ ap (λ (i : Image). bytes ∷ i) (sectors_of-joined count image (omega arith) (λ at lt. each (suc at) (omega arith)))
+
+-- over the file that stands in a new disk, a device is new and has the same content
+module _ (memory view : View) (image : Image) (count : ℕ) (fresh : IsFresh memory image) (long : length image ≡ count) where
+  same_sectors : sectors_of count (joined memory.content) ≡ memory.content
+  same_sectors =
+      let whole = memory.whole fresh.honest memory.clock memory.content (memory.content_left fresh.honest) in
+      sectors_of-joined count memory.content (whole.sectors ∙ fresh.size ∙ long) (λ at lt. whole.each at (omega (arith, fresh.size, long)))
+
+  pub fresh_over : view.size ≡ count → view.content ≡ sectors_of count (joined memory.content) → view.clock ≡ 0 → view.failures ≡ 0 → view.honest
+      → ((other : Image) → view.left_at 0 other → (bytes : List ℕ) × (joined_view memory).left_at memory.clock bytes × (other ≡ sectors_of count bytes)) → IsFresh view image
+  fresh_over size content clock failures honest no_other = record {
+    size = size ∙ sym long;
+    content = content ∙ same_sectors ∙ fresh.content;
+    clock = clock;
+    failures = failures;
+    honest = honest;
+    settled = record {
+      left = λ honest. view.content_left honest;
+      only = λ honest other left.
+          let was = no_other other (subst (λ (moment : ℕ). view.left_at moment other) clock left) in
+          was.2 ∙ ap (λ (file : List ℕ). sectors_of count file) (was.1.1.2 ∙ ap joined (fresh.settled.only fresh.honest was.1.1.0 was.1.1.1)) ∙ sym content;
+    };
+  }
