@@ -5,7 +5,7 @@ use crate::{
 use std::env;
 use std::fs::{self, OpenOptions};
 use std::os::unix::fs::PermissionsExt;
-use std::process::Abort;
+use std::process::{self, Abort};
 use std::test::Fail;
 
 /// Writes a sector of equal bytes, and tells whether that succeeded.
@@ -263,7 +263,8 @@ fn a_file_in_memory_keeps_its_sectors(rt: HostRuntime) -> Result<(), Fail> {
 #[test]
 fn a_real_file_keeps_its_sectors(rt: HostRuntime) -> Result<(), Fail> {
     let mut folder = env::temp_dir(&rt)?;
-    folder.push("audit_disk_device")?;
+    let name = format!(in rt.alloc(); "audit_disk_device_{}", process::id(rt.process()))?;
+    folder.push(name.as_str())?;
     let path = folder.as_str();
     let _ = fs::remove_file(&rt, path);
 
@@ -303,7 +304,8 @@ fn a_real_file_keeps_its_sectors(rt: HostRuntime) -> Result<(), Fail> {
 #[test]
 fn a_file_that_may_only_be_read_takes_no_write(rt: HostRuntime) -> Result<(), Fail> {
     let mut folder = env::temp_dir(&rt)?;
-    folder.push("audit_disk_read_only")?;
+    let name = format!(in rt.alloc(); "audit_disk_read_only_{}", process::id(rt.process()))?;
+    folder.push(name.as_str())?;
     let path = folder.as_str();
     let _ = fs::remove_file(&rt, path);
     drop(FileDisk::create(&rt, path, 1)?);
