@@ -1,7 +1,7 @@
 ghost use Rattle.std.specs.Prelude.{◌≡◌, ◌+◌, ◌<◌, ◌≤◌, length, OnOk};
 ghost use Rattle.audit_disk.specs.Calls.{CountsFailure};
 ghost use Rattle.audit_disk.specs.Moments.{AtEachMoment};
-ghost use Rattle.audit_disk.specs.Window.{DiffersFromNow, WritesSectors, IsBeforeOrPublished, Publishes};
+ghost use Rattle.audit_disk.specs.Window.{DiffersFromNow, KeepsPending, WritesSectors, IsBeforeOrPublished, Publishes};
 
 use crate::{DeviceFault, SECTOR_SIZE, Sectors};
 
@@ -14,6 +14,7 @@ pub fn write_sectors<D: Sectors>(
     requires { at + length sectors.now ≤ (D.view disk.old).size }
 
     ensures done { OnOk result (WritesSectors (D.view disk.old) (D.view disk.new) at sectors.now) }
+    ensures pending { KeepsPending (D.view disk.old) (D.view disk.new) }
     ensures any_moment { AtEachMoment (D.view disk.old) (D.view disk.new)
         (DiffersFromNow (D.view disk.old) at (length sectors.now)) }
     ensures cause { CountsFailure (D.view disk.old).failures (D.view disk.new).failures result }
