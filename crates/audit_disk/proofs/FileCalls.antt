@@ -31,12 +31,13 @@ sized_after_write old new sectors at bytes result sized lt long write = λ hones
         (λ (changed : new.bytes ≡ overlaid old.bytes (SECTOR_SIZE * at) bytes). ap length changed ∙ over ∙ sized was)
         stands_err
 
-module _ (old new : FileView) (sectors clock clock' failures failures' : ℕ) (fits fits' : sectors < 2 ^ 64) (sized : IsSized old sectors) (sized' : IsSized new sectors) where
+module _ (old new : FileView) (sectors clock clock' failures failures' : ℕ) (fits fits' : sectors < 2 ^ 64) (in_range : clock < 2 ^ 64) (in_range' : clock' < 2 ^ 64)
+    (sized : IsSized old sectors) (sized' : IsSized new sectors) where
   abbrev before : View
-  before = file_view old sectors clock failures fits sized
+  before = file_view old sectors clock failures fits in_range sized
 
   abbrev after : View
-  after = file_view new sectors clock' failures' fits' sized'
+  after = file_view new sectors clock' failures' fits' in_range' sized'
 
   -- the moments of the file and of the clock go on together
   module _ (goes_on : GoesOn old new) (passed : ℕ) (moment : old.honest → new.moment ≡ old.moment + passed) (ticked : clock' ≡ clock + passed) (more : failures ≤ failures') where
@@ -191,7 +192,7 @@ module _ (old new : FileView) (sectors clock clock' failures failures' : ℕ) (f
       sync_counted answer result sync counts same = subst (λ (r : Outcome). IsSync before after r) (sym same) (sync_file answer sync counts)
 
 -- at the end of the clock the file is left alone
-module _ (file : FileView) (sectors clock failures failures' : ℕ) (fits fits' : sectors < 2 ^ 64) (sized sized' : IsSized file sectors) (end : last_count ≤ clock)
+module _ (file : FileView) (sectors clock failures failures' : ℕ) (fits fits' : sectors < 2 ^ 64) (in_range in_range' : clock < 2 ^ 64) (sized sized' : IsSized file sectors) (end : last_count ≤ clock)
     (risen : HasRisen failures failures') (more : failures ≤ failures') (fault : DeviceFault) where
   goes_on_alone : GoesOn file file
   goes_on_alone = record {
@@ -201,13 +202,13 @@ module _ (file : FileView) (sectors clock failures failures' : ℕ) (fits fits' 
     no_other = λ honest at bytes le left. left;
   }
 
-  alone : Continues (file_view file sectors clock failures fits sized) (file_view file sectors clock failures' fits' sized')
-  alone = continues file file sectors clock clock failures failures' fits fits' sized sized' goes_on_alone 0 (λ honest. omega arith) (omega arith) more
+  alone : Continues (file_view file sectors clock failures fits in_range sized) (file_view file sectors clock failures' fits' in_range' sized')
+  alone = continues file file sectors clock clock failures failures' fits fits' in_range in_range' sized sized' goes_on_alone 0 (λ honest. omega arith) (omega arith) more
 
   stopped : Ticks clock clock
   stopped = record { before_end = λ lt. absurd (omega arith); at_end = λ le. refl }
 
-  pub write_at_end : (at : ℕ) (bytes : Sector) → IsWrite (file_view file sectors clock failures fits sized) (file_view file sectors clock failures' fits' sized') at bytes (Err fault)
+  pub write_at_end : (at : ℕ) (bytes : Sector) → IsWrite (file_view file sectors clock failures fits in_range sized) (file_view file sectors clock failures' fits' in_range' sized') at bytes (Err fault)
   write_at_end at bytes = record {
     continues = alone;
     clock = stopped;
@@ -221,7 +222,7 @@ module _ (file : FileView) (sectors clock failures failures' : ℕ) (fits fits' 
     at_end_same = λ le honest. refl;
   }
 
-  pub sync_at_end : IsSync (file_view file sectors clock failures fits sized) (file_view file sectors clock failures' fits' sized') (Err fault)
+  pub sync_at_end : IsSync (file_view file sectors clock failures fits in_range sized) (file_view file sectors clock failures' fits' in_range' sized') (Err fault)
   sync_at_end = record {
     continues = alone;
     clock = stopped;

@@ -1,5 +1,5 @@
 -- Calls that a gate doesn't pass on.
-use Rattle.std.proofs.Common.{◌≡◌, ⊎_elim, ℕ, ◌+◌, ◌≤◌, Err, refl, sym, ◌∙◌, ap, subst, arith}
+use Rattle.std.proofs.Common.{◌≡◌, ⊎_elim, ℕ, ◌+◌, ◌^◌, ◌<◌, ◌≤◌, Err, refl, sym, ◌∙◌, ap, subst, arith}
 use Rattle.std.proofs.lemmas.Bool.{cases_lt}
 use Rattle.audit_disk.specs.Image.{Sector}
 use Rattle.audit_disk.specs.View.{View, last_count}
@@ -20,9 +20,9 @@ module _ {D : Type 0} {g : sectors.Ghosts D} (old new : Gate D g) (unseen : new.
   risen_in_all = omega arith
 
   -- what holds of the old inner device holds of the new one
-  at_inner : (P : View → Type 0) → ((in_step : new.place ≤ clock) → P (shifted (g.view old.inner) new.place new.missed new.refused in_step)) → P (gate_view new)
+  at_inner : (P : View → Type 0) → ((in_step : new.place ≤ clock) (fits : clock + new.missed < 2 ^ 64) → P (shifted (g.view old.inner) new.place new.missed new.refused in_step fits)) → P (gate_view new)
   at_inner P here =
-      subst (λ (inner : D). (in_step : new.place ≤ (g.view inner).clock) → P (shifted (g.view inner) new.place new.missed new.refused in_step)) (sym unseen) here new.in_step
+      subst (λ (inner : D). (in_step : new.place ≤ (g.view inner).clock) (fits : (g.view inner).clock + new.missed < 2 ^ 64) → P (shifted (g.view inner) new.place new.missed new.refused in_step fits)) (sym unseen) here new.in_step new.fits
 
   module _ (place : new.place ≡ old.place) (missed : new.missed ≡ old.missed) where
     same_moment : (moment : ℕ) → moment ≤ clock + old.missed → inner_moment new.place new.missed moment ≡ inner_moment old.place old.missed moment
@@ -32,7 +32,7 @@ module _ {D : Type 0} {g : sectors.Ghosts D} (old new : Gate D g) (unseen : new.
     pub read_refused : (at : ℕ) (into : Sector) → IsRead (gate_view old) (gate_view new) at into (Err fault)
     read_refused at into =
         at_inner (λ view. IsRead (gate_view old) view at into (Err fault))
-        (λ in_step. read_missed (g.view old.inner) old.place new.place old.missed new.missed old.refused new.refused old.in_step in_step same_moment (omega arith) more risen_in_all at into (Err fault) refl missed)
+        (λ in_step fits. read_missed (g.view old.inner) old.place new.place old.missed new.missed old.refused new.refused old.in_step in_step old.fits fits same_moment (omega arith) more risen_in_all at into (Err fault) refl missed)
 
     module _ (end : last_count ≤ clock + old.missed) where
       stopped : Ticks (clock + old.missed) (clock + new.missed)
@@ -41,12 +41,12 @@ module _ {D : Type 0} {g : sectors.Ghosts D} (old new : Gate D g) (unseen : new.
       pub write_at_end : (at : ℕ) (bytes : Sector) → IsWrite (gate_view old) (gate_view new) at bytes (Err fault)
       write_at_end at bytes =
           at_inner (λ view. IsWrite (gate_view old) view at bytes (Err fault))
-          (λ in_step. write_missed (g.view old.inner) old.place new.place old.missed new.missed old.refused new.refused old.in_step in_step same_moment (omega arith) more risen_in_all stopped at bytes (Err fault) refl)
+          (λ in_step fits. write_missed (g.view old.inner) old.place new.place old.missed new.missed old.refused new.refused old.in_step in_step old.fits fits same_moment (omega arith) more risen_in_all stopped at bytes (Err fault) refl)
 
       pub sync_at_end : IsSync (gate_view old) (gate_view new) (Err fault)
       sync_at_end =
           at_inner (λ view. IsSync (gate_view old) view (Err fault))
-          (λ in_step. sync_missed (g.view old.inner) old.place new.place old.missed new.missed old.refused new.refused old.in_step in_step same_moment (omega arith) more risen_in_all stopped (Err fault) refl)
+          (λ in_step fits. sync_missed (g.view old.inner) old.place new.place old.missed new.missed old.refused new.refused old.in_step in_step old.fits fits same_moment (omega arith) more risen_in_all stopped (Err fault) refl)
 
   module _ (misses : Misses old new) (may : MayShut old) where
     later : old.missed ≤ new.missed
@@ -70,9 +70,9 @@ module _ {D : Type 0} {g : sectors.Ghosts D} (old new : Gate D g) (unseen : new.
     pub write_shut : (at : ℕ) (bytes : Sector) → IsWrite (gate_view old) (gate_view new) at bytes (Err fault)
     write_shut at bytes =
         at_inner (λ view. IsWrite (gate_view old) view at bytes (Err fault))
-        (λ in_step. write_missed (g.view old.inner) old.place new.place old.missed new.missed old.refused new.refused old.in_step in_step missed_moment later more risen_in_all counted at bytes (Err fault) refl)
+        (λ in_step fits. write_missed (g.view old.inner) old.place new.place old.missed new.missed old.refused new.refused old.in_step in_step old.fits fits missed_moment later more risen_in_all counted at bytes (Err fault) refl)
 
     pub sync_shut : IsSync (gate_view old) (gate_view new) (Err fault)
     sync_shut =
         at_inner (λ view. IsSync (gate_view old) view (Err fault))
-        (λ in_step. sync_missed (g.view old.inner) old.place new.place old.missed new.missed old.refused new.refused old.in_step in_step missed_moment later more risen_in_all counted (Err fault) refl)
+        (λ in_step fits. sync_missed (g.view old.inner) old.place new.place old.missed new.missed old.refused new.refused old.in_step in_step old.fits fits missed_moment later more risen_in_all counted (Err fault) refl)

@@ -22,7 +22,7 @@ length-content_of (sector ∷ rest) = ap suc (length-content_of rest)
 
 -- the view of a disk with this record
 abbrev pub view_of : (start : List Block) (content : List Block) (log : CallLog) → IsCurrent start (bytes_of content) log.calls.items → length start < 2 ^ 64 → View
-view_of start content log current sized = memory_view start (bytes_of content) log.calls.items log.clock log.failures current log.stamped sized
+view_of start content log current sized = memory_view start (bytes_of content) log.calls.items log.clock log.failures current log.stamped sized log.in_range
 
 module _ (start content : List Block) (log : CallLog) (current : IsCurrent start (bytes_of content) log.calls.items) (sized : length start < 2 ^ 64) where
   -- as many blocks as the disk has sectors
@@ -34,7 +34,7 @@ module _ (start content : List Block) (log : CallLog) (current : IsCurrent start
   pub read : (at : ℕ) (block : Block) → at < length content → block ≡ get_or content at block
       → IsRead (view_of start content log current sized) (view_of start content log current sized) at block.bytes (Ok tt)
   read at block lt is =
-      read_done start (bytes_of content) (bytes_of content) log.calls.items log.calls.items log.clock log.clock log.failures log.failures current current log.stamped log.stamped sized sized
+      read_done start (bytes_of content) (bytes_of content) log.calls.items log.calls.items log.clock log.clock log.failures log.failures current current log.stamped log.stamped sized sized log.in_range log.in_range
       refl (omega arith) (omega arith) refl at block.bytes refl refl
       (ap (λ (b : Block). b.bytes) is ∙ sym (get_or-map (λ (b : Block). b.bytes) content at block [] lt))
 
@@ -62,13 +62,13 @@ module _ (start content : List Block) (log : CallLog) (current : IsCurrent start
     pub write_noted : (at : ℕ) (block : Block) → Notes log log' (Write at block) → (current' : IsCurrent start (bytes_of (set content at block)) log'.calls.items) (sized' : length start < 2 ^ 64)
         → IsWrite (view_of start content log current sized) (view_of start (set content at block) log' current' sized') at block.bytes (Ok tt)
     write_noted at block notes current' sized' =
-        write_done start (bytes_of content) (bytes_of (set content at block)) log.calls.items log'.calls.items log.clock log'.clock log.failures log'.failures current current' log.stamped log'.stamped sized sized'
+        write_done start (bytes_of content) (bytes_of (set content at block)) log.calls.items log'.calls.items log.clock log'.clock log.failures log'.failures current current' log.stamped log'.stamped sized sized' log.in_range log'.in_range
         at block notes.calls notes.free notes.clock notes.failures (map-set (λ (b : Block). b.bytes) content at block)
 
     pub sync_noted : Notes log log' Sync → (current' : IsCurrent start (bytes_of content) log'.calls.items) (sized' : length start < 2 ^ 64)
         → IsSync (view_of start content log current sized) (view_of start content log' current' sized') (Ok tt)
     sync_noted notes current' sized' =
-        sync_done start (bytes_of content) (bytes_of content) log.calls.items log'.calls.items log.clock log'.clock log.failures log'.failures current current' log.stamped log'.stamped sized sized'
+        sync_done start (bytes_of content) (bytes_of content) log.calls.items log'.calls.items log.clock log'.clock log.failures log'.failures current current' log.stamped log'.stamped sized sized' log.in_range log'.in_range
         notes.calls notes.free notes.clock notes.failures refl
 
     later : Refuses log log' → log.clock ≤ log'.clock
@@ -78,14 +78,14 @@ module _ (start content : List Block) (log : CallLog) (current : IsCurrent start
         → IsWrite (view_of start content log current sized) (view_of start content log' current' sized') at bytes result
     write_refused at bytes (Ok done) failed refuses current' sized' = absurd (false≢true failed)
     write_refused at bytes (Err fault) failed refuses current' sized' =
-        write_failed start (bytes_of content) (bytes_of content) log.calls.items log'.calls.items log.clock log'.clock log.failures log'.failures current current' log.stamped log'.stamped sized sized'
+        write_failed start (bytes_of content) (bytes_of content) log.calls.items log'.calls.items log.clock log'.clock log.failures log'.failures current current' log.stamped log'.stamped sized sized' log.in_range log'.in_range
         refuses.calls (later refuses) refuses.more refl refuses.clock refuses.failures fault at bytes
 
     pub sync_refused : (result : Outcome) → IsErr result → Refuses log log' → (current' : IsCurrent start (bytes_of content) log'.calls.items) (sized' : length start < 2 ^ 64)
         → IsSync (view_of start content log current sized) (view_of start content log' current' sized') result
     sync_refused (Ok done) failed refuses current' sized' = absurd (false≢true failed)
     sync_refused (Err fault) failed refuses current' sized' =
-        sync_failed start (bytes_of content) (bytes_of content) log.calls.items log'.calls.items log.clock log'.clock log.failures log'.failures current current' log.stamped log'.stamped sized sized'
+        sync_failed start (bytes_of content) (bytes_of content) log.calls.items log'.calls.items log.clock log'.clock log.failures log'.failures current current' log.stamped log'.stamped sized sized' log.in_range log'.in_range
         refuses.calls (later refuses) refuses.more refl refuses.clock refuses.failures fault
 
 -- what the sectors hold after a call, by the record of calls

@@ -37,12 +37,13 @@ current_after_sync start content calls moment current =
     ∙ sym (content_next start content calls (record { moment = moment; effect = Sync }) current)
 
 module _ (start : List Block) (content content' : Image) (calls calls' : List Call) (clock clock' failures failures' : ℕ)
-    (current : IsCurrent start content calls) (current' : IsCurrent start content' calls') (stamped : latest calls ≤ clock) (stamped' : latest calls' ≤ clock') (sized sized' : length start < 2 ^ 64) where
+    (current : IsCurrent start content calls) (current' : IsCurrent start content' calls') (stamped : latest calls ≤ clock) (stamped' : latest calls' ≤ clock') (sized sized' : length start < 2 ^ 64)
+    (in_range : clock < 2 ^ 64) (in_range' : clock' < 2 ^ 64) where
   abbrev old : View
-  old = memory_view start content calls clock failures current stamped sized
+  old = memory_view start content calls clock failures current stamped sized in_range
 
   abbrev new : View
-  new = memory_view start content' calls' clock' failures' current' stamped' sized'
+  new = memory_view start content' calls' clock' failures' current' stamped' sized' in_range'
 
   -- nothing was reached
   module _ (same : calls' ≡ calls) (later : clock ≤ clock') (more : failures ≤ failures') where

@@ -1,5 +1,5 @@
 -- Calls that are passed on to the inner device, and calls that it misses, are those of the crash model.
-use Rattle.std.proofs.Common.{◌≡◌, inl, inr, ⊎_elim, ℕ, ◌+◌, ◌<◌, ◌≤◌, Ok, Err, IsErr, OnOk, OnErr, refl, sym, ap, subst, arith}
+use Rattle.std.proofs.Common.{◌≡◌, inl, inr, ⊎_elim, ℕ, ◌+◌, ◌^◌, ◌<◌, ◌≤◌, Ok, Err, IsErr, OnOk, OnErr, refl, sym, ap, subst, arith}
 use Rattle.std.proofs.lemmas.Bool.{false≢true, cases_lt}
 use Rattle.audit_disk.specs.Image.{Sector, Image, with_sector}
 use Rattle.audit_disk.specs.View.{View, last_count}
@@ -18,8 +18,9 @@ counts_more old new refused (Ok done) same = ap (λ (n : ℕ). n + refused) same
 counts_more old new refused (Err fault) risen = omega arith
 
 -- a call that was passed on
-module _ (old new : View) (place missed refused : ℕ) (in_step : place ≤ old.clock) (in_step' : place ≤ new.clock) where
-  passed : Continues old new → Continues (shifted old place missed refused in_step) (shifted new place missed refused in_step')
+module _ (old new : View) (place missed refused : ℕ) (in_step : place ≤ old.clock) (in_step' : place ≤ new.clock)
+    (fits : old.clock + missed < 2 ^ 64) (fits' : new.clock + missed < 2 ^ 64) where
+  passed : Continues old new → Continues (shifted old place missed refused in_step fits) (shifted new place missed refused in_step' fits')
   passed continues = record {
     size = continues.size;
     clock = omega (arith, continues.clock);
@@ -34,7 +35,7 @@ module _ (old new : View) (place missed refused : ℕ) (in_step : place ≤ old.
   ticked free ticks = let next = ticks.before_end (omega arith) in record { before_end = λ lt. omega arith; at_end = λ le. absurd (omega arith) }
 
   pub read_passed : (at : ℕ) (into : Sector) (result : Outcome) → IsRead old new at into result
-      → IsRead (shifted old place missed refused in_step) (shifted new place missed refused in_step') at into result
+      → IsRead (shifted old place missed refused in_step fits) (shifted new place missed refused in_step' fits') at into result
   read_passed at into result read = record {
     continues = passed read.continues;
     clock = ap (λ (n : ℕ). n + missed) read.clock;
@@ -44,7 +45,7 @@ module _ (old new : View) (place missed refused : ℕ) (in_step : place ≤ old.
   }
 
   pub write_passed : (at : ℕ) (bytes : Sector) (result : Outcome) → old.clock + missed < last_count → IsWrite old new at bytes result
-      → IsWrite (shifted old place missed refused in_step) (shifted new place missed refused in_step') at bytes result
+      → IsWrite (shifted old place missed refused in_step fits) (shifted new place missed refused in_step' fits') at bytes result
   write_passed at bytes result free write = record {
     continues = passed write.continues;
     clock = ticked free write.clock;
@@ -69,7 +70,7 @@ module _ (old new : View) (place missed refused : ℕ) (in_step : place ≤ old.
       written (Err fault) over = tt
 
   pub sync_passed : (result : Outcome) → old.clock + missed < last_count → IsSync old new result
-      → IsSync (shifted old place missed refused in_step) (shifted new place missed refused in_step') result
+      → IsSync (shifted old place missed refused in_step fits) (shifted new place missed refused in_step' fits') result
   sync_passed result free sync = record {
     continues = passed sync.continues;
     clock = ticked free sync.clock;
@@ -98,13 +99,14 @@ module _ (old new : View) (place missed refused : ℕ) (in_step : place ≤ old.
 
 -- a call that the inner device didn't see
 module _ (inner : View) (place place' missed missed' refused refused' : ℕ) (in_step : place ≤ inner.clock) (in_step' : place' ≤ inner.clock)
+    (fits : inner.clock + missed < 2 ^ 64) (fits' : inner.clock + missed' < 2 ^ 64)
     (same : (moment : ℕ) → moment ≤ inner.clock + missed → inner_moment place' missed' moment ≡ inner_moment place missed moment)
     (later : missed ≤ missed') (more : refused ≤ refused') where
   abbrev before : View
-  before = shifted inner place missed refused in_step
+  before = shifted inner place missed refused in_step fits
 
   abbrev after : View
-  after = shifted inner place' missed' refused' in_step'
+  after = shifted inner place' missed' refused' in_step' fits'
 
   missed_call : Continues before after
   missed_call = record {

@@ -10,7 +10,7 @@ use Rattle.audit_disk.specs.declared.sector_file.SectorFile as files
 module _ {F : Type 0} {g : files.Ghosts F} where
   -- everything that is known of it as a device
   abbrev pub file_disk_view : FileDisk F g → View
-  file_disk_view disk = file_view (g.file disk.file) disk.sectors disk.clock disk.failures (sectors_fit disk.sectors disk.fits) disk.sized
+  file_disk_view disk = file_view (g.file disk.file) disk.sectors disk.clock disk.failures (sectors_fit disk.sectors disk.fits) disk.in_range disk.sized
 
   -- the sectors of this file, of which no call was made
   pub record IsOverFile (disk : FileDisk F g) (file : F) (count : ℕ) : Type 0 where

@@ -27,8 +27,8 @@ pub sectors_fit : (sectors : ℕ) → SECTOR_SIZE * sectors < 2 ^ 64 → sectors
 sectors_fit sectors fits = omega arith
 
 -- the device of so many sectors
-abbrev pub file_view : (file : FileView) (sectors clock failures : ℕ) → sectors < 2 ^ 64 → (file.honest → length file.bytes ≡ SECTOR_SIZE * sectors) → View
-file_view file sectors clock failures fits whole = record {
+abbrev pub file_view : (file : FileView) (sectors clock failures : ℕ) → sectors < 2 ^ 64 → clock < 2 ^ 64 → (file.honest → length file.bytes ≡ SECTOR_SIZE * sectors) → View
+file_view file sectors clock failures fits in_range whole = record {
   size = sectors;
   content = sectors_of sectors file.bytes;
   clock = clock;
@@ -36,6 +36,7 @@ file_view file sectors clock failures fits whole = record {
   failures = failures;
   honest = file.honest;
   size_fits = fits;
+  clock_fits = in_range;
   content_left = λ honest. (honest, (file.bytes, subst (λ (at : ℕ). file.left_at at file.bytes) (present file.moment clock) (file.bytes_left honest), refl));
   whole = λ honest moment image left.
       subst (IsWhole sectors) (sym left.1.2) (whole_sectors sectors left.1.0 (file.same_length honest (file_moment file.moment clock moment) left.1.0 left.1.1 ∙ whole honest));

@@ -7,7 +7,7 @@ use Rattle.audit_disk.specs.declared.sectors.Sectors as sectors
 
 module _ {D : Type 0} {g : sectors.Ghosts D} where
   abbrev pub gate_view : Gate D g → View
-  gate_view gate = shifted (g.view gate.inner) gate.place gate.missed gate.refused gate.in_step
+  gate_view gate = shifted (g.view gate.inner) gate.place gate.missed gate.refused gate.in_step gate.fits
 
   -- the next call may be missed
   abbrev pub MayShut : Gate D g → Type 0

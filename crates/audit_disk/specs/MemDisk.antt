@@ -11,7 +11,7 @@ use Rattle.audit_disk.specs.declared.mem_disk.MemDisk.{MemDisk}
 
 -- everything that is known of it as a device
 abbrev pub disk_view : MemDisk → View
-disk_view disk = memory_view disk.start.items (bytes_of disk.content.items) disk.log.calls.items disk.log.clock disk.log.failures disk.current disk.log.stamped disk.sized
+disk_view disk = memory_view disk.start.items (bytes_of disk.content.items) disk.log.calls.items disk.log.clock disk.log.failures disk.current disk.log.stamped disk.sized disk.log.in_range
 
 -- what its sectors hold
 abbrev pub disk_held : MemDisk → List Held

@@ -52,8 +52,8 @@ length-after_calls (call ∷ calls) held = length-after_calls calls (after_call 
 
 -- An honest device: the images of each moment are those of the calls up to it.
 abbrev pub memory_view : (start : List Block) (content : Image) (calls : List Call) (clock failures : ℕ)
-    → content ≡ content_of (after_calls calls (map settled start)) → latest calls ≤ clock → length start < 2 ^ 64 → View
-memory_view start content calls clock failures is_current is_stamped is_sized = record {
+    → content ≡ content_of (after_calls calls (map settled start)) → latest calls ≤ clock → length start < 2 ^ 64 → clock < 2 ^ 64 → View
+memory_view start content calls clock failures is_current is_stamped is_sized is_in_range = record {
   size = length start;
   content = content;
   clock = clock;
@@ -61,6 +61,7 @@ memory_view start content calls clock failures is_current is_stamped is_sized = 
   failures = failures;
   honest = Unit {0};
   size_fits = is_sized;
+  clock_fits = is_in_range;
   content_left = λ honest.
       subst (λ (all : List Call). IsImageOf (after_calls all (map settled start)) content) (sym (calls_until_all calls clock is_stamped))
       (subst (λ (image : Image). IsImageOf (after_calls calls (map settled start)) image) (sym is_current) (content_image (after_calls calls (map settled start))));

@@ -1,5 +1,5 @@
 -- A device behind one that doesn't pass every call on: its clock counts the calls that were missed, too.
-use Rattle.std.specs.Prelude.{◌≡◌, ℕ, ◌+◌, ◌-◌, ◌<◌, ◌≤◌, min, max}
+use Rattle.std.specs.Prelude.{◌≡◌, ℕ, ◌+◌, ◌-◌, ◌^◌, ◌<◌, ◌≤◌, min, max}
 use Rattle.std.proofs.Common.{sym, subst, arith}
 use Rattle.audit_disk.specs.View.{View}
 
@@ -11,8 +11,8 @@ pub inner_moment_now : (place missed clock : ℕ) → place ≤ clock → inner_
 inner_moment_now place missed clock le = omega arith
 
 -- the inner device, where it missed some calls at a place of its clock, and some calls failed that it didn't see
-abbrev pub shifted : (inner : View) (place missed refused : ℕ) → place ≤ inner.clock → View
-shifted inner place missed refused in_step = record {
+abbrev pub shifted : (inner : View) (place missed refused : ℕ) → place ≤ inner.clock → inner.clock + missed < 2 ^ 64 → View
+shifted inner place missed refused in_step fits = record {
   size = inner.size;
   content = inner.content;
   clock = inner.clock + missed;
@@ -20,6 +20,7 @@ shifted inner place missed refused in_step = record {
   failures = inner.failures + refused;
   honest = inner.honest;
   size_fits = inner.size_fits;
+  clock_fits = fits;
   content_left = λ honest.
       subst (λ (moment : ℕ). inner.left_at moment inner.content) (sym (inner_moment_now place missed inner.clock in_step)) (inner.content_left honest);
   whole = λ honest moment image left. inner.whole honest (inner_moment place missed moment) image left;

@@ -21,6 +21,7 @@ pub record View : Type 1 where
   -- it is a device as described here
   pub honest : Type 0
   pub size_fits : size < 2 ^ 64
+  pub clock_fits : clock < 2 ^ 64
   -- its content is one of the images that a crash now may leave
   pub content_left : honest → left_at clock content
   -- a crash leaves a whole device

@@ -1,4 +1,4 @@
-ghost use Rattle.std.specs.Prelude.{◌≡◌, ◌≤◌, [], OnOk, OnErr};
+ghost use Rattle.std.specs.Prelude.{◌≡◌, ◌^◌, ◌<◌, ◌≤◌, [], OnOk, OnErr};
 ghost use Rattle.audit_disk.specs.Memory.{latest};
 
 use crate::DeviceFault;
@@ -12,6 +12,7 @@ pub(crate) struct CallLog {
     pub(crate) clock: u64,
     pub(crate) failures: u64,
     ghost stamped: { latest calls.items ≤ clock },
+    ghost in_range: { clock < 2 ^ 64 },
 }
 
 impl CallLog {

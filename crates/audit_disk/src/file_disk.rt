@@ -15,6 +15,7 @@ pub struct FileDisk<F: SectorFile> {
     failures: u64,
     ghost fits: { SECTOR_SIZE * sectors < 2 ^ 64 },
     ghost sized: { (F.file file).honest → length (F.file file).bytes ≡ SECTOR_SIZE * sectors },
+    ghost in_range: { clock < 2 ^ 64 },
     ghost in_step: { (F.file file).honest → (F.file file).moment ≤ clock },
 }
 
@@ -49,7 +50,7 @@ fn counted(outcome: Result<(), DeviceFault>, failures: &mut u64) -> Result<(), D
 }
 
 impl<F: SectorFile> Sectors for FileDisk<F> {
-    ghost view = { λ disk. file_view (F.file disk.file) disk.sectors disk.clock disk.failures (sectors_fit disk.sectors disk.fits) disk.sized };
+    ghost view = { λ disk. file_view (F.file disk.file) disk.sectors disk.clock disk.failures (sectors_fit disk.sectors disk.fits) disk.in_range disk.sized };
 
     fn size(&self) -> u64 {
         self.sectors

@@ -1,5 +1,5 @@
 //! Devices in files of the operating system.
-ghost use Rattle.std.specs.Prelude.{◌≡◌, ◌*◌, ◌^◌, ◌<◌, ◌≤◌, ◌↔◌, IfOk, IsErrOf, replicate};
+ghost use Rattle.std.specs.Prelude.{◌≡◌, ◌≢◌, ◌*◌, ◌%◌, ◌^◌, ◌<◌, ◌≤◌, ◌↔◌, IfOk, IsErrOf, replicate};
 ghost use Rattle.audit_disk.specs.declared.sectors.TheConstants.{SECTOR_SIZE};
 ghost use Rattle.audit_disk.specs.FileDisk.{IsFreshFile, file_disk_view};
 ghost use Rattle.audit_disk.specs.MemDisk.{IsFresh};
@@ -43,10 +43,7 @@ impl<F: FileExt + OpenFile + Drop> FileDisk<OsFile<F>> {
     {
         let file = OpenOptions::new().read(true).write(true).open(rt, path)?;
         let length = file.metadata()?.len();
-        if length % SECTOR_SIZE as u64 != 0 {
-            return Err(FileFault::Length);
-        }
-        Ok(FileDisk::over(OsFile { file }, length / SECTOR_SIZE as u64))
+        Ok(FileDisk::over(OsFile { file }, whole_sectors(length)?))
     }
 }
 
@@ -60,6 +57,17 @@ impl FileDisk<MemFile> {
         let disk = MemDisk::new(alloc, sectors)?;
         Ok(FileDisk::over(MemFile { disk }, sectors))
     }
+}
+
+/// How many sectors a file of that length has, which has to be a multiple of 512.
+fn whole_sectors(length: u64) -> Result<u64, FileFault>
+    ensures sectors { IfOk result (λ sectors. length ≡ SECTOR_SIZE * sectors) }
+    ensures length { IsErrOf result FileFault.Length ↔ (length % SECTOR_SIZE ≢ 0) }
+{
+    if length % SECTOR_SIZE as u64 != 0 {
+        return Err(FileFault::Length);
+    }
+    Ok(length / SECTOR_SIZE as u64)
 }
 
 /// Puts the name of a new file on the medium, where its folder can be opened.

@@ -44,7 +44,7 @@ impl<D: Sectors> Fuse<D> {
 impl<D: Sectors> Sectors for Fuse<D> {
     ghost use Rattle.audit_disk.specs.Fuse.{fuse_inner, fuse_view, calls_left};
 
-    ghost view = { λ fuse. shifted (D.view fuse.gate.inner) fuse.gate.place fuse.gate.missed fuse.gate.refused fuse.gate.in_step };
+    ghost view = { λ fuse. shifted (D.view fuse.gate.inner) fuse.gate.place fuse.gate.missed fuse.gate.refused fuse.gate.in_step fuse.gate.fits };
 
     fn size(&self) -> u64 {
         self.gate.inner.size()

@@ -22,7 +22,6 @@ impl<D: Sectors> Gate<D> {
         ensures missed { result.missed ≡ 0 }
         ensures refused { result.refused ≡ 0 }
     {
-        let _ = inner.calls();
         Gate {
             inner,
             place: 0,
