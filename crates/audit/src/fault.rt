@@ -7,8 +7,10 @@ use thiserror::Error;
 /// What is wrong with a line of a replay's input.
 #[derive(Clone, Copy, Debug, Drop, Error, PartialEq, Eq)]
 pub enum LineFault {
+    /// The first line isn't `key`, a space and 64 hexadecimal digits.
     #[error("bad key line")]
     BadKeyLine,
+    /// A further line isn't `event`, a kind in decimal and a payload in hexadecimal digits.
     #[error("bad event line")]
     BadEventLine,
     /// The kind of the event is the reserved one.
@@ -34,8 +36,10 @@ impl LineFault {
 /// Why a line gave no event.
 #[derive(Clone, Copy, Debug, Drop, Error, PartialEq, Eq)]
 pub enum LineError {
+    /// The line is wrong.
     #[error(transparent)]
     Fault(LineFault),
+    /// Memory was refused.
     #[error("out of memory")]
     Memory,
 }
@@ -64,10 +68,13 @@ pub enum ReplayFault {
     /// The first bad line, counted from 1.
     #[error("line {line}: {cause}")]
     Line { line: u64, cause: LineFault },
+    /// A read of the input failed.
     #[error("the input can't be read")]
     Read,
+    /// A write of the output failed.
     #[error("the output can't be written")]
     Write,
+    /// Memory was refused.
     #[error("out of memory")]
     Memory,
 }

@@ -5,6 +5,7 @@ use crate::{DeviceFault, MemDisk, SECTOR_SIZE, SectorFile, Sectors};
 /// A file in memory, for tests: the sectors of a `MemDisk`, one after the other. It is honest.
 #[derive(Drop)]
 pub struct MemFile {
+    /// The device whose sectors are the bytes.
     pub disk: MemDisk,
 }
 

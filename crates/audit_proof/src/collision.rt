@@ -14,7 +14,9 @@ use thiserror::Error;
 /// Two different texts with one value of a hash function.
 #[derive(Debug, Drop)]
 pub struct Collision {
+    /// One text.
     pub left: Vec<u8>,
+    /// The other text, of the same value.
     pub right: Vec<u8>,
 }
 

@@ -1,4 +1,4 @@
-use Rattle.std.proofs.Common.{◌≡◌, ◌≤◌, vec_len}
+use Rattle.std.proofs.Common.{◌≤◌, vec_len}
 use Rattle.std.specs.Io.KnownBytes.{Consumes}
 use Rattle.audit.specs.declared.input.TheConstants.{INPUT_LIMIT}
 use Rattle.audit.proofs.input.read_to_end.Given as goal
