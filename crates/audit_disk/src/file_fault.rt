@@ -7,7 +7,7 @@ pub enum FileFault {
     /// It couldn't be made, opened, measured or synced.
     #[error("the file failed")]
     Io,
-    /// Its length is no multiple of the sector's size, or no file has so many sectors.
+    /// Its length is no multiple of the sector's size, or would be 2^64 bytes or more.
     #[error("the length is no whole number of sectors")]
     Length,
 }

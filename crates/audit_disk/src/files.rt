@@ -13,7 +13,8 @@ use std::os::unix::fs::FileExt;
 use std::path::Path;
 
 impl<F: FileExt + OpenFile + Drop> FileDisk<OsFile<F>> {
-    /// Makes a file of so many zero sectors. A file that is there is not overwritten: that is a fault.
+    /// Makes a file of so many zero sectors. A file that is there is not overwritten: that is a fault. A file
+    /// that can't be given its length or synced is removed again.
     pub fn create<R: Files<File = F>>(
         rt: &R,
         path: &str,
@@ -31,9 +32,10 @@ impl<F: FileExt + OpenFile + Drop> FileDisk<OsFile<F>> {
             .write(true)
             .create_new(true)
             .open(rt, path)?;
-        file.set_len(length)?;
-        file.sync_all()?;
-        sync_folder(rt, path)?;
+        if lay_out(rt, &file, path, length).is_err() {
+            let _ = fs::remove_file(rt, path);
+            return Err(FileFault::Io);
+        }
         Ok(FileDisk::over(OsFile { file }, sectors))
     }
 
@@ -68,6 +70,18 @@ fn whole_sectors(length: u64) -> Result<u64, FileFault>
         return Err(FileFault::Length);
     }
     Ok(length / SECTOR_SIZE as u64)
+}
+
+/// Gives a new file its length, and puts it and its name on the medium.
+fn lay_out<R: Files<File = F>, F: OpenFile + Drop>(
+    rt: &R,
+    file: &F,
+    path: &str,
+    length: u64,
+) -> io::Result<()> {
+    file.set_len(length)?;
+    file.sync_all()?;
+    sync_folder(rt, path)
 }
 
 /// Puts the name of a new file on the medium, where its folder can be opened.

@@ -7,8 +7,11 @@ use crate::{DeviceFault, SECTOR_SIZE, Sectors};
 #[derive(Drop)]
 pub(crate) struct Gate<D: Sectors> {
     pub(crate) inner: D,
+    /// The inner clock at which the calls were missed.
     pub(crate) place: u64,
+    /// How many writes and syncs the device didn't see.
     pub(crate) missed: u64,
+    /// How many failures it didn't count.
     pub(crate) refused: u64,
     ghost in_step: { place ≤ (D.view inner).clock },
     ghost fits: { (D.view inner).clock + missed < 2 ^ 64 },

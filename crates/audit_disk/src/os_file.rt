@@ -14,23 +14,18 @@ impl<F: FileExt + OpenFile + Drop> SectorFile for OsFile<F> {
     ghost file = { λ _. unknown_file };
 
     fn read_at(&mut self, offset: u64, into: &mut [u8; SECTOR_SIZE]) -> Result<(), DeviceFault> {
-        if self.file.read_exact_at(into, offset).is_err() {
-            return Err(DeviceFault);
-        }
-        Ok(())
+        self.file
+            .read_exact_at(into, offset)
+            .map_err(|_| DeviceFault)
     }
 
     fn write_at(&mut self, offset: u64, bytes: &[u8; SECTOR_SIZE]) -> Result<(), DeviceFault> {
-        if self.file.write_all_at(bytes, offset).is_err() {
-            return Err(DeviceFault);
-        }
-        Ok(())
+        self.file
+            .write_all_at(bytes, offset)
+            .map_err(|_| DeviceFault)
     }
 
     fn sync(&mut self) -> Result<(), DeviceFault> {
-        if self.file.sync_data().is_err() {
-            return Err(DeviceFault);
-        }
-        Ok(())
+        self.file.sync_data().map_err(|_| DeviceFault)
     }
 }

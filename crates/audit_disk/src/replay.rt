@@ -53,8 +53,8 @@ fn progress_at(alloc: Global, start: &[Block], pick: &[u64]) -> Result<Vec<Progr
     Ok(progress)
 }
 
-/// One call more.
-fn take(progress: &mut [Progress], call: &Call)
+/// Applies a call to each sector that it reaches.
+fn apply(progress: &mut [Progress], call: &Call)
     ensures { progress.new ≡ after_effect call.now.effect progress.old }
 {
     match call.effect {
@@ -89,7 +89,7 @@ pub(crate) fn crashed_blocks(
 {
     let mut progress = progress_at(alloc, start, pick)?;
     for call in calls {
-        take(&mut progress, call);
+        apply(&mut progress, call);
     }
     landed_blocks(alloc, &progress)
 }

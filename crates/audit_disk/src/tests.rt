@@ -300,7 +300,36 @@ fn a_real_file_keeps_its_sectors(rt: HostRuntime) -> Result<(), Fail> {
     Ok(())
 }
 
-// The gate runs the tests as a user whom the mode of a file binds; a superuser may write every file.
+#[test]
+fn a_file_that_cant_be_laid_out_leaves_nothing(rt: HostRuntime) -> Result<(), Fail> {
+    let mut folder = env::temp_dir(&rt)?;
+    let name = format!(in rt.alloc(); "audit_disk_too_long_{}", process::id(rt.process()))?;
+    folder.push(name.as_str())?;
+    let path = folder.as_str();
+    let _ = fs::remove_file(&rt, path);
+
+    assert_eq!(rt;
+        FileDisk::create(&rt, path, 1 << 54).err(),
+        Some(FileFault::Io)
+    );
+    assert_eq!(rt; FileDisk::open(&rt, path).err(), Some(FileFault::Io));
+    assert_eq!(rt; FileDisk::create(&rt, path, 1)?.size(), 1);
+    fs::remove_file(&rt, path)?;
+    Ok(())
+}
+
+#[test]
+fn a_sync_asks_the_operating_system(rt: HostRuntime) -> Result<(), Fail> {
+    let file = OpenOptions::new()
+        .read(true)
+        .write(true)
+        .open(&rt, "/dev/null")?;
+    let mut disk = FileDisk::over(OsFile { file }, 1);
+    assert!(rt; disk.sync().is_err());
+    Ok(())
+}
+
+// Where the user is bound by a file's mode; a superuser may write every file.
 #[test]
 fn a_file_that_may_only_be_read_takes_no_write(rt: HostRuntime) -> Result<(), Fail> {
     let mut folder = env::temp_dir(&rt)?;

@@ -5,7 +5,8 @@ ghost use Rattle.audit_disk.specs.Window.{DiffersFromNow, KeepsPending, WritesSe
 
 use crate::{DeviceFault, SECTOR_SIZE, Sectors};
 
-/// Writes sectors in a row, from number `at` on. Nothing is synced. After a fault some of them may be written.
+/// Writes sectors in a row, from number `at` on, by one call each. Nothing is synced. After a fault some of them
+/// may be written, by at most as many calls.
 pub fn write_sectors<D: Sectors>(
     disk: &mut D,
     at: u64,
@@ -14,6 +15,7 @@ pub fn write_sectors<D: Sectors>(
     requires { at + length sectors.now ≤ (D.view disk.old).size }
 
     ensures done { OnOk result (WritesSectors (D.view disk.old) (D.view disk.new) at sectors.now) }
+    ensures ticks { (D.view disk.new).clock ≤ (D.view disk.old).clock + length sectors.now }
     ensures pending { KeepsPending (D.view disk.old) (D.view disk.new) }
     ensures any_moment { AtEachMoment (D.view disk.old) (D.view disk.new)
         (DiffersFromNow (D.view disk.old) at (length sectors.now)) }

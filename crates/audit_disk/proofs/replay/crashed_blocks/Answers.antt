@@ -15,9 +15,9 @@ loop-call-preserved c =
     let held = after_calls (take (c.loop-call.call-index + 1) c.args.calls.now) (map settled c.args.start.now) in
     let more = progress_more c.args.calls.now (map settled c.args.start.now) c.args.pick.now c.loop-call.progress.items c.loop-call.call-index c.call-item.result (omega arith) c.loop-call.invariant in
     let here = subst (λ (call : Call). AreProgress held c.args.pick.now (after_effect call.effect c.loop-call.progress.items)) (sym c.call-item.is) more in
-    let taken = c.take.ensures ∙ ap (λ (all : List Progress). after_effect effect all) c.deref_mut.ensures.value in
-    let size = ap length c.take.ensures ∙ length-after_effect effect c.deref_mut.result.now ∙ c.deref_mut.ensures.len in
-    subst (λ (all : List Progress). AreProgress held c.args.pick.now all) (sym (with_items_is c.loop-call.progress c.take.new.progress size ∙ taken)) here
+    let taken = c.apply.ensures ∙ ap (λ (all : List Progress). after_effect effect all) c.deref_mut.ensures.value in
+    let size = ap length c.apply.ensures ∙ length-after_effect effect c.deref_mut.result.now ∙ c.deref_mut.ensures.len in
+    subst (λ (all : List Progress). AreProgress held c.args.pick.now all) (sym (with_items_is c.loop-call.progress c.apply.new.progress size ∙ taken)) here
 
 pub returns : goal.returns
 returns c =

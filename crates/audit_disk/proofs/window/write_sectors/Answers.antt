@@ -1,6 +1,7 @@
 use Rattle.std.proofs.Common.{◌≡◌, [], take, length, sym, ◌∙◌, subst, arith}
 use Rattle.std.proofs.lemmas.List.{take_more, length-take-le}
 use Rattle.audit_disk.specs.Window.{WritesSectors}
+use Rattle.audit_disk.proofs.Moments.{tick_most}
 use Rattle.audit_disk.proofs.Windows.{window_write, writes_push}
 use Rattle.audit_disk.proofs.window.write_sectors.Goals as goal
 
@@ -12,6 +13,12 @@ pub returns-in_err-write-clause-pending : goal.returns-in_err-write-clause-pendi
 returns-in_err-write-clause-pending g c =
     let invariant = c.loop-k.invariant in
     λ honest image left. c.in_err-write.ensures.unwritten (invariant.moments.continues.honest honest) image (invariant.written.pending honest image left)
+
+pub returns-in_err-write-clause-ticks : goal.returns-in_err-write-clause-ticks
+returns-in_err-write-clause-ticks g c =
+    let invariant = c.loop-k.invariant in
+    let before : length (take c.loop-k.k c.args.sectors.now) ≡ c.loop-k.k = length-take-le c.loop-k.k c.args.sectors.now (omega arith) in
+    omega (arith, tick_most c.in_err-write.ensures.clock, invariant.written.clock, before)
 
 pub loop-k-preserved : goal.loop-k-preserved
 loop-k-preserved g c =
