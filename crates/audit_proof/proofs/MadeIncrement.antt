@@ -11,8 +11,7 @@ use Rattle.audit_tree.specs.Paths.{path, increment_path}
 use Rattle.audit_tree.proofs.Choices.{cond-lt, cond-ge}
 use Rattle.audit_tree.proofs.Depth.{depth-room, depth-least}
 use Rattle.audit_tree.proofs.OlderNode.{older_node}
-use Rattle.audit_tree.proofs.RowLemmas.{aligned_place}
-use Rattle.audit_tree.proofs.PathLemmas.{start_of}
+use Rattle.audit_tree.proofs.PathLemmas.{aligned_place, start_of}
 use Rattle.audit_tree.proofs.SubtreeLemmas.{subtree_hash-lone, subtree_hash-pair, subtree_hash-take, root_of-some}
 use Rattle.audit_proof.specs.declared.commitment.Commitment.{Commitment}
 use Rattle.audit_proof.specs.declared.steps.Versions.{Versions}

@@ -9,6 +9,10 @@ use Rattle.audit_tree.specs.Paths.{path, sibling_at, siblings_at}
 use Rattle.audit_tree.proofs.Choices.{cond-le, cond-gt, cond-lt, cond-ge}
 use Rattle.audit_tree.proofs.SubtreeLemmas.{node_at-subtree_hash}
 
+-- a place that a layer's width divides
+pub aligned_place : (start layer : ℕ) → start % 2 ^ layer ≡ 0 → start / 2 ^ layer * 2 ^ layer ≡ start
+aligned_place start layer h = omega (arith, shr_split start layer)
+
 -- where the node of a layer that holds a place starts
 abbrev pub start_of : ℕ → ℕ → ℕ
 start_of place layer = place / 2 ^ layer * 2 ^ layer

@@ -9,15 +9,11 @@ use Rattle.std.proofs.Math.Nat.{add-mod_right, zero-mod, div-mul-le_self}
 use Rattle.std.proofs.Math.Numerals.{one-add}
 use Rattle.std.proofs.lemmas.Bool.{cases_eq}
 use Rattle.sha2.specs.Sha256.{sha256}
-use Rattle.audit_tree.specs.declared.tree.TheConstants.{MAX_COUNT}
-use Rattle.audit_tree.specs.declared.rows.TheConstants.{LAYERS}
+use Rattle.audit_tree.specs.declared.tree.TheConstants.{MAX_COUNT, LAYERS}
 use Rattle.audit_tree.specs.Subtree.{subtree_hash}
 use Rattle.audit_tree.specs.Layers.{row_of, row_capacity, full_nodes, HoldsLeaves, HasRoom, KeepsRows, IsLayered}
+use Rattle.audit_tree.proofs.PathLemmas.{aligned_place}
 use Rattle.audit_tree.proofs.FullNodes.{length-full_nodes, get_or-full_nodes, full_nodes-nil, full_nodes-above, full_nodes-carry_none}
-
--- a place that a layer's width divides
-pub aligned_place : (start layer : ℕ) → start % 2 ^ layer ≡ 0 → start / 2 ^ layer * 2 ^ layer ≡ start
-aligned_place start layer h = omega (arith, shr_split start layer)
 
 -- a layer's width divides the places of the next one, and those half way
 pub aligned_below : (start layer : ℕ) → start % 2 ^ suc layer ≡ 0 → start % 2 ^ layer ≡ 0

@@ -2,8 +2,7 @@
 use Rattle.std.specs.Prelude.{◌≡◌, ℕ, zero, suc, ◌+◌, ◌-◌, ◌/◌, ◌%◌, Option, None, Some, ◌^◌, ◌<◌, ◌≤◌, min, List, [], ◌∷◌, map, length, slice_index_or, vec_capacity}
 use Rattle.std.specs.declared.vec.Vec.{Vec}
 use Rattle.sha2.specs.Sha256.{sha256}
-use Rattle.audit_tree.specs.declared.tree.TheConstants.{MAX_COUNT}
-use Rattle.audit_tree.specs.declared.rows.TheConstants.{LAYERS}
+use Rattle.audit_tree.specs.declared.tree.TheConstants.{MAX_COUNT, LAYERS}
 use Rattle.audit_tree.specs.Subtree.{parent_of}
 
 -- the hashes over each two neighbours, without a last one that has none

@@ -7,7 +7,7 @@ pub enum TreeError {
     /// The tree holds `MAX_COUNT` leaves.
     #[error("the tree is full")]
     Full,
-    /// There is no such leaf or count, or the proof would not go from an older to a newer count.
+    /// Not `index < count` or `1 <= older <= newer`, or the tree holds fewer leaves than that count.
     #[error("the tree has no such version")]
     NoSuchVersion,
     /// Memory was refused.

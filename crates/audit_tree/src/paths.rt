@@ -2,8 +2,7 @@ ghost use Rattle.std.specs.Prelude.{◌≡◌, ◌+◌, ◌-◌, ◌<◌, ◌≤
 ghost use Rattle.sha2.specs.Sha256.{sha256};
 ghost use Rattle.audit_tree.specs.Paths.{sibling_at, siblings_at};
 ghost use Rattle.audit_tree.specs.Layers.{row_of, HoldsLeaves};
-ghost use Rattle.audit_tree.specs.declared.tree.TheConstants.{MAX_COUNT};
-ghost use Rattle.audit_tree.specs.declared.rows.TheConstants.{LAYERS};
+ghost use Rattle.audit_tree.specs.declared.tree.TheConstants.{MAX_COUNT, LAYERS};
 
 use crate::hashes::Hash;
 use crate::nodes::node_of;

@@ -1,15 +1,12 @@
-ghost use Rattle.std.specs.Prelude.{◌≡◌, ◌+◌, ◌-◌, ◌%◌, ◌^◌, ◌<◌, ◌≤◌, ℕ, [], ◌∷◌, ◌++◌, length, drop, OnOk, All, slice_index_or, vec_len, vec_capacity};
+ghost use Rattle.std.specs.Prelude.{◌≡◌, ◌+◌, ◌-◌, ◌%◌, ◌^◌, ◌<◌, ◌≤◌, ℕ, [], ◌∷◌, ◌++◌, length, drop, IsOk, OnOk, All, slice_index_or, vec_len, vec_capacity};
 ghost use Rattle.audit_tree.specs.Layers.{row_of, row_capacity, HoldsLeaves, HasRoom, KeepsRows, IsCarry};
 ghost use Rattle.sha2.specs.Sha256.{sha256};
 ghost use Rattle.audit_tree.specs.Subtree.{subtree_hash};
 
 use crate::hashes::{Hash, pair_hash};
-use crate::tree::MAX_COUNT;
+use crate::tree::{LAYERS, MAX_COUNT};
 use std::alloc::{AllocError, Global};
 use std::array;
-
-/// The number of layers of a tree with `MAX_COUNT` leaves.
-pub const LAYERS: usize = 25;
 
 /// A row of hashes for each layer, from the leaves up. A row holds the layer's full nodes.
 pub type Rows = [Vec<Hash>; LAYERS];
@@ -55,6 +52,7 @@ pub fn grow_rows(rows: &mut Rows, room: &mut u64, needed: u64) -> Result<(), All
     ensures more { room.old ≤ room.new }
     ensures within { room.new ≤ MAX_COUNT }
     ensures ok { OnOk result (needed ≤ room.new) }
+    ensures there { needed ≤ room.old → IsOk result }
 {
     if needed <= *room {
         return Ok(());

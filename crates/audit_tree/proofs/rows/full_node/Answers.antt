@@ -1,7 +1,7 @@
 use Rattle.std.proofs.Common.{rules, ◌≡◌, ◌^◌, ℕ, [], length, ◌/◌, List, get_or, Vec, Global, sym, ap, ◌∙◌, arith}
 use Rattle.std.proofs.lemmas.List.{get_or_read}
 use Rattle.audit_tree.specs.Layers.{row_of}
-use Rattle.audit_tree.specs.declared.rows.TheConstants.{LAYERS}
+use Rattle.audit_tree.specs.declared.tree.TheConstants.{LAYERS}
 use Rattle.audit_tree.proofs.RowLemmas.{row_read, length-row_of, full_place, row_of-full_node}
 use Rattle.audit_tree.proofs.rows.full_node.Goals as goal
 

@@ -1,6 +1,6 @@
 use Rattle.std.proofs.Common.{◌≡◌, ◌<◌, ◌≤◌, ℕ, [], ◌∷◌, ◌++◌, length}
 use Rattle.sha2.specs.Sha256.{sha256}
-use Rattle.audit_tree.specs.declared.rows.TheConstants.{LAYERS}
+use Rattle.audit_tree.specs.declared.tree.TheConstants.{LAYERS}
 use Rattle.audit_tree.specs.Layers.{row_of, row_capacity, full_nodes}
 use Rattle.audit_tree.proofs.rows.push_rows.Given as goal
 

@@ -1,5 +1,5 @@
 use Rattle.std.proofs.Common.{◌≡◌, ◌^◌, ◌<◌, ◌≤◌, ◌/◌, ℕ, length}
-use Rattle.audit_tree.specs.declared.rows.TheConstants.{LAYERS}
+use Rattle.audit_tree.specs.declared.tree.TheConstants.{LAYERS}
 use Rattle.audit_tree.specs.Layers.{row_capacity, KeepsRows}
 use Rattle.audit_tree.proofs.rows.reserve_rows.Given as goal
 
