@@ -2,6 +2,7 @@ pub mod ClimbLemmas
 pub mod MadePaths
 pub mod Meetings
 pub mod ReadBytes
+pub mod OneReading
 pub mod WrittenBytes
 pub mod MadeIncrement
 pub mod MadeMembership

@@ -73,16 +73,21 @@ parts_of bytes long =
     ∙ ap (λ bs. mark ∷ (one ++ bs)) (drop-drop 8 1 bytes ∙ sym (take-append-drop 8 (drop 9 bytes)))
     ∙ ap (λ bs. mark ∷ (one ++ (two ++ bs))) (drop-drop 8 9 bytes ∙ drop_more bytes 17 0 (omega (arith, long)))
 
+-- bytes at a place are bytes
+pub small_number : (bytes : List ℕ) (at : ℕ) → ((i : ℕ) → get_or bytes i 0 < 256) → (i : ℕ) → get_or (take 8 (drop at bytes)) i 0 < 256
+small_number bytes at small i =
+    elim (cases_lt i 8) [
+      | inl below ↦ omega (arith, get_or-take 8 (drop at bytes) i 0 below, get_or-drop at bytes i 0, small (at + i))
+      | inr above ↦ omega (arith, get_or_past (take 8 (drop at bytes)) i 0 (omega (arith, length-take 8 (drop at bytes))))
+    ]
+
 -- 8 bytes at a place are the bytes of their number
 same_number : (bytes : List ℕ) (at : ℕ) → at + 8 ≤ length bytes → ((i : ℕ) → get_or bytes i 0 < 256) →
     number_bytes (number_at bytes at) ≡ take 8 (drop at bytes)
 same_number bytes at long small =
     let eight = take 8 (drop at bytes) in
     number_bytes-number_of eight (omega (arith, length-take 8 (drop at bytes), length-drop at bytes))
-    (λ i. elim (cases_lt i 8) [
-      | inl below ↦ omega (arith, get_or-take 8 (drop at bytes) i 0 below, get_or-drop at bytes i 0, small (at + i))
-      | inr above ↦ omega (arith, get_or_past eight i 0 (omega (arith, length-take 8 (drop at bytes))))
-    ])
+    (small_number bytes at small)
 
 -- bytes with a head, with these hashes and this rest behind it, are those that are written
 pub bytes_from_head : (mark : ℕ) (bytes : List ℕ) (head : Head) (hashes : List (List ℕ)) (behind : List ℕ) →

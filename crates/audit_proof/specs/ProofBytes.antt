@@ -28,6 +28,10 @@ member_in p = record { index = p.index; count = p.count; hashes = p.hashes.items
 abbrev pub increment_in : IncrementProof → Increment
 increment_in p = record { older = p.older; newer = p.newer; hashes = p.hashes.items }
 
+-- each number of the list is a byte
+abbrev pub AreBytes : List ℕ → Type 0
+AreBytes bytes = (i : ℕ) → slice_index bytes i < 256
+
 -- what bytes can say: numbers of 8 bytes, whole hashes, and no more of either part than the limits
 pub record IsMember (p : Member) : Type 0 where
   pub index : p.index < 2 ^ 64

@@ -108,7 +108,8 @@ pub fn disagreement<T: TextHash>(
 }
 
 /// Two different texts of one SHA-256 digest, from two accepted membership proofs of one index under
-/// one commitment with different entries.
+/// one commitment with different entries. It is refused as `NotAccepted` where one of them isn't accepted,
+/// then as `NoDisagreement` where the entries are equal, then as `Memory`.
 pub fn collide_two(
     alloc: Global,
     commitment: &Commitment,

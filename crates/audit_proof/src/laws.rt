@@ -1,9 +1,10 @@
 //! The laws of proofs over any hash function of texts.
 
-ghost use Rattle.std.specs.Prelude.{◌≡◌, ◌≢◌, ◌↔◌, ℕ, List, IfOk};
+ghost use Rattle.std.specs.Prelude.{◌≡◌, ◌≢◌, ◌↔◌, ℕ, List, Some, IfOk};
 ghost use Rattle.sha2.specs.Sha256.{sha256};
 ghost use Rattle.audit_proof.specs.Acceptance.{AcceptsBoth};
 ghost use Rattle.audit_proof.specs.Collision.{IsCollision};
+ghost use Rattle.audit_proof.specs.ProofBytes.{Member, Increment, AreBytes, IsMember, IsIncrement, member_bytes, member_of, increment_bytes, increment_of};
 
 use crate::accept::accepts_leaf;
 use crate::collision::{CollideFault, Collision, disagreement, is_same_text, leaf_text};
@@ -75,3 +76,10 @@ pub fn collide_two_with<T: TextHash>(
     )?;
     Ok(collision)
 }
+
+/// The bytes of a proof are read in one way only: bytes are read as a proof exactly where it is within the limits
+/// and they are its bytes. The function does nothing: its contract is the law.
+pub fn one_reading_of_proof_bytes()
+    ensures member { (bytes : List ℕ) (proof : Member) → AreBytes bytes → (member_of bytes ≡ Some proof) ↔ (IsMember proof × (bytes ≡ member_bytes proof)) }
+    ensures increment { (bytes : List ℕ) (proof : Increment) → AreBytes bytes → (increment_of bytes ≡ Some proof) ↔ (IsIncrement proof × (bytes ≡ increment_bytes proof)) }
+{}

@@ -142,6 +142,12 @@ fn counts_outside_the_limits_are_not_accepted(rt: HostRuntime) -> Result<(), Fai
     assert!(&rt; !accepts_increment(&none, &none, &[]));
     assert!(&rt; !accepts_increment(&huge, &huge, &[[0; 32]]));
     assert!(&rt; !accepts_increment(&over, &over, &[[0; 32]]));
+    // A full tree over the limit, whose increment to itself is its root alone.
+    let full = Commitment {
+        count: 1 << 25,
+        root: [0; 32],
+    };
+    assert!(&rt; !accepts_increment(&full, &full, &[[0; 32]]));
     Ok(())
 }
 
