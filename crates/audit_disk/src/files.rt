@@ -14,7 +14,7 @@ use std::path::Path;
 
 impl<F: FileExt + OpenFile + Drop> FileDisk<OsFile<F>> {
     /// Makes a file of so many zero sectors. A file that is there is not overwritten: that is a fault. A file
-    /// that can't be given its length or synced is removed again.
+    /// that can't be given its length or synced is removed again, where the system lets it be.
     pub fn create<R: Files<File = F>>(
         rt: &R,
         path: &str,
