@@ -2,7 +2,8 @@
 
 ghost use Rattle.std.specs.Prelude.{◌≡◌, ℕ, List, [], ◌++◌, Some};
 ghost use Rattle.audit_wire.specs.declared.request.Request.{Request};
-ghost use Rattle.audit_wire.specs.Frame.{AreBytes, IsPartial};
+ghost use Rattle.audit_base.specs.Bytes.{AreBytes};
+ghost use Rattle.audit_wire.specs.Frame.{IsPartial};
 ghost use Rattle.audit_wire.specs.Request.{request_body, request_in, IsRequest};
 ghost use Rattle.audit_wire.specs.Stream.{Framed, begun, in_front, framed_bodies, framed_requests, continued, request_frame, IsReading};
 ghost use Rattle.audit_wire.specs.Progress.{Feeding, reading, rest_of, is_spoiled, IsRun, bytes_taken, bodies_given, progress_after};

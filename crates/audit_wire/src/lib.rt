@@ -22,6 +22,9 @@ mod room;
 mod view;
 mod writing;
 
+pub use audit_base::{
+    MAX_ENTRY, MAX_INCREMENT_HASHES, MAX_MEMBER_HASHES, MAX_PAYLOAD, RESERVED_KIND,
+};
 pub use byte_list::ByteList;
 pub use decoder::Decoder;
 pub use fed::Fed;
@@ -30,10 +33,7 @@ pub use laws::{
     every_cut_gives_one_reading, every_request_is_read_back, more_bytes_keep_the_requests,
     one_reading_of_a_stream,
 };
-pub use limits::{
-    LENGTH_BYTES, MAX_BODY, MAX_ENTRY, MAX_FRAME, MAX_INCREMENT_HASHES, MAX_MEMBER_HASHES,
-    MAX_PAYLOAD, RESERVED_KIND,
-};
+pub use limits::{LENGTH_BYTES, MAX_BODY, MAX_FRAME};
 pub use malformed::Malformed;
 pub use reading::read_request;
 pub use refusal::Refusal;
