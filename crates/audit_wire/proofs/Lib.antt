@@ -4,3 +4,4 @@ pub mod Framing
 pub mod Readings
 pub mod Runs
 pub mod Replies
+pub mod GivingBack

@@ -1,10 +1,13 @@
 -- The body of a reply: the kind in one byte, the request tag in four, and the fields of its kind.
-use Rattle.std.specs.Prelude.{◌≡◌, ℕ, ◌+◌, ◌*◌, ◌^◌, ◌<◌, ◌≤◌, ◌&&◌, ◌==◌, nat_le, if◌then◌else◌, List, [], ◌∷◌, ◌++◌, length, take, drop, slice_index, Option, Some, None}
+use Rattle.std.specs.Prelude.{◌≡◌, ℕ, ◌+◌, ◌*◌, ◌^◌, ◌<◌, ◌≤◌, ◌&&◌, ◌==◌, nat_le, if◌then◌else◌, List, [], ◌∷◌, ◌++◌, length, take, drop, slice_index, Option, Some, None, Result, Ok, Err, IsSome}
 use Rattle.std.specs.List.{flat_map}
 use Rattle.std.specs.Int.{w32, w64, to_be_bytes}
 use Rattle.audit_base.specs.Bytes.{number_at}
 use Rattle.audit_base.specs.Hashes.{AreHashes, first_hashes}
 use Rattle.audit_base.specs.declared.limits.TheConstants.{HASH_LEN, MAX_MEMBER_HASHES, MAX_INCREMENT_HASHES, MAX_ENTRY}
+use Rattle.audit_wire.specs.Frame.{frame}
+use Rattle.audit_wire.specs.declared.reply_fault.ReplyFault.{ReplyFault}
+use Rattle.audit_wire.specs.declared.reply_fault.ReplyFault.TheVariants as fault
 use Rattle.audit_wire.specs.declared.refusal.Refusal.{Refusal}
 use Rattle.audit_wire.specs.declared.refusal.Refusal.TheVariants as refusal
 use Rattle.audit_wire.specs.declared.reply_kind.ReplyKind.{ReplyKind}
@@ -61,6 +64,14 @@ HasReplyFields (reply.Incremental tag hashes) = (tag < 2 ^ 32) × AreHashes hash
 HasReplyFields (reply.Entry tag entry) = tag < 2 ^ 32
 HasReplyFields (reply.Refused tag code) = tag < 2 ^ 32
 
+-- a reply that has a frame, as the code holds it
+pub record IsWholeReply (given : Reply) : Type 0 where
+  pub within : IsReply given
+  pub fields : HasReplyFields given
+
+abbrev pub reply_frame : Reply → List ℕ
+reply_frame given = frame (reply_body given)
+
 -- ---- the same from the bytes
 
 -- the kind that the first byte of a body stands for
@@ -87,11 +98,11 @@ refusal_of code =
 unfoldable pub acknowledgement_in : List ℕ → Option Reply
 acknowledgement_in fields =
     if length fields == 52
-    then Some (reply.Acknowledgement (number_at w32 0 fields) (number_at w64 4 fields) (number_at w64 12 fields) (drop 20 fields)) else None
+    then Some (reply.Acknowledgement (number_at w32 0 fields) (number_at w64 4 fields) (number_at w64 12 fields) (take HASH_LEN (drop 20 fields))) else None
 
 unfoldable pub commitment_reply_in : List ℕ → Option Reply
 commitment_reply_in fields =
-    if length fields == 44 then Some (reply.Commitment (number_at w32 0 fields) (number_at w64 4 fields) (drop 12 fields)) else None
+    if length fields == 44 then Some (reply.Commitment (number_at w32 0 fields) (number_at w64 4 fields) (take HASH_LEN (drop 12 fields))) else None
 
 -- the number of hashes, the hashes, and what follows them
 unfoldable pub membership_reply_in : List ℕ → Option Reply
@@ -131,3 +142,9 @@ reply_fields_in (Some kind.Refused) fields = refused_in fields
 unfoldable pub reply_in : List ℕ → Option Reply
 reply_in [] = None
 reply_in (first ∷ fields) = reply_fields_in (reply_kind_at first) fields
+
+-- what reading a body as a reply has come to: the reply that the body is, or none, or memory was refused for one
+abbrev pub IsReadAs : Option Reply → Result Reply ReplyFault → Type 0
+IsReadAs said (Ok given) = said ≡ Some given
+IsReadAs said (Err fault.Malformed) = said ≡ None
+IsReadAs said (Err fault.Memory) = IsSome said
