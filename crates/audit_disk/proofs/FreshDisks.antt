@@ -1,7 +1,7 @@
 -- A `MemDisk` of which no call was made.
 use Rattle.std.proofs.Common.{◌≡◌, ℕ, List, [], ◌∷◌, map, refl, sym, ◌∙◌, ap, subst, length, ◌<◌, ◌^◌}
 use Rattle.std.proofs.lemmas.List.{length-map}
-use Rattle.audit_disk.specs.Image.{Sector, Image}
+use Rattle.audit_device.specs.Image.{Sector, Image}
 use Rattle.audit_disk.specs.Held.{Held, settled, content_of, bytes_of, IsImageOf, crashed}
 use Rattle.audit_disk.specs.Memory.{after_calls, held_at}
 use Rattle.audit_disk.specs.MemDisk.{disk_view, disk_held, IsFresh, HoldsOnly, IsEachPicked}

@@ -2,13 +2,13 @@
 use Rattle.std.proofs.Common.{◌≡◌, ◌⊎◌, inl, inr, ⊎_elim, ℕ, zero, suc, ◌+◌, ◌*◌, ◌/◌, ◌<◌, ◌≤◌, Ok, Err, OnOk, OnErr, List, [], ◌∷◌, ◌++◌, length, take, drop, refl, sym, ◌∙◌, ap, arith}
 use Rattle.std.proofs.Math.Seq.{take-append-add, drop-append-add}
 use Rattle.std.proofs.lemmas.List.{take_at, drop_at, append_assoc}
-use Rattle.audit_disk.specs.Image.{Sector, Image, IsWhole, sector_at, with_sector}
-use Rattle.audit_disk.specs.View.{View}
-use Rattle.audit_disk.specs.Calls.{Outcome, Continues, IsRead, IsWrite, IsSync}
+use Rattle.audit_device.specs.Image.{Sector, Image, IsWhole, sector_at, with_sector}
+use Rattle.audit_device.specs.View.{View}
+use Rattle.audit_device.specs.Calls.{Outcome, Continues, IsRead, IsWrite, IsSync}
 use Rattle.audit_disk.specs.File.{IsUnusedFile, overlaid, GoesOn, IsFileRead, IsFileWrite, IsFileSync}
 use Rattle.audit_disk.specs.MemFile.{joined, length-joined, joined_view}
 use Rattle.audit_disk.specs.MemDisk.{IsFresh}
-use Rattle.audit_disk.specs.declared.sectors.TheConstants.{SECTOR_SIZE}
+use Rattle.audit_device.specs.declared.sectors.TheConstants.{SECTOR_SIZE}
 
 -- each of its sectors is whole
 abbrev AreWhole : Image → Type 0

@@ -1,8 +1,8 @@
 -- A file of bytes that is written in whole sectors.
 use Rattle.std.specs.Prelude.{◌≡◌, ◌⊎◌, ℕ, zero, suc, ◌+◌, ◌*◌, ◌%◌, ◌<◌, ◌≤◌, List, [], ◌∷◌, ◌++◌, length, take, drop, Result, OnOk, OnErr}
-use Rattle.audit_disk.specs.Image.{Sector, Image}
-use Rattle.audit_disk.specs.View.{last_count}
-use Rattle.audit_disk.specs.declared.sectors.TheConstants.{SECTOR_SIZE}
+use Rattle.audit_device.specs.Image.{Sector, Image}
+use Rattle.audit_device.specs.View.{last_count}
+use Rattle.audit_device.specs.declared.sectors.TheConstants.{SECTOR_SIZE}
 
 -- the file with other bytes from that offset on
 abbrev pub overlaid : List ℕ → ℕ → List ℕ → List ℕ

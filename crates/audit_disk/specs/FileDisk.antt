@@ -1,7 +1,7 @@
 -- A device in a file.
 use Rattle.std.specs.Prelude.{◌≡◌, ℕ, List}
-use Rattle.audit_disk.specs.Image.{Image}
-use Rattle.audit_disk.specs.View.{View}
+use Rattle.audit_device.specs.Image.{Image}
+use Rattle.audit_device.specs.View.{View}
 use Rattle.audit_disk.specs.File.{sectors_of}
 use Rattle.audit_disk.specs.FileView.{file_view, sectors_fit}
 use Rattle.audit_disk.specs.declared.file_disk.FileDisk.{FileDisk}

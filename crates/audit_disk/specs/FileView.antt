@@ -2,10 +2,10 @@
 use Rattle.std.specs.Prelude.{◌≡◌, ℕ, zero, suc, ◌-◌, ◌*◌, ◌^◌, ◌<◌, List, length, drop, refl}
 use Rattle.std.proofs.Common.{sym, ◌∙◌, ap, subst, arith}
 use Rattle.std.proofs.lemmas.List.{length-take, length-drop}
-use Rattle.audit_disk.specs.Image.{IsWhole, sector_at}
-use Rattle.audit_disk.specs.View.{View}
+use Rattle.audit_device.specs.Image.{IsWhole, sector_at}
+use Rattle.audit_device.specs.View.{View}
 use Rattle.audit_disk.specs.File.{sectors_of, FileView}
-use Rattle.audit_disk.specs.declared.sectors.TheConstants.{SECTOR_SIZE}
+use Rattle.audit_device.specs.declared.sectors.TheConstants.{SECTOR_SIZE}
 
 pub length-sectors_of : (count : ℕ) (file : List ℕ) → length (sectors_of count file) ≡ count
 length-sectors_of zero file = refl

@@ -1,5 +1,9 @@
+pub use Rattle.audit_device.specs.Calls
+pub use Rattle.audit_device.specs.Image
+pub use Rattle.audit_device.specs.Moments
+pub use Rattle.audit_device.specs.View
+pub use Rattle.audit_device.specs.Window
 pub mod CallLog
-pub mod Calls
 pub mod Countdown
 pub mod FailOnce
 pub mod File
@@ -9,14 +13,10 @@ pub mod Fuse
 pub mod Gate
 pub mod Held
 pub mod HeldLaws
-pub mod Image
 pub mod MemDisk
 pub mod MemFile
 pub mod MemFileView
 pub mod Memory
-pub mod Moments
 pub mod OsFile
 pub mod Progress
 pub mod Shifted
-pub mod View
-pub mod Window

@@ -2,10 +2,10 @@
 use Rattle.std.specs.Prelude.{◌≡◌, ℕ, zero, suc, ◌*◌, ◌<◌, List, [], ◌∷◌, ◌++◌, length, refl}
 use Rattle.std.proofs.Common.{sym, ◌∙◌, ap, arith}
 use Rattle.std.proofs.lemmas.List.{length-append}
-use Rattle.audit_disk.specs.Image.{Image, IsWhole, sector_at}
-use Rattle.audit_disk.specs.View.{View}
+use Rattle.audit_device.specs.Image.{Image, IsWhole, sector_at}
+use Rattle.audit_device.specs.View.{View}
 use Rattle.audit_disk.specs.File.{FileView}
-use Rattle.audit_disk.specs.declared.sectors.TheConstants.{SECTOR_SIZE}
+use Rattle.audit_device.specs.declared.sectors.TheConstants.{SECTOR_SIZE}
 
 -- the sectors of an image as bytes
 abbrev pub joined : Image → List ℕ

@@ -1,7 +1,7 @@
 ghost use Rattle.std.specs.Prelude.{◌≡◌, ◌≢◌, ◌<◌, IsErr, IsSome, IsTrue, ◌↔◌};
-ghost use Rattle.audit_disk.specs.View.{last_count};
-ghost use Rattle.audit_disk.specs.Moments.{IsUnused, LooksLike};
-ghost use Rattle.audit_disk.specs.Calls.{IsRead, IsWrite, IsSync};
+ghost use Rattle.audit_device.specs.View.{last_count};
+ghost use Rattle.audit_device.specs.Moments.{IsUnused, LooksLike};
+ghost use Rattle.audit_device.specs.Calls.{IsRead, IsWrite, IsSync};
 ghost use Rattle.audit_disk.specs.Shifted.{shifted};
 ghost use Rattle.audit_disk.specs.Countdown.{one_less};
 

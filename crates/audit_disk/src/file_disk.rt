@@ -1,8 +1,8 @@
 ghost use Rattle.std.specs.Prelude.{◌≡◌, ◌*◌, ◌^◌, ◌<◌, ◌≤◌, length};
 ghost use Rattle.audit_disk.specs.File.{IsUnusedFile};
 ghost use Rattle.audit_disk.specs.FileView.{file_view, sectors_fit};
-ghost use Rattle.audit_disk.specs.Calls.{CountsFailure};
-ghost use Rattle.audit_disk.specs.declared.sectors.TheConstants.{SECTOR_SIZE};
+ghost use Rattle.audit_device.specs.Calls.{CountsFailure};
+ghost use Rattle.audit_device.specs.declared.sectors.TheConstants.{SECTOR_SIZE};
 
 use crate::{DeviceFault, SECTOR_SIZE, SectorFile, Sectors};
 

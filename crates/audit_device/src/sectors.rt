@@ -1,6 +1,6 @@
 ghost use Rattle.std.specs.Prelude.{◌≡◌, ◌<◌};
-ghost use Rattle.audit_disk.specs.View.{View};
-ghost use Rattle.audit_disk.specs.Calls.{IsRead, IsWrite, IsSync};
+ghost use Rattle.audit_device.specs.View.{View};
+ghost use Rattle.audit_device.specs.Calls.{IsRead, IsWrite, IsSync};
 
 use crate::DeviceFault;
 

@@ -1,8 +1,8 @@
 -- What the calls of a device do to it.
 use Rattle.std.specs.Prelude.{◌≡◌, ◌⊎◌, ℕ, ◌+◌, ◌<◌, ◌≤◌, min, Result, OnOk, OnErr, IsErr, MatchResult}
-use Rattle.audit_disk.specs.Image.{Sector, Image, sector_at, with_sector}
-use Rattle.audit_disk.specs.View.{View, last_count}
-use Rattle.audit_disk.specs.declared.fault.DeviceFault.{DeviceFault}
+use Rattle.audit_device.specs.Image.{Sector, Image, sector_at, with_sector}
+use Rattle.audit_device.specs.View.{View, last_count}
+use Rattle.audit_device.specs.declared.fault.DeviceFault.{DeviceFault}
 
 abbrev pub Outcome : Type 0
 Outcome = Result (Unit {0}) DeviceFault

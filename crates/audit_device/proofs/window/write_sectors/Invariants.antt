@@ -1,7 +1,7 @@
 use Rattle.std.proofs.Common.{◌≡◌, take, length}
-use Rattle.audit_disk.specs.Moments.{AtEachMoment}
-use Rattle.audit_disk.specs.Window.{DiffersFromNow, WritesSectors}
-use Rattle.audit_disk.proofs.window.write_sectors.Given as goal
+use Rattle.audit_device.specs.Moments.{AtEachMoment}
+use Rattle.audit_device.specs.Window.{DiffersFromNow, WritesSectors}
+use Rattle.audit_device.proofs.window.write_sectors.Given as goal
 
 abbrev pub invariant-loop-k : goal.invariant-loop-k
 invariant-loop-k g l = record {

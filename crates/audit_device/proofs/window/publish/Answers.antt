@@ -1,6 +1,6 @@
-use Rattle.audit_disk.proofs.Moments.{then_sync}
-use Rattle.audit_disk.proofs.Windows.{window_written, mark_written, published_all}
-use Rattle.audit_disk.proofs.window.publish.Goals as goal
+use Rattle.audit_device.proofs.Moments.{then_sync}
+use Rattle.audit_device.proofs.Windows.{window_written, mark_written, published_all}
+use Rattle.audit_device.proofs.window.publish.Goals as goal
 
 pub returns-in_err-sync-clause-any_moment : goal.returns-in_err-sync-clause-any_moment
 returns-in_err-sync-clause-any_moment g c =

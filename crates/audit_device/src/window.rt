@@ -1,7 +1,7 @@
 ghost use Rattle.std.specs.Prelude.{◌≡◌, ◌+◌, ◌<◌, ◌≤◌, length, OnOk};
-ghost use Rattle.audit_disk.specs.Calls.{CountsFailure};
-ghost use Rattle.audit_disk.specs.Moments.{AtEachMoment};
-ghost use Rattle.audit_disk.specs.Window.{DiffersFromNow, KeepsPending, WritesSectors, IsBeforeOrPublished, Publishes};
+ghost use Rattle.audit_device.specs.Calls.{CountsFailure};
+ghost use Rattle.audit_device.specs.Moments.{AtEachMoment};
+ghost use Rattle.audit_device.specs.Window.{DiffersFromNow, KeepsPending, WritesSectors, IsBeforeOrPublished, Publishes};
 
 use crate::{DeviceFault, SECTOR_SIZE, Sectors};
 

@@ -1,9 +1,9 @@
 use Rattle.std.proofs.Common.{◌≡◌, [], take, length, sym, ◌∙◌, subst, arith}
 use Rattle.std.proofs.lemmas.List.{take_more, length-take-le}
-use Rattle.audit_disk.specs.Window.{WritesSectors}
-use Rattle.audit_disk.proofs.Moments.{tick_most}
-use Rattle.audit_disk.proofs.Windows.{window_write, writes_push}
-use Rattle.audit_disk.proofs.window.write_sectors.Goals as goal
+use Rattle.audit_device.specs.Window.{WritesSectors}
+use Rattle.audit_device.proofs.Moments.{tick_most}
+use Rattle.audit_device.proofs.Windows.{window_write, writes_push}
+use Rattle.audit_device.proofs.window.write_sectors.Goals as goal
 
 pub returns-in_err-write-clause-any_moment : goal.returns-in_err-write-clause-any_moment
 returns-in_err-write-clause-any_moment g c =

@@ -1,6 +1,6 @@
 -- What is known of a device: the crash model.
 use Rattle.std.specs.Prelude.{ℕ, ◌-◌, ◌^◌, ◌<◌}
-use Rattle.audit_disk.specs.Image.{Image, IsWhole}
+use Rattle.audit_device.specs.Image.{Image, IsWhole}
 
 -- the last value of a clock, and of a count of failures
 abbrev pub last_count : ℕ

@@ -1,0 +1,10 @@
+//! The crash model of a device of sectors: what its calls do, and what a crash at each moment may leave.
+#![tactic(auto)]
+
+mod fault;
+mod sectors;
+mod window;
+
+pub use fault::DeviceFault;
+pub use sectors::{SECTOR_SIZE, Sectors};
+pub use window::{publish, write_sectors};
