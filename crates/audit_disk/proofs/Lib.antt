@@ -11,5 +11,6 @@ pub mod MemFileCalls
 pub mod MemoryCalls
 pub mod MemoryLemmas
 pub mod OverFiles
+pub mod Reached
 pub mod Replays
 pub mod ShiftedCalls

@@ -68,6 +68,9 @@ module _ (old new : View) where
   pub read_joined : {into : Sector} (at offset : ℕ) (result : Outcome) → offset ≡ SECTOR_SIZE * at → at < old.size → IsRead old new at into result → IsFileRead (joined_view old) (joined_view new) offset into result
   read_joined {into = into} at offset result there lt read = record {
     goes_on = goes_on read.continues;
+    failures = read.failures;
+    given = given result;
+    still_given = λ other bytes apart was. tt;
     moment = λ honest. read.clock;
     same = λ honest. ap joined (read.content honest);
     found = λ honest. found result honest (read.bytes honest);
@@ -78,10 +81,16 @@ module _ (old new : View) where
           is ∙ joined-sector_at old.content at (content_whole old honest) (omega (arith, (old.whole honest old.clock old.content (old.content_left honest)).sectors)) ∙ ap (λ (n : ℕ). take SECTOR_SIZE (drop n (joined old.content))) (sym there)
       found (Err fault) honest is = tt
 
+      given : (result : Outcome) → OnOk result (Unit {0})
+      given (Ok done) = tt
+      given (Err fault) = tt
+
   pub write_joined : {bytes : Sector} (at offset : ℕ) (result : Outcome) → offset ≡ SECTOR_SIZE * at → at < old.size → length bytes ≡ SECTOR_SIZE → IsWrite old new at bytes result
       → IsFileWrite (joined_view old) (joined_view new) offset bytes result
   write_joined {bytes = bytes} at offset result there lt long write = record {
     goes_on = goes_on write.continues;
+    failures = write.failures;
+    still_given = λ other bytes apart was. tt;
     moment = λ honest below. write.clock.before_end below;
     stands = λ honest. stands result honest (write.content honest);
     stands_err = λ honest. stands_err result honest (write.content_err honest);
@@ -129,6 +138,7 @@ module _ (old new : View) where
   pub sync_joined : (result : Outcome) → IsSync old new result → IsFileSync (joined_view old) (joined_view new) result
   sync_joined result sync = record {
     goes_on = goes_on sync.continues;
+    failures = sync.failures;
     moment = λ honest below. sync.clock.before_end below;
     same = λ honest. ap joined (sync.content honest);
     only = λ honest. only result (sync.only honest);

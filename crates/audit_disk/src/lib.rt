@@ -4,6 +4,7 @@
 mod block;
 mod call;
 mod call_log;
+mod counted;
 mod fail_once;
 mod file_disk;
 mod file_fault;
