@@ -38,9 +38,15 @@ pub record IsRead (old new : View) (at : ℕ) (into : Sector) (result : Outcome)
   pub content : old.honest → new.content ≡ old.content
   pub bytes : old.honest → OnOk result (into ≡ sector_at old.content at)
 
+-- the image is one that was possible before, with that sector written
+pub record IsWritten (left : Image → Type 0) (at : ℕ) (bytes : Sector) (image : Image) : Type 0 where
+  pub before : Image
+  pub was_left : left before
+  pub is : image ≡ with_sector before at bytes
+
 -- an image that was possible before, or such an image with that sector written
-abbrev pub MayBeWritten : (Image → Type 0) → ℕ → Sector → Image → Type 0
-MayBeWritten left at bytes image = left image ⊎ ((before : Image) × left before × (image ≡ with_sector before at bytes))
+pub record MayBeWritten (left : Image → Type 0) (at : ℕ) (bytes : Sector) (image : Image) : Type 0 where
+  pub either : left image ⊎ IsWritten left at bytes image
 
 pub record IsWrite (old new : View) (at : ℕ) (bytes : Sector) (result : Outcome) : Type 0 where
   pub continues : Continues old new

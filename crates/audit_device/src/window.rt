@@ -1,7 +1,7 @@
 ghost use Rattle.std.specs.Prelude.{◌≡◌, ◌+◌, ◌<◌, ◌≤◌, length, OnOk};
 ghost use Rattle.audit_device.specs.Calls.{CountsFailure};
 ghost use Rattle.audit_device.specs.Moments.{AtEachMoment};
-ghost use Rattle.audit_device.specs.Window.{DiffersFromNow, KeepsPending, WritesSectors, IsBeforeOrPublished, Publishes};
+ghost use Rattle.audit_device.specs.Window.{WritesRow, IsBeforeOrPublished, Publishes};
 
 use crate::{DeviceFault, SECTOR_SIZE, Sectors};
 
@@ -14,12 +14,7 @@ pub fn write_sectors<D: Sectors>(
 ) -> Result<(), DeviceFault>
     requires { at + length sectors.now ≤ (D.view disk.old).size }
 
-    ensures done { OnOk result (WritesSectors (D.view disk.old) (D.view disk.new) at sectors.now) }
-    ensures ticks { (D.view disk.new).clock ≤ (D.view disk.old).clock + length sectors.now }
-    ensures pending { KeepsPending (D.view disk.old) (D.view disk.new) }
-    ensures any_moment { AtEachMoment (D.view disk.old) (D.view disk.new)
-        (DiffersFromNow (D.view disk.old) at (length sectors.now)) }
-    ensures cause { CountsFailure (D.view disk.old).failures (D.view disk.new).failures result }
+    ensures { WritesRow (D.view disk.old) (D.view disk.new) at sectors.now result }
 {
     for (k, sector) in sectors.iter().enumerate() {
         disk.write(at + k as u64, sector)?;

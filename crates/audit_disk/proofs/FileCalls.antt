@@ -115,13 +115,15 @@ module _ (old new : FileView) (sectors reached reached' clock clock' failures fa
         content_err = λ honest. stands_err result honest (write.stands_err honest);
         images = λ honest image left.
             ⊎_elim
-            (λ (same : old.left_at old.moment left.1.0). inl (honest, (left.1.0, now_out old reached clock left.1.0 in_order same, left.1.2)))
+            (λ (same : old.left_at old.moment left.1.0). record { either = inl (honest, (left.1.0, now_out old reached clock left.1.0 in_order same, left.1.2)) })
             (λ (over : (first : List ℕ) × old.left_at old.moment first × (left.1.0 ≡ overlaid first (SECTOR_SIZE * at) bytes)).
-            inr (
-              sectors_of sectors over.0,
-              (honest, (over.0, now_out old reached clock over.0 in_order over.1, refl)),
-              left.1.2 ∙ ap (λ (file : List ℕ). sectors_of sectors file) over.2 ∙ placed over.0 (old.same_length honest old.moment over.0 over.1 ∙ sized honest),
-            ))
+            record {
+              either = inr (record {
+                before = sectors_of sectors over.0;
+                was_left = (honest, (over.0, now_out old reached clock over.0 in_order over.1, refl));
+                is = left.1.2 ∙ ap (λ (file : List ℕ). sectors_of sectors file) over.2 ∙ placed over.0 (old.same_length honest old.moment over.0 over.1 ∙ sized honest);
+              });
+            })
             (write.images honest left.1.0 (now_in new reached' clock' left.1.0 in_order' left.1.1));
         unwritten = λ honest image left. (write.goes_on.honest honest, (left.1.0, now_out new reached' clock' left.1.0 in_order' (write.unwritten honest left.1.0 (now_in old reached clock left.1.0 in_order left.1.1)), left.1.2));
         written = λ honest. written result honest (write.written honest);
