@@ -6,6 +6,7 @@ pub mod laws;
 mod sectors;
 mod window;
 
+pub use audit_base::SECTOR_SIZE;
 pub use fault::DeviceFault;
-pub use sectors::{SECTOR_SIZE, Sectors};
+pub use sectors::Sectors;
 pub use window::{publish, write_sectors};

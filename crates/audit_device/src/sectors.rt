@@ -2,10 +2,7 @@ ghost use Rattle.std.specs.Prelude.{◌≡◌, ◌<◌};
 ghost use Rattle.audit_device.specs.View.{View};
 ghost use Rattle.audit_device.specs.Calls.{IsRead, IsWrite, IsSync};
 
-use crate::DeviceFault;
-
-/// The bytes of a sector.
-pub const SECTOR_SIZE: usize = 512;
+use crate::{DeviceFault, SECTOR_SIZE};
 
 /// A device of sectors. Its contract is the crash model.
 ///

@@ -6,7 +6,7 @@ use Rattle.audit_device.specs.Calls.{Outcome, Continues, CountsFailure, HasRisen
 use Rattle.audit_disk.specs.File.{overlaid, sectors_of, FileView, GoesOn, IsFileRead, IsFileWrite, IsFileSync}
 use Rattle.audit_disk.specs.FileView.{file_moment, file_view}
 use Rattle.audit_device.specs.declared.fault.DeviceFault.{DeviceFault}
-use Rattle.audit_device.specs.declared.sectors.TheConstants.{SECTOR_SIZE}
+use Rattle.audit_base.specs.declared.limits.TheConstants.{SECTOR_SIZE}
 use Rattle.audit_disk.proofs.FileSectors.{length-overlaid, sectors_of-overlaid, sector_at-sectors_of}
 
 -- as many bytes as the sectors have

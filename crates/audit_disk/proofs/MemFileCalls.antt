@@ -8,7 +8,7 @@ use Rattle.audit_device.specs.Calls.{Outcome, Continues, IsWritten, IsRead, IsWr
 use Rattle.audit_disk.specs.File.{IsUnusedFile, overlaid, GoesOn, IsFileRead, IsFileWrite, IsFileSync}
 use Rattle.audit_disk.specs.MemFile.{joined, length-joined, joined_view}
 use Rattle.audit_disk.specs.MemDisk.{IsFresh}
-use Rattle.audit_device.specs.declared.sectors.TheConstants.{SECTOR_SIZE}
+use Rattle.audit_base.specs.declared.limits.TheConstants.{SECTOR_SIZE}
 
 -- each of its sectors is whole
 abbrev AreWhole : Image → Type 0

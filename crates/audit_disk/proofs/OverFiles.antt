@@ -7,7 +7,7 @@ use Rattle.audit_disk.specs.File.{sectors_of, FileView}
 use Rattle.audit_disk.specs.FileView.{file_moment}
 use Rattle.audit_disk.specs.MemFile.{joined, joined_view}
 use Rattle.audit_disk.specs.MemDisk.{IsFresh}
-use Rattle.audit_device.specs.declared.sectors.TheConstants.{SECTOR_SIZE}
+use Rattle.audit_base.specs.declared.limits.TheConstants.{SECTOR_SIZE}
 
 -- the moment of the file is the start of the clock
 pub moment_in : (file : FileView) (bytes : List ℕ) → file.left_at (file_moment file.moment 0 0) bytes → file.left_at file.moment bytes

@@ -3,7 +3,7 @@ use Rattle.std.specs.Prelude.{◌≡◌, ◌≢◌, ◌⊎◌, ℕ, zero, suc, �
 use Rattle.audit_device.specs.Image.{Sector, Image}
 use Rattle.audit_device.specs.View.{last_count}
 use Rattle.audit_device.specs.Calls.{CountsFailure, HasRisen}
-use Rattle.audit_device.specs.declared.sectors.TheConstants.{SECTOR_SIZE}
+use Rattle.audit_base.specs.declared.limits.TheConstants.{SECTOR_SIZE}
 
 -- the file with other bytes from that offset on
 abbrev pub overlaid : List ℕ → ℕ → List ℕ → List ℕ

@@ -5,7 +5,7 @@ use Rattle.std.proofs.lemmas.List.{length-take, length-drop}
 use Rattle.audit_device.specs.Image.{IsWhole, sector_at}
 use Rattle.audit_device.specs.View.{View}
 use Rattle.audit_disk.specs.File.{sectors_of, FileView}
-use Rattle.audit_device.specs.declared.sectors.TheConstants.{SECTOR_SIZE}
+use Rattle.audit_base.specs.declared.limits.TheConstants.{SECTOR_SIZE}
 
 pub length-sectors_of : (count : ℕ) (file : List ℕ) → length (sectors_of count file) ≡ count
 length-sectors_of zero file = refl

@@ -4,7 +4,7 @@ use Rattle.std.proofs.Common.{sym, ◌∙◌, ap, arith}
 use Rattle.audit_device.specs.Image.{Image, IsWhole, sector_at}
 use Rattle.audit_disk.specs.Held.{Held, chosen, newest, content_of, IsImageOf, after_write, after_sync}
 use Rattle.audit_disk.specs.declared.block.Block.{Block}
-use Rattle.audit_device.specs.declared.sectors.TheConstants.{SECTOR_SIZE}
+use Rattle.audit_base.specs.declared.limits.TheConstants.{SECTOR_SIZE}
 
 -- a pick behind the last content gives the last
 pub chosen_last : (synced : Block) (since : List Block) → (p : ℕ) × (chosen synced since p ≡ newest synced since)

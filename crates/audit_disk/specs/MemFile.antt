@@ -5,7 +5,7 @@ use Rattle.std.proofs.lemmas.List.{length-append}
 use Rattle.audit_device.specs.Image.{Image, IsWhole, sector_at}
 use Rattle.audit_device.specs.View.{View}
 use Rattle.audit_disk.specs.File.{FileView}
-use Rattle.audit_device.specs.declared.sectors.TheConstants.{SECTOR_SIZE}
+use Rattle.audit_base.specs.declared.limits.TheConstants.{SECTOR_SIZE}
 
 -- the sectors of an image as bytes
 abbrev pub joined : Image → List ℕ

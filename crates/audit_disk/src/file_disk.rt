@@ -1,5 +1,5 @@
 ghost use Rattle.std.specs.Prelude.{◌≡◌, ◌*◌, ◌^◌, ◌<◌, ◌≤◌, length, unwrap_or};
-ghost use Rattle.audit_device.specs.declared.sectors.TheConstants.{SECTOR_SIZE};
+ghost use Rattle.audit_base.specs.declared.limits.TheConstants.{SECTOR_SIZE};
 ghost use Rattle.audit_disk.specs.File.{IsUnusedFile};
 ghost use Rattle.audit_disk.specs.FileView.{file_view, sectors_fit};
 

@@ -1,6 +1,6 @@
 //! Devices in files of the operating system.
 ghost use Rattle.std.specs.Prelude.{◌≡◌, ◌≢◌, ◌*◌, ◌%◌, ◌^◌, ◌<◌, ◌≤◌, ◌↔◌, IfOk, IsErrOf, replicate};
-ghost use Rattle.audit_device.specs.declared.sectors.TheConstants.{SECTOR_SIZE};
+ghost use Rattle.audit_base.specs.declared.limits.TheConstants.{SECTOR_SIZE};
 ghost use Rattle.audit_disk.specs.FileDisk.{IsFreshFile, file_disk_view};
 ghost use Rattle.audit_disk.specs.MemDisk.{IsFresh};
 
