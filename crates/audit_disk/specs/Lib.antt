@@ -18,5 +18,6 @@ pub mod MemFile
 pub mod MemFileView
 pub mod Memory
 pub mod OsFile
+pub mod Passing
 pub mod Progress
 pub mod Shifted
