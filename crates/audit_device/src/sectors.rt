@@ -9,6 +9,12 @@ use crate::{DeviceFault, SECTOR_SIZE};
 /// A crash leaves in each sector its last synced content or any content written to it since, each whole
 /// and each sector for itself. What is said of bytes and images holds of an honest device; sizes, clocks,
 /// counts of failures and the images of earlier moments hold of every device.
+///
+/// That a real disk is honest is a premise which no code can establish. It has two parts that aren't evident.
+/// A sync that succeeds puts on the medium all that was written, also in a later opening of the same file: an
+/// operating system that dropped pages at a failed sync, and lets a later one succeed, breaks it (a `FileDisk`
+/// makes no call after a sync that failed). And 512 bytes land whole and for themselves: on disks whose
+/// physical sectors have 4,096 bytes, eight neighbours can be lost together.
 pub trait Sectors {
     /// Everything that is known of the device.
     ghost view: { Self → View };

@@ -2,10 +2,9 @@
 use Rattle.std.proofs.Common.{◌≡◌, ◌⊎◌, inl, inr, ⊎_elim, ℕ, ◌+◌, ◌*◌, ◌^◌, ◌<◌, ◌≤◌, Ok, Err, Result, OnOk, OnErr, List, length, take, drop, refl, sym, ◌∙◌, ap, subst, arith}
 use Rattle.audit_device.specs.Image.{Sector, Image, sector_at, with_sector}
 use Rattle.audit_device.specs.View.{View, last_count}
-use Rattle.audit_device.specs.Calls.{Outcome, Continues, CountsFailure, HasRisen, Ticks, IsRead, IsWrite, IsSync}
-use Rattle.audit_disk.specs.File.{overlaid, sectors_of, FileView, GoesOn, IsFileRead, IsFileWrite, IsFileSync}
+use Rattle.audit_device.specs.Calls.{Outcome, Continues, CountsFailure, Ticks, IsRead, IsWrite}
+use Rattle.audit_disk.specs.File.{overlaid, sectors_of, FileView, GoesOn, IsFileRead, IsFileWrite}
 use Rattle.audit_disk.specs.FileView.{file_moment, file_view}
-use Rattle.audit_device.specs.declared.fault.DeviceFault.{DeviceFault}
 use Rattle.audit_base.specs.declared.limits.TheConstants.{SECTOR_SIZE}
 use Rattle.audit_disk.proofs.FileSectors.{length-overlaid, sectors_of-overlaid, sector_at-sectors_of}
 

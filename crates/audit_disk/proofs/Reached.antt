@@ -1,5 +1,5 @@
 -- The last call of a device that reached its file.
-use Rattle.std.proofs.Common.{◌≡◌, ℕ, Option, Some, None, is_some, unwrap_or, true, false, refl, sym}
+use Rattle.std.proofs.Common.{◌≡◌, ℕ, Option, Some, None, is_some, unwrap_or, false, refl, sym}
 use Rattle.std.proofs.lemmas.Bool.{false≢true}
 
 -- where no sync has failed, the last call reached it

@@ -1,23 +1,27 @@
+-- The crash model.
 pub use Rattle.audit_device.specs.Calls
 pub use Rattle.audit_device.specs.Image
 pub use Rattle.audit_device.specs.Moments
 pub use Rattle.audit_device.specs.View
 pub use Rattle.audit_device.specs.Window
-pub mod CallLog
+-- What contracts of public calls cite, besides the views below.
 pub mod Countdown
 pub mod FailOnce
 pub mod File
 pub mod FileDisk
-pub mod FileView
 pub mod Fuse
-pub mod Gate
 pub mod Held
-pub mod HeldLaws
 pub mod MemDisk
-pub mod MemFile
 pub mod MemFileView
-pub mod Memory
 pub mod OsFile
 pub mod Passing
-pub mod Progress
+-- Views of devices and files, with their laws.
+pub mod FileView
+pub mod HeldLaws
+pub mod MemFile
+pub mod Memory
 pub mod Shifted
+-- What only bodies need.
+pub mod CallLog
+pub mod Gate
+pub mod Progress
