@@ -1,7 +1,7 @@
 -- The calls of a device are those of the file that stands in it.
-use Rattle.std.proofs.Common.{◌≡◌, ◌⊎◌, inl, inr, ⊎_elim, ℕ, zero, suc, ◌+◌, ◌*◌, ◌/◌, ◌<◌, ◌≤◌, Ok, Err, OnOk, OnErr, List, [], ◌∷◌, ◌++◌, length, take, drop, refl, sym, ◌∙◌, ap, arith}
+use Rattle.std.proofs.Common.{◌≡◌, ◌≢◌, ◌⊎◌, inl, inr, ⊎_elim, ℕ, zero, suc, ◌+◌, ◌*◌, ◌/◌, ◌<◌, ◌≤◌, Ok, Err, OnOk, OnErr, List, [], ◌∷◌, ◌++◌, length, take, drop, refl, sym, ◌∙◌, ap, arith}
 use Rattle.std.proofs.Math.Seq.{take-append-add, drop-append-add}
-use Rattle.std.proofs.lemmas.List.{take_at, drop_at, append_assoc}
+use Rattle.std.proofs.lemmas.List.{take_at, drop_at, append_assoc, get_or-set_other}
 use Rattle.audit_device.specs.Image.{Sector, Image, IsWhole, sector_at, with_sector}
 use Rattle.audit_device.specs.View.{View}
 use Rattle.audit_device.specs.Calls.{Outcome, Continues, IsWritten, IsRead, IsWrite, IsSync}
@@ -69,8 +69,10 @@ module _ (old new : View) where
   read_joined {into = into} at offset result there lt read = record {
     goes_on = goes_on read.continues;
     failures = read.failures;
-    given = given result;
-    still_given = λ other bytes apart was. tt;
+    given = given result read.bytes;
+    still_given = λ other bytes apart was honest multiple.
+        let before = read.continues.was_honest honest in
+        was before multiple ∙ ap (λ (image : Image). sector_at image (other / SECTOR_SIZE)) (sym (read.content before));
     moment = λ honest. read.clock;
     same = λ honest. ap joined (read.content honest);
     found = λ honest. found result honest (read.bytes honest);
@@ -81,16 +83,22 @@ module _ (old new : View) where
           is ∙ joined-sector_at old.content at (content_whole old honest) (omega (arith, (old.whole honest old.clock old.content (old.content_left honest)).sectors)) ∙ ap (λ (n : ℕ). take SECTOR_SIZE (drop n (joined old.content))) (sym there)
       found (Err fault) honest is = tt
 
-      given : (result : Outcome) → OnOk result (Unit {0})
-      given (Ok done) = tt
-      given (Err fault) = tt
+      given : (result : Outcome) → (old.honest → OnOk result (into ≡ sector_at old.content at)) → OnOk result ((joined_view new).gave offset into)
+      given (Ok done) is = λ honest multiple.
+          let before = read.continues.was_honest honest in
+          let here : at ≡ offset / SECTOR_SIZE = omega (arith, there) in
+          is before ∙ ap (λ (image : Image). sector_at image at) (sym (read.content before)) ∙ ap (λ (k : ℕ). sector_at new.content k) here
+      given (Err fault) is = tt
 
   pub write_joined : {bytes : Sector} (at offset : ℕ) (result : Outcome) → offset ≡ SECTOR_SIZE * at → at < old.size → length bytes ≡ SECTOR_SIZE → IsWrite old new at bytes result
       → IsFileWrite (joined_view old) (joined_view new) offset bytes result
   write_joined {bytes = bytes} at offset result there lt long write = record {
     goes_on = goes_on write.continues;
     failures = write.failures;
-    still_given = λ other bytes apart was. tt;
+    still_given = λ other given apart was honest multiple.
+        let before = write.continues.was_honest honest in
+        let elsewhere : other / SECTOR_SIZE ≢ at = λ same. apart (omega (arith, same, multiple, there)) in
+        was before multiple ∙ sym (kept result (write.content before) (write.content_err before) (other / SECTOR_SIZE) elsewhere);
     moment = λ honest below. write.clock.before_end below;
     stands = λ honest. stands result honest (write.content honest);
     stands_err = λ honest. stands_err result honest (write.content_err honest);
@@ -106,6 +114,15 @@ module _ (old new : View) where
     where
       placed : (image : Image) → IsWhole old.size image → joined (with_sector image at bytes) ≡ overlaid (joined image) offset bytes
       placed image whole = joined-with_sector image at bytes (are_whole whole) (omega (arith, whole.sectors)) long ∙ ap (λ (n : ℕ). overlaid (joined image) n bytes) (sym there)
+
+      kept : (result : Outcome) → OnOk result (new.content ≡ with_sector old.content at bytes) → OnErr result ((new.content ≡ old.content) ⊎ (new.content ≡ with_sector old.content at bytes))
+          → (other : ℕ) → other ≢ at → sector_at new.content other ≡ sector_at old.content other
+      kept (Ok done) is either other ne = ap (λ (image : Image). sector_at image other) is ∙ get_or-set_other old.content at other bytes [] ne
+      kept (Err fault) is either other ne =
+          ⊎_elim
+          (λ (same : new.content ≡ old.content). ap (λ (image : Image). sector_at image other) same)
+          (λ (changed : new.content ≡ with_sector old.content at bytes). ap (λ (image : Image). sector_at image other) changed ∙ get_or-set_other old.content at other bytes [] ne)
+          either
 
       now : old.honest → IsWhole old.size old.content
       now honest = old.whole honest old.clock old.content (old.content_left honest)
@@ -139,6 +156,9 @@ module _ (old new : View) where
   sync_joined result sync = record {
     goes_on = goes_on sync.continues;
     failures = sync.failures;
+    still_given = λ other bytes was honest multiple.
+        let before = sync.continues.was_honest honest in
+        was before multiple ∙ ap (λ (image : Image). sector_at image (other / SECTOR_SIZE)) (sym (sync.content before));
     moment = λ honest below. sync.clock.before_end below;
     same = λ honest. ap joined (sync.content honest);
     only = λ honest. only result (sync.only honest);

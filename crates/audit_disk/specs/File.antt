@@ -66,6 +66,7 @@ pub record IsFileWrite {E : Type 0} (old new : FileView) (offset : ℕ) (bytes :
 pub record IsFileSync {E : Type 0} (old new : FileView) (result : Result (Unit {0}) E) : Type 0 where
   pub goes_on : GoesOn old new
   pub failures : CountsFailure old.failures new.failures result
+  pub still_given : (other : ℕ) (bytes : Sector) → old.gave other bytes → new.gave other bytes
   pub moment : old.honest → old.moment < last_count → new.moment ≡ old.moment + 1
   pub same : old.honest → new.bytes ≡ old.bytes
   pub only : old.honest → OnOk result ((file : List ℕ) → new.left_at new.moment file → file ≡ old.bytes)

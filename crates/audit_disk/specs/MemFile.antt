@@ -1,5 +1,5 @@
 -- A file in memory: the sectors of a device, one after the other.
-use Rattle.std.specs.Prelude.{◌≡◌, ℕ, zero, suc, ◌*◌, ◌<◌, List, [], ◌∷◌, ◌++◌, length, refl}
+use Rattle.std.specs.Prelude.{◌≡◌, ℕ, zero, suc, ◌*◌, ◌/◌, ◌%◌, ◌<◌, List, [], ◌∷◌, ◌++◌, length, refl}
 use Rattle.std.proofs.Common.{sym, ◌∙◌, ap, arith}
 use Rattle.std.proofs.lemmas.List.{length-append}
 use Rattle.audit_device.specs.Image.{Image, IsWhole, sector_at}
@@ -29,7 +29,7 @@ joined_view device = record {
   moment = device.clock;
   left_at = λ moment file. device.honest × ((image : Image) × device.left_at moment image × (file ≡ joined image));
   failures = device.failures;
-  gave = λ offset bytes. Unit {0};
+  gave = λ offset bytes. device.honest → offset % SECTOR_SIZE ≡ 0 → bytes ≡ sector_at device.content (offset / SECTOR_SIZE);
   honest = device.honest;
   bytes_left = λ honest. (honest, (device.content, device.content_left honest, refl));
   same_length = λ honest at file left.
