@@ -1,0 +1,48 @@
+//! Bytes at their places. Numbers have their highest byte first.
+ghost use Rattle.std.specs.Prelude.{◌≡◌, ◌+◌, ◌≤◌, ◌↔◌, length, take, drop, IsTrue, EachIndex, slice_index};
+ghost use Rattle.std.specs.Int.{w32, w64};
+ghost use Rattle.audit_base.specs.Bytes.{number_at, zeros};
+
+/// The number in the four bytes from a place on.
+pub fn u32_at(bytes: &[u8], place: usize) -> u32
+    requires { place + 4 ≤ length bytes.now }
+    ensures { result ≡ number_at w32 place bytes.now }
+{
+    u32::from_be_bytes(*array_at(bytes, place))
+}
+
+/// The number in the eight bytes from a place on.
+pub fn u64_at(bytes: &[u8], place: usize) -> u64
+    requires { place + 8 ≤ length bytes.now }
+    ensures { result ≡ number_at w64 place bytes.now }
+{
+    u64::from_be_bytes(*array_at(bytes, place))
+}
+
+/// The N bytes from a place on.
+pub fn array_at<const N: usize>(bytes: &[u8], place: usize) -> &[u8; N]
+    requires { place + N ≤ length bytes.now }
+    ensures { result.now ≡ take N (drop place bytes.now) }
+{
+    bytes[place..].first_chunk().unwrap()
+}
+
+/// Whether two texts are the same.
+pub fn are_equal(left: &[u8], right: &[u8]) -> bool
+    ensures { IsTrue result ↔ (left.now ≡ right.now) }
+{
+    left == right
+}
+
+/// Whether the bytes are zeros alone.
+pub fn are_zero(bytes: &[u8]) -> bool
+    ensures { IsTrue result ↔ (bytes.now ≡ zeros (length bytes.now)) }
+{
+    each_is_zero(bytes)
+}
+
+fn each_is_zero(bytes: &[u8]) -> bool
+    ensures { IsTrue result ↔ EachIndex bytes.now (λ k. slice_index bytes.now k ≡ 0) }
+{
+    bytes.iter().all(|byte| *byte == 0)
+}

@@ -1,0 +1,18 @@
+//! What the crates of the store stand on together: the limits of its formats, SHA-256 digests, and bytes read
+//! at their places and compared.
+#![tactic(auto)]
+
+mod bytes;
+mod hash;
+pub mod laws;
+mod limits;
+#[cfg(test)]
+mod tests;
+
+pub use bytes::{are_equal, are_zero, array_at, u32_at, u64_at};
+pub use hash::{Hash, is_same_hash};
+pub use limits::{
+    ENTRY_HEAD_LEN, ENTRY_OVERHEAD, HASH_LEN, LAYERS, MAX_COUNT, MAX_DEPTH, MAX_ENTRY,
+    MAX_ENTRY_SECTORS, MAX_INCREMENT_HASHES, MAX_MEMBER_HASHES, MAX_PAYLOAD, RESERVED_KIND,
+    SECTOR_SIZE,
+};

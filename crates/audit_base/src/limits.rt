@@ -1,0 +1,41 @@
+//! The limits of the formats. Where one follows from others it is their sum or product, so that raising one is a
+//! change of one line here and of the law that fixes its number.
+
+/// A SHA-256 digest (FIPS 180-4), in bytes: so long are hashes, keys, links and MACs.
+pub const HASH_LEN: usize = 32;
+
+/// A sector of a device, in bytes.
+pub const SECTOR_SIZE: usize = 512;
+
+/// The longest payload of an event, in bytes: with the rest of its entry it fills 8 sectors.
+pub const MAX_PAYLOAD: usize = 4024;
+
+/// The kind of the event that closes a log, which no other event may have.
+pub const RESERVED_KIND: u32 = 0xffff_ffff;
+
+/// What stands before the cipher of an entry, in bytes: its kind and its length, of 4 bytes each.
+pub const ENTRY_HEAD_LEN: usize = 8;
+
+/// How much longer an entry is than its payload, in bytes: by its head, its link and its MAC.
+pub const ENTRY_OVERHEAD: usize = ENTRY_HEAD_LEN + 2 * HASH_LEN;
+
+/// The longest entry, in bytes.
+pub const MAX_ENTRY: usize = ENTRY_OVERHEAD + MAX_PAYLOAD;
+
+/// The most sectors that an entry takes.
+pub const MAX_ENTRY_SECTORS: u64 = ((MAX_ENTRY + SECTOR_SIZE - 1) / SECTOR_SIZE) as u64;
+
+/// The depth of the largest history tree: the layers from its leaves up to its root, without the leaves' own.
+pub const MAX_DEPTH: usize = 24;
+
+/// The most leaves of a history tree, and so the most entries of a log.
+pub const MAX_COUNT: u64 = 1 << MAX_DEPTH;
+
+/// The layers of the largest history tree, with that of its leaves.
+pub const LAYERS: usize = MAX_DEPTH + 1;
+
+/// The most hashes of a membership proof: a sibling at each layer below the root.
+pub const MAX_MEMBER_HASHES: usize = MAX_DEPTH;
+
+/// The most hashes of an incremental proof: the node that ends the older tree, and its siblings.
+pub const MAX_INCREMENT_HASHES: usize = MAX_DEPTH + 1;

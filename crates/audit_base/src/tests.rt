@@ -1,0 +1,19 @@
+use crate::*;
+
+#[test]
+fn digests_that_differ_in_one_bit_are_not_the_same(rt: HostRuntime) {
+    let hash: Hash = [0x5a; HASH_LEN];
+    assert!(rt; is_same_hash(&hash, &hash));
+    for place in 0..HASH_LEN {
+        let mut other = hash;
+        other[place] ^= 0x80;
+        assert!(rt; !is_same_hash(&hash, &other));
+    }
+}
+
+#[test]
+fn numbers_have_their_highest_byte_first(rt: HostRuntime) {
+    let bytes = [0xff, 1, 2, 3, 4, 5, 6, 7, 8, 0xff];
+    assert_eq!(rt; u32_at(&bytes, 1), 0x0102_0304);
+    assert_eq!(rt; u64_at(&bytes, 1), 0x0102_0304_0506_0708);
+}
