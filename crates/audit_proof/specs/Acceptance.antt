@@ -3,7 +3,7 @@
 use Rattle.std.specs.Prelude.{◌≡◌, ℕ, ◌-◌, ◌<◌, ◌≤◌, List, [], ◌∷◌, Option, None, Some, length, take, slice_index_or}
 use Rattle.std.specs.Int.{w64, trailing_zeros}
 use Rattle.sha2.specs.Sha256.{sha256}
-use Rattle.audit_tree.specs.declared.tree.TheConstants.{MAX_COUNT}
+use Rattle.audit_base.specs.declared.limits.TheConstants.{MAX_COUNT}
 use Rattle.audit_tree.specs.Subtree.{leaf_of, leaf_hash_of, depth, root_of}
 use Rattle.audit_tree.specs.Paths.{membership_path, increment_path}
 use Rattle.audit_proof.specs.declared.commitment.Commitment.{Commitment}

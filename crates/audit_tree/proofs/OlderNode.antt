@@ -5,7 +5,6 @@ use Rattle.std.proofs.lemmas.Bool.{cases_lt}
 use Rattle.std.proofs.lemmas.List.{length-take-le}
 use Rattle.std.proofs.lemmas.Nat.{pow_pos, pow_below}
 use Rattle.std.proofs.Math.Nat.{add-mod_right, sub-add_cancel}
-use Rattle.sha2.specs.Sha256.{sha256}
 use Rattle.audit_tree.specs.Subtree.{depth, subtree_hash}
 use Rattle.audit_tree.specs.Paths.{path, siblings_at, increment_at, increment_path}
 use Rattle.audit_tree.proofs.SubtreeLemmas.{node_at-subtree_hash}
@@ -36,15 +35,15 @@ older_node older newer some h small =
     }
 
 -- the incremental proof by places is the one by leaves
-pub increment_at-path : (older newer : ℕ) (leaves : List (List ℕ)) → 0 < older → older ≤ newer → newer ≤ length leaves →
+pub increment_at-path : (H : List ℕ → List ℕ) (older newer : ℕ) (leaves : List (List ℕ)) → 0 < older → older ≤ newer → newer ≤ length leaves →
     IsOlderNode older newer →
-    increment_at sha256 leaves older newer ≡ increment_path sha256 (take newer leaves) older
-increment_at-path older newer leaves some order known node =
+    increment_at H leaves older newer ≡ increment_path H (take newer leaves) older
+increment_at-path H older newer leaves some order known node =
     let layer = trailing_zeros w64 older in
     let positive : 0 < 2 ^ layer = pow_pos layer in
     let top : layer + (depth newer - layer) ≡ depth newer = omega (arith, node.below) in
-    ap (λ h. h ∷ siblings_at sha256 leaves newer (older - 1) layer (depth newer - layer))
-    (node_at-subtree_hash sha256 layer (older - 2 ^ layer) newer leaves (omega (arith, node.width)) known)
-    ∙ ap (λ hs. subtree_hash sha256 layer (drop (older - 2 ^ layer) (take newer leaves)) ∷ hs)
-    (siblings_at-whole sha256 layer (depth newer - layer) (older - 1) newer leaves (omega arith) known (rw top (depth-room newer))
-    ∙ ap (λ n. path sha256 layer (depth n - layer) (older - 1) (take newer leaves)) (sym (length-take-le newer leaves known)))
+    ap (λ h. h ∷ siblings_at H leaves newer (older - 1) layer (depth newer - layer))
+    (node_at-subtree_hash H layer (older - 2 ^ layer) newer leaves (omega (arith, node.width)) known)
+    ∙ ap (λ hs. subtree_hash H layer (drop (older - 2 ^ layer) (take newer leaves)) ∷ hs)
+    (siblings_at-whole H layer (depth newer - layer) (older - 1) newer leaves (omega arith) known (rw top (depth-room newer))
+    ∙ ap (λ n. path H layer (depth n - layer) (older - 1) (take newer leaves)) (sym (length-take-le newer leaves known)))

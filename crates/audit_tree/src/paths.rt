@@ -1,11 +1,11 @@
 ghost use Rattle.std.specs.Prelude.{◌≡◌, ◌+◌, ◌-◌, ◌<◌, ◌≤◌, ◌++◌, length, option_to_list, vec_len, vec_capacity};
 ghost use Rattle.sha2.specs.Sha256.{sha256};
 ghost use Rattle.audit_tree.specs.Paths.{sibling_at, siblings_at};
-ghost use Rattle.audit_tree.specs.declared.tree.TheConstants.{MAX_COUNT, LAYERS};
+ghost use Rattle.audit_base.specs.declared.limits.TheConstants.{MAX_COUNT, LAYERS};
 
 use crate::frozen::FrozenHashes;
-use crate::hashes::Hash;
 use crate::nodes::node_of;
+use audit_base::Hash;
 
 // The sibling of the node of a layer that holds a leaf, under a count, where it has leaves.
 fn sibling_of(frozen: &FrozenHashes, leaf: u64, layer: u32, count: u64) -> Option<Hash>
