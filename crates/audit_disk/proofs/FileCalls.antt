@@ -1,12 +1,11 @@
 -- The calls of a file are those of a device.
 use Rattle.std.proofs.Common.{◌≡◌, ◌⊎◌, inl, inr, ⊎_elim, ℕ, ◌+◌, ◌*◌, ◌^◌, ◌<◌, ◌≤◌, Ok, Err, Result, OnOk, OnErr, List, length, take, drop, refl, sym, ◌∙◌, ap, subst, arith}
-use Rattle.audit_disk.specs.Image.{Sector, Image, sector_at, with_sector}
-use Rattle.audit_disk.specs.View.{View, last_count}
-use Rattle.audit_disk.specs.Calls.{Outcome, Continues, CountsFailure, HasRisen, Ticks, IsRead, IsWrite, IsSync}
-use Rattle.audit_disk.specs.File.{overlaid, sectors_of, FileView, GoesOn, IsFileRead, IsFileWrite, IsFileSync}
+use Rattle.audit_device.specs.Image.{Sector, Image, sector_at, with_sector}
+use Rattle.audit_device.specs.View.{View, last_count}
+use Rattle.audit_device.specs.Calls.{Outcome, Continues, CountsFailure, Ticks, IsRead, IsWrite}
+use Rattle.audit_disk.specs.File.{overlaid, sectors_of, FileView, GoesOn, IsFileRead, IsFileWrite}
 use Rattle.audit_disk.specs.FileView.{file_moment, file_view}
-use Rattle.audit_disk.specs.declared.fault.DeviceFault.{DeviceFault}
-use Rattle.audit_disk.specs.declared.sectors.TheConstants.{SECTOR_SIZE}
+use Rattle.audit_base.specs.declared.limits.TheConstants.{SECTOR_SIZE}
 use Rattle.audit_disk.proofs.FileSectors.{length-overlaid, sectors_of-overlaid, sector_at-sectors_of}
 
 -- as many bytes as the sectors have
@@ -31,57 +30,57 @@ sized_after_write old new sectors at bytes result sized lt long write = λ hones
         (λ (changed : new.bytes ≡ overlaid old.bytes (SECTOR_SIZE * at) bytes). ap length changed ∙ over ∙ sized was)
         stands_err
 
-module _ (old new : FileView) (sectors clock clock' failures failures' : ℕ) (fits fits' : sectors < 2 ^ 64) (in_range : clock < 2 ^ 64) (in_range' : clock' < 2 ^ 64)
+module _ (old new : FileView) (sectors reached reached' clock clock' failures failures' : ℕ) (fits fits' : sectors < 2 ^ 64)
+    (in_order : reached ≤ clock) (in_order' : reached' ≤ clock') (in_range : clock < 2 ^ 64) (in_range' : clock' < 2 ^ 64)
     (sized : IsSized old sectors) (sized' : IsSized new sectors) where
   abbrev before : View
-  before = file_view old sectors clock failures fits in_range sized
+  before = file_view old sectors reached clock failures fits in_order in_range sized
 
   abbrev after : View
-  after = file_view new sectors clock' failures' fits' in_range' sized'
+  after = file_view new sectors reached' clock' failures' fits' in_order' in_range' sized'
 
-  -- the moments of the file and of the clock go on together
-  module _ (goes_on : GoesOn old new) (passed : ℕ) (moment : old.honest → new.moment ≡ old.moment + passed) (ticked : clock' ≡ clock + passed) (more : failures ≤ failures') where
-    same_moment : old.honest → (at : ℕ) → at ≤ clock → file_moment new.moment clock' at ≡ file_moment old.moment clock at
-    same_moment honest at le = omega (arith, moment honest)
+  -- the moments so far are the same ones of the file
+  abbrev SameMoments : Type 0
+  SameMoments = old.honest → (at : ℕ) → at ≤ clock → file_moment new.moment reached' at ≡ file_moment old.moment reached at
 
-    continues : Continues before after
-    continues = record {
-      size = refl;
-      clock = omega arith;
-      failures = more;
-      honest = goes_on.honest;
-      was_honest = goes_on.was_honest;
-      kept = λ at image le left. (
-        goes_on.honest left.0,
-        (
-          left.1.0,
-          subst (λ (m : ℕ). new.left_at m left.1.0) (sym (same_moment left.0 at le)) (goes_on.kept left.0 (file_moment old.moment clock at) left.1.0 (omega arith) left.1.1),
-          left.1.2,
-        ),
-      );
-      no_other = λ at image le left.
-          let was = goes_on.was_honest left.0 in (
-            was,
-            (
-              left.1.0,
-              goes_on.no_other was (file_moment old.moment clock at) left.1.0 (omega arith) (subst (λ (m : ℕ). new.left_at m left.1.0) (same_moment was at le) left.1.1),
-              left.1.2,
-            ),
-          );
-    }
+  continues : GoesOn old new → SameMoments → clock ≤ clock' → failures ≤ failures' → Continues before after
+  continues goes_on same_moment later more = record {
+    size = refl;
+    clock = later;
+    failures = more;
+    honest = goes_on.honest;
+    was_honest = goes_on.was_honest;
+    kept = λ at image le left. (
+      goes_on.honest left.0,
+      (
+        left.1.0,
+        subst (λ (m : ℕ). new.left_at m left.1.0) (sym (same_moment left.0 at le)) (goes_on.kept left.0 (file_moment old.moment reached at) left.1.0 (omega arith) left.1.1),
+        left.1.2,
+      ),
+    );
+    no_other = λ at image le left.
+        let was = goes_on.was_honest left.0 in (
+          was,
+          (
+            left.1.0,
+            goes_on.no_other was (file_moment old.moment reached at) left.1.0 (omega arith) (subst (λ (m : ℕ). new.left_at m left.1.0) (same_moment was at le) left.1.1),
+            left.1.2,
+          ),
+        );
+  }
 
   -- an image now is that of a file now
-  now_in : (file : FileView) (clock : ℕ) (bytes : List ℕ) → file.left_at (file_moment file.moment clock clock) bytes → file.left_at file.moment bytes
-  now_in file clock bytes left = let same : file_moment file.moment clock clock ≡ file.moment = omega arith in subst (λ (m : ℕ). file.left_at m bytes) same left
+  now_in : (file : FileView) (reached clock : ℕ) (bytes : List ℕ) → reached ≤ clock → file.left_at (file_moment file.moment reached clock) bytes → file.left_at file.moment bytes
+  now_in file reached clock bytes le left = let same : file_moment file.moment reached clock ≡ file.moment = omega arith in subst (λ (m : ℕ). file.left_at m bytes) same left
 
-  now_out : (file : FileView) (clock : ℕ) (bytes : List ℕ) → file.left_at file.moment bytes → file.left_at (file_moment file.moment clock clock) bytes
-  now_out file clock bytes left = let same : file.moment ≡ file_moment file.moment clock clock = omega arith in subst (λ (m : ℕ). file.left_at m bytes) same left
+  now_out : (file : FileView) (reached clock : ℕ) (bytes : List ℕ) → reached ≤ clock → file.left_at file.moment bytes → file.left_at (file_moment file.moment reached clock) bytes
+  now_out file reached clock bytes le left = let same : file.moment ≡ file_moment file.moment reached clock = omega arith in subst (λ (m : ℕ). file.left_at m bytes) same left
 
   module _ (more : failures ≤ failures') where
-    pub read_file : (at : ℕ) (into : Sector) (result : Outcome) → at < sectors → IsFileRead old new (SECTOR_SIZE * at) into result → clock' ≡ clock → CountsFailure failures failures' result
-        → IsRead before after at into result
-    read_file at into result lt read still counts = record {
-      continues = continues read.goes_on 0 (λ honest. omega (arith, read.moment honest)) (omega arith) more;
+    pub read_file : (at : ℕ) (into : Sector) (result : Outcome) → at < sectors → IsFileRead old new (SECTOR_SIZE * at) into result → clock' ≡ clock → reached' ≡ reached
+        → CountsFailure failures failures' result → IsRead before after at into result
+    read_file at into result lt read still same counts = record {
+      continues = continues read.goes_on (λ honest k le. omega (arith, read.moment honest)) (omega arith) more;
       clock = still;
       failures = counts;
       content = λ honest. ap (λ (bytes : List ℕ). sectors_of sectors bytes) (read.same honest);
@@ -93,33 +92,39 @@ module _ (old new : FileView) (sectors clock clock' failures failures' : ℕ) (f
         found (Err fault) is = tt
 
     -- the same where the answer is passed on
-    pub read_counted : (at : ℕ) (into : Sector) (answer result : Outcome) → at < sectors → IsFileRead old new (SECTOR_SIZE * at) into answer → clock' ≡ clock → CountsFailure failures failures' answer
-        → result ≡ answer → IsRead before after at into result
-    read_counted at into answer result lt read still counts same = subst (λ (r : Outcome). IsRead before after at into r) (sym same) (read_file at into answer lt read still counts)
+    pub read_counted : (at : ℕ) (into : Sector) (answer result : Outcome) → at < sectors → IsFileRead old new (SECTOR_SIZE * at) into answer → clock' ≡ clock → reached' ≡ reached
+        → CountsFailure failures failures' answer → result ≡ answer → IsRead before after at into result
+    read_counted at into answer result lt read still stays counts same =
+        subst (λ (r : Outcome). IsRead before after at into r) (sym same) (read_file at into answer lt read still stays counts)
 
-    module _ (free : clock < last_count) (next : clock' ≡ clock + 1) (in_step : old.honest → old.moment ≤ clock) where
+    module _ (free : clock < last_count) (here : reached ≡ clock) (next : clock' ≡ clock + 1) (here' : reached' ≡ clock') (in_step : old.honest → old.moment ≤ reached) where
       ticks : Ticks clock clock'
       ticks = record { before_end = λ lt. next; at_end = λ le. absurd (omega arith) }
+
+      goes : GoesOn old new → (old.honest → old.moment < last_count → new.moment ≡ old.moment + 1) → Continues before after
+      goes goes_on moment = continues goes_on (λ honest at le. omega (arith, moment honest (omega (arith, in_step honest)))) (omega arith) more
 
       pub write_file : (at : ℕ) (bytes : Sector) (result : Outcome) → at < sectors → length bytes ≡ SECTOR_SIZE → IsFileWrite old new (SECTOR_SIZE * at) bytes result
           → CountsFailure failures failures' result → IsWrite before after at bytes result
       write_file at bytes result lt long write counts = record {
-        continues = continues write.goes_on 1 (λ honest. write.moment honest (omega (arith, in_step honest))) next more;
+        continues = goes write.goes_on write.moment;
         clock = ticks;
         failures = counts;
         content = λ honest. stands result honest (write.stands honest);
         content_err = λ honest. stands_err result honest (write.stands_err honest);
         images = λ honest image left.
             ⊎_elim
-            (λ (same : old.left_at old.moment left.1.0). inl (honest, (left.1.0, now_out old clock left.1.0 same, left.1.2)))
+            (λ (same : old.left_at old.moment left.1.0). record { either = inl (honest, (left.1.0, now_out old reached clock left.1.0 in_order same, left.1.2)) })
             (λ (over : (first : List ℕ) × old.left_at old.moment first × (left.1.0 ≡ overlaid first (SECTOR_SIZE * at) bytes)).
-            inr (
-              sectors_of sectors over.0,
-              (honest, (over.0, now_out old clock over.0 over.1, refl)),
-              left.1.2 ∙ ap (λ (file : List ℕ). sectors_of sectors file) over.2 ∙ placed over.0 (old.same_length honest old.moment over.0 over.1 ∙ sized honest),
-            ))
-            (write.images honest left.1.0 (now_in new clock' left.1.0 left.1.1));
-        unwritten = λ honest image left. (write.goes_on.honest honest, (left.1.0, now_out new clock' left.1.0 (write.unwritten honest left.1.0 (now_in old clock left.1.0 left.1.1)), left.1.2));
+            record {
+              either = inr (record {
+                before = sectors_of sectors over.0;
+                was_left = (honest, (over.0, now_out old reached clock over.0 in_order over.1, refl));
+                is = left.1.2 ∙ ap (λ (file : List ℕ). sectors_of sectors file) over.2 ∙ placed over.0 (old.same_length honest old.moment over.0 over.1 ∙ sized honest);
+              });
+            })
+            (write.images honest left.1.0 (now_in new reached' clock' left.1.0 in_order' left.1.1));
+        unwritten = λ honest image left. (write.goes_on.honest honest, (left.1.0, now_out new reached' clock' left.1.0 in_order' (write.unwritten honest left.1.0 (now_in old reached clock left.1.0 in_order left.1.1)), left.1.2));
         written = λ honest. written result honest (write.written honest);
         at_end = λ end. absurd (omega arith);
         at_end_same = λ end honest. absurd (omega arith);
@@ -145,91 +150,17 @@ module _ (old new : FileView) (sectors clock clock' failures failures' : ℕ) (f
           written : (result : Outcome) → old.honest → OnOk result ((file : List ℕ) → old.left_at old.moment file → new.left_at new.moment (overlaid file (SECTOR_SIZE * at) bytes))
               → OnOk result ((image : Image) → before.left_at clock image → after.left_at clock' (with_sector image at bytes))
           written (Ok done) honest over = λ image left.
-              let was = now_in old clock left.1.0 left.1.1 in
+              let was = now_in old reached clock left.1.0 in_order left.1.1 in
               let file = overlaid left.1.0 (SECTOR_SIZE * at) bytes in (
                 write.goes_on.honest honest,
                 (
                   file,
-                  now_out new clock' file (over left.1.0 was),
+                  now_out new reached' clock' file in_order' (over left.1.0 was),
                   ap (λ (i : Image). with_sector i at bytes) left.1.2 ∙ sym (placed left.1.0 (old.same_length honest old.moment left.1.0 was ∙ sized honest)),
                 ),
               )
           written (Err fault) honest over = tt
 
-      pub sync_file : (result : Outcome) → IsFileSync old new result → CountsFailure failures failures' result → IsSync before after result
-      sync_file result sync counts = record {
-        continues = continues sync.goes_on 1 (λ honest. sync.moment honest (omega (arith, in_step honest))) next more;
-        clock = ticks;
-        failures = counts;
-        content = λ honest. ap (λ (bytes : List ℕ). sectors_of sectors bytes) (sync.same honest);
-        only = λ honest. only result (sync.only honest);
-        no_other = λ honest. no_other result honest (sync.no_other honest);
-        kept = λ honest. kept result honest (sync.kept honest);
-        at_end = λ end. absurd (omega arith);
-      }
-        where
-          only : (result : Outcome) → OnOk result ((file : List ℕ) → new.left_at new.moment file → file ≡ old.bytes)
-              → OnOk result ((image : Image) → after.left_at clock' image → image ≡ sectors_of sectors old.bytes)
-          only (Ok done) is = λ image left. left.1.2 ∙ ap (λ (file : List ℕ). sectors_of sectors file) (is left.1.0 (now_in new clock' left.1.0 left.1.1))
-          only (Err fault) is = tt
-
-          no_other : (result : Outcome) → old.honest → OnErr result ((file : List ℕ) → new.left_at new.moment file → old.left_at old.moment file)
-              → OnErr result ((image : Image) → after.left_at clock' image → before.left_at clock image)
-          no_other (Ok done) honest is = tt
-          no_other (Err fault) honest is = λ image left. (honest, (left.1.0, now_out old clock left.1.0 (is left.1.0 (now_in new clock' left.1.0 left.1.1)), left.1.2))
-
-          kept : (result : Outcome) → old.honest → OnErr result ((file : List ℕ) → old.left_at old.moment file → new.left_at new.moment file)
-              → OnErr result ((image : Image) → before.left_at clock image → after.left_at clock' image)
-          kept (Ok done) honest is = tt
-          kept (Err fault) honest is = λ image left.
-              (sync.goes_on.honest honest, (left.1.0, now_out new clock' left.1.0 (is left.1.0 (now_in old clock left.1.0 left.1.1)), left.1.2))
-
       pub write_counted : (at : ℕ) (bytes : Sector) (answer result : Outcome) → at < sectors → length bytes ≡ SECTOR_SIZE → IsFileWrite old new (SECTOR_SIZE * at) bytes answer
           → CountsFailure failures failures' answer → result ≡ answer → IsWrite before after at bytes result
       write_counted at bytes answer result lt long write counts same = subst (λ (r : Outcome). IsWrite before after at bytes r) (sym same) (write_file at bytes answer lt long write counts)
-
-      pub sync_counted : (answer result : Outcome) → IsFileSync old new answer → CountsFailure failures failures' answer → result ≡ answer → IsSync before after result
-      sync_counted answer result sync counts same = subst (λ (r : Outcome). IsSync before after r) (sym same) (sync_file answer sync counts)
-
--- at the end of the clock the file is left alone
-module _ (file : FileView) (sectors clock failures failures' : ℕ) (fits fits' : sectors < 2 ^ 64) (in_range in_range' : clock < 2 ^ 64) (sized sized' : IsSized file sectors) (end : last_count ≤ clock)
-    (risen : HasRisen failures failures') (more : failures ≤ failures') (fault : DeviceFault) where
-  goes_on_alone : GoesOn file file
-  goes_on_alone = record {
-    honest = λ honest. honest;
-    was_honest = λ honest. honest;
-    kept = λ honest at bytes le left. left;
-    no_other = λ honest at bytes le left. left;
-  }
-
-  alone : Continues (file_view file sectors clock failures fits in_range sized) (file_view file sectors clock failures' fits' in_range' sized')
-  alone = continues file file sectors clock clock failures failures' fits fits' in_range in_range' sized sized' goes_on_alone 0 (λ honest. omega arith) (omega arith) more
-
-  stopped : Ticks clock clock
-  stopped = record { before_end = λ lt. absurd (omega arith); at_end = λ le. refl }
-
-  pub write_at_end : (at : ℕ) (bytes : Sector) → IsWrite (file_view file sectors clock failures fits in_range sized) (file_view file sectors clock failures' fits' in_range' sized') at bytes (Err fault)
-  write_at_end at bytes = record {
-    continues = alone;
-    clock = stopped;
-    failures = risen;
-    content = λ honest. tt;
-    content_err = λ honest. inl refl;
-    images = λ honest image left. inl left;
-    unwritten = λ honest image left. left;
-    written = λ honest. tt;
-    at_end = λ le. refl;
-    at_end_same = λ le honest. refl;
-  }
-
-  pub sync_at_end : IsSync (file_view file sectors clock failures fits in_range sized) (file_view file sectors clock failures' fits' in_range' sized') (Err fault)
-  sync_at_end = record {
-    continues = alone;
-    clock = stopped;
-    failures = risen;
-    content = λ honest. refl;
-    only = λ honest. tt;
-    no_other = λ honest image left. left;
-    kept = λ honest image left. left;
-    at_end = λ le. refl;
-  }

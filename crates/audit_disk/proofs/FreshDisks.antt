@@ -1,7 +1,9 @@
 -- A `MemDisk` of which no call was made.
-use Rattle.std.proofs.Common.{◌≡◌, ℕ, List, [], ◌∷◌, map, refl, sym, ◌∙◌, ap, subst, length, ◌<◌, ◌^◌}
+use Rattle.std.proofs.Common.{◌≡◌, ℕ, Ok, Err, Result, IfOk, List, [], ◌∷◌, map, refl, sym, ◌∙◌, ap, subst, length, ◌<◌, ◌^◌}
 use Rattle.std.proofs.lemmas.List.{length-map}
-use Rattle.audit_disk.specs.Image.{Sector, Image}
+use Rattle.audit_device.specs.Image.{Sector, Image}
+use Rattle.audit_device.specs.View.{View}
+use Rattle.audit_device.specs.Moments.{IsAfterCrash}
 use Rattle.audit_disk.specs.Held.{Held, settled, content_of, bytes_of, IsImageOf, crashed}
 use Rattle.audit_disk.specs.Memory.{after_calls, held_at}
 use Rattle.audit_disk.specs.MemDisk.{disk_view, disk_held, IsFresh, HoldsOnly, IsEachPicked}
@@ -57,3 +59,18 @@ pub crash_every : (disk : MemDisk) → IsEachPicked (disk_view disk) (disk_held 
 crash_every disk = λ image left.
     image_crashed (disk_held disk) image
     (subst (λ (held : List Held). IsImageOf held image) (held_now disk.start.items disk.log.calls.items disk.log.clock disk.log.stamped) left)
+
+-- the device that a crash leaves
+pub after_crash_of : (disk : MemDisk) (pick : List ℕ) (after : View) → IsFresh after (crashed (disk_held disk) pick) → IsAfterCrash (disk_view disk) after
+after_crash_of disk pick after fresh =
+    let left = crash_image disk pick in record {
+      size = fresh.size ∙ ((disk_view disk).whole tt disk.log.clock (crashed (disk_held disk) pick) left).sectors;
+      content = λ honest. subst (λ (image : Image). (disk_view disk).left_at disk.log.clock image) (sym fresh.content) left;
+      honest = λ honest. fresh.honest;
+      settled = fresh.settled;
+    }
+
+pub after_crash_if : {E : Type 0} (disk : MemDisk) (pick : List ℕ) (image : Image) (result : Result MemDisk E) → IfOk result (λ after. IsFresh (disk_view after) image) → image ≡ crashed (disk_held disk) pick
+    → IfOk result (λ after. IsAfterCrash (disk_view disk) (disk_view after))
+after_crash_if disk pick image (Ok after) fresh same = after_crash_of disk pick (disk_view after) (subst (λ (i : Image). IsFresh (disk_view after) i) same fresh)
+after_crash_if disk pick image (Err error) fresh same = tt

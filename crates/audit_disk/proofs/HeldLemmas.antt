@@ -1,6 +1,6 @@
 -- What a write and a sync make of the images.
 use Rattle.std.proofs.Common.{◌≡◌, ◌⊎◌, inl, inr, ⊎_elim, ℕ, zero, suc, List, [], ◌∷◌, ◌++◌, set, refl, sym, ◌∙◌, ap, ◌≤◌, length, arith}
-use Rattle.audit_disk.specs.Image.{Sector, Image}
+use Rattle.audit_device.specs.Image.{Sector, Image}
 use Rattle.audit_disk.specs.Held.{Held, chosen, newest, content_of, IsImageOf, crashed, after_write, after_sync}
 use Rattle.audit_disk.specs.HeldLaws.{chosen_last}
 use Rattle.audit_disk.specs.MemDisk.{ArePicks}

@@ -2,9 +2,9 @@
 use Rattle.std.proofs.Common.{◌≡◌, ⊎_elim, ℕ, suc, ◌<◌, ◌≤◌, Ok, Err, IsErr, OnOk, OnErr, List, [], ◌∷◌, map, set, get_or, length, refl, sym, ◌∙◌, ap, arith, ◌^◌}
 use Rattle.std.proofs.lemmas.Bool.{false≢true, cases_lt}
 use Rattle.std.proofs.lemmas.List.{map-set, length-map, get_or-map}
-use Rattle.audit_disk.specs.Image.{Sector}
-use Rattle.audit_disk.specs.View.{View, last_count}
-use Rattle.audit_disk.specs.Calls.{Outcome, IsRead, IsWrite, IsSync}
+use Rattle.audit_device.specs.Image.{Sector}
+use Rattle.audit_device.specs.View.{View, last_count}
+use Rattle.audit_device.specs.Calls.{Outcome, IsRead, IsWrite, IsSync}
 use Rattle.audit_disk.specs.Held.{Held, settled, content_of, bytes_of, after_write, after_sync}
 use Rattle.audit_disk.specs.Memory.{after_calls, memory_view, length-after_calls}
 use Rattle.audit_disk.specs.CallLog.{Notes, Refuses}

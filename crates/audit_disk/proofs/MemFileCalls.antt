@@ -1,14 +1,14 @@
 -- The calls of a device are those of the file that stands in it.
-use Rattle.std.proofs.Common.{◌≡◌, ◌⊎◌, inl, inr, ⊎_elim, ℕ, zero, suc, ◌+◌, ◌*◌, ◌/◌, ◌<◌, ◌≤◌, Ok, Err, OnOk, OnErr, List, [], ◌∷◌, ◌++◌, length, take, drop, refl, sym, ◌∙◌, ap, arith}
+use Rattle.std.proofs.Common.{◌≡◌, ◌≢◌, ◌⊎◌, inl, inr, ⊎_elim, ℕ, zero, suc, ◌+◌, ◌*◌, ◌/◌, ◌<◌, ◌≤◌, Ok, Err, OnOk, OnErr, List, [], ◌∷◌, ◌++◌, length, take, drop, refl, sym, ◌∙◌, ap, arith}
 use Rattle.std.proofs.Math.Seq.{take-append-add, drop-append-add}
-use Rattle.std.proofs.lemmas.List.{take_at, drop_at, append_assoc}
-use Rattle.audit_disk.specs.Image.{Sector, Image, IsWhole, sector_at, with_sector}
-use Rattle.audit_disk.specs.View.{View}
-use Rattle.audit_disk.specs.Calls.{Outcome, Continues, IsRead, IsWrite, IsSync}
+use Rattle.std.proofs.lemmas.List.{take_at, drop_at, append_assoc, get_or-set_other}
+use Rattle.audit_device.specs.Image.{Sector, Image, IsWhole, sector_at, with_sector}
+use Rattle.audit_device.specs.View.{View}
+use Rattle.audit_device.specs.Calls.{Outcome, Continues, IsWritten, IsRead, IsWrite, IsSync}
 use Rattle.audit_disk.specs.File.{IsUnusedFile, overlaid, GoesOn, IsFileRead, IsFileWrite, IsFileSync}
 use Rattle.audit_disk.specs.MemFile.{joined, length-joined, joined_view}
 use Rattle.audit_disk.specs.MemDisk.{IsFresh}
-use Rattle.audit_disk.specs.declared.sectors.TheConstants.{SECTOR_SIZE}
+use Rattle.audit_base.specs.declared.limits.TheConstants.{SECTOR_SIZE}
 
 -- each of its sectors is whole
 abbrev AreWhole : Image → Type 0
@@ -68,6 +68,11 @@ module _ (old new : View) where
   pub read_joined : {into : Sector} (at offset : ℕ) (result : Outcome) → offset ≡ SECTOR_SIZE * at → at < old.size → IsRead old new at into result → IsFileRead (joined_view old) (joined_view new) offset into result
   read_joined {into = into} at offset result there lt read = record {
     goes_on = goes_on read.continues;
+    failures = read.failures;
+    given = given result read.bytes;
+    still_given = λ other bytes apart was honest multiple.
+        let before = read.continues.was_honest honest in
+        was before multiple ∙ ap (λ (image : Image). sector_at image (other / SECTOR_SIZE)) (sym (read.content before));
     moment = λ honest. read.clock;
     same = λ honest. ap joined (read.content honest);
     found = λ honest. found result honest (read.bytes honest);
@@ -78,25 +83,46 @@ module _ (old new : View) where
           is ∙ joined-sector_at old.content at (content_whole old honest) (omega (arith, (old.whole honest old.clock old.content (old.content_left honest)).sectors)) ∙ ap (λ (n : ℕ). take SECTOR_SIZE (drop n (joined old.content))) (sym there)
       found (Err fault) honest is = tt
 
+      given : (result : Outcome) → (old.honest → OnOk result (into ≡ sector_at old.content at)) → OnOk result ((joined_view new).gave offset into)
+      given (Ok done) is = λ honest multiple.
+          let before = read.continues.was_honest honest in
+          let here : at ≡ offset / SECTOR_SIZE = omega (arith, there) in
+          is before ∙ ap (λ (image : Image). sector_at image at) (sym (read.content before)) ∙ ap (λ (k : ℕ). sector_at new.content k) here
+      given (Err fault) is = tt
+
   pub write_joined : {bytes : Sector} (at offset : ℕ) (result : Outcome) → offset ≡ SECTOR_SIZE * at → at < old.size → length bytes ≡ SECTOR_SIZE → IsWrite old new at bytes result
       → IsFileWrite (joined_view old) (joined_view new) offset bytes result
   write_joined {bytes = bytes} at offset result there lt long write = record {
     goes_on = goes_on write.continues;
+    failures = write.failures;
+    still_given = λ other given apart was honest multiple.
+        let before = write.continues.was_honest honest in
+        let elsewhere : other / SECTOR_SIZE ≢ at = λ same. apart (omega (arith, same, multiple, there)) in
+        was before multiple ∙ sym (kept result (write.content before) (write.content_err before) (other / SECTOR_SIZE) elsewhere);
     moment = λ honest below. write.clock.before_end below;
     stands = λ honest. stands result honest (write.content honest);
     stands_err = λ honest. stands_err result honest (write.content_err honest);
     images = λ honest file left.
         ⊎_elim
         (λ (same : old.left_at old.clock left.1.0). inl (honest, (left.1.0, same, left.1.2)))
-        (λ (over : (before : Image) × old.left_at old.clock before × (left.1.0 ≡ with_sector before at bytes)).
-        inr (joined over.0, (honest, (over.0, over.1, refl)), left.1.2 ∙ ap joined over.2 ∙ placed over.0 (old.whole honest old.clock over.0 over.1)))
-        (write.images honest left.1.0 left.1.1);
+        (λ (over : IsWritten (old.left_at old.clock) at bytes left.1.0).
+        inr (joined over.before, (honest, (over.before, over.was_left, refl)), left.1.2 ∙ ap joined over.is ∙ placed over.before (old.whole honest old.clock over.before over.was_left)))
+        (write.images honest left.1.0 left.1.1).either;
     unwritten = λ honest file left. (write.continues.honest honest, (left.1.0, write.unwritten honest left.1.0 left.1.1, left.1.2));
     written = λ honest. written result honest (write.written honest);
   }
     where
       placed : (image : Image) → IsWhole old.size image → joined (with_sector image at bytes) ≡ overlaid (joined image) offset bytes
       placed image whole = joined-with_sector image at bytes (are_whole whole) (omega (arith, whole.sectors)) long ∙ ap (λ (n : ℕ). overlaid (joined image) n bytes) (sym there)
+
+      kept : (result : Outcome) → OnOk result (new.content ≡ with_sector old.content at bytes) → OnErr result ((new.content ≡ old.content) ⊎ (new.content ≡ with_sector old.content at bytes))
+          → (other : ℕ) → other ≢ at → sector_at new.content other ≡ sector_at old.content other
+      kept (Ok done) is either other ne = ap (λ (image : Image). sector_at image other) is ∙ get_or-set_other old.content at other bytes [] ne
+      kept (Err fault) is either other ne =
+          ⊎_elim
+          (λ (same : new.content ≡ old.content). ap (λ (image : Image). sector_at image other) same)
+          (λ (changed : new.content ≡ with_sector old.content at bytes). ap (λ (image : Image). sector_at image other) changed ∙ get_or-set_other old.content at other bytes [] ne)
+          either
 
       now : old.honest → IsWhole old.size old.content
       now honest = old.whole honest old.clock old.content (old.content_left honest)
@@ -129,6 +155,10 @@ module _ (old new : View) where
   pub sync_joined : (result : Outcome) → IsSync old new result → IsFileSync (joined_view old) (joined_view new) result
   sync_joined result sync = record {
     goes_on = goes_on sync.continues;
+    failures = sync.failures;
+    still_given = λ other bytes was honest multiple.
+        let before = sync.continues.was_honest honest in
+        was before multiple ∙ ap (λ (image : Image). sector_at image (other / SECTOR_SIZE)) (sym (sync.content before));
     moment = λ honest below. sync.clock.before_end below;
     same = λ honest. ap joined (sync.content honest);
     only = λ honest. only result (sync.only honest);

@@ -1,13 +1,13 @@
 -- A device over a file of which no call was made.
 use Rattle.std.proofs.Common.{◌≡◌, ℕ, zero, suc, ◌<◌, List, [], ◌∷◌, ◌++◌, length, drop, refl, sym, ◌∙◌, ap, subst, arith}
 use Rattle.std.proofs.lemmas.List.{take_at, drop_at}
-use Rattle.audit_disk.specs.Image.{Sector, Image, sector_at}
-use Rattle.audit_disk.specs.View.{View}
+use Rattle.audit_device.specs.Image.{Sector, Image, sector_at}
+use Rattle.audit_device.specs.View.{View}
 use Rattle.audit_disk.specs.File.{sectors_of, FileView}
 use Rattle.audit_disk.specs.FileView.{file_moment}
 use Rattle.audit_disk.specs.MemFile.{joined, joined_view}
 use Rattle.audit_disk.specs.MemDisk.{IsFresh}
-use Rattle.audit_disk.specs.declared.sectors.TheConstants.{SECTOR_SIZE}
+use Rattle.audit_base.specs.declared.limits.TheConstants.{SECTOR_SIZE}
 
 -- the moment of the file is the start of the clock
 pub moment_in : (file : FileView) (bytes : List ℕ) → file.left_at (file_moment file.moment 0 0) bytes → file.left_at file.moment bytes

@@ -2,7 +2,7 @@
 use Rattle.std.proofs.Common.{◌≡◌, ℕ, zero, suc, ◌+◌, ◌-◌, ◌<◌, ◌≤◌, nat_lt, cond, List, [], ◌∷◌, ◌++◌, map, set, get_or, take, drop, length, refl, sym, ◌∙◌, ap, subst, arith}
 use Rattle.std.proofs.lemmas.Bool.{lt-ltb, le-ltb}
 use Rattle.std.proofs.lemmas.List.{length-append, map-append, take_more, drop_more, set_at, get_or_at, append_assoc, length-map, length-take}
-use Rattle.audit_disk.specs.Image.{Image}
+use Rattle.audit_device.specs.Image.{Image}
 use Rattle.audit_disk.specs.Held.{Held, settled, chosen, newest, bytes_of, crashed, after_write, after_sync}
 use Rattle.audit_disk.specs.Memory.{after_call, after_calls}
 use Rattle.audit_disk.specs.Progress.{IsProgress, AreProgress, pushed, synced, written_at, after_effect, landed_of}

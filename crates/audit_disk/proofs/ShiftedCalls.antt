@@ -1,9 +1,9 @@
 -- Calls that are passed on to the inner device, and calls that it misses, are those of the crash model.
 use Rattle.std.proofs.Common.{◌≡◌, inl, inr, ⊎_elim, ℕ, ◌+◌, ◌^◌, ◌<◌, ◌≤◌, Ok, Err, IsErr, OnOk, OnErr, refl, sym, ap, subst, arith}
 use Rattle.std.proofs.lemmas.Bool.{false≢true, cases_lt}
-use Rattle.audit_disk.specs.Image.{Sector, Image, with_sector}
-use Rattle.audit_disk.specs.View.{View, last_count}
-use Rattle.audit_disk.specs.Calls.{Outcome, Continues, CountsFailure, HasRisen, Ticks, IsRead, IsWrite, IsSync}
+use Rattle.audit_device.specs.Image.{Sector, Image, with_sector}
+use Rattle.audit_device.specs.View.{View, last_count}
+use Rattle.audit_device.specs.Calls.{Outcome, Continues, CountsFailure, HasRisen, Ticks, IsWritten, IsRead, IsWrite, IsSync}
 use Rattle.audit_disk.specs.Shifted.{inner_moment, inner_moment_now, shifted, MayMiss}
 
 -- an image now is one of the inner device now
@@ -54,10 +54,10 @@ module _ (old new : View) (place missed refused : ℕ) (in_step : place ≤ old.
     content_err = write.content_err;
     images = λ honest image left.
         ⊎_elim
-        (λ (same : old.left_at old.clock image). inl (now_out old place missed image in_step same))
-        (λ (over : (before : Image) × old.left_at old.clock before × (image ≡ with_sector before at bytes)).
-        inr (over.0, now_out old place missed over.0 in_step over.1, over.2))
-        (write.images honest image (now_in new place missed image in_step' left));
+        (λ (same : old.left_at old.clock image). record { either = inl (now_out old place missed image in_step same) })
+        (λ (over : IsWritten (old.left_at old.clock) at bytes image).
+        record { either = inr (record { before = over.before; was_left = now_out old place missed over.before in_step over.was_left; is = over.is }) })
+        (write.images honest image (now_in new place missed image in_step' left)).either;
     unwritten = λ honest image left. now_out new place missed image in_step' (write.unwritten honest image (now_in old place missed image in_step left));
     written = λ honest. written result (write.written honest);
     at_end = λ le. absurd (omega arith);
@@ -139,7 +139,7 @@ module _ (inner : View) (place place' missed missed' refused refused' : ℕ) (in
         failures = risen;
         content = λ honest. tt;
         content_err = λ honest. inl refl;
-        images = λ honest image left. inl (now_out inner place missed image in_step (now_in inner place' missed' image in_step' left));
+        images = λ honest image left. record { either = inl (now_out inner place missed image in_step (now_in inner place' missed' image in_step' left)) };
         unwritten = λ honest image left. now_out inner place' missed' image in_step' (now_in inner place missed image in_step left);
         written = λ honest. tt;
         at_end = λ end. refl;

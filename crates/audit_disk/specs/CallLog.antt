@@ -1,7 +1,7 @@
 -- A record of calls that grows.
 use Rattle.std.specs.Prelude.{◌≡◌, ◌+◌, ◌<◌, ◌≤◌, [], ◌∷◌, ◌++◌}
-use Rattle.audit_disk.specs.View.{last_count}
-use Rattle.audit_disk.specs.Calls.{Ticks, HasRisen}
+use Rattle.audit_device.specs.View.{last_count}
+use Rattle.audit_device.specs.Calls.{Ticks, HasRisen}
 use Rattle.audit_disk.specs.declared.call.Effect.{Effect}
 use Rattle.audit_disk.specs.declared.call_log.CallLog.{CallLog}
 

@@ -1,8 +1,9 @@
 -- A file of bytes that is written in whole sectors.
-use Rattle.std.specs.Prelude.{◌≡◌, ◌⊎◌, ℕ, zero, suc, ◌+◌, ◌*◌, ◌%◌, ◌<◌, ◌≤◌, List, [], ◌∷◌, ◌++◌, length, take, drop, Result, OnOk, OnErr}
-use Rattle.audit_disk.specs.Image.{Sector, Image}
-use Rattle.audit_disk.specs.View.{last_count}
-use Rattle.audit_disk.specs.declared.sectors.TheConstants.{SECTOR_SIZE}
+use Rattle.std.specs.Prelude.{◌≡◌, ◌≢◌, ◌⊎◌, ℕ, zero, suc, ◌+◌, ◌*◌, ◌%◌, ◌<◌, ◌≤◌, List, [], ◌∷◌, ◌++◌, length, take, drop, Result, OnOk, OnErr}
+use Rattle.audit_device.specs.Image.{Sector, Image}
+use Rattle.audit_device.specs.View.{last_count}
+use Rattle.audit_device.specs.Calls.{CountsFailure, HasRisen}
+use Rattle.audit_base.specs.declared.limits.TheConstants.{SECTOR_SIZE}
 
 -- the file with other bytes from that offset on
 abbrev pub overlaid : List ℕ → ℕ → List ℕ → List ℕ
@@ -21,10 +22,18 @@ pub record FileView : Type 1 where
   pub moment : ℕ
   -- what a crash at that moment could have left
   pub left_at : ℕ → List ℕ → Type 0
+  -- how many of its calls have failed
+  pub failures : ℕ
+  -- the last read at that offset that succeeded gave these bytes, and nothing was written there since
+  pub gave : ℕ → Sector → Type 0
   -- it is a file as described here
   pub honest : Type 0
   pub bytes_left : honest → left_at moment bytes
   pub same_length : honest → (at : ℕ) (file : List ℕ) → left_at at file → length file ≡ length bytes
+
+-- What reads gave at other offsets still stands: nothing was written there.
+abbrev pub KeepsGiven : FileView → FileView → ℕ → Type 0
+KeepsGiven old new offset = (other : ℕ) (bytes : Sector) → other ≢ offset → old.gave other bytes → new.gave other bytes
 
 -- some calls were made
 pub record GoesOn (old new : FileView) : Type 0 where
@@ -35,12 +44,17 @@ pub record GoesOn (old new : FileView) : Type 0 where
 
 pub record IsFileRead {E : Type 0} (old new : FileView) (offset : ℕ) (into : Sector) (result : Result (Unit {0}) E) : Type 0 where
   pub goes_on : GoesOn old new
+  pub failures : CountsFailure old.failures new.failures result
+  pub given : OnOk result (new.gave offset into)
+  pub still_given : KeepsGiven old new offset
   pub moment : old.honest → new.moment ≡ old.moment
   pub same : old.honest → new.bytes ≡ old.bytes
   pub found : old.honest → OnOk result (into ≡ take SECTOR_SIZE (drop offset old.bytes))
 
 pub record IsFileWrite {E : Type 0} (old new : FileView) (offset : ℕ) (bytes : Sector) (result : Result (Unit {0}) E) : Type 0 where
   pub goes_on : GoesOn old new
+  pub failures : CountsFailure old.failures new.failures result
+  pub still_given : KeepsGiven old new offset
   pub moment : old.honest → old.moment < last_count → new.moment ≡ old.moment + 1
   pub stands : old.honest → OnOk result (new.bytes ≡ overlaid old.bytes offset bytes)
   pub stands_err : old.honest → OnErr result ((new.bytes ≡ old.bytes) ⊎ (new.bytes ≡ overlaid old.bytes offset bytes))
@@ -51,11 +65,19 @@ pub record IsFileWrite {E : Type 0} (old new : FileView) (offset : ℕ) (bytes :
 
 pub record IsFileSync {E : Type 0} (old new : FileView) (result : Result (Unit {0}) E) : Type 0 where
   pub goes_on : GoesOn old new
+  pub failures : CountsFailure old.failures new.failures result
+  pub still_given : (other : ℕ) (bytes : Sector) → old.gave other bytes → new.gave other bytes
   pub moment : old.honest → old.moment < last_count → new.moment ≡ old.moment + 1
   pub same : old.honest → new.bytes ≡ old.bytes
   pub only : old.honest → OnOk result ((file : List ℕ) → new.left_at new.moment file → file ≡ old.bytes)
   pub no_other : old.honest → OnErr result ((file : List ℕ) → new.left_at new.moment file → old.left_at old.moment file)
   pub kept : old.honest → OnErr result ((file : List ℕ) → old.left_at old.moment file → new.left_at new.moment file)
+
+-- A read at that offset, by whatever reads of the file: Ok gives what the file last gave there with nothing written
+-- there since, and an error comes only where a call of the file failed.
+pub record ReadsFile {E : Type 0} (old new : FileView) (offset : ℕ) (into : Sector) (result : Result (Unit {0}) E) : Type 0 where
+  pub given : OnOk result (new.gave offset into)
+  pub fault : OnErr result (HasRisen old.failures new.failures)
 
 -- a whole sector stands at that offset
 pub record IsSectorOffset (file : FileView) (offset : ℕ) : Type 0 where

@@ -1,8 +1,10 @@
 -- A device in a file.
-use Rattle.std.specs.Prelude.{◌≡◌, ℕ, List}
-use Rattle.audit_disk.specs.Image.{Image}
-use Rattle.audit_disk.specs.View.{View}
-use Rattle.audit_disk.specs.File.{sectors_of}
+use Rattle.std.specs.Prelude.{◌≡◌, ◌⊎◌, ℕ, ◌<◌, ◌≤◌, Bool, true, false, List, IsErr, unwrap_or}
+use Rattle.std.specs.Option.{is_some}
+use Rattle.audit_device.specs.Image.{Image}
+use Rattle.audit_device.specs.View.{View, last_count}
+use Rattle.audit_device.specs.Calls.{Outcome}
+use Rattle.audit_disk.specs.File.{FileView, sectors_of}
 use Rattle.audit_disk.specs.FileView.{file_view, sectors_fit}
 use Rattle.audit_disk.specs.declared.file_disk.FileDisk.{FileDisk}
 use Rattle.audit_disk.specs.declared.sector_file.SectorFile as files
@@ -10,7 +12,29 @@ use Rattle.audit_disk.specs.declared.sector_file.SectorFile as files
 module _ {F : Type 0} {g : files.Ghosts F} where
   -- everything that is known of it as a device
   abbrev pub file_disk_view : FileDisk F g → View
-  file_disk_view disk = file_view (g.file disk.file) disk.sectors disk.clock disk.failures (sectors_fit disk.sectors disk.fits) disk.in_range disk.sized
+  file_disk_view disk = file_view (g.file disk.file) disk.sectors (unwrap_or disk.failed_at disk.clock) disk.clock disk.failures (sectors_fit disk.sectors disk.fits) disk.in_order disk.in_range disk.sized
+
+  -- everything that is known of its file
+  abbrev pub file_of : FileDisk F g → FileView
+  file_of disk = g.file disk.file
+
+  -- a sync of it has failed
+  abbrev pub has_stopped : FileDisk F g → Bool
+  has_stopped disk = is_some disk.failed_at
+
+  -- the next write or sync reaches the file
+  pub record Reaches (disk : FileDisk F g) : Type 0 where
+    pub working : has_stopped disk ≡ false
+    pub below_end : (file_disk_view disk).clock < last_count
+
+  -- it doesn't: a sync has failed, or the clock is at its end
+  abbrev pub IsShut : FileDisk F g → Type 0
+  IsShut disk = (has_stopped disk ≡ true) ⊎ (last_count ≤ (file_disk_view disk).clock)
+
+  -- the call failed, and the file didn't see it
+  pub record IsKeptBack (old new : FileDisk F g) (result : Outcome) : Type 0 where
+    pub fails : IsErr result
+    pub unseen : new.file ≡ old.file
 
   -- the sectors of this file, of which no call was made
   pub record IsOverFile (disk : FileDisk F g) (file : F) (count : ℕ) : Type 0 where
@@ -18,6 +42,7 @@ module _ {F : Type 0} {g : files.Ghosts F} where
     pub content : (file_disk_view disk).content ≡ sectors_of count (g.file file).bytes
     pub clock : (file_disk_view disk).clock ≡ 0
     pub failures : (file_disk_view disk).failures ≡ 0
+    pub working : has_stopped disk ≡ false
     pub honest : (g.file file).honest → (file_disk_view disk).honest
     pub was_honest : (file_disk_view disk).honest → (g.file file).honest
     -- a crash now may leave the sectors of each file that may be left, and nothing else
@@ -28,3 +53,4 @@ module _ {F : Type 0} {g : files.Ghosts F} where
   pub record IsFreshFile (disk : FileDisk F g) : Type 0 where
     pub clock : (file_disk_view disk).clock ≡ 0
     pub failures : (file_disk_view disk).failures ≡ 0
+    pub working : has_stopped disk ≡ false

@@ -1,9 +1,9 @@
 -- What a fuse shows.
-use Rattle.std.specs.Prelude.{ℕ}
-use Rattle.audit_disk.specs.View.{View}
+use Rattle.std.specs.Prelude.{ℕ, Bool, nat_lt}
+use Rattle.audit_device.specs.View.{View}
 use Rattle.audit_disk.specs.Gate.{gate_view}
 use Rattle.audit_disk.specs.declared.fuse.Fuse.{Fuse}
-use Rattle.audit_disk.specs.declared.sectors.Sectors as sectors
+use Rattle.audit_device.specs.declared.sectors.Sectors as sectors
 
 module _ {D : Type 0} {g : sectors.Ghosts D} where
   -- the device behind it
@@ -17,3 +17,7 @@ module _ {D : Type 0} {g : sectors.Ghosts D} where
   -- how many writes and syncs it still lets pass
   abbrev pub calls_left : Fuse D g → ℕ
   calls_left fuse = fuse.left
+
+  -- it still lets a call pass
+  abbrev pub is_whole : Fuse D g → Bool
+  is_whole fuse = nat_lt 0 (calls_left fuse)

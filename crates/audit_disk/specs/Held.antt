@@ -1,6 +1,6 @@
 -- What the sectors of a device hold: its last synced content, and what was written to it since.
 use Rattle.std.specs.Prelude.{◌≡◌, ℕ, zero, suc, List, [], ◌∷◌, ◌++◌, map}
-use Rattle.audit_disk.specs.Image.{Sector, Image}
+use Rattle.audit_device.specs.Image.{Sector, Image}
 use Rattle.audit_disk.specs.declared.block.Block.{Block}
 
 -- one sector: its last synced content, and each content that was written to it since, the oldest first

@@ -1,10 +1,10 @@
 -- Laws of what sectors hold: reads give an image, and each image is a whole device.
 use Rattle.std.specs.Prelude.{◌≡◌, ℕ, zero, suc, ◌<◌, List, [], ◌∷◌, length, refl}
 use Rattle.std.proofs.Common.{sym, ◌∙◌, ap, arith}
-use Rattle.audit_disk.specs.Image.{Image, IsWhole, sector_at}
+use Rattle.audit_device.specs.Image.{Image, IsWhole, sector_at}
 use Rattle.audit_disk.specs.Held.{Held, chosen, newest, content_of, IsImageOf, after_write, after_sync}
 use Rattle.audit_disk.specs.declared.block.Block.{Block}
-use Rattle.audit_disk.specs.declared.sectors.TheConstants.{SECTOR_SIZE}
+use Rattle.audit_base.specs.declared.limits.TheConstants.{SECTOR_SIZE}
 
 -- a pick behind the last content gives the last
 pub chosen_last : (synced : Block) (since : List Block) → (p : ℕ) × (chosen synced since p ≡ newest synced since)

@@ -1,22 +1,27 @@
-pub mod CallLog
-pub mod Calls
+-- The crash model.
+pub use Rattle.audit_device.specs.Calls
+pub use Rattle.audit_device.specs.Image
+pub use Rattle.audit_device.specs.Moments
+pub use Rattle.audit_device.specs.View
+pub use Rattle.audit_device.specs.Window
+-- What contracts of public calls cite, besides the views below.
 pub mod Countdown
 pub mod FailOnce
 pub mod File
 pub mod FileDisk
-pub mod FileView
 pub mod Fuse
-pub mod Gate
 pub mod Held
-pub mod HeldLaws
-pub mod Image
 pub mod MemDisk
-pub mod MemFile
 pub mod MemFileView
-pub mod Memory
-pub mod Moments
 pub mod OsFile
-pub mod Progress
+pub mod Passing
+-- Views of devices and files, with their laws.
+pub mod FileView
+pub mod HeldLaws
+pub mod MemFile
+pub mod Memory
 pub mod Shifted
-pub mod View
-pub mod Window
+-- What only bodies need.
+pub mod CallLog
+pub mod Gate
+pub mod Progress

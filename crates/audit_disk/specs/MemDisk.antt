@@ -1,9 +1,9 @@
 -- What a device in memory shows.
 use Rattle.std.specs.Prelude.{◌≡◌, ℕ, List, map, length, ◌≤◌, [], ◌∷◌, MatchResult}
-use Rattle.audit_disk.specs.Image.{Sector, Image}
-use Rattle.audit_disk.specs.View.{View}
-use Rattle.audit_disk.specs.Calls.{Outcome}
-use Rattle.audit_disk.specs.Moments.{IsSettled}
+use Rattle.audit_device.specs.Image.{Sector, Image}
+use Rattle.audit_device.specs.View.{View}
+use Rattle.audit_device.specs.Calls.{Outcome}
+use Rattle.audit_device.specs.Moments.{IsSettled}
 use Rattle.audit_disk.specs.Held.{Held, settled, bytes_of, crashed, after_write, after_sync}
 use Rattle.audit_disk.specs.Memory.{after_calls, memory_view}
 use Rattle.audit_disk.specs.declared.block.Block.{Block}

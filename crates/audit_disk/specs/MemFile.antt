@@ -1,11 +1,11 @@
 -- A file in memory: the sectors of a device, one after the other.
-use Rattle.std.specs.Prelude.{◌≡◌, ℕ, zero, suc, ◌*◌, ◌<◌, List, [], ◌∷◌, ◌++◌, length, refl}
+use Rattle.std.specs.Prelude.{◌≡◌, ℕ, zero, suc, ◌*◌, ◌/◌, ◌%◌, ◌<◌, List, [], ◌∷◌, ◌++◌, length, refl}
 use Rattle.std.proofs.Common.{sym, ◌∙◌, ap, arith}
 use Rattle.std.proofs.lemmas.List.{length-append}
-use Rattle.audit_disk.specs.Image.{Image, IsWhole, sector_at}
-use Rattle.audit_disk.specs.View.{View}
+use Rattle.audit_device.specs.Image.{Image, IsWhole, sector_at}
+use Rattle.audit_device.specs.View.{View}
 use Rattle.audit_disk.specs.File.{FileView}
-use Rattle.audit_disk.specs.declared.sectors.TheConstants.{SECTOR_SIZE}
+use Rattle.audit_base.specs.declared.limits.TheConstants.{SECTOR_SIZE}
 
 -- the sectors of an image as bytes
 abbrev pub joined : Image → List ℕ
@@ -28,6 +28,8 @@ joined_view device = record {
   bytes = joined device.content;
   moment = device.clock;
   left_at = λ moment file. device.honest × ((image : Image) × device.left_at moment image × (file ≡ joined image));
+  failures = device.failures;
+  gave = λ offset bytes. device.honest → offset % SECTOR_SIZE ≡ 0 → bytes ≡ sector_at device.content (offset / SECTOR_SIZE);
   honest = device.honest;
   bytes_left = λ honest. (honest, (device.content, device.content_left honest, refl));
   same_length = λ honest at file left.

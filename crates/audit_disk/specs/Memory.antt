@@ -4,8 +4,8 @@ use Rattle.std.specs.List.{filter}
 use Rattle.std.proofs.Common.{sym, ◌∙◌, ap, subst, arith}
 use Rattle.std.proofs.lemmas.Bool.{le-leb}
 use Rattle.std.proofs.lemmas.List.{length-map}
-use Rattle.audit_disk.specs.Image.{Image, IsWhole}
-use Rattle.audit_disk.specs.View.{View}
+use Rattle.audit_device.specs.Image.{Image, IsWhole}
+use Rattle.audit_device.specs.View.{View}
 use Rattle.audit_disk.specs.Held.{Held, settled, content_of, IsImageOf, after_write, after_sync}
 use Rattle.audit_disk.specs.HeldLaws.{content_image, whole_image, length-after_write, length-after_sync}
 use Rattle.audit_disk.specs.declared.block.Block.{Block}

@@ -1,13 +1,15 @@
 -- A file of the operating system, of whose bytes no contract knows anything.
-use Rattle.std.specs.Prelude.{[]}
+use Rattle.std.specs.Prelude.{ℕ, []}
 use Rattle.audit_disk.specs.File.{FileView}
 
 -- It isn't known to be as described: what is said of honest files is a premise there.
-abbrev pub unknown_file : FileView
-unknown_file = record {
+abbrev pub unknown_file : ℕ → FileView
+unknown_file failures = record {
   bytes = [];
   moment = 0;
   left_at = λ moment file. ⊥;
+  failures = failures;
+  gave = λ offset bytes. Unit {0};
   honest = ⊥;
   bytes_left = λ honest. absurd honest;
   same_length = λ honest. absurd honest;

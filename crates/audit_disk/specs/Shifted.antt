@@ -1,7 +1,7 @@
 -- A device behind one that doesn't pass every call on: its clock counts the calls that were missed, too.
 use Rattle.std.specs.Prelude.{◌≡◌, ℕ, ◌+◌, ◌-◌, ◌^◌, ◌<◌, ◌≤◌, min, max}
 use Rattle.std.proofs.Common.{sym, subst, arith}
-use Rattle.audit_disk.specs.View.{View}
+use Rattle.audit_device.specs.View.{View}
 
 -- The moment of the inner clock: the calls that it missed were made when it stood at that place.
 abbrev pub inner_moment : ℕ → ℕ → ℕ → ℕ

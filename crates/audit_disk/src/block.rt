@@ -1,5 +1,5 @@
 ghost use Rattle.std.specs.Prelude.{◌≡◌, length};
-ghost use Rattle.audit_disk.specs.declared.sectors.TheConstants.{SECTOR_SIZE};
+ghost use Rattle.audit_base.specs.declared.limits.TheConstants.{SECTOR_SIZE};
 
 use crate::SECTOR_SIZE;
 

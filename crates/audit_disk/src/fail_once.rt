@@ -1,14 +1,15 @@
-ghost use Rattle.std.specs.Prelude.{◌≡◌, ◌≢◌, ◌<◌, IsErr, IsSome, IsTrue, ◌↔◌};
-ghost use Rattle.audit_disk.specs.View.{last_count};
-ghost use Rattle.audit_disk.specs.Moments.{IsUnused, LooksLike};
-ghost use Rattle.audit_disk.specs.Calls.{IsRead, IsWrite, IsSync};
+ghost use Rattle.std.specs.Prelude.{◌≡◌, ◌<◌, IsSome};
+ghost use Rattle.audit_device.specs.View.{last_count};
+ghost use Rattle.audit_device.specs.Moments.{IsUnused, LooksLike};
+ghost use Rattle.audit_device.specs.Calls.{IsRead, IsWrite, IsSync};
 ghost use Rattle.audit_disk.specs.Shifted.{shifted};
-ghost use Rattle.audit_disk.specs.Countdown.{one_less};
+ghost use Rattle.audit_disk.specs.Countdown.{one_less, is_passing};
+ghost use Rattle.audit_disk.specs.Passing.{PassesOn};
 
 use crate::gate::Gate;
 use crate::{DeviceFault, SECTOR_SIZE, Sectors};
 
-/// A device of whose reads, writes and syncs one fails and reaches nothing. The calls before and behind it pass.
+/// A device of whose reads, writes and syncs one fails and reaches nothing. The calls before and after it pass.
 #[derive(Drop)]
 pub struct FailOnce<D: Sectors> {
     gate: Gate<D>,
@@ -40,9 +41,9 @@ impl<D: Sectors> FailOnce<D> {
     }
 }
 
-/// Counts a call, and tells whether it passes.
+/// Counts a call, and returns whether it passes.
 fn passes(left: &mut Option<u64>) -> bool
-    ensures passes { IsTrue result ↔ (left.old ≢ Some 0) }
+    ensures passes { result ≡ is_passing left.old }
     ensures left { left.new ≡ one_less left.old }
 {
     match *left {
@@ -75,11 +76,9 @@ impl<D: Sectors> Sectors for FailOnce<D> {
         requires { at < (D.view (fail_once_inner self.old)).size }
         ensures read { IsRead (fail_once_view self.old) (fail_once_view self.new)
             at into.new result }
-        ensures passes { calls_before self.old ≢ Some 0
-            → IsRead (D.view (fail_once_inner self.old)) (D.view (fail_once_inner self.new)) at into.new result }
-        ensures fails { calls_before self.old ≡ Some 0 → IsErr result }
-        ensures unseen { calls_before self.old ≡ Some 0
-            → fail_once_inner self.new ≡ fail_once_inner self.old }
+        ensures passes { PassesOn (is_passing (calls_before self.old))
+            (IsRead (D.view (fail_once_inner self.old)) (D.view (fail_once_inner self.new)) at into.new result)
+            (fail_once_inner self.old) (fail_once_inner self.new) result }
         ensures left { calls_before self.new ≡ one_less (calls_before self.old) }
     {
         let passes = passes(&mut self.left);
@@ -90,11 +89,10 @@ impl<D: Sectors> Sectors for FailOnce<D> {
         requires { at < (D.view (fail_once_inner self.old)).size }
         ensures write { IsWrite (fail_once_view self.old)
             (fail_once_view self.new) at bytes.now result }
-        ensures passes { calls_before self.old ≢ Some 0 → (fail_once_view self.old).clock < last_count
-            → IsWrite (D.view (fail_once_inner self.old)) (D.view (fail_once_inner self.new)) at bytes.now result }
-        ensures fails { calls_before self.old ≡ Some 0 → IsErr result }
-        ensures unseen { calls_before self.old ≡ Some 0
-            → fail_once_inner self.new ≡ fail_once_inner self.old }
+        ensures passes { PassesOn (is_passing (calls_before self.old))
+            ((fail_once_view self.old).clock < last_count
+            → IsWrite (D.view (fail_once_inner self.old)) (D.view (fail_once_inner self.new)) at bytes.now result)
+            (fail_once_inner self.old) (fail_once_inner self.new) result }
         ensures left { calls_before self.new ≡ one_less (calls_before self.old) }
     {
         let passes = passes(&mut self.left);
@@ -103,11 +101,10 @@ impl<D: Sectors> Sectors for FailOnce<D> {
 
     fn sync(&mut self) -> Result<(), DeviceFault>
         ensures sync { IsSync (fail_once_view self.old) (fail_once_view self.new) result }
-        ensures passes { calls_before self.old ≢ Some 0 → (fail_once_view self.old).clock < last_count
-            → IsSync (D.view (fail_once_inner self.old)) (D.view (fail_once_inner self.new)) result }
-        ensures fails { calls_before self.old ≡ Some 0 → IsErr result }
-        ensures unseen { calls_before self.old ≡ Some 0
-            → fail_once_inner self.new ≡ fail_once_inner self.old }
+        ensures passes { PassesOn (is_passing (calls_before self.old))
+            ((fail_once_view self.old).clock < last_count
+            → IsSync (D.view (fail_once_inner self.old)) (D.view (fail_once_inner self.new)) result)
+            (fail_once_inner self.old) (fail_once_inner self.new) result }
         ensures left { calls_before self.new ≡ one_less (calls_before self.old) }
     {
         let passes = passes(&mut self.left);

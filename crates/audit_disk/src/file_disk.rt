@@ -1,26 +1,33 @@
-ghost use Rattle.std.specs.Prelude.{◌≡◌, ◌*◌, ◌^◌, ◌<◌, ◌≤◌, length};
+ghost use Rattle.std.specs.Prelude.{◌≡◌, ◌*◌, ◌^◌, ◌<◌, ◌≤◌, length, unwrap_or};
+ghost use Rattle.audit_base.specs.declared.limits.TheConstants.{SECTOR_SIZE};
 ghost use Rattle.audit_disk.specs.File.{IsUnusedFile};
 ghost use Rattle.audit_disk.specs.FileView.{file_view, sectors_fit};
-ghost use Rattle.audit_disk.specs.Calls.{CountsFailure};
-ghost use Rattle.audit_disk.specs.declared.sectors.TheConstants.{SECTOR_SIZE};
 
+use crate::counted::counted;
 use crate::{DeviceFault, SECTOR_SIZE, SectorFile, Sectors};
 
 /// A device in a file: sector k stands at the offset k * 512. It is honest where the file's calls are.
+///
+/// After a sync that failed every call fails, is counted and doesn't reach the file: an operating system may have
+/// dropped what was written, and let the next sync succeed.
 #[derive(Drop)]
 pub struct FileDisk<F: SectorFile> {
     file: F,
     sectors: u64,
     clock: u64,
     failures: u64,
+    /// The clock after the first sync that failed.
+    failed_at: Option<u64>,
     ghost fits: { SECTOR_SIZE * sectors < 2 ^ 64 },
     ghost sized: { (F.file file).honest → length (F.file file).bytes ≡ SECTOR_SIZE * sectors },
+    ghost in_order: { unwrap_or failed_at clock ≤ clock },
     ghost in_range: { clock < 2 ^ 64 },
-    ghost in_step: { (F.file file).honest → (F.file file).moment ≤ clock },
+    ghost in_step: { (F.file file).honest → (F.file file).moment ≤ unwrap_or failed_at clock },
 }
 
 impl<F: SectorFile> FileDisk<F> {
-    ghost use Rattle.audit_disk.specs.FileDisk.{IsOverFile};
+    ghost use Rattle.std.specs.Prelude.{IsTrue, IsFalse};
+    ghost use Rattle.audit_disk.specs.FileDisk.{IsOverFile, Reaches, IsShut};
 
     /// A device over a file of so many whole sectors.
     pub fn over(file: F, sectors: u64) -> Self
@@ -33,24 +40,26 @@ impl<F: SectorFile> FileDisk<F> {
             sectors,
             clock: 0,
             failures: 0,
+            failed_at: None,
         }
     }
-}
 
-/// Counts a call that failed.
-fn counted(outcome: Result<(), DeviceFault>, failures: &mut u64) -> Result<(), DeviceFault>
-    ensures result { result ≡ outcome }
-    ensures counts { CountsFailure failures.old failures.new outcome }
-    ensures more { failures.old ≤ failures.new }
-{
-    if outcome.is_err() {
-        *failures = failures.saturating_add(1);
+    /// Whether a write or a sync would not reach the file.
+    fn is_shut(&self) -> bool
+        ensures shut { IsTrue result → IsShut self.now }
+        ensures reaches { IsFalse result → Reaches self.now }
+    {
+        self.failed_at.is_some() || self.clock == u64::MAX
     }
-    outcome
 }
 
 impl<F: SectorFile> Sectors for FileDisk<F> {
-    ghost view = { λ disk. file_view (F.file disk.file) disk.sectors disk.clock disk.failures (sectors_fit disk.sectors disk.fits) disk.in_range disk.sized };
+    ghost use Rattle.std.specs.Prelude.{true, false, ◌||◌, is_err};
+    ghost use Rattle.audit_device.specs.Calls.{IsRead, IsWrite, IsSync};
+    ghost use Rattle.audit_disk.specs.File.{IsFileWrite, IsFileSync, ReadsFile};
+    ghost use Rattle.audit_disk.specs.FileDisk.{file_disk_view, file_of, has_stopped, Reaches, IsShut, IsKeptBack};
+
+    ghost view = { λ disk. file_view (F.file disk.file) disk.sectors (unwrap_or disk.failed_at disk.clock) disk.clock disk.failures (sectors_fit disk.sectors disk.fits) disk.in_order disk.in_range disk.sized };
 
     fn size(&self) -> u64 {
         self.sectors
@@ -60,13 +69,35 @@ impl<F: SectorFile> Sectors for FileDisk<F> {
         self.clock
     }
 
-    fn read(&mut self, at: u64, into: &mut [u8; SECTOR_SIZE]) -> Result<(), DeviceFault> {
+    /// Ok gives what the file last gave there, with no write to it since. An error comes after a sync that
+    /// failed, and else only where a call of the file failed.
+    fn read(&mut self, at: u64, into: &mut [u8; SECTOR_SIZE]) -> Result<(), DeviceFault>
+        requires { at < (file_disk_view self.old).size }
+        ensures read { IsRead (file_disk_view self.old) (file_disk_view self.new) at into.new result }
+        ensures file { has_stopped self.old ≡ false
+            → ReadsFile (file_of self.old) (file_of self.new) (SECTOR_SIZE * at) into.new result }
+        ensures kept_back { has_stopped self.old ≡ true → IsKeptBack self.old self.new result }
+        ensures stopped { has_stopped self.new ≡ has_stopped self.old }
+    {
+        if self.failed_at.is_some() {
+            return counted(Err(DeviceFault), &mut self.failures);
+        }
         let outcome = self.file.read_at(SECTOR_SIZE as u64 * at, into);
         counted(outcome, &mut self.failures)
     }
 
-    fn write(&mut self, at: u64, bytes: &[u8; SECTOR_SIZE]) -> Result<(), DeviceFault> {
-        if self.clock == u64::MAX {
+    /// The file's write at 512 times the sector, with its result, unless a sync has failed or the clock is at its
+    /// end.
+    fn write(&mut self, at: u64, bytes: &[u8; SECTOR_SIZE]) -> Result<(), DeviceFault>
+        requires { at < (file_disk_view self.old).size }
+        ensures write { IsWrite (file_disk_view self.old) (file_disk_view self.new) at bytes.now result }
+        ensures file { Reaches self.old
+            → IsFileWrite (file_of self.old) (file_of self.new) (SECTOR_SIZE * at) bytes.now result }
+        ensures kept_back { IsShut self.old → IsKeptBack self.old self.new result }
+        ensures stopped { has_stopped self.new ≡ has_stopped self.old }
+    {
+        if self.is_shut() {
+            self.clock = self.clock.saturating_add(1);
             return counted(Err(DeviceFault), &mut self.failures);
         }
         self.clock += 1;
@@ -74,12 +105,24 @@ impl<F: SectorFile> Sectors for FileDisk<F> {
         counted(outcome, &mut self.failures)
     }
 
-    fn sync(&mut self) -> Result<(), DeviceFault> {
-        if self.clock == u64::MAX {
+    /// The file's sync, with its result, unless a sync has failed or the clock is at its end. After an error
+    /// every call fails.
+    fn sync(&mut self) -> Result<(), DeviceFault>
+        ensures sync { IsSync (file_disk_view self.old) (file_disk_view self.new) result }
+        ensures file { Reaches self.old → IsFileSync (file_of self.old) (file_of self.new) result }
+        ensures kept_back { IsShut self.old → IsKeptBack self.old self.new result }
+        ensures stopped { has_stopped self.new ≡ (has_stopped self.old || is_err result) }
+    {
+        if self.is_shut() {
+            self.failed_at = self.failed_at.or(Some(self.clock));
+            self.clock = self.clock.saturating_add(1);
             return counted(Err(DeviceFault), &mut self.failures);
         }
         self.clock += 1;
         let outcome = self.file.sync();
+        if outcome.is_err() {
+            self.failed_at = Some(self.clock);
+        }
         counted(outcome, &mut self.failures)
     }
 }

@@ -1,6 +1,6 @@
 //! Devices in files of the operating system.
 ghost use Rattle.std.specs.Prelude.{◌≡◌, ◌≢◌, ◌*◌, ◌%◌, ◌^◌, ◌<◌, ◌≤◌, ◌↔◌, IfOk, IsErrOf, replicate};
-ghost use Rattle.audit_disk.specs.declared.sectors.TheConstants.{SECTOR_SIZE};
+ghost use Rattle.audit_base.specs.declared.limits.TheConstants.{SECTOR_SIZE};
 ghost use Rattle.audit_disk.specs.FileDisk.{IsFreshFile, file_disk_view};
 ghost use Rattle.audit_disk.specs.MemDisk.{IsFresh};
 
@@ -36,7 +36,7 @@ impl<F: FileExt + OpenFile + Drop> FileDisk<OsFile<F>> {
             let _ = fs::remove_file(rt, path);
             return Err(FileFault::Io);
         }
-        Ok(FileDisk::over(OsFile { file }, sectors))
+        Ok(FileDisk::over(OsFile::new(file), sectors))
     }
 
     /// Opens a file as a device. Its length has to be a multiple of 512.
@@ -45,7 +45,7 @@ impl<F: FileExt + OpenFile + Drop> FileDisk<OsFile<F>> {
     {
         let file = OpenOptions::new().read(true).write(true).open(rt, path)?;
         let length = file.metadata()?.len();
-        Ok(FileDisk::over(OsFile { file }, whole_sectors(length)?))
+        Ok(FileDisk::over(OsFile::new(file), whole_sectors(length)?))
     }
 }
 

@@ -1,7 +1,7 @@
-ghost use Rattle.std.specs.Prelude.{◌≡◌, ◌-◌, ◌<◌, IsErr};
-ghost use Rattle.audit_disk.specs.View.{last_count};
-ghost use Rattle.audit_disk.specs.Moments.{IsUnused, LooksLike};
-ghost use Rattle.audit_disk.specs.Calls.{IsRead, IsWrite, IsSync};
+ghost use Rattle.std.specs.Prelude.{◌≡◌, ◌-◌, ◌<◌};
+ghost use Rattle.audit_device.specs.View.{last_count};
+ghost use Rattle.audit_device.specs.Moments.{IsUnused, LooksLike};
+ghost use Rattle.audit_device.specs.Calls.{IsRead, IsWrite, IsSync};
 ghost use Rattle.audit_disk.specs.Shifted.{shifted, MayMiss};
 
 use crate::gate::Gate;
@@ -42,7 +42,8 @@ impl<D: Sectors> Fuse<D> {
 }
 
 impl<D: Sectors> Sectors for Fuse<D> {
-    ghost use Rattle.audit_disk.specs.Fuse.{fuse_inner, fuse_view, calls_left};
+    ghost use Rattle.audit_disk.specs.Fuse.{fuse_inner, fuse_view, calls_left, is_whole};
+    ghost use Rattle.audit_disk.specs.Passing.{PassesOn};
 
     ghost view = { λ fuse. shifted (D.view fuse.gate.inner) fuse.gate.place fuse.gate.missed fuse.gate.refused fuse.gate.in_step fuse.gate.fits };
 
@@ -57,10 +58,9 @@ impl<D: Sectors> Sectors for Fuse<D> {
     fn read(&mut self, at: u64, into: &mut [u8; SECTOR_SIZE]) -> Result<(), DeviceFault>
         requires { at < (D.view (fuse_inner self.old)).size }
         ensures read { IsRead (fuse_view self.old) (fuse_view self.new) at into.new result }
-        ensures passes { 0 < calls_left self.old
-            → IsRead (D.view (fuse_inner self.old)) (D.view (fuse_inner self.new)) at into.new result }
-        ensures fails { calls_left self.old ≡ 0 → IsErr result }
-        ensures unseen { calls_left self.old ≡ 0 → fuse_inner self.new ≡ fuse_inner self.old }
+        ensures passes { PassesOn (is_whole self.old)
+            (IsRead (D.view (fuse_inner self.old)) (D.view (fuse_inner self.new)) at into.new result)
+            (fuse_inner self.old) (fuse_inner self.new) result }
         ensures left { calls_left self.new ≡ calls_left self.old }
     {
         self.gate.read(self.left > 0, at, into)
@@ -69,10 +69,10 @@ impl<D: Sectors> Sectors for Fuse<D> {
     fn write(&mut self, at: u64, bytes: &[u8; SECTOR_SIZE]) -> Result<(), DeviceFault>
         requires { at < (D.view (fuse_inner self.old)).size }
         ensures write { IsWrite (fuse_view self.old) (fuse_view self.new) at bytes.now result }
-        ensures passes { 0 < calls_left self.old → (fuse_view self.old).clock < last_count
-            → IsWrite (D.view (fuse_inner self.old)) (D.view (fuse_inner self.new)) at bytes.now result }
-        ensures fails { calls_left self.old ≡ 0 → IsErr result }
-        ensures unseen { calls_left self.old ≡ 0 → fuse_inner self.new ≡ fuse_inner self.old }
+        ensures passes { PassesOn (is_whole self.old)
+            ((fuse_view self.old).clock < last_count
+            → IsWrite (D.view (fuse_inner self.old)) (D.view (fuse_inner self.new)) at bytes.now result)
+            (fuse_inner self.old) (fuse_inner self.new) result }
         ensures left { calls_left self.new ≡ calls_left self.old - 1 }
     {
         let passes = self.left > 0;
@@ -82,10 +82,10 @@ impl<D: Sectors> Sectors for Fuse<D> {
 
     fn sync(&mut self) -> Result<(), DeviceFault>
         ensures sync { IsSync (fuse_view self.old) (fuse_view self.new) result }
-        ensures passes { 0 < calls_left self.old → (fuse_view self.old).clock < last_count
-            → IsSync (D.view (fuse_inner self.old)) (D.view (fuse_inner self.new)) result }
-        ensures fails { calls_left self.old ≡ 0 → IsErr result }
-        ensures unseen { calls_left self.old ≡ 0 → fuse_inner self.new ≡ fuse_inner self.old }
+        ensures passes { PassesOn (is_whole self.old)
+            ((fuse_view self.old).clock < last_count
+            → IsSync (D.view (fuse_inner self.old)) (D.view (fuse_inner self.new)) result)
+            (fuse_inner self.old) (fuse_inner self.new) result }
         ensures left { calls_left self.new ≡ calls_left self.old - 1 }
     {
         let passes = self.left > 0;

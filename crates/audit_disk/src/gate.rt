@@ -1,5 +1,6 @@
-ghost use Rattle.std.specs.Prelude.{◌≡◌, ◌+◌, ◌^◌, ◌<◌, ◌≤◌, IsTrue, IsFalse, IsErr};
-ghost use Rattle.audit_disk.specs.Calls.{HasRisen, IsRead, IsWrite, IsSync};
+ghost use Rattle.std.specs.Prelude.{◌≡◌, ◌+◌, ◌^◌, ◌<◌, ◌≤◌, IsTrue, IsFalse};
+ghost use Rattle.audit_device.specs.Calls.{HasRisen, IsRead, IsWrite, IsSync};
+ghost use Rattle.audit_disk.specs.Passing.{PassesOn};
 
 use crate::{DeviceFault, SECTOR_SIZE, Sectors};
 
@@ -49,10 +50,8 @@ impl<D: Sectors> Gate<D> {
         requires { at < (D.view self.old.inner).size }
 
         ensures read { IsRead (gate_view self.old) (gate_view self.new) at into.new result }
-        ensures passed { IsTrue passes
-            → IsRead (D.view self.old.inner) (D.view self.new.inner) at into.new result }
-        ensures failed { IsFalse passes → IsErr result }
-        ensures unseen { IsFalse passes → self.new.inner ≡ self.old.inner }
+        ensures passes { PassesOn passes (IsRead (D.view self.old.inner) (D.view self.new.inner) at into.new result)
+            self.old.inner self.new.inner result }
         ensures place { self.new.place ≡ self.old.place }
         ensures missed { self.new.missed ≡ self.old.missed }
     {
@@ -72,10 +71,9 @@ impl<D: Sectors> Gate<D> {
         requires may_shut { IsFalse passes → MayShut self.old }
 
         ensures write { IsWrite (gate_view self.old) (gate_view self.new) at bytes.now result }
-        ensures passed { IsTrue passes → IsBelowEnd self.old
-            → IsWrite (D.view self.old.inner) (D.view self.new.inner) at bytes.now result }
-        ensures failed { IsFalse passes → IsErr result }
-        ensures unseen { IsFalse passes → self.new.inner ≡ self.old.inner }
+        ensures passes { PassesOn passes
+            (IsBelowEnd self.old → IsWrite (D.view self.old.inner) (D.view self.new.inner) at bytes.now result)
+            self.old.inner self.new.inner result }
         ensures shut { IsFalse passes → MayShut self.new }
         ensures missed { IsTrue passes → self.new.missed ≡ self.old.missed }
     {
@@ -92,10 +90,8 @@ impl<D: Sectors> Gate<D> {
         requires { IsFalse passes → MayShut self.old }
 
         ensures sync { IsSync (gate_view self.old) (gate_view self.new) result }
-        ensures passed { IsTrue passes → IsBelowEnd self.old
-            → IsSync (D.view self.old.inner) (D.view self.new.inner) result }
-        ensures failed { IsFalse passes → IsErr result }
-        ensures unseen { IsFalse passes → self.new.inner ≡ self.old.inner }
+        ensures passes { PassesOn passes (IsBelowEnd self.old → IsSync (D.view self.old.inner) (D.view self.new.inner) result)
+            self.old.inner self.new.inner result }
         ensures shut { IsFalse passes → MayShut self.new }
         ensures missed { IsTrue passes → self.new.missed ≡ self.old.missed }
     {

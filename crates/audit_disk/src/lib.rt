@@ -4,8 +4,8 @@
 mod block;
 mod call;
 mod call_log;
+mod counted;
 mod fail_once;
-mod fault;
 mod file_disk;
 mod file_fault;
 mod files;
@@ -17,11 +17,9 @@ mod os_file;
 mod progress;
 mod replay;
 mod sector_file;
-mod sectors;
-mod window;
 
+pub use audit_device::{DeviceFault, SECTOR_SIZE, Sectors, publish, write_sectors};
 pub use fail_once::FailOnce;
-pub use fault::DeviceFault;
 pub use file_disk::FileDisk;
 pub use file_fault::FileFault;
 pub use fuse::Fuse;
@@ -29,8 +27,6 @@ pub use mem_disk::MemDisk;
 pub use mem_file::MemFile;
 pub use os_file::OsFile;
 pub use sector_file::SectorFile;
-pub use sectors::{SECTOR_SIZE, Sectors};
-pub use window::{publish, write_sectors};
 
 #[cfg(test)]
 mod tests;

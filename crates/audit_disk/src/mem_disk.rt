@@ -22,7 +22,7 @@ pub struct MemDisk {
 
 impl Sectors for MemDisk {
     ghost use Rattle.std.specs.Prelude.{IsOk};
-    ghost use Rattle.audit_disk.specs.Calls.{IsRead, IsWrite, IsSync};
+    ghost use Rattle.audit_device.specs.Calls.{IsRead, IsWrite, IsSync};
     ghost use Rattle.audit_disk.specs.MemDisk.{disk_view, disk_held, HoldsWrite, HoldsSync};
 
     ghost view = { λ disk. memory_view disk.start.items (bytes_of disk.content.items) disk.log.calls.items disk.log.clock disk.log.failures disk.current disk.log.stamped disk.sized disk.log.in_range };
@@ -70,6 +70,7 @@ impl Sectors for MemDisk {
 
 impl MemDisk {
     ghost use Rattle.std.specs.Prelude.{ℕ, IfOk, replicate};
+    ghost use Rattle.audit_device.specs.Moments.{IsAfterCrash};
     ghost use Rattle.audit_disk.specs.Held.{crashed};
     ghost use Rattle.audit_disk.specs.MemDisk.{disk_view, disk_held, IsFresh, HoldsOnly, IsEachPicked};
 
@@ -97,6 +98,7 @@ impl MemDisk {
             (crashed (disk_held self.now) pick.now)) }
         ensures held { IfOk result (λ disk. HoldsOnly (disk_held disk)
             (crashed (disk_held self.now) pick.now)) }
+        ensures after { IfOk result (λ disk. IsAfterCrash (disk_view self.now) (disk_view disk)) }
         ensures image { (disk_view self.now).left_at (disk_view self.now).clock
             (crashed (disk_held self.now) pick.now) }
         ensures every { IsEachPicked (disk_view self.now) (disk_held self.now) }

@@ -318,14 +318,19 @@ fn a_file_that_cant_be_laid_out_leaves_nothing(rt: HostRuntime) -> Result<(), Fa
     Ok(())
 }
 
+// A device of the system takes writes and refuses to be synced.
 #[test]
-fn a_sync_asks_the_operating_system(rt: HostRuntime) -> Result<(), Fail> {
+fn after_a_failed_sync_a_file_takes_no_call(rt: HostRuntime) -> Result<(), Fail> {
     let file = OpenOptions::new()
         .read(true)
         .write(true)
         .open(&rt, "/dev/null")?;
-    let mut disk = FileDisk::over(OsFile { file }, 1);
+    let mut disk = FileDisk::over(OsFile::new(file), 1);
+    assert!(rt; put(&rt, &mut disk, 0, b'x'));
     assert!(rt; disk.sync().is_err());
+    assert!(rt; !put(&rt, &mut disk, 0, b'x') && found(&rt, &mut disk, 0).is_err());
+    assert!(rt; disk.sync().is_err());
+    assert_eq!(rt; disk.calls(), 4);
     Ok(())
 }
 
@@ -340,7 +345,7 @@ fn a_file_that_may_only_be_read_takes_no_write(rt: HostRuntime) -> Result<(), Fa
     drop(FileDisk::create(&rt, path, 1)?);
 
     let file = OpenOptions::new().read(true).open(&rt, path)?;
-    let mut disk = FileDisk::over(OsFile { file }, 1);
+    let mut disk = FileDisk::over(OsFile::new(file), 1);
     assert!(rt; !put(&rt, &mut disk, 0, b'x'));
     assert_eq!(rt; (found(&rt, &mut disk, 0)?, disk.calls()), (0, 1));
 

@@ -10,6 +10,7 @@ returns g c =
       content = refl;
       clock = refl;
       failures = refl;
+      working = refl;
       honest = λ honest. honest;
       was_honest = λ honest. honest;
       left = λ honest bytes left. (honest, (bytes, moment_out file bytes left, refl));

@@ -2,7 +2,7 @@ use Rattle.std.proofs.Common.{replicate}
 use Rattle.std.proofs.lemmas.List.{length-replicate}
 use Rattle.audit_disk.specs.MemDisk.{disk_view}
 use Rattle.audit_disk.specs.FileDisk.{file_disk_view}
-use Rattle.audit_disk.specs.declared.sectors.TheConstants.{SECTOR_SIZE}
+use Rattle.audit_base.specs.declared.limits.TheConstants.{SECTOR_SIZE}
 use Rattle.audit_disk.proofs.MemFileCalls.{unused_file}
 use Rattle.audit_disk.proofs.OverFiles.{fresh_over}
 use Rattle.audit_disk.proofs.files.FileDisk+MemFile.in_memory.Goals as goal

@@ -1,0 +1,4 @@
+pub mod Images
+pub mod Moments
+pub mod Rows
+pub mod Windows

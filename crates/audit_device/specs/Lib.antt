@@ -1,0 +1,5 @@
+pub mod Calls
+pub mod Image
+pub mod Moments
+pub mod View
+pub mod Window
