@@ -1,5 +1,6 @@
 pub use Rattle.audit_device.proofs.Images
 pub use Rattle.audit_device.proofs.Moments
+pub use Rattle.audit_device.proofs.Rows
 pub use Rattle.audit_device.proofs.Windows
 pub mod FileCalls
 pub mod FileSectors
