@@ -1,6 +1,6 @@
 pub mod FirstLine
 pub mod Decimal
-pub mod Words
+pub mod EventWords
 pub mod EventLines
 pub mod KeyLine
 pub mod Scripts

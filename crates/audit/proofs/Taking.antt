@@ -1,7 +1,8 @@
 -- Bytes that are taken from a reader, a piece at a time.
-use Rattle.std.proofs.Common.{◌≡◌, ℕ, ◌<◌, Option, Some, None, List, [], ◌++◌, length, sym, ap, ◌∙◌, arith, append_assoc, append-nil, length-append}
+use Rattle.std.proofs.Common.{◌≡◌, ℕ, ◌+◌, ◌<◌, ◌≤◌, Option, Some, None, List, [], ◌++◌, length, sym, ap, ◌∙◌, arith, append_assoc, append-nil, length-append}
 use Rattle.std.specs.Prelude.{IfSome}
-use Rattle.std.specs.Io.KnownBytes.{Consumes, IsAtEnd}
+use Rattle.std.specs.Io.KnownBytes.{Consumes, IsAtEnd, Keeps}
+use Rattle.audit.specs.Reading.{TakesAtMost}
 
 pub taken_none : (known : Option (List ℕ)) → Consumes known known []
 taken_none None = tt
@@ -22,3 +23,18 @@ pub taken_long : (old now : Option (List ℕ)) (taken : List ℕ) (limit : ℕ) 
 taken_long None now taken limit first long = tt
 taken_long (Some bytes) None taken limit first long = absurd first
 taken_long (Some bytes) (Some rest) taken limit first long = omega (arith, ap length first, length-append taken rest)
+
+-- nothing more was taken
+taken_kept : (old now next : Option (List ℕ)) (taken : List ℕ) → Consumes old now taken → Keeps now next → Consumes old next taken
+taken_kept None now next taken first kept = tt
+taken_kept (Some bytes) None next taken first kept = absurd first
+taken_kept (Some bytes) (Some rest) None taken first kept = absurd kept
+taken_kept (Some bytes) (Some rest) (Some last) taken first kept = first ∙ ap (λ r. taken ++ r) (sym kept)
+
+pub at_most_kept : (old now next : Option (List ℕ)) (taken : List ℕ) (most : ℕ) → Consumes old now taken → length taken ≤ most → Keeps now next → TakesAtMost old next most
+at_most_kept old now next taken most first few kept = record { taken = taken; within = few; bytes = taken_kept old now next taken first kept }
+
+pub at_most : (old now next : Option (List ℕ)) (taken piece : List ℕ) (most : ℕ) → Consumes old now taken → Consumes now next piece → length taken + length piece ≤ most → TakesAtMost old next most
+at_most old now next taken piece most first second few =
+    let whole : length (taken ++ piece) ≤ most = omega (arith, length-append taken piece) in
+    record { taken = taken ++ piece; within = whole; bytes = taken_more old now next taken piece first second }

@@ -11,6 +11,12 @@ pub record TakesPiece (old new : Option (List ℕ)) (taken : ℕ) (piece : List 
   pub bytes : Consumes old new (take taken piece)
   pub none : taken ≡ 0 → 0 < length piece → IsAtEnd new
 
+-- no more than so many bytes were taken from the front
+pub record TakesAtMost (old new : Option (List ℕ)) (most : ℕ) : Type 0 where
+  pub taken : List ℕ
+  pub within : length taken ≤ most
+  pub bytes : Consumes old new taken
+
 -- the input is too long, the reader failed or memory ran out
 abbrev pub IsReadingFault : ReplayFault → Option (List ℕ) → Type 0
 IsReadingFault InputTooLong known = IfSome known (λ bytes. INPUT_LIMIT < length bytes)

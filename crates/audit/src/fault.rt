@@ -1,23 +1,19 @@
-use audit_chain::ChainError;
-use audit_tree::TreeError;
 use hex::FromHexError;
 use std::alloc::{AllocError, AllocFailed};
+use std::fmt::{Display, Formatter, Write};
+use std::{error, fmt};
 use thiserror::Error;
 
 /// What is wrong with a line of a replay's input.
-#[derive(Clone, Copy, Debug, Drop, Error, PartialEq, Eq)]
+#[derive(Clone, Copy, Debug, Drop, PartialEq, Eq)]
 pub enum LineFault {
     /// The first line isn't `key`, a space and 64 hexadecimal digits.
-    #[error("bad key line")]
     BadKeyLine,
     /// A further line isn't `event`, a kind in decimal and a payload in hexadecimal digits.
-    #[error("bad event line")]
     BadEventLine,
     /// The kind of the event is the reserved one.
-    #[error("reserved kind")]
     ReservedKind,
     /// The payload is longer than an event's may be.
-    #[error("payload too long")]
     PayloadTooLong,
 }
 
@@ -32,6 +28,14 @@ impl LineFault {
         }
     }
 }
+
+impl Display for LineFault {
+    fn fmt<W: Write>(&self, f: &mut Formatter<W>) -> fmt::Result {
+        f.write_str(self.name())
+    }
+}
+
+impl error::Error for LineFault {}
 
 /// Why a line gave no event.
 #[derive(Clone, Copy, Debug, Drop, Error, PartialEq, Eq)]
@@ -97,30 +101,6 @@ impl<T: Drop> From<AllocFailed<T>> for ReplayFault {
     ghost from_gives = { λ _ fault. fault ≡ Memory };
 
     fn from(_: AllocFailed<T>) -> Self {
-        ReplayFault::Memory
-    }
-}
-
-impl From<ChainError> for ReplayFault {
-    ghost use Rattle.std.specs.Prelude.{◌≡◌};
-    ghost use Rattle.audit.specs.declared.fault.ReplayFault.TheVariants.{Memory};
-
-    ghost from_gives = { λ _ fault. fault ≡ Memory };
-
-    // Sealing is refused for want of memory alone.
-    fn from(_: ChainError) -> Self {
-        ReplayFault::Memory
-    }
-}
-
-impl From<TreeError> for ReplayFault {
-    ghost use Rattle.std.specs.Prelude.{◌≡◌};
-    ghost use Rattle.audit.specs.declared.fault.ReplayFault.TheVariants.{Memory};
-
-    ghost from_gives = { λ _ fault. fault ≡ Memory };
-
-    // A log of a replay is never full, so that a push is refused for want of memory alone.
-    fn from(_: TreeError) -> Self {
         ReplayFault::Memory
     }
 }

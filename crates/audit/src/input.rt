@@ -1,5 +1,6 @@
-ghost use Rattle.std.specs.Prelude.{◌≡◌, ◌<◌, ◌≤◌, [], length, vec_len, IfOk, OnOk, IfErr, IfSome};
-ghost use Rattle.audit.specs.Reading.{TakesPiece, IsReadingFault};
+ghost use Rattle.std.specs.Prelude.{◌≡◌, ◌<◌, ◌≤◌, ◌+◌, [], length, vec_len, IfOk, OnOk, OnErr, IfErr, IfSome};
+ghost use Rattle.std.specs.Io.KnownBytes.{Keeps};
+ghost use Rattle.audit.specs.Reading.{TakesPiece, TakesAtMost, IsReadingFault};
 
 use crate::fault::ReplayFault;
 use std::alloc::{AllocError, Global};
@@ -16,6 +17,7 @@ pub fn read_input<R: Read>(alloc: Global, reader: &mut R) -> Result<Vec<u8>, Rep
     ensures within { IfOk result (λ input. length input.items ≤ INPUT_LIMIT) }
     ensures whole { IfOk result (λ input. IfSome (R.remaining reader.old) (λ bytes. bytes ≡ input.items)) }
     ensures fault { IfErr result (λ fault. IsReadingFault fault (R.remaining reader.old)) }
+    ensures taken { TakesAtMost (R.remaining reader.old) (R.remaining reader.new) (INPUT_LIMIT + 1) }
 {
     let mut piece = new_piece(alloc)?;
     let mut input = Vec::new(alloc);
@@ -40,6 +42,7 @@ fn read_to_end<R: Read>(
     ensures within { OnOk result (length input.new.items ≤ INPUT_LIMIT) }
     ensures whole { OnOk result (IfSome (R.remaining reader.old) (λ bytes. bytes ≡ input.new.items)) }
     ensures fault { IfErr result (λ fault. IsReadingFault fault (R.remaining reader.old)) }
+    ensures taken { TakesAtMost (R.remaining reader.old) (R.remaining reader.new) (INPUT_LIMIT + 1) }
 {
     for _ in 0..u64::MAX {
         let room = (INPUT_LIMIT + 1 - input.len()).min(PIECE_LEN);
@@ -58,6 +61,7 @@ fn read_to_end<R: Read>(
 // One read, of which any error is a fault.
 fn read_piece<R: Read>(reader: &mut R, piece: &mut [u8]) -> Result<usize, ReplayFault>
     ensures taken { IfOk result (λ taken. TakesPiece (R.remaining reader.old) (R.remaining reader.new) taken piece.new) }
+    ensures kept { OnErr result (Keeps (R.remaining reader.old) (R.remaining reader.new)) }
     ensures fault { IfErr result (λ fault. fault ≡ ReplayFault.Read) }
 {
     match reader.read(piece) {

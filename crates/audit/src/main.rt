@@ -14,14 +14,15 @@ mod split;
 mod status;
 #[cfg(test)]
 mod tests;
+mod words;
 
 use program::run;
 use status::Status;
-use std::alloc::AllocError;
 use std::env::Args;
-use std::io::BufWriter;
+use std::io;
+use std::io::{BufWriter, ErrorKind};
 use std::process::ExitCode;
-use std::{env, io};
+use words::words;
 
 // Room for output that wasn't written yet, in bytes.
 const OUTPUT_ROOM: usize = 1 << 16;
@@ -30,27 +31,21 @@ fn main(rt: HostRuntime) -> ExitCode {
     ExitCode::from(start(&rt).code())
 }
 
-// The words have to be text.
 fn start(rt: &HostRuntime) -> Status {
-    let Ok(words) = env::args(rt) else {
-        let _ = eprintln!(rt; "audit: bad argument");
-        return Status::Usage;
+    let begun = match words(rt, rt.alloc()) {
+        Ok(words) => run_words(rt, words),
+        Err(error) => Err(error),
     };
-    match run_words(rt, words) {
+    match begun {
         Ok(status) => status,
-        Err(AllocError) => {
-            let _ = eprintln!(rt; "audit: 12 Memory");
-            Status::Memory
-        }
+        Err(error) => explain_start(rt, &error),
     }
 }
 
-fn run_words(rt: &HostRuntime, words: Args) -> Result<Status, AllocError> {
+fn run_words(rt: &HostRuntime, words: Args) -> io::Result<Status> {
     let alloc = rt.alloc();
     let words: Vec<String> = words.collect(alloc)?;
-    let Ok(mut output) = BufWriter::with_capacity(alloc, OUTPUT_ROOM, io::writer(rt)) else {
-        return Err(AllocError);
-    };
+    let mut output = BufWriter::with_capacity(alloc, OUTPUT_ROOM, io::writer(rt))?;
     Ok(run(
         alloc,
         &words,
@@ -58,4 +53,14 @@ fn run_words(rt: &HostRuntime, words: Args) -> Result<Status, AllocError> {
         &mut output,
         &mut rt.stderr(),
     ))
+}
+
+// Prints why the program couldn't begin: memory was refused, or a word is no text.
+fn explain_start(rt: &HostRuntime, error: &io::Error) -> Status {
+    if error.kind() == ErrorKind::OutOfMemory {
+        let _ = eprintln!(rt; "audit: 12 Memory");
+        return Status::Memory;
+    }
+    let _ = eprintln!(rt; "audit: bad argument");
+    Status::Usage
 }

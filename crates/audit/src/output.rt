@@ -1,42 +1,92 @@
-ghost use Rattle.std.specs.Prelude.{◌≡◌, IfOk, IfErr, OnOk};
-ghost use Rattle.std.specs.String.{string_bytes};
-ghost use Rattle.std.specs.Io.KnownBytes.{Appends};
+ghost use Rattle.std.specs.Prelude.{◌≡◌, ◌+◌, ◌≤◌, ◌++◌, length, take, IfOk, IfErr, OnOk, OnErr};
+ghost use Rattle.std.specs.Io.KnownBytes.{Appends, Keeps};
+ghost use Rattle.hex.specs.Hex.{encode_lower};
 ghost use Rattle.audit.specs.Replay.{numbered_line};
+ghost use Rattle.audit.specs.Writing.{WritesInPart};
 
 use crate::fault::ReplayFault;
-use std::alloc::{AllocError, Global};
-use std::io::Write;
+use itoa::Buffer;
+use std::alloc::AllocError;
+use std::io::{ErrorKind, Write};
 
-// Room for the word and the number of a line, in bytes.
-const HEAD_ROOM: usize = 32;
-
-/// A line of a word with a space behind it, a number in decimal digits, and bytes in lower hex digits.
-pub fn numbered_line(
-    alloc: Global,
-    word: &str,
+/// Puts a line of a word with a space after it, a number in decimal digits, and bytes in lower hex digits into
+/// the buffer, in place of what it holds.
+#[tactic(auto, unfolding(crate::specs::Replay::numbered_line))]
+pub fn put_line(
+    line: &mut Vec<u8>,
+    word: &[u8],
     number: u64,
     bytes: &[u8],
-) -> Result<String, AllocError>
-    ensures { IfOk result (λ line. string_bytes line ≡ numbered_line word.now number bytes.now) }
+) -> Result<(), AllocError>
+    ensures { OnOk result (line.new.items ≡ numbered_line word.now number bytes.now) }
 {
-    let number = number.to_string(alloc)?;
-    let digits = hex::encode(alloc, bytes)?;
-    let mut line = String::with_capacity(alloc, digits.len().saturating_add(HEAD_ROOM))?;
-    line.push_str(word)?;
-    line.push_str(&number)?;
-    line.push_str(" ")?;
-    line.push_str(&digits)?;
-    line.push_str("\n")?;
-    Ok(line)
+    let mut digits = Buffer::new();
+    line.clear();
+    line.extend_from_slice(word)?;
+    line.extend_from_slice(digits.format(number).as_bytes())?;
+    line.extend_from_slice(b" ")?;
+    push_hex(line, bytes)?;
+    line.extend_from_slice(b"\n")?;
+    Ok(())
 }
 
-/// Writes a line whole.
-pub fn write_line<W: Write>(writer: &mut W, line: &str) -> Result<(), ReplayFault>
-    ensures written { OnOk result (Appends (W.contents writer.old) (W.contents writer.new) line.now) }
+// Adds two lower hex digits for each byte.
+fn push_hex(line: &mut Vec<u8>, bytes: &[u8]) -> Result<(), AllocError>
+    ensures { OnOk result (line.new.items ≡ line.old.items ++ encode_lower bytes.now) }
+{
+    let start = line.len();
+    let Some(len) = bytes.len().checked_mul(2) else {
+        return Err(AllocError);
+    };
+    let Some(end) = start.checked_add(len) else {
+        return Err(AllocError);
+    };
+    line.resize(end, 0)?;
+    put_hex(&mut line[start..], bytes);
+    Ok(())
+}
+
+fn put_hex(digits: &mut [u8], bytes: &[u8])
+    requires { length digits.old ≡ length bytes.now + length bytes.now }
+    ensures { digits.new ≡ encode_lower bytes.now }
+{
+    let _ = hex::encode_to_slice(bytes, digits);
+}
+
+/// Writes a text whole. After a fault a part of it from its front on went out.
+pub fn write_whole<W: Write>(writer: &mut W, text: &[u8]) -> Result<(), ReplayFault>
+    ensures written { OnOk result (Appends (W.contents writer.old) (W.contents writer.new) text.now) }
+    ensures part { OnErr result (WritesInPart (W.contents writer.old) (W.contents writer.new) text.now) }
     ensures fault { IfErr result (λ fault. fault ≡ ReplayFault.Write) }
 {
-    match writer.write_all(line.as_bytes()) {
-        Ok(()) => Ok(()),
-        Err(_) => Err(ReplayFault::Write),
+    let mut rest = text;
+    for _ in 0..u64::MAX {
+        if rest.is_empty() {
+            return Ok(());
+        }
+        let written = write_once(writer, rest)?;
+        let (_, left) = rest.split_at(written);
+        rest = left;
+    }
+    Err(ReplayFault::Write)
+}
+
+// One write, which is made again where it was interrupted. A writer that takes nothing has failed.
+fn write_once<W: Write>(writer: &mut W, text: &[u8]) -> Result<usize, ReplayFault>
+    ensures within { IfOk result (λ written. written ≤ length text.now) }
+    ensures written { IfOk result (λ written. Appends (W.contents writer.old) (W.contents writer.new) (take written text.now)) }
+    ensures kept { OnErr result (Keeps (W.contents writer.old) (W.contents writer.new)) }
+    ensures fault { IfErr result (λ fault. fault ≡ ReplayFault.Write) }
+{
+    match writer.write(text) {
+        Ok(0) => Err(ReplayFault::Write),
+        Ok(written) => Ok(written),
+        Err(error) => {
+            if error.kind() == ErrorKind::Interrupted {
+                Ok(0)
+            } else {
+                Err(ReplayFault::Write)
+            }
+        }
     }
 }

@@ -4,6 +4,7 @@
 
 mod bytes;
 mod hash;
+mod hashes;
 pub mod laws;
 mod limits;
 #[cfg(test)]
@@ -11,6 +12,7 @@ mod tests;
 
 pub use bytes::{are_equal, are_zero, array_at, u32_at, u64_at};
 pub use hash::{Hash, is_same_hash};
+pub use hashes::read_hashes;
 pub use limits::{
     ENTRY_HEAD_LEN, ENTRY_OVERHEAD, HASH_LEN, LAYERS, MAX_COUNT, MAX_DEPTH, MAX_ENTRY,
     MAX_ENTRY_SECTORS, MAX_INCREMENT_HASHES, MAX_MEMBER_HASHES, MAX_PAYLOAD, RESERVED_KIND,

@@ -4,7 +4,7 @@ use std::rt::Clock;
 use std::time::Instant;
 
 // How often a root and a proof are asked for.
-const REPEATS: u64 = 1000;
+const REPEATS: u64 = 100_000;
 
 /// The time of pushing so many leaves of 74 bytes, and of roots and membership proofs over them.
 pub fn measure(rt: &(impl Clock + Eprint + AllocGlobal), leaves: u32) -> anyhow::Result<()> {

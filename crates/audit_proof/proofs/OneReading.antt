@@ -1,17 +1,19 @@
 -- Bytes are read as a proof exactly where they are that proof's.
-use Rattle.std.proofs.Common.{◌≡◌, ◌↔◌, ℕ, zero, suc, ◌+◌, ◌*◌, ◌^◌, ◌<◌, ◌≤◌, List, [], ◌++◌, Option, None, Some, length, take, drop, get_or, refl, sym, ap, ◌∙◌, subst, arith, inl, inr, length-drop, length-take}
+use Rattle.std.proofs.Common.{◌≡◌, ◌↔◌, ℕ, zero, suc, ◌+◌, ◌*◌, ◌^◌, ◌<◌, ◌≤◌, List, [], ◌++◌, Option, None, Some, length, drop, get_or, refl, sym, ap, ◌∙◌, subst, arith, inl, inr, length-drop, length-take}
 use Rattle.std.specs.List.{concat}
 use Rattle.std.proofs.lemmas.Bool.{cases_lt, cases_eq, le-leb, lt-leb, eq-eqb, ne_eqb}
 use Rattle.std.proofs.lemmas.List.{drop_all}
+use Rattle.audit_base.specs.Bytes.{AreBytes}
 use Rattle.audit_proof.specs.declared.bytes.Head.{Head}
-use Rattle.audit_proof.specs.declared.bytes.TheConstants.{MEMBER_MARK, INCREMENT_MARK, HEAD_LEN, HASH_LEN, MAX_MEMBER_HASHES, MAX_INCREMENT_HASHES, MAX_ENTRY}
-use Rattle.audit_proof.specs.ProofBytes.{Member, Increment, AreBytes, IsMember, IsIncrement, number_of, number_at, first_hashes, head_of, member_bytes, member_from, member_of, increment_bytes, increment_from, increment_of}
+use Rattle.audit_base.specs.declared.limits.TheConstants.{HASH_LEN, MAX_MEMBER_HASHES, MAX_INCREMENT_HASHES, MAX_ENTRY}
+use Rattle.audit_proof.specs.declared.bytes.TheConstants.{MEMBER_MARK, INCREMENT_MARK, HEAD_LEN}
+use Rattle.audit_proof.specs.ProofBytes.{Member, Increment, IsMember, IsIncrement, number_in, first_hashes, head_of, member_bytes, member_from, member_of, increment_bytes, increment_from, increment_of}
 use Rattle.audit_proof.proofs.WrittenBytes.{length-first_hashes, concat-first_hashes}
 use Rattle.audit_proof.proofs.ReadBytes.{member_of-member_bytes, increment_of-increment_bytes, small_number, head_parts, bytes_from_head}
 
 -- a number of 8 bytes is below 2^64
-number_fits : (bytes : List ℕ) (at : ℕ) → AreBytes bytes → number_at bytes at < 2 ^ 64
-unfolding number_of
+number_fits : (bytes : List ℕ) (at : ℕ) → AreBytes bytes → number_in bytes at < 2 ^ 64
+unfolding number_in
 number_fits bytes at small =
     let byte = small_number bytes at small in
     omega (arith, byte 0, byte 1, byte 2, byte 3, byte 4, byte 5, byte 6, byte 7)

@@ -4,9 +4,10 @@ use Rattle.std.specs.List.{concat}
 use Rattle.std.proofs.lemmas.Bool.{cases_lt, cases_eq, lt-ltb, le-ltb, eq-eqb, ne_eqb, le-leb}
 use Rattle.std.proofs.lemmas.List.{take-append-drop, drop-drop, drop_more, get_or-take, get_or-drop, get_or_past}
 use Rattle.audit_proof.specs.declared.bytes.Head.{Head}
-use Rattle.audit_proof.specs.declared.bytes.TheConstants.{MEMBER_MARK, INCREMENT_MARK, HEAD_LEN, HASH_LEN, MAX_MEMBER_HASHES, MAX_INCREMENT_HASHES, MAX_ENTRY}
-use Rattle.audit_proof.specs.ProofBytes.{Member, Increment, IsMember, IsIncrement, number_bytes, number_at, head_of, proof_bytes, member_bytes, member_from, member_of, increment_bytes, increment_from, increment_of}
-use Rattle.audit_proof.proofs.WrittenBytes.{number_bytes-number_of, drop-proof_bytes, head_of-proof_bytes, first_hashes-concat, drop-concat, length-joined}
+use Rattle.audit_base.specs.declared.limits.TheConstants.{HASH_LEN, MAX_MEMBER_HASHES, MAX_INCREMENT_HASHES, MAX_ENTRY}
+use Rattle.audit_proof.specs.declared.bytes.TheConstants.{MEMBER_MARK, INCREMENT_MARK, HEAD_LEN}
+use Rattle.audit_proof.specs.ProofBytes.{Member, Increment, IsMember, IsIncrement, number_bytes, number_in, head_of, proof_bytes, member_bytes, member_from, member_of, increment_bytes, increment_from, increment_of}
+use Rattle.audit_proof.proofs.WrittenBytes.{number_in-of, number_bytes-number_of, drop-proof_bytes, head_of-proof_bytes, first_hashes-concat, drop-concat, length-joined}
 
 pub member_of-member_bytes : (p : Member) → IsMember p → member_of (member_bytes p) ≡ Some p
 member_of-member_bytes p fits =
@@ -39,8 +40,8 @@ increment_of-increment_bytes p fits =
 pub record IsHead (mark : ℕ) (bytes : List ℕ) (head : Head) : Type 0 where
   pub long : HEAD_LEN ≤ length bytes
   pub marked : get_or bytes 0 0 ≡ mark
-  pub first : head.first ≡ number_at bytes 1
-  pub second : head.second ≡ number_at bytes 9
+  pub first : head.first ≡ number_in bytes 1
+  pub second : head.second ≡ number_in bytes 9
   pub number : head.number ≡ get_or bytes 17 0
 
 pub head_parts : (mark : ℕ) (bytes : List ℕ) (head : Head) → head_of mark bytes ≡ Some head → IsHead mark bytes head
@@ -83,10 +84,11 @@ small_number bytes at small i =
 
 -- 8 bytes at a place are the bytes of their number
 same_number : (bytes : List ℕ) (at : ℕ) → at + 8 ≤ length bytes → ((i : ℕ) → get_or bytes i 0 < 256) →
-    number_bytes (number_at bytes at) ≡ take 8 (drop at bytes)
+    number_bytes (number_in bytes at) ≡ take 8 (drop at bytes)
 same_number bytes at long small =
     let eight = take 8 (drop at bytes) in
-    number_bytes-number_of eight (omega (arith, length-take 8 (drop at bytes), length-drop at bytes))
+    ap number_bytes (number_in-of bytes at)
+    ∙ number_bytes-number_of eight (omega (arith, length-take 8 (drop at bytes), length-drop at bytes))
     (small_number bytes at small)
 
 -- bytes with a head, with these hashes and this rest behind it, are those that are written

@@ -6,8 +6,17 @@ use Rattle.std.proofs.lemmas.Bool.{le-ltb, eq-eqb}
 use Rattle.std.proofs.lemmas.List.{take-append-drop, append_assoc, append-nil, drop-drop, take_at, drop_at, get_or_at}
 use Rattle.std.proofs.lemmas.Nat.{be_bytes_8, from_be_bytes-to_be_bytes_8}
 use Rattle.audit_proof.specs.declared.bytes.Head.{Head}
-use Rattle.audit_proof.specs.declared.bytes.TheConstants.{HEAD_LEN, HASH_LEN}
-use Rattle.audit_proof.specs.ProofBytes.{number_bytes, number_of, number_at, first_hashes, head_of, proof_bytes}
+use Rattle.audit_base.specs.declared.limits.TheConstants.{HASH_LEN}
+use Rattle.audit_proof.specs.declared.bytes.TheConstants.{HEAD_LEN}
+use Rattle.audit_proof.specs.ProofBytes.{number_bytes, number_in, first_hashes, head_of, proof_bytes}
+
+-- the number in 8 bytes
+unfoldable pub number_of : List ℕ → ℕ
+number_of bytes = from_be_bytes w64 bytes
+
+pub number_in-of : (bytes : List ℕ) (at : ℕ) → number_in bytes at ≡ number_of (take 8 (drop at bytes))
+unfolding number_in number_of
+number_in-of bytes at = refl
 
 length-number_bytes : (n : ℕ) → length (number_bytes n) ≡ 8
 unfolding number_bytes
@@ -114,12 +123,14 @@ module _ (mark first second : ℕ) (hashes : List (List ℕ)) (behind : List ℕ
       let long : 18 ≤ length bytes = omega (arith, length-append front (length hashes ∷ body), front-length) in
       let inner : front ++ (length hashes ∷ body) ≡ number_bytes first ++ rest =
       append_assoc (number_bytes first) (number_bytes second) (length hashes ∷ body) in
-      let one : number_at bytes 1 ≡ first =
-      ap (λ bs. number_of (take 8 bs)) inner
+      let one : number_in bytes 1 ≡ first =
+      number_in-of bytes 1
+      ∙ ap (λ bs. number_of (take 8 bs)) inner
       ∙ ap number_of (take_at (number_bytes first) rest 8 (length-number_bytes first))
       ∙ number_of-number_bytes first h in
-      let two : number_at bytes 9 ≡ second =
-      ap (λ bs. number_of (take 8 (drop 8 bs))) inner
+      let two : number_in bytes 9 ≡ second =
+      number_in-of bytes 9
+      ∙ ap (λ bs. number_of (take 8 (drop 8 bs))) inner
       ∙ ap (λ bs. number_of (take 8 bs)) (drop_at (number_bytes first) rest 8 (length-number_bytes first))
       ∙ ap number_of (take_at (number_bytes second) (length hashes ∷ body) 8 (length-number_bytes second))
       ∙ number_of-number_bytes second k in
@@ -127,6 +138,6 @@ module _ (mark first second : ℕ) (hashes : List (List ℕ)) (behind : List ℕ
       ap (head_of mark) bytes-front
       ∙ rw (le-ltb (length bytes) HEAD_LEN long, eq-eqb mark mark refl)
       (let make : ℕ → ℕ → ℕ → Option Head = λ a b n. Some (record { first = a; second = b; number = n }) in
-      ap (λ a. make a (number_at bytes 9) (get_or bytes 17 0)) one
+      ap (λ a. make a (number_in bytes 9) (get_or bytes 17 0)) one
       ∙ ap (λ b. make first b (get_or bytes 17 0)) two
       ∙ ap (make first second) three)

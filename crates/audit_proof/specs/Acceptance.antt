@@ -1,14 +1,18 @@
 -- When a proof is accepted under a commitment, over any hash function H: all of its hashes are used,
 -- none is missing, and the computed root or roots are the commitment's.
-use Rattle.std.specs.Prelude.{◌≡◌, ℕ, ◌-◌, ◌<◌, ◌≤◌, List, [], ◌∷◌, Option, None, Some, length, take, slice_index_or}
+use Rattle.std.specs.Prelude.{◌≡◌, ℕ, ◌-◌, ◌<◌, ◌≤◌, List, [], ◌∷◌, Option, None, Some, length, map, take, slice_index_or}
 use Rattle.std.specs.Int.{w64, trailing_zeros}
 use Rattle.sha2.specs.Sha256.{sha256}
-use Rattle.audit_tree.specs.declared.tree.TheConstants.{MAX_COUNT}
+use Rattle.audit_base.specs.declared.limits.TheConstants.{MAX_COUNT}
 use Rattle.audit_tree.specs.Subtree.{leaf_of, leaf_hash_of, depth, root_of}
 use Rattle.audit_tree.specs.Paths.{membership_path, increment_path}
 use Rattle.audit_proof.specs.declared.commitment.Commitment.{Commitment}
 use Rattle.audit_proof.specs.declared.steps.Versions.{Versions}
 use Rattle.audit_proof.specs.Climb.{climb, whole, one_value, two_values}
+
+-- the commitment to these leaf texts: their number and the root of their tree of SHA-256
+abbrev pub commitment_to : List (List ℕ) → Commitment
+commitment_to texts = record { count = length texts; root = root_of sha256 (map leaf_hash_of texts) }
 
 -- the root that a membership proof of a leaf hash at a place under a count gives
 abbrev pub root_from_leaf : (List ℕ → List ℕ) → ℕ → ℕ → List ℕ → List (List ℕ) → Option (List ℕ)

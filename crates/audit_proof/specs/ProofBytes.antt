@@ -3,9 +3,11 @@
 -- project's own.
 use Rattle.std.specs.Prelude.{◌≡◌, ℕ, zero, suc, ◌+◌, ◌*◌, ◌^◌, ◌<◌, ◌≤◌, nat_lt, nat_le, ◌==◌, ◌&&◌, List, [], ◌∷◌, ◌++◌, All, Option, None, Some, length, take, drop, slice_index, if◌then◌else◌}
 use Rattle.std.specs.List.{concat}
-use Rattle.std.specs.Int.{w64, to_be_bytes, from_be_bytes}
+use Rattle.std.specs.Int.{w64, to_be_bytes}
 use Rattle.audit_proof.specs.declared.bytes.Head.{Head}
-use Rattle.audit_proof.specs.declared.bytes.TheConstants.{MEMBER_MARK, INCREMENT_MARK, HEAD_LEN, HASH_LEN, MAX_MEMBER_HASHES, MAX_INCREMENT_HASHES, MAX_ENTRY}
+use Rattle.audit_base.specs.Bytes.{number_at}
+use Rattle.audit_base.specs.declared.limits.TheConstants.{HASH_LEN, MAX_MEMBER_HASHES, MAX_INCREMENT_HASHES, MAX_ENTRY}
+use Rattle.audit_proof.specs.declared.bytes.TheConstants.{MEMBER_MARK, INCREMENT_MARK, HEAD_LEN}
 use Rattle.audit_proof.specs.declared.member_proof.MemberProof.{MemberProof}
 use Rattle.audit_proof.specs.declared.increment_proof.IncrementProof.{IncrementProof}
 
@@ -28,10 +30,6 @@ member_in p = record { index = p.index; count = p.count; hashes = p.hashes.items
 abbrev pub increment_in : IncrementProof → Increment
 increment_in p = record { older = p.older; newer = p.newer; hashes = p.hashes.items }
 
--- each number of the list is a byte
-abbrev pub AreBytes : List ℕ → Type 0
-AreBytes bytes = (i : ℕ) → slice_index bytes i < 256
-
 -- what bytes can say: numbers of 8 bytes, whole hashes, and no more of either part than the limits
 pub record IsMember (p : Member) : Type 0 where
   pub index : p.index < 2 ^ 64
@@ -46,12 +44,12 @@ pub record IsIncrement (p : Increment) : Type 0 where
   pub few : length p.hashes ≤ MAX_INCREMENT_HASHES
   pub hashes : All (λ hash. length hash ≡ HASH_LEN) p.hashes
 
--- a number as 8 bytes with the high byte first, and such bytes as a number
+-- a number as 8 bytes with the high byte first, and the number in the 8 bytes at a place
 unfoldable pub number_bytes : ℕ → List ℕ
 number_bytes n = to_be_bytes w64 n
 
-unfoldable pub number_of : List ℕ → ℕ
-number_of bytes = from_be_bytes w64 bytes
+unfoldable pub number_in : List ℕ → ℕ → ℕ
+number_in bytes at = number_at w64 at bytes
 
 -- the bytes of a mark, two numbers, hashes and what stands behind them
 unfoldable pub proof_bytes : ℕ → ℕ → ℕ → List (List ℕ) → List ℕ → List ℕ
@@ -64,10 +62,7 @@ member_bytes p = proof_bytes MEMBER_MARK p.index p.count p.hashes p.entry
 abbrev pub increment_bytes : Increment → List ℕ
 increment_bytes p = proof_bytes INCREMENT_MARK p.older p.newer p.hashes []
 
--- the number of 8 bytes at a place, and the first n hashes
-abbrev pub number_at : List ℕ → ℕ → ℕ
-number_at bytes at = number_of (take 8 (drop at bytes))
-
+-- the first n hashes
 unfoldable pub first_hashes : ℕ → List ℕ → List (List ℕ)
 first_hashes zero bytes = []
 first_hashes (suc n) bytes = take HASH_LEN bytes ∷ first_hashes n (drop HASH_LEN bytes)
@@ -77,7 +72,7 @@ unfoldable pub head_of : ℕ → List ℕ → Option Head
 head_of mark bytes =
     if nat_lt (length bytes) HEAD_LEN then None
     else (if slice_index bytes 0 == mark
-    then Some (record { first = number_at bytes 1; second = number_at bytes 9; number = slice_index bytes 17 })
+    then Some (record { first = number_in bytes 1; second = number_in bytes 9; number = slice_index bytes 17 })
     else None)
 
 -- a membership proof read from its head and from the bytes behind it

@@ -1,31 +1,13 @@
 ghost use Rattle.std.specs.Prelude.{◌≡◌, ◌↔◌, ℕ, List, IsTrue};
 ghost use Rattle.sha2.specs.Sha256.{sha256};
-ghost use Rattle.audit_tree.specs.Subtree.{depth};
 ghost use Rattle.audit_proof.specs.Acceptance.{AcceptsLeaf, AcceptsMembership, AcceptsIncrement, IsMadeMembership, IsMadeIncrement};
 
 use crate::climb::climb_from;
 use crate::commitment::Commitment;
 use crate::laws::{Sha256Texts, TextHash};
-use crate::node_text::Hash;
 use crate::steps::{OneValue, TwoValues, Versions};
-use audit_tree::{MAX_COUNT, leaf_hash};
-
-// The least depth of a tree with room for so many leaves.
-pub fn depth_of(count: u64) -> u32
-    ensures { result ≡ depth count }
-{
-    if count <= 1 {
-        return 0;
-    }
-    (count - 1).ilog2() + 1
-}
-
-// Whether two values are the same.
-pub fn is_same(left: &Hash, right: &Hash) -> bool
-    ensures { IsTrue result ↔ (left.now ≡ right.now) }
-{
-    left.as_slice() == right.as_slice()
-}
+use audit_base::{Hash, MAX_COUNT, is_same_hash};
+use audit_tree::{depth_of, leaf_hash};
 
 // Whether a membership proof is accepted for a leaf hash.
 pub fn accepts_leaf<T: TextHash>(
@@ -50,7 +32,7 @@ pub fn accepts_leaf<T: TextHash>(
         leaf,
         hashes,
     ) {
-        Some(top) => top.used == hashes.len() && is_same(&top.value, &commitment.root),
+        Some(top) => top.used == hashes.len() && is_same_hash(&top.value, &commitment.root),
         None => false,
     }
 }
@@ -71,7 +53,7 @@ pub fn accepts_member(commitment: &Commitment, index: u64, entry: &[u8], hashes:
 fn are_roots(versions: &Versions, older: &Commitment, newer: &Commitment) -> bool
     ensures { IsTrue result ↔ (versions.now ≡ record { older = older.now.root; newer = newer.now.root }) }
 {
-    is_same(&versions.older, &older.root) && is_same(&versions.newer, &newer.root)
+    is_same_hash(&versions.older, &older.root) && is_same_hash(&versions.newer, &newer.root)
 }
 
 // Whether an incremental proof is accepted.

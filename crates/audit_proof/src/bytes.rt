@@ -1,8 +1,8 @@
 ghost use Rattle.std.specs.Prelude.{◌≡◌, ◌+◌, ◌*◌, ◌≤◌, ◌<◌, ◌∷◌, [], ◌++◌, length, take, drop, IfSome, IfOk, OnOk, All, ◌^◌};
 ghost use Rattle.std.specs.List.{concat};
-ghost use Rattle.audit_proof.specs.ProofBytes.{number_bytes, number_at, first_hashes, head_of, proof_bytes};
+ghost use Rattle.audit_proof.specs.ProofBytes.{number_bytes, first_hashes, head_of, proof_bytes};
 
-use crate::node_text::Hash;
+use audit_base::{HASH_LEN, Hash, MAX_ENTRY, MAX_INCREMENT_HASHES, array_at, u64_at};
 use std::alloc::{AllocError, Global};
 
 /// What the bytes of a membership proof begin with.
@@ -11,20 +11,8 @@ pub const MEMBER_MARK: u8 = 1;
 /// What the bytes of an incremental proof begin with.
 pub const INCREMENT_MARK: u8 = 2;
 
-/// The length of what stands before the hashes: the mark, two numbers, and the number of hashes.
+/// The length of what stands before the hashes: the mark, two numbers, and the number of hashes in one byte.
 pub const HEAD_LEN: usize = 18;
-
-/// The length of a hash.
-pub const HASH_LEN: usize = 32;
-
-/// The most hashes of a membership proof.
-pub const MAX_MEMBER_HASHES: usize = 24;
-
-/// The most hashes of an incremental proof.
-pub const MAX_INCREMENT_HASHES: usize = 25;
-
-/// The most bytes of an entry.
-pub const MAX_ENTRY: usize = 4096;
 
 /// What stands before the hashes, behind the mark.
 #[derive(Clone, Copy)]
@@ -41,24 +29,6 @@ fn number_to_bytes(number: u64) -> [u8; 8]
     number.to_be_bytes()
 }
 
-// The 8 bytes at a place.
-fn read_eight(bytes: &[u8], at: usize) -> [u8; 8]
-    requires { at + 8 ≤ length bytes.now }
-    ensures { result ≡ take 8 (drop at bytes.now) }
-{
-    let mut eight = [0; 8];
-    eight.copy_from_slice(&bytes[at..at + 8]);
-    eight
-}
-
-// The number at a place.
-fn read_number(bytes: &[u8], at: usize) -> u64
-    requires { at + 8 ≤ length bytes.now }
-    ensures { result ≡ number_at bytes.now at }
-{
-    u64::from_be_bytes(read_eight(bytes, at))
-}
-
 // What stands before the hashes, where the bytes begin with the mark.
 pub fn read_head(mark: u8, bytes: &[u8]) -> Option<Head>
     ensures head { result ≡ head_of mark bytes.now }
@@ -71,20 +41,10 @@ pub fn read_head(mark: u8, bytes: &[u8]) -> Option<Head>
         return None;
     }
     Some(Head {
-        first: read_number(bytes, 1),
-        second: read_number(bytes, 9),
+        first: u64_at(bytes, 1),
+        second: u64_at(bytes, 9),
         number: bytes[17] as usize,
     })
-}
-
-// The hash at a place.
-fn read_hash(bytes: &[u8], at: usize) -> Hash
-    requires { at + HASH_LEN ≤ length bytes.now }
-    ensures { result ≡ take HASH_LEN (drop at bytes.now) }
-{
-    let mut hash = [0; HASH_LEN];
-    hash.copy_from_slice(&bytes[at..at + HASH_LEN]);
-    hash
 }
 
 // So many hashes at the front.
@@ -94,7 +54,7 @@ pub fn read_hashes(alloc: Global, bytes: &[u8], number: usize) -> Result<Vec<Has
 {
     let mut hashes = Vec::with_capacity(alloc, number)?;
     for place in 0..number {
-        hashes.push_reserved(read_hash(bytes, HASH_LEN * place));
+        hashes.push_reserved(*array_at(bytes, HASH_LEN * place));
     }
     Ok(hashes)
 }

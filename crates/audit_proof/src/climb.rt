@@ -2,7 +2,7 @@ ghost use Rattle.std.specs.Prelude.{◌≡◌, ◌+◌, ◌-◌, ◌<◌, ◌≤
 ghost use Rattle.audit_proof.specs.Climb.{climb, up_alone, up_with};
 ghost use Rattle.audit_proof.specs.Reached.{climbed_of};
 
-use crate::node_text::Hash;
+use audit_base::Hash;
 
 /// How a value goes up a tree, from a node to the one over it.
 pub trait Climber {

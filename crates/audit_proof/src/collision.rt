@@ -1,13 +1,15 @@
 ghost use Rattle.std.specs.Prelude.{◌≡◌, ◌≢◌, ◌↔◌, ◌∷◌, IsTrue, IfOk};
 ghost use Rattle.sha2.specs.Sha256.{sha256};
+ghost use Rattle.audit_tree.specs.Subtree.{leaf_of};
 ghost use Rattle.audit_proof.specs.Acceptance.{AcceptsLeaf, AcceptsBoth};
 ghost use Rattle.audit_proof.specs.Collision.{IsCollision};
 
-use crate::accept::{accepts_member, depth_of};
+use crate::accept::accepts_leaf;
 use crate::commitment::Commitment;
 use crate::laws::{Sha256Texts, TextHash};
 use crate::meeting::{Meeting, meet, meet_texts};
-use crate::node_text::Hash;
+use audit_base::{Hash, are_equal};
+use audit_tree::{LEAF_MARK, depth_of, leaf_hash};
 use std::alloc::{AllocError, Global};
 use thiserror::Error;
 
@@ -45,9 +47,6 @@ impl From<AllocError> for CollideFault {
     }
 }
 
-/// What stands before a leaf's text when it is hashed.
-const LEAF_MARK: u8 = 0;
-
 // The text that is hashed for a leaf.
 pub fn leaf_text(alloc: Global, entry: &[u8]) -> Result<Vec<u8>, AllocError>
     ensures { IfOk result (λ text. text.items ≡ 0 ∷ entry.now) }
@@ -56,13 +55,6 @@ pub fn leaf_text(alloc: Global, entry: &[u8]) -> Result<Vec<u8>, AllocError>
     text.push(LEAF_MARK)?;
     text.extend_from_slice(entry)?;
     Ok(text)
-}
-
-// Whether two texts are the same.
-pub fn is_same_text(left: &[u8], right: &[u8]) -> bool
-    ensures { IsTrue result ↔ (left.now ≡ right.now) }
-{
-    left == right
 }
 
 // The collision that two accepted memberships of one index show, where their leaf texts differ.
@@ -107,6 +99,59 @@ pub fn disagreement<T: TextHash>(
     }
 }
 
+/// An entry that a membership proof shows: the hash of its leaf, and the proof's hashes.
+#[derive(Clone, Copy)]
+pub struct Shown<'a> {
+    pub entry: &'a [u8],
+    pub leaf: Hash,
+    pub hashes: &'a [Hash],
+}
+
+// The collision that two membership proofs of one index show, over any hash function.
+pub fn collide<T: TextHash>(
+    alloc: Global,
+    hash: &T,
+    commitment: &Commitment,
+    index: u64,
+    first: &Shown,
+    second: &Shown,
+) -> Result<Collision, CollideFault>
+    requires first { first.now.leaf ≡ leaf_of T.value_of first.now.entry.now }
+    requires second { second.now.leaf ≡ leaf_of T.value_of second.now.entry.now }
+    ensures not_accepted { (result ≡ Err CollideFault.NotAccepted)
+        ↔ ¬ (AcceptsBoth T.value_of commitment.now index first.now.entry.now first.now.hashes.now second.now.entry.now second.now.hashes.now) }
+    ensures no_disagreement { (result ≡ Err CollideFault.NoDisagreement)
+        ↔ (AcceptsBoth T.value_of commitment.now index first.now.entry.now first.now.hashes.now second.now.entry.now second.now.hashes.now
+        × (first.now.entry.now ≡ second.now.entry.now)) }
+    ensures otherwise { (result ≢ Err CollideFault.NotAccepted) → (result ≢ Err CollideFault.NoDisagreement)
+        → AcceptsBoth T.value_of commitment.now index first.now.entry.now first.now.hashes.now second.now.entry.now second.now.hashes.now
+        × (first.now.entry.now ≢ second.now.entry.now) }
+    ensures ok { IfOk result (λ c. IsCollision T.value_of c.left.items c.right.items) }
+{
+    if !accepts_leaf(hash, commitment, index, first.leaf, first.hashes) {
+        return Err(CollideFault::NotAccepted);
+    }
+    if !accepts_leaf(hash, commitment, index, second.leaf, second.hashes) {
+        return Err(CollideFault::NotAccepted);
+    }
+    if are_equal(first.entry, second.entry) {
+        return Err(CollideFault::NoDisagreement);
+    }
+    let left = leaf_text(alloc, first.entry)?;
+    let right = leaf_text(alloc, second.entry)?;
+    let collision = disagreement(
+        alloc,
+        hash,
+        commitment,
+        index,
+        &left,
+        first.hashes,
+        &right,
+        second.hashes,
+    )?;
+    Ok(collision)
+}
+
 /// Two different texts of one SHA-256 digest, from two accepted membership proofs of one index under
 /// one commitment with different entries. It is refused as `NotAccepted` where one of them isn't accepted,
 /// then as `NoDisagreement` where the entries are equal, then as `Memory`.
@@ -129,26 +174,15 @@ pub fn collide_two(
         × (entry1.now ≢ entry2.now) }
     ensures ok { IfOk result (λ c. IsCollision sha256 c.left.items c.right.items) }
 {
-    if !accepts_member(commitment, index, entry1, hashes1) {
-        return Err(CollideFault::NotAccepted);
-    }
-    if !accepts_member(commitment, index, entry2, hashes2) {
-        return Err(CollideFault::NotAccepted);
-    }
-    if is_same_text(entry1, entry2) {
-        return Err(CollideFault::NoDisagreement);
-    }
-    let left = leaf_text(alloc, entry1)?;
-    let right = leaf_text(alloc, entry2)?;
-    let collision = disagreement(
-        alloc,
-        &Sha256Texts,
-        commitment,
-        index,
-        &left,
-        hashes1,
-        &right,
-        hashes2,
-    )?;
-    Ok(collision)
+    let first = Shown {
+        entry: entry1,
+        leaf: leaf_hash(entry1),
+        hashes: hashes1,
+    };
+    let second = Shown {
+        entry: entry2,
+        leaf: leaf_hash(entry2),
+        hashes: hashes2,
+    };
+    collide(alloc, &Sha256Texts, commitment, index, &first, &second)
 }

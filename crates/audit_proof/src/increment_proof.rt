@@ -1,4 +1,4 @@
-use crate::node_text::Hash;
+use audit_base::Hash;
 
 /// An incremental proof.
 #[derive(Debug, Drop)]

@@ -2,16 +2,17 @@
 
 ghost use Rattle.std.specs.Prelude.{◌≡◌, ◌≢◌, ◌↔◌, ℕ, List, Some, IfOk};
 ghost use Rattle.sha2.specs.Sha256.{sha256};
-ghost use Rattle.audit_proof.specs.Acceptance.{AcceptsBoth};
+ghost use Rattle.audit_tree.specs.Subtree.{leaf_of, commitment_of};
+ghost use Rattle.audit_proof.specs.Acceptance.{AcceptsBoth, commitment_to};
 ghost use Rattle.audit_proof.specs.Collision.{IsCollision};
-ghost use Rattle.audit_proof.specs.ProofBytes.{Member, Increment, AreBytes, IsMember, IsIncrement, member_bytes, member_of, increment_bytes, increment_of};
+ghost use Rattle.audit_base.specs.Bytes.{AreBytes};
+ghost use Rattle.audit_proof.specs.ProofBytes.{Member, Increment, IsMember, IsIncrement, member_bytes, member_of, increment_bytes, increment_of};
 
-use crate::accept::accepts_leaf;
-use crate::collision::{CollideFault, Collision, disagreement, is_same_text, leaf_text};
+use crate::collision::{CollideFault, Collision, Shown, collide, leaf_text};
 use crate::commitment::Commitment;
-use crate::node_text::Hash;
+use audit_base::Hash;
 use sha2::{Digest, Sha256};
-use std::alloc::Global;
+use std::alloc::{AllocError, Global};
 
 /// A hash function of texts.
 pub trait TextHash: Drop {
@@ -38,7 +39,7 @@ impl TextHash for Sha256Texts {
 /// Two different texts with one value of a hash function, from two membership proofs of one index
 /// under one commitment that are accepted over it, with different entries.
 ///
-/// The leaf texts are made before the proofs are judged, so memory may be refused where
+/// A leaf's text is made before its proof is judged, so memory may be refused where
 /// `collide_two` would refuse a proof or equal entries.
 pub fn collide_two_with<T: TextHash>(
     alloc: Global,
@@ -60,22 +61,32 @@ pub fn collide_two_with<T: TextHash>(
     ensures ok { IfOk result (λ c. AcceptsBoth T.value_of commitment.now index entry1.now hashes1.now entry2.now hashes2.now
         × (entry1.now ≢ entry2.now) × IsCollision T.value_of c.left.items c.right.items) }
 {
-    let left = leaf_text(alloc, entry1)?;
-    let right = leaf_text(alloc, entry2)?;
-    if !accepts_leaf(hash, commitment, index, hash.hash(&left), hashes1) {
-        return Err(CollideFault::NotAccepted);
-    }
-    if !accepts_leaf(hash, commitment, index, hash.hash(&right), hashes2) {
-        return Err(CollideFault::NotAccepted);
-    }
-    if is_same_text(entry1, entry2) {
-        return Err(CollideFault::NoDisagreement);
-    }
-    let collision = disagreement(
-        alloc, hash, commitment, index, &left, hashes1, &right, hashes2,
-    )?;
-    Ok(collision)
+    let first = Shown {
+        entry: entry1,
+        leaf: leaf_hash_with(alloc, hash, entry1)?,
+        hashes: hashes1,
+    };
+    let second = Shown {
+        entry: entry2,
+        leaf: leaf_hash_with(alloc, hash, entry2)?,
+        hashes: hashes2,
+    };
+    collide(alloc, hash, commitment, index, &first, &second)
 }
+
+// The hash of a leaf over its text, by any hash function.
+fn leaf_hash_with<T: TextHash>(alloc: Global, hash: &T, entry: &[u8]) -> Result<Hash, AllocError>
+    ensures { IfOk result (λ leaf. leaf ≡ leaf_of T.value_of entry.now) }
+{
+    let text = leaf_text(alloc, entry)?;
+    Ok(hash.hash(&text))
+}
+
+/// The commitment to leaf texts is that of the tree, as a `Commitment`: their number and their root. The function
+/// does nothing: its contract is the law.
+pub fn commitments_are_of_texts()
+    ensures { (texts : List (List ℕ)) → commitment_of texts ≡ ((commitment_to texts).count, (commitment_to texts).root) }
+{}
 
 /// The bytes of a proof are read in one way only: bytes are read as a proof exactly where it is within the limits
 /// and they are its bytes. The function does nothing: its contract is the law.

@@ -13,13 +13,12 @@ mod increment_proof;
 pub mod laws;
 mod meeting;
 mod member_proof;
-mod node_text;
 mod steps;
 #[cfg(test)]
 mod tests;
 
 pub use accept::{accepts_increment, accepts_member};
-pub use bytes::{MAX_ENTRY, MAX_INCREMENT_HASHES, MAX_MEMBER_HASHES};
+pub use audit_base::{MAX_ENTRY, MAX_INCREMENT_HASHES, MAX_MEMBER_HASHES};
 pub use codec::{ReadFault, read_increment, read_member, write_increment, write_member};
 pub use collision::{CollideFault, Collision, collide_two};
 pub use commitment::Commitment;

@@ -3,11 +3,11 @@ ghost use Rattle.audit_proof.specs.Climb.{climb, one_value, up_alone, up_with};
 ghost use Rattle.audit_proof.specs.Reached.{climbed_of};
 ghost use Rattle.audit_proof.specs.Meeting.{IsMeeting};
 
-use crate::accept::is_same;
 use crate::climb::Reached;
 use crate::collision::Collision;
 use crate::laws::TextHash;
-use crate::node_text::{Hash, lone_text, pair_text};
+use audit_base::{Hash, is_same_hash};
+use audit_tree::{lone_text, pair_text};
 use std::alloc::{AllocError, Global};
 
 /// What two climbs on one way, with different values below, come to.
@@ -37,7 +37,7 @@ pub fn meet_texts<T: TextHash>(
 {
     let left_value = hash.hash(left);
     let right_value = hash.hash(right);
-    if is_same(&left_value, &right_value) {
+    if is_same_hash(&left_value, &right_value) {
         let left = Vec::from_slice(alloc, left)?;
         let right = Vec::from_slice(alloc, right)?;
         return Ok(Meeting::Met(Collision { left, right }));

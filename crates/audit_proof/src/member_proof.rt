@@ -1,4 +1,4 @@
-use crate::node_text::Hash;
+use audit_base::Hash;
 
 /// A membership proof with its entry.
 #[derive(Debug, Drop)]

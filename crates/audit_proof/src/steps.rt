@@ -4,7 +4,8 @@ ghost use Rattle.audit_proof.specs.Climb.{one_value, two_values};
 
 use crate::climb::Climber;
 use crate::laws::TextHash;
-use crate::node_text::{Hash, lone_text, pair_text};
+use audit_base::Hash;
+use audit_tree::{lone_text, pair_text};
 
 /// One value goes up: a membership proof.
 #[derive(Drop)]

@@ -1,6 +1,6 @@
 use super::*;
 use crate::laws::{TextHash, collide_two_with};
-use crate::node_text::Hash;
+use audit_base::Hash;
 use audit_tree::{Tree, TreeError, leaf_hash};
 use hex::FromHex;
 use std::alloc::Global;

@@ -1,7 +1,10 @@
-pub mod Depth
-pub mod FullNodes
-pub mod PathLemmas
-pub mod RowLemmas
-pub mod OlderNode
 pub mod Choices
+pub mod Completed
+pub mod Depth
+pub mod HashLengths
+pub mod OlderNode
+pub mod PathLemmas
+pub mod PlaceLaw
+pub mod PostOrderLemmas
 pub mod SubtreeLemmas
+pub mod TrailingZeros

@@ -3,7 +3,9 @@ use Rattle.std.proofs.Common.{◌≡◌, ◌≢◌, ℕ, zero, suc, ◌+◌, ◌
 use Rattle.std.proofs.lemmas.Bool.{eq-eqb, ne_eqb, cases_eq, cases_lt}
 use Rattle.std.proofs.lemmas.List.{drop-drop, append-nil, length-append}
 use Rattle.std.proofs.lemmas.Nat.{shr-shr, shr_split, pow_pos, mod_below}
-use Rattle.std.proofs.Math.Nat.{pow-suc, mod-eq_of_lt, mul-mod_left, div-eq_of_lt, zero-mul}
+use Rattle.std.proofs.Math.Nat.{pow-suc, mod-eq_of_lt, mul-mod_left, div-eq_of_lt, zero-mul, add-mod_right, zero-mod}
+use Rattle.std.proofs.Math.Numerals.{one-add}
+use Rattle.std.proofs.Math.Pow.{mod-mod-pow}
 use Rattle.audit_tree.specs.Subtree.{subtree_hash, node_at}
 use Rattle.audit_tree.specs.Paths.{path, sibling_at, siblings_at}
 use Rattle.audit_tree.proofs.Choices.{cond-le, cond-gt, cond-lt, cond-ge}
@@ -12,6 +14,19 @@ use Rattle.audit_tree.proofs.SubtreeLemmas.{node_at-subtree_hash}
 -- a place that a layer's width divides
 pub aligned_place : (start layer : ℕ) → start % 2 ^ layer ≡ 0 → start / 2 ^ layer * 2 ^ layer ≡ start
 aligned_place start layer h = omega (arith, shr_split start layer)
+
+-- a layer's width divides the places of the next one, and those half way
+pub aligned_below : (start layer : ℕ) → start % 2 ^ suc layer ≡ 0 → start % 2 ^ layer ≡ 0
+aligned_below start layer h =
+    sym (mod-mod-pow start 1 layer) ∙ ap (λ n. n % 2 ^ layer) (ap (λ k. start % 2 ^ k) (one-add layer) ∙ h) ∙ zero-mod (2 ^ layer)
+
+pub aligned_right : (start layer : ℕ) → start % 2 ^ layer ≡ 0 → (start + 2 ^ layer) % 2 ^ layer ≡ 0
+aligned_right start layer h = add-mod_right start (2 ^ layer) ∙ h
+
+-- a node that isn't full isn't a leaf
+pub not_leaf : (layer n : ℕ) → 0 < n → n < 2 ^ layer → suc (layer - 1) ≡ layer
+not_leaf zero n some h = absurd (omega (arith, h))
+not_leaf (suc layer) n some h = omega arith
 
 -- where the node of a layer that holds a place starts
 abbrev pub start_of : ℕ → ℕ → ℕ

@@ -1,4 +1,4 @@
 pub mod History
-pub mod Layers
+pub mod PostOrder
 pub mod Paths
 pub mod Subtree

@@ -1,9 +1,11 @@
 ghost use Rattle.std.specs.Prelude.{◌≡◌};
-ghost use Rattle.audit_tree.specs.Subtree.{depth};
+ghost use Rattle.audit_tree.specs.Subtree.{depth, IsLeastDepth};
 
-/// The least depth of a tree with room for so many leaves.
+/// The least depth of a tree with room for so many leaves: the layers from its leaves up to its root, without the
+/// leaves' own.
 pub fn depth_of(count: u64) -> u32
-    ensures { result ≡ depth count }
+    ensures depth { result ≡ depth count }
+    ensures least { IsLeastDepth count result }
 {
     if count <= 1 {
         return 0;

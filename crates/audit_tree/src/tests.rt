@@ -98,55 +98,6 @@ fn hashes_of_the_sample_tree(rt: HostRuntime) -> Result<(), Fail> {
 }
 
 #[test]
-fn reserved_room_takes_the_sample(rt: HostRuntime) -> Result<(), Fail> {
-    let mut tree = Tree::new(rt.alloc());
-    tree.reserve(4)?;
-    tree.push_reserved(leaf_hash(b""));
-    assert_sample_root(&rt, rt.alloc(), &tree, 1)?;
-    tree.push_reserved(leaf_hash(&[0x00]));
-    assert_sample_root(&rt, rt.alloc(), &tree, 2)?;
-    tree.push_reserved(leaf_hash(&[0x10]));
-    assert_sample_root(&rt, rt.alloc(), &tree, 3)?;
-    tree.push_reserved(leaf_hash(&[0x20, 0x21]));
-    assert_sample_root(&rt, rt.alloc(), &tree, 4)?;
-    Ok(())
-}
-
-#[test]
-fn proofs_hold_the_listed_nodes(rt: HostRuntime) -> Result<(), Fail> {
-    let tree = counted_tree(rt.alloc(), 8)?;
-    let leaf = |place: u8| leaf_hash(&[place]);
-    if tree.count() != 8 {
-        return Err("eight leaves".into());
-    }
-    let first_two = tree.node(0, 1, 8);
-    let first_four = tree.node(0, 2, 8);
-    let lone_third = tree.node(2, 1, 3);
-    let lone_fifth = tree.node(4, 2, 5);
-    let last_four = tree.node(4, 2, 8);
-    assert_eq!(&rt;
-        tree.membership(1, 3)?.as_slice(),
-        [leaf(0), lone_third].as_slice()
-    );
-    assert_eq!(&rt; tree.membership(2, 3)?.as_slice(), [first_two].as_slice());
-    assert_eq!(&rt; tree.membership(0, 1)?.len(), 0);
-    assert_eq!(&rt;
-        tree.incremental(3, 5)?.as_slice(),
-        [leaf(2), leaf(3), first_two, lone_fifth].as_slice()
-    );
-    assert_eq!(&rt;
-        tree.incremental(4, 8)?.as_slice(),
-        [first_four, last_four].as_slice()
-    );
-    assert_eq!(&rt; tree.incremental(1, 1)?.as_slice(), [leaf(0)].as_slice());
-    assert_eq!(&rt;
-        tree.incremental(3, 3)?.as_slice(),
-        [leaf(2), first_two].as_slice()
-    );
-    Ok(())
-}
-
-#[test]
 fn versions_outside_the_tree_are_refused(rt: HostRuntime) -> Result<(), Fail> {
     let tree = sample_tree(rt.alloc())?;
     assert_eq!(&rt; tree.membership(3, 3).err(), Some(TreeError::NoSuchVersion));
@@ -179,21 +130,13 @@ fn versions_outside_the_tree_are_refused(rt: HostRuntime) -> Result<(), Fail> {
 fn reserved_room_survives_a_push(rt: HostRuntime) -> Result<(), Fail> {
     let mut tree = Tree::new(rt.alloc());
     tree.reserve(3)?;
-    assert_eq!(&rt; tree.spare(), 3);
     tree.push(leaf_hash(b""))?;
     assert_eq!(&rt; tree.spare(), 3);
     tree.push_reserved(leaf_hash(&[0x00]));
     tree.push_reserved(leaf_hash(&[0x10]));
     tree.push_reserved(leaf_hash(&[0x20, 0x21]));
     assert_eq!(&rt; tree.spare(), 0);
-    tree.reserve(0)?;
-    assert_hex(
-        &rt,
-        rt.alloc(),
-        &tree.root(),
-        "d37ee418976dd95753c1c73862b9398fa2a2cf9b4ff0fdfe8b30cd95209614b7",
-    )?;
-    Ok(())
+    assert_sample_root(&rt, rt.alloc(), &tree, 4)
 }
 
 // The digests are over the hashes that a model of the definitions gives, count by count.
@@ -240,28 +183,46 @@ fn all_counts_to_33_match_the_definitions(rt: HostRuntime) -> Result<(), Fail> {
     Ok(())
 }
 
-// The memberships under the count of these first leaves, and the increments to it.
-fn assert_plain_proofs(
-    rt: &impl Abort,
-    alloc: Global,
-    tree: &Tree,
-    first: &[Hash],
-) -> Result<(), Fail> {
-    let count = first.len();
-    if 64 < count {
-        return Err("too many leaves".into());
+// The hash of a node where there is one.
+fn node_under(tree: &Tree, start: u64, layer: u32, count: u64) -> Option<Hash> {
+    if 8 <= layer || start % (1 << layer) != 0 || count <= start || tree.count() < count {
+        return None;
     }
-    for index in 0..count {
-        let path = plain::membership(alloc, first, index)?;
+    Some(tree.node(start, layer, count))
+}
+
+// What stands at the place of a full node.
+fn frozen_at(tree: &Tree, start: u64, layer: u32) -> Option<Hash> {
+    if 8 <= layer || start % (1 << layer) != 0 || MAX_COUNT <= start {
+        return None;
+    }
+    tree.frozen()
+        .get(frozen_place(start, layer) as usize)
+        .copied()
+}
+
+// The nodes and the proofs of a tree under the count of these first texts.
+fn assert_plain(rt: &impl Abort, alloc: Global, tree: &Tree, texts: &[u8]) -> Result<(), Fail> {
+    let count = texts.len();
+    for start in 0..count {
+        for layer in 0..7u32 {
+            let width = 1usize << layer;
+            let Some(node) = node_under(tree, start as u64, layer, count as u64) else {
+                continue;
+            };
+            assert_eq!(rt; node, plain::node(&texts[start..], width));
+            if width <= count - start {
+                assert_eq!(rt; frozen_at(tree, start as u64, layer), Some(node));
+            }
+        }
         assert_eq!(rt;
-            tree.membership(index as u64, count as u64)?.as_slice(),
-            path.as_slice()
+            tree.membership(start as u64, count as u64)?.as_slice(),
+            plain::membership(alloc, texts, start)?.as_slice()
         );
-        let older = index + 1;
-        let path = plain::increment(alloc, first, older)?;
+        let older = start + 1;
         assert_eq!(rt;
             tree.incremental(older as u64, count as u64)?.as_slice(),
-            path.as_slice()
+            plain::increment(alloc, texts, older)?.as_slice()
         );
     }
     Ok(())
@@ -269,29 +230,77 @@ fn assert_plain_proofs(
 
 #[test]
 fn all_counts_to_33_match_the_plain_program(rt: HostRuntime) -> Result<(), Fail> {
-    let mut tree = Tree::new(rt.alloc());
-    let mut leaves = Vec::new(rt.alloc());
-    assert_eq!(&rt; tree.root(), plain::root(&[]));
+    let whole = counted_tree(rt.alloc(), 33)?;
+    let mut growing = Tree::new(rt.alloc());
+    let mut texts = Vec::new(rt.alloc());
+    assert_eq!(&rt; growing.root(), plain::root(&[]));
     for place in 0..33u8 {
-        let leaf = leaf_hash(&[place]);
-        tree.push(leaf)?;
-        leaves.push(leaf)?;
-        if 64 < leaves.len() {
-            return Err("too many leaves".into());
-        }
-        assert_eq!(&rt; tree.root(), plain::root(&leaves));
-        assert_plain_proofs(&rt, rt.alloc(), &tree, &leaves)?;
+        growing.push(leaf_hash(&[place]))?;
+        texts.push(place)?;
+        assert_eq!(&rt; growing.root(), plain::root(&texts));
+        assert_plain(&rt, rt.alloc(), &growing, &texts)?;
+        assert_plain(&rt, rt.alloc(), &whole, &texts)?;
     }
     Ok(())
 }
 
 #[test]
-fn older_counts_match_the_plain_program(rt: HostRuntime) -> Result<(), Fail> {
-    let tree = counted_tree(rt.alloc(), 33)?;
-    let mut leaves = Vec::new(rt.alloc());
-    for place in 0..33u8 {
-        leaves.push(leaf_hash(&[place]))?;
-        assert_plain_proofs(&rt, rt.alloc(), &tree, &leaves)?;
+fn five_leaves_freeze_eight_hashes(rt: HostRuntime) -> Result<(), Fail> {
+    assert_eq!(&rt; frozen_place(0, 0), 0);
+    assert_eq!(&rt; frozen_place(1, 0), 1);
+    assert_eq!(&rt; frozen_place(0, 1), 2);
+    assert_eq!(&rt; frozen_place(2, 0), 3);
+    assert_eq!(&rt; frozen_place(3, 0), 4);
+    assert_eq!(&rt; frozen_place(2, 1), 5);
+    assert_eq!(&rt; frozen_place(0, 2), 6);
+    assert_eq!(&rt; frozen_place(4, 0), 7);
+    assert_eq!(&rt; frozen_place(0, 24), 33_554_430);
+    assert_eq!(&rt; counted_tree(rt.alloc(), 5)?.frozen().len(), 8);
+    Ok(())
+}
+
+#[test]
+fn room_is_reserved_at_each_count(rt: HostRuntime) -> Result<(), Fail> {
+    for more in 0..70u64 {
+        let mut tree = Tree::new(rt.alloc());
+        for place in 0..70u8 {
+            tree.push(leaf_hash(&[place]))?;
+            tree.reserve(more)?;
+            assert_eq!(&rt; tree.spare(), more);
+        }
     }
+    Ok(())
+}
+
+// The root of 2^20 leaves is a model's, over the four bytes of each place.
+#[test]
+fn the_largest_tree(rt: HostRuntime) -> Result<(), Fail> {
+    let mut tree = Tree::new(rt.alloc());
+    for place in 0..1u32 << 20 {
+        tree.push(leaf_hash(&place.to_be_bytes()))?;
+    }
+    assert_hex(
+        &rt,
+        rt.alloc(),
+        &tree.root(),
+        "d3dee2eed7a7edb0eab7ac020950d679237f01a8de00fcfdea6cb66fea44f9e9",
+    )?;
+    tree.reserve(MAX_COUNT - (1 << 20))?;
+    for _ in 1u32 << 20..1 << 24 {
+        tree.push([0; 32])?;
+    }
+    assert_eq!(&rt; tree.count(), MAX_COUNT);
+    assert_eq!(&rt; tree.push([0; 32]).err(), Some(TreeError::Full));
+    assert_eq!(&rt; tree.count(), MAX_COUNT);
+    assert_eq!(&rt; tree.frozen().len(), 33_554_431);
+    assert_eq!(&rt; tree.membership(0, MAX_COUNT)?.len(), 24);
+    assert_eq!(&rt; tree.membership(0, (1 << 23) + 1)?.len(), 24);
+    assert_eq!(&rt; tree.membership(0, 1 << 23)?.len(), 23);
+    assert_eq!(&rt; tree.incremental(1, MAX_COUNT)?.len(), 25);
+    assert_eq!(&rt; tree.incremental(1, 1 << 23)?.len(), 24);
+    assert_eq!(&rt;
+        tree.membership(MAX_COUNT, MAX_COUNT + 1).err(),
+        Some(TreeError::NoSuchVersion)
+    );
     Ok(())
 }

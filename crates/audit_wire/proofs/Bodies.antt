@@ -4,7 +4,7 @@ use Rattle.std.specs.Int.{w32, w64, to_be_bytes, from_be_bytes}
 use Rattle.std.proofs.lemmas.Bool.{cases_lt, and_parts, and_from, not-true, not_from_false, leb-true, le-leb, eqb-true, eqb-false, ne_eqb, cond-true}
 use Rattle.std.proofs.lemmas.List.{get_or-take, get_or-drop, get_or_past, take-append-drop, drop-drop, take_all}
 use Rattle.std.proofs.lemmas.Nat.{be_bytes_4, be_bytes_8, from_be_bytes-to_be_bytes_4, from_be_bytes-to_be_bytes_8}
-use Rattle.audit_wire.specs.declared.limits.TheConstants.{MAX_PAYLOAD, RESERVED_KIND}
+use Rattle.audit_base.specs.declared.limits.TheConstants.{MAX_PAYLOAD, RESERVED_KIND}
 use Rattle.audit_wire.specs.declared.request.Request.{Request}
 use Rattle.audit_wire.specs.declared.request.Request.TheVariants as request
 use Rattle.audit_wire.specs.declared.request_kind.RequestKind.{RequestKind}
@@ -13,8 +13,10 @@ use Rattle.std.specs.Prelude.{IfOk}
 use Rattle.audit_wire.specs.declared.view.RequestView.{RequestView}
 use Rattle.audit_wire.specs.declared.malformed.Malformed.{Malformed}
 use Rattle.audit_wire.specs.View.{request_shown, request_read}
-use Rattle.audit_wire.specs.Frame.{AreBytes, IsBodySize}
-use Rattle.audit_wire.specs.Request.{request_body, IsRequest, kind_at, number_at, append_in, commitment_in, membership_in, incremental_in, entry_in, fields_in, request_in}
+use Rattle.audit_base.specs.Bytes.{AreBytes}
+use Rattle.audit_wire.specs.Frame.{IsBodySize}
+use Rattle.audit_base.specs.Bytes.{number_at}
+use Rattle.audit_wire.specs.Request.{request_body, IsRequest, kind_at, append_in, commitment_in, membership_in, incremental_in, entry_in, fields_in, request_in}
 
 -- ---- parts of bytes are bytes
 

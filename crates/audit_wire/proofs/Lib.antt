@@ -3,3 +3,5 @@ pub mod Bodies
 pub mod Framing
 pub mod Readings
 pub mod Runs
+pub mod Replies
+pub mod GivingBack

@@ -5,7 +5,8 @@ use Rattle.std.proofs.lemmas.Bool.{cases_Bool, both_ways}
 use Rattle.std.proofs.lemmas.List.{take_at, take-append-drop}
 use Rattle.std.proofs.lemmas.Nat.{be_bytes_2}
 use Rattle.audit_wire.specs.declared.request.Request.{Request}
-use Rattle.audit_wire.specs.Frame.{AreBytes, frame, size_of, IsBodySize, is_body_size}
+use Rattle.audit_base.specs.Bytes.{AreBytes}
+use Rattle.audit_wire.specs.Frame.{frame, size_of, IsBodySize, is_body_size}
 use Rattle.audit_wire.specs.Request.{request_body, request_in, IsRequest}
 use Rattle.audit_wire.specs.Stream.{Framed, spoiled, in_front, read_first, framed_requests, request_frame, IsMalformedPlace, EndsIn, IsReading}
 use Rattle.audit_wire.proofs.Bodies.{AreBytes-take, request_found, request_again, request_size}

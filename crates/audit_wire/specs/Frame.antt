@@ -1,11 +1,7 @@
 -- A frame: the length of its body in two bytes, big-endian, and then the body.
-use Rattle.std.specs.Prelude.{ℕ, ◌<◌, ◌≤◌, Bool, ◌&&◌, nat_le, List, [], ◌∷◌, ◌++◌, length, slice_index}
+use Rattle.std.specs.Prelude.{ℕ, ◌<◌, ◌≤◌, Bool, ◌&&◌, nat_le, List, [], ◌∷◌, ◌++◌, length}
 use Rattle.std.specs.Int.{w16, to_be_bytes, from_be_bytes}
 use Rattle.audit_wire.specs.declared.limits.TheConstants.{MAX_BODY}
-
--- bytes, where a list may hold any numbers
-abbrev pub AreBytes : List ℕ → Type 0
-AreBytes bytes = (place : ℕ) → slice_index bytes place < 256
 
 -- the frame of a body
 abbrev pub frame : List ℕ → List ℕ

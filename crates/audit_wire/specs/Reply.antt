@@ -1,8 +1,13 @@
 -- The body of a reply: the kind in one byte, the request tag in four, and the fields of its kind.
-use Rattle.std.specs.Prelude.{ℕ, ◌≤◌, List, [], ◌∷◌, ◌++◌, length}
+use Rattle.std.specs.Prelude.{◌≡◌, ℕ, ◌+◌, ◌*◌, ◌^◌, ◌<◌, ◌≤◌, ◌&&◌, ◌==◌, nat_le, if◌then◌else◌, List, [], ◌∷◌, ◌++◌, length, take, drop, slice_index, Option, Some, None, Result, Ok, Err, IsSome}
 use Rattle.std.specs.List.{flat_map}
 use Rattle.std.specs.Int.{w32, w64, to_be_bytes}
-use Rattle.audit_wire.specs.declared.limits.TheConstants.{MAX_MEMBER_HASHES, MAX_INCREMENT_HASHES, MAX_ENTRY}
+use Rattle.audit_base.specs.Bytes.{number_at}
+use Rattle.audit_base.specs.Hashes.{AreHashes, first_hashes}
+use Rattle.audit_base.specs.declared.limits.TheConstants.{HASH_LEN, MAX_MEMBER_HASHES, MAX_INCREMENT_HASHES, MAX_ENTRY}
+use Rattle.audit_wire.specs.Frame.{frame}
+use Rattle.audit_wire.specs.declared.reply_fault.ReplyFault.{ReplyFault}
+use Rattle.audit_wire.specs.declared.reply_fault.ReplyFault.TheVariants as fault
 use Rattle.audit_wire.specs.declared.refusal.Refusal.{Refusal}
 use Rattle.audit_wire.specs.declared.refusal.Refusal.TheVariants as refusal
 use Rattle.audit_wire.specs.declared.reply_kind.ReplyKind.{ReplyKind}
@@ -49,3 +54,97 @@ IsReply (reply.Membership tag hashes entry) = (length hashes ≤ MAX_MEMBER_HASH
 IsReply (reply.Incremental tag hashes) = length hashes ≤ MAX_INCREMENT_HASHES
 IsReply (reply.Entry tag entry) = length entry ≤ MAX_ENTRY
 IsReply (reply.Refused tag code) = Unit {0}
+
+-- the parts of a reply are as its fields hold them: numbers of their widths, and whole hashes
+abbrev pub HasReplyFields : Reply → Type 0
+HasReplyFields (reply.Acknowledgement tag index count root) = (tag < 2 ^ 32) × (index < 2 ^ 64) × (count < 2 ^ 64) × (length root ≡ HASH_LEN)
+HasReplyFields (reply.Commitment tag count root) = (tag < 2 ^ 32) × (count < 2 ^ 64) × (length root ≡ HASH_LEN)
+HasReplyFields (reply.Membership tag hashes entry) = (tag < 2 ^ 32) × AreHashes hashes
+HasReplyFields (reply.Incremental tag hashes) = (tag < 2 ^ 32) × AreHashes hashes
+HasReplyFields (reply.Entry tag entry) = tag < 2 ^ 32
+HasReplyFields (reply.Refused tag code) = tag < 2 ^ 32
+
+-- a reply that has a frame, as the code holds it
+pub record IsWholeReply (given : Reply) : Type 0 where
+  pub within : IsReply given
+  pub fields : HasReplyFields given
+
+abbrev pub reply_frame : Reply → List ℕ
+reply_frame given = frame (reply_body given)
+
+-- ---- the same from the bytes
+
+-- the kind that the first byte of a body stands for
+abbrev pub reply_kind_at : ℕ → Option ReplyKind
+reply_kind_at byte =
+    if byte == 129 then Some kind.Acknowledgement else
+    if byte == 130 then Some kind.Commitment else
+    if byte == 131 then Some kind.Membership else
+    if byte == 132 then Some kind.Incremental else
+    if byte == 133 then Some kind.Entry else
+    if byte == 255 then Some kind.Refused else None
+
+-- the refusal of a code
+abbrev pub refusal_of : ℕ → Option Refusal
+refusal_of code =
+    if code == 4 then Some refusal.DamagedLog else
+    if code == 7 then Some refusal.Full else
+    if code == 8 then Some refusal.NoSuchVersion else
+    if code == 9 then Some refusal.Worn else
+    if code == 11 then Some refusal.Device else
+    if code == 20 then Some refusal.Malformed else None
+
+-- what the bytes after the first one say, for each kind
+unfoldable pub acknowledgement_in : List ℕ → Option Reply
+acknowledgement_in fields =
+    if length fields == 52
+    then Some (reply.Acknowledgement (number_at w32 0 fields) (number_at w64 4 fields) (number_at w64 12 fields) (take HASH_LEN (drop 20 fields))) else None
+
+unfoldable pub commitment_reply_in : List ℕ → Option Reply
+commitment_reply_in fields =
+    if length fields == 44 then Some (reply.Commitment (number_at w32 0 fields) (number_at w64 4 fields) (take HASH_LEN (drop 12 fields))) else None
+
+-- the number of hashes, the hashes, and what follows them
+unfoldable pub membership_reply_in : List ℕ → Option Reply
+membership_reply_in fields =
+    let number = slice_index fields 4 in
+    if nat_le 5 (length fields) && nat_le number MAX_MEMBER_HASHES
+    && nat_le (5 + HASH_LEN * number) (length fields) && nat_le (length fields) (5 + HASH_LEN * number + MAX_ENTRY)
+    then Some (reply.Membership (number_at w32 0 fields) (first_hashes number (drop 5 fields)) (drop (HASH_LEN * number) (drop 5 fields))) else None
+
+unfoldable pub increment_reply_in : List ℕ → Option Reply
+increment_reply_in fields =
+    let number = slice_index fields 4 in
+    if nat_le 5 (length fields) && nat_le number MAX_INCREMENT_HASHES && (length fields == 5 + HASH_LEN * number)
+    then Some (reply.Incremental (number_at w32 0 fields) (first_hashes number (drop 5 fields))) else None
+
+unfoldable pub entry_reply_in : List ℕ → Option Reply
+entry_reply_in fields =
+    if nat_le 4 (length fields) && nat_le (length fields) (4 + MAX_ENTRY) then Some (reply.Entry (number_at w32 0 fields) (drop 4 fields)) else None
+
+abbrev pub refused_with : ℕ → Option Refusal → Option Reply
+refused_with tag None = None
+refused_with tag (Some code) = Some (reply.Refused tag code)
+
+unfoldable pub refused_in : List ℕ → Option Reply
+refused_in fields = if length fields == 5 then refused_with (number_at w32 0 fields) (refusal_of (slice_index fields 4)) else None
+
+abbrev pub reply_fields_in : Option ReplyKind → List ℕ → Option Reply
+reply_fields_in None fields = None
+reply_fields_in (Some kind.Acknowledgement) fields = acknowledgement_in fields
+reply_fields_in (Some kind.Commitment) fields = commitment_reply_in fields
+reply_fields_in (Some kind.Membership) fields = membership_reply_in fields
+reply_fields_in (Some kind.Incremental) fields = increment_reply_in fields
+reply_fields_in (Some kind.Entry) fields = entry_reply_in fields
+reply_fields_in (Some kind.Refused) fields = refused_in fields
+
+-- the reply that a body is
+unfoldable pub reply_in : List ℕ → Option Reply
+reply_in [] = None
+reply_in (first ∷ fields) = reply_fields_in (reply_kind_at first) fields
+
+-- what reading a body as a reply has come to: the reply that the body is, or none, or memory was refused for one
+abbrev pub IsReadAs : Option Reply → Result Reply ReplyFault → Type 0
+IsReadAs said (Ok given) = said ≡ Some given
+IsReadAs said (Err fault.Malformed) = said ≡ None
+IsReadAs said (Err fault.Memory) = IsSome said

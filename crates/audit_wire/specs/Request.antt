@@ -1,7 +1,8 @@
 -- The body of a request: the kind in one byte, the request tag in four, and the fields of its kind.
-use Rattle.std.specs.Prelude.{◌≢◌, ℕ, ◌+◌, ◌<◌, ◌≤◌, ◌^◌, not, ◌&&◌, ◌==◌, nat_le, if◌then◌else◌, List, [], ◌∷◌, ◌++◌, length, take, drop, Option, Some, None}
-use Rattle.std.specs.Int.{Width, w32, w64, byte_len, to_be_bytes, from_be_bytes}
-use Rattle.audit_wire.specs.declared.limits.TheConstants.{MAX_PAYLOAD, RESERVED_KIND}
+use Rattle.std.specs.Prelude.{◌≢◌, ℕ, ◌+◌, ◌<◌, ◌≤◌, ◌^◌, not, ◌&&◌, ◌==◌, nat_le, if◌then◌else◌, List, [], ◌∷◌, ◌++◌, length, drop, Option, Some, None}
+use Rattle.std.specs.Int.{w32, w64, to_be_bytes}
+use Rattle.audit_base.specs.Bytes.{number_at}
+use Rattle.audit_base.specs.declared.limits.TheConstants.{MAX_PAYLOAD, RESERVED_KIND}
 use Rattle.audit_wire.specs.declared.request.Request.{Request}
 use Rattle.audit_wire.specs.declared.request.Request.TheVariants as request
 use Rattle.audit_wire.specs.declared.request_kind.RequestKind.{RequestKind}
@@ -31,10 +32,6 @@ kind_at byte =
     if byte == 3 then Some kind.Membership else
     if byte == 4 then Some kind.Incremental else
     if byte == 5 then Some kind.Entry else None
-
--- the number of this width that stands at a place
-abbrev pub number_at : Width → ℕ → List ℕ → ℕ
-number_at width place bytes = from_be_bytes width (take (byte_len width) (drop place bytes))
 
 -- what the bytes behind the first one say, for each kind
 unfoldable pub append_in : List ℕ → Option Request

@@ -98,7 +98,8 @@ impl Decoder {
 
     /// The body that the last feed made whole, and nothing where it made none.
     pub fn body(&self) -> &[u8]
-        ensures { result.now ≡ body_of self.now }
+        ensures body { result.now ≡ body_of self.now }
+        ensures progress { IsProgress self.now }
     {
         match self.state {
             State::Whole => &self.frame[LENGTH_BYTES..],
@@ -129,7 +130,10 @@ impl Decoder {
 
     /// Whether a frame is begun and not whole.
     pub fn pending(&self) -> bool
-        ensures { IsTrue result ↔ (rest_of self.now ≢ []) }
+        ensures pending { IsTrue result ↔ (rest_of self.now ≢ []) }
+
+        // It stands in one of four places of its stream, with what holds there.
+        ensures progress { IsProgress self.now }
     {
         self.state == State::Reading && !self.frame.is_empty()
     }

@@ -1,12 +1,13 @@
 ghost use Rattle.std.specs.Prelude.{◌≡◌, ◌*◌, length};
 ghost use Rattle.std.specs.List.{flat_map};
 
+use audit_base::Hash;
 use std::marker::Model;
 
-/// The hashes of a proof, 32 bytes each: contracts see the list of them.
+/// The hashes of a proof: contracts see the list of them.
 #[derive(Debug, Drop)]
 pub struct HashList {
-    hashes: Vec<[u8; 32]>,
+    hashes: Vec<Hash>,
 }
 
 impl Model for HashList {
@@ -19,14 +20,14 @@ impl Model for HashList {
 
 impl HashList {
     /// The hashes of a vector. Takes no memory.
-    pub fn from_vec(hashes: Vec<[u8; 32]>) -> HashList
+    pub fn from_vec(hashes: Vec<Hash>) -> HashList
         ensures { result ≡ hashes.items }
     {
         Self { hashes }
     }
 
     /// The vector back. Takes no memory.
-    pub fn into_vec(self) -> Vec<[u8; 32]>
+    pub fn into_vec(self) -> Vec<Hash>
         ensures { result.items ≡ self }
     {
         let HashList { hashes } = self;
@@ -34,7 +35,7 @@ impl HashList {
     }
 
     /// The hashes, in order.
-    pub fn as_slice(&self) -> &[[u8; 32]]
+    pub fn as_slice(&self) -> &[Hash]
         ensures { result.now ≡ self.now }
     {
         &self.hashes

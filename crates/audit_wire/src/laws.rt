@@ -1,11 +1,19 @@
 //! Laws of the formats, each the contract of a function that does nothing.
 
-ghost use Rattle.std.specs.Prelude.{◌≡◌, ℕ, List, [], ◌++◌, Some};
+ghost use Rattle.std.specs.Prelude.{◌≡◌, ◌<◌, ◌^◌, ℕ, length, List, [], ◌∷◌, ◌++◌, Some};
 ghost use Rattle.audit_wire.specs.declared.request.Request.{Request};
-ghost use Rattle.audit_wire.specs.Frame.{AreBytes, IsPartial};
+ghost use Rattle.audit_base.specs.declared.limits.TheConstants.{HASH_LEN};
+ghost use Rattle.audit_wire.specs.declared.refusal.Refusal.{Refusal};
+ghost use Rattle.audit_wire.specs.declared.reply.Reply.{Reply};
+ghost use Rattle.audit_wire.specs.declared.reply.Reply.TheVariants as reply;
+ghost use Rattle.audit_wire.specs.Reply.{reply_body, reply_frame, reply_in, IsWholeReply};
+ghost use Rattle.std.specs.List.{flat_map, AllByRecursion};
+ghost use Rattle.audit_base.specs.Bytes.{AreBytes};
+ghost use Rattle.audit_wire.specs.Frame.{IsPartial};
 ghost use Rattle.audit_wire.specs.Request.{request_body, request_in, IsRequest};
 ghost use Rattle.audit_wire.specs.Stream.{Framed, begun, in_front, framed_bodies, framed_requests, continued, request_frame, IsReading};
-ghost use Rattle.audit_wire.specs.Progress.{Feeding, reading, rest_of, is_spoiled, IsRun, bytes_taken, bodies_given, progress_after};
+ghost use Rattle.audit_wire.specs.declared.fed.Fed.{Fed};
+ghost use Rattle.audit_wire.specs.Progress.{Progress, Feeding, reading, rest_of, is_spoiled, IsFed, taken_by, HasJustTaken, PutsBack, IsRun, bytes_taken, bodies_given, progress_after};
 
 /// A stream is read in one way only: two readings of one byte stream are the same requests, the same
 /// malformed place or none, and the same rest.
@@ -36,4 +44,30 @@ pub fn more_bytes_keep_the_requests()
 pub fn every_cut_gives_one_reading()
     ensures { (run : List Feeding) → IsRun (reading []) run → framed_bodies (bytes_taken run)
         ≡ record { items = bodies_given run; malformed = is_spoiled (progress_after (reading []) run); rest = rest_of (progress_after (reading []) run) } }
+{}
+
+/// Every reply has a body that is read back as it, so that replies are told apart by their bytes; and the length
+/// field of its frame holds the body's length, which is the same for every acknowledgement and for every refusal.
+pub fn every_reply_is_read_back()
+    ensures body { (given : Reply) → IsWholeReply given → reply_in (reply_body given) ≡ Some given }
+    ensures size { (given : Reply) → IsWholeReply given → length (reply_body given) < 2 ^ 16 }
+    ensures acknowledgement { (tag index count : ℕ) (root : List ℕ) → length root ≡ HASH_LEN
+        → length (reply_body (reply.Acknowledgement tag index count root)) ≡ 53 }
+    ensures refused { (tag : ℕ) (code : Refusal) → length (reply_body (reply.Refused tag code)) ≡ 6 }
+{}
+
+/// The output of a session is read as reply frames in one way only.
+pub fn one_reading_of_replies()
+    ensures first { (one other : Reply) (rest others : List ℕ) → IsWholeReply one → IsWholeReply other
+        → reply_frame one ++ rest ≡ reply_frame other ++ others → (one ≡ other) × (rest ≡ others) }
+    ensures all { (replies others : List Reply) → AllByRecursion IsWholeReply replies → AllByRecursion IsWholeReply others
+        → flat_map reply_frame replies ≡ flat_map reply_frame others → replies ≡ others }
+{}
+
+/// A piece of which the last byte is given back is the piece without that byte: where feeding took all of it up to
+/// the end of a body or of a malformed length, the decoder is then where feeding the rest of it leaves it.
+pub fn a_byte_given_back_never_came()
+    ensures { (old taken new : Progress) (piece : List ℕ) (byte : ℕ) (answer : Fed) → IsFed old (piece ++ byte ∷ []) answer taken
+        → taken_by answer (piece ++ byte ∷ []) ≡ piece ++ byte ∷ [] → HasJustTaken taken → PutsBack taken new
+        → IsFed old piece Fed.More new }
 {}

@@ -15,29 +15,34 @@ mod malformed;
 mod reading;
 mod refusal;
 mod reply;
+mod reply_fault;
 mod reply_kind;
+mod reply_reading;
 mod request;
 mod request_kind;
 mod room;
 mod view;
 mod writing;
 
+pub use audit_base::{
+    MAX_ENTRY, MAX_INCREMENT_HASHES, MAX_MEMBER_HASHES, MAX_PAYLOAD, RESERVED_KIND,
+};
 pub use byte_list::ByteList;
 pub use decoder::Decoder;
 pub use fed::Fed;
 pub use hash_list::HashList;
 pub use laws::{
-    every_cut_gives_one_reading, every_request_is_read_back, more_bytes_keep_the_requests,
-    one_reading_of_a_stream,
+    a_byte_given_back_never_came, every_cut_gives_one_reading, every_reply_is_read_back,
+    every_request_is_read_back, more_bytes_keep_the_requests, one_reading_of_a_stream,
+    one_reading_of_replies,
 };
-pub use limits::{
-    LENGTH_BYTES, MAX_BODY, MAX_ENTRY, MAX_FRAME, MAX_INCREMENT_HASHES, MAX_MEMBER_HASHES,
-    MAX_PAYLOAD, RESERVED_KIND,
-};
+pub use limits::{LENGTH_BYTES, MAX_BODY, MAX_FRAME};
 pub use malformed::Malformed;
 pub use reading::read_request;
 pub use refusal::Refusal;
 pub use reply::Reply;
+pub use reply_fault::ReplyFault;
+pub use reply_reading::{first_reply, read_reply};
 pub use request::Request;
 pub use view::RequestView;
 pub use writing::write_reply;

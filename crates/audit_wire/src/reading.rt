@@ -1,13 +1,14 @@
 ghost use Rattle.std.specs.Prelude.{◌≡◌, ◌+◌, ◌≤◌, length, IfOk, Some};
 ghost use Rattle.std.specs.Int.{w32, w64};
 ghost use Rattle.audit_wire.specs.declared.request.Request.{Request};
-ghost use Rattle.audit_wire.specs.Request.{request_body, request_in, IsRequest, number_at, append_in, commitment_in, membership_in, incremental_in, entry_in};
+ghost use Rattle.audit_base.specs.Bytes.{number_at};
+ghost use Rattle.audit_wire.specs.Request.{request_body, request_in, IsRequest, append_in, commitment_in, membership_in, incremental_in, entry_in};
 ghost use Rattle.audit_wire.specs.View.{request_shown, request_read};
 
-use crate::limits::{MAX_PAYLOAD, RESERVED_KIND};
 use crate::malformed::Malformed;
 use crate::request_kind::RequestKind;
 use crate::view::RequestView;
+use audit_base::{MAX_PAYLOAD, RESERVED_KIND, u32_at, u64_at};
 
 // Where the fields stand behind a body's first byte: the request tag, then an append's kind and
 // payload, or one number or two.
@@ -128,24 +129,4 @@ fn entry_of(fields: &[u8]) -> Result<RequestView<'_>, Malformed>
         tag: u32_at(fields, TAG_AT),
         index: u64_at(fields, FIRST_NUMBER_AT),
     })
-}
-
-/// The four bytes at a place, as a number.
-fn u32_at(fields: &[u8], place: usize) -> u32
-    requires { place + 4 ≤ length fields.now }
-    ensures { result ≡ number_at w32 place fields.now }
-{
-    let bytes = &fields[place..place + 4];
-    u32::from_be_bytes([bytes[0], bytes[1], bytes[2], bytes[3]])
-}
-
-/// The eight bytes at a place, as a number.
-fn u64_at(fields: &[u8], place: usize) -> u64
-    requires { place + 8 ≤ length fields.now }
-    ensures { result ≡ number_at w64 place fields.now }
-{
-    let bytes = &fields[place..place + 8];
-    u64::from_be_bytes([
-        bytes[0], bytes[1], bytes[2], bytes[3], bytes[4], bytes[5], bytes[6], bytes[7],
-    ])
 }

@@ -18,12 +18,27 @@ pub enum Refusal {
 }
 
 impl Refusal {
-    ghost use Rattle.audit_wire.specs.Reply.{refusal_code};
+    ghost use Rattle.audit_wire.specs.Reply.{refusal_code, refusal_of};
 
     /// The code on the wire.
     pub fn code(self) -> u8
         ensures { result ≡ refusal_code self }
     {
         self as u8
+    }
+
+    /// The refusal of a code on the wire, where it has one.
+    pub fn from_code(code: u8) -> Option<Refusal>
+        ensures { result ≡ refusal_of code }
+    {
+        match code {
+            4 => Some(Refusal::DamagedLog),
+            7 => Some(Refusal::Full),
+            8 => Some(Refusal::NoSuchVersion),
+            9 => Some(Refusal::Worn),
+            11 => Some(Refusal::Device),
+            20 => Some(Refusal::Malformed),
+            _ => None,
+        }
     }
 }

@@ -1,6 +1,7 @@
 use crate::byte_list::ByteList;
 use crate::hash_list::HashList;
 use crate::refusal::Refusal;
+use audit_base::Hash;
 
 /// The reply to a request, with the request's tag.
 #[derive(Debug, Drop)]
@@ -10,13 +11,13 @@ pub enum Reply {
         tag: u32,
         index: u64,
         count: u64,
-        root: [u8; 32],
+        root: Hash,
     },
     /// The newest commitment.
     Commitment {
         tag: u32,
         count: u64,
-        root: [u8; 32],
+        root: Hash,
     },
     /// A membership proof and the entry that it is of.
     Membership {

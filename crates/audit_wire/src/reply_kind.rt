@@ -12,12 +12,27 @@ pub(crate) enum ReplyKind {
 }
 
 impl ReplyKind {
-    ghost use Rattle.audit_wire.specs.Reply.{reply_byte};
+    ghost use Rattle.audit_wire.specs.Reply.{reply_byte, reply_kind_at};
 
     /// The first byte of a body.
     pub(crate) fn byte(self) -> u8
         ensures { result ≡ reply_byte self }
     {
         self as u8
+    }
+
+    /// The kind that a first byte stands for.
+    pub(crate) fn from_byte(byte: u8) -> Option<ReplyKind>
+        ensures { result ≡ reply_kind_at byte }
+    {
+        match byte {
+            0x81 => Some(ReplyKind::Acknowledgement),
+            0x82 => Some(ReplyKind::Commitment),
+            0x83 => Some(ReplyKind::Membership),
+            0x84 => Some(ReplyKind::Incremental),
+            0x85 => Some(ReplyKind::Entry),
+            0xFF => Some(ReplyKind::Refused),
+            _ => None,
+        }
     }
 }

@@ -254,7 +254,23 @@ fn check_reply(
     let mut out = Vec::new(alloc);
     write_reply(alloc, reply, &mut out)?;
     assert_eq!(rt; out.as_slice(), frame);
+    check_read_back(rt, alloc, &out);
     Ok(())
+}
+
+/// The first frame of an output is read as a reply, from which the same bytes are written.
+fn check_read_back(rt: &impl Abort, alloc: Global, output: &[u8]) {
+    let Some((body, rest)) = first_reply(output) else {
+        assert!(rt; false, "no whole frame");
+        return;
+    };
+    assert_eq!(rt; (body.len() + 2, rest.len()), (output.len(), 0));
+    assert!(rt; body.len() > 4 && read_reply(alloc, body).is_ok());
+    assert_eq!(rt; first_reply(&output[..output.len() - 1]).is_none(), true);
+    assert_eq!(rt; first_reply(&output[..1]).is_none(), true);
+    for bad in [b"".as_slice(), b"\x80\0\0\0\0".as_slice(), &body[..4]] {
+        assert_eq!(rt; read_reply(alloc, bad).err(), Some(ReplyFault::Malformed));
+    }
 }
 
 #[test]

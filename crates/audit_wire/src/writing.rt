@@ -8,6 +8,7 @@ use crate::limits::LENGTH_BYTES;
 use crate::reply::Reply;
 use crate::reply_kind::ReplyKind;
 use crate::room::put;
+use audit_base::Hash;
 use std::alloc::{AllocError, Global};
 
 // A body begins with its kind in one byte and the request tag in four. An index or a count has
@@ -51,7 +52,7 @@ fn body_size(reply: &Reply) -> usize
     }
 }
 
-fn hash_size(hash: &[u8; 32]) -> usize
+fn hash_size(hash: &Hash) -> usize
     ensures value { result ≡ length hash.now }
     ensures few { result ≤ 32 }
 {

@@ -1,107 +1,89 @@
-//! The tree as a plain and slow program: each answer is the recursion over the leaves.
+//! The tree as a plain and slow program over the leaf texts, each of one byte. It knows a node by the texts from
+//! its start on and by how many leaves wide it is, and shares nothing with the tree.
 
-ghost use Rattle.std.specs.Prelude.{◌≡◌, ◌+◌, ◌^◌, ◌<◌, ◌≤◌, length, drop, IfOk};
-ghost use Rattle.sha2.specs.Sha256.{sha256};
-ghost use Rattle.audit_tree.specs.Subtree.{subtree_hash, root_of};
-ghost use Rattle.audit_tree.specs.Paths.{path, membership_path, increment_path};
-
-use crate::depths::depth_of;
-use crate::hashes::{Hash, lone_hash, pair_hash};
+use sha2::{Digest, Sha256};
 use std::alloc::{AllocError, Global};
 
-// The leaves behind the left side of a node of the next layer.
-fn right_side(leaves: &[Hash], layer: u32) -> &[Hash]
-    requires layer { layer < 64 }
-    requires more { 2 ^ layer ≤ length leaves.now }
-    ensures { result.now ≡ drop (2 ^ layer) leaves.now }
-{
-    &leaves[1 << layer..]
+type Digest32 = [u8; 32];
+
+// The width of a tree with so many leaves: the least power of two that has room for them.
+fn width_of(count: usize) -> usize {
+    [1, 2, 4, 8, 16, 32]
+        .into_iter()
+        .find(|width| count <= *width)
+        .unwrap_or(64)
 }
 
-// The hash of the node of a layer over the leaves from its start on.
-pub fn node(leaves: &[Hash], layer: u32) -> Hash
-    requires some { 0 < length leaves.now }
-    requires layer { layer < 64 }
-    ensures { result ≡ subtree_hash sha256 layer leaves.now }
-{
-    if layer == 0 {
-        return leaves[0];
+// The hash of a node: its right side is left out where the texts end before it.
+pub fn node(texts: &[u8], width: usize) -> Digest32 {
+    let mut hasher = Sha256::new();
+    if width <= 1 {
+        hasher.update(&[0]);
+        hasher.update(texts.get(..1).unwrap_or(&[]));
+        return hasher.finalize();
     }
-    let below = layer - 1;
-    let half = 1usize << below;
-    let left = node(leaves, below);
-    if leaves.len() <= half {
-        return lone_hash(&left);
+    let half = width / 2;
+    hasher.update(&[1]);
+    hasher.update(&node(texts, half));
+    if half < texts.len() {
+        hasher.update(&node(&texts[half..], half));
     }
-    pair_hash(&left, &node(right_side(leaves, below), below))
+    hasher.finalize()
 }
 
-// The root over the leaves.
-pub fn root(leaves: &[Hash]) -> Hash
-    requires { length leaves.now ≤ 64 }
-    ensures { result ≡ root_of sha256 leaves.now }
-{
-    if leaves.len() == 0 {
+// The root over the texts.
+pub fn root(texts: &[u8]) -> Digest32 {
+    if texts.is_empty() {
         return [0; 32];
     }
-    node(leaves, depth_of(leaves.len() as u64))
+    node(texts, width_of(texts.len()))
 }
 
-// The siblings of a leaf's way up to the node that has these leaves from its start on.
-pub fn siblings(
-    alloc: Global,
-    leaves: &[Hash],
-    from: u32,
-    height: u32,
+// Adds the siblings on a leaf's way up from the node of one width to that of another one, which has these texts.
+fn add_siblings(
+    hashes: &mut Vec<Digest32>,
+    texts: &[u8],
     leaf: usize,
-) -> Result<Vec<Hash>, AllocError>
-    requires leaf { leaf < length leaves.now }
-    requires top { from + height < 64 }
-    ensures { IfOk result (λ hashes. hashes.items ≡ path sha256 from height leaf leaves.now) }
-{
-    if height == 0 {
-        return Ok(Vec::new(alloc));
+    from: usize,
+    width: usize,
+) -> Result<(), AllocError> {
+    if width <= from || width <= 1 {
+        return Ok(());
     }
-    let below = from + height - 1;
-    let half = 1usize << below;
-    if half <= leaf {
-        let mut hashes = siblings(
-            alloc,
-            right_side(leaves, below),
-            from,
-            height - 1,
-            leaf - half,
-        )?;
-        hashes.push(node(leaves, below))?;
-        return Ok(hashes);
+    let half = width / 2;
+    if texts.len() <= half {
+        return add_siblings(hashes, texts, leaf, from, half);
     }
-    let mut hashes = siblings(alloc, leaves, from, height - 1, leaf)?;
-    if half < leaves.len() {
-        hashes.push(node(right_side(leaves, below), below))?;
+    let (left, right) = texts.split_at(half);
+    if leaf < half {
+        add_siblings(hashes, left, leaf, from, half)?;
+        hashes.push(node(right, half))?;
+        return Ok(());
     }
+    add_siblings(hashes, right, leaf - half, from, half)?;
+    hashes.push(node(left, half))?;
+    Ok(())
+}
+
+// The membership proof of a leaf under the count of these texts.
+pub fn membership(alloc: Global, texts: &[u8], leaf: usize) -> Result<Vec<Digest32>, AllocError> {
+    let mut hashes = Vec::new(alloc);
+    add_siblings(&mut hashes, texts, leaf, 1, width_of(texts.len()))?;
     Ok(hashes)
 }
 
-// The membership proof of a leaf under the count of these leaves.
-pub fn membership(alloc: Global, leaves: &[Hash], leaf: usize) -> Result<Vec<Hash>, AllocError>
-    requires leaf { leaf < length leaves.now }
-    requires few { length leaves.now ≤ 64 }
-    ensures { IfOk result (λ hashes. hashes.items ≡ membership_path sha256 leaves.now leaf) }
-{
-    siblings(alloc, leaves, 0, depth_of(leaves.len() as u64), leaf)
-}
-
-// The incremental proof from an older count to that of these leaves.
-pub fn increment(alloc: Global, leaves: &[Hash], older: usize) -> Result<Vec<Hash>, AllocError>
-    requires some { 0 < older }
-    requires known { older ≤ length leaves.now }
-    requires few { length leaves.now ≤ 64 }
-    ensures { IfOk result (λ hashes. hashes.items ≡ increment_path sha256 leaves.now older) }
-{
-    let layer = older.trailing_zeros();
-    let height = depth_of(leaves.len() as u64) - layer;
-    let last = &leaves[older - (1 << layer)..];
-    let mut hashes = siblings(alloc, leaves, layer, height, older - 1)?;
-    hashes.insert(0, node(last, layer))?;
+// The incremental proof from an older count, one at least, to that of these texts.
+pub fn increment(alloc: Global, texts: &[u8], older: usize) -> Result<Vec<Digest32>, AllocError> {
+    let width = older & older.wrapping_neg();
+    let last = older.saturating_sub(width);
+    let mut hashes = Vec::new(alloc);
+    hashes.push(node(texts.get(last..).unwrap_or(&[]), width))?;
+    add_siblings(
+        &mut hashes,
+        texts,
+        older.saturating_sub(1),
+        width,
+        width_of(texts.len()),
+    )?;
     Ok(hashes)
 }

@@ -11,12 +11,12 @@ use Rattle.audit_proof.proofs.accept.accepts_versions.Goals as goal
 pub overflow_sub-height : goal.overflow_sub-height
 overflow_sub-height g c =
     let node = older_node c.args.older.now.count c.args.newer.now.count (omega (arith, c.if-older-eq0.false)) c.if-newer-older.false c.if-newer-gt-MAX_COUNT.false in
-    omega (arith, node.below, c.depth_of.ensures)
+    omega (arith, node.below, c.depth_of.ensures.depth)
 
 pub climb_from-requires-clause-top : goal.climb_from-requires-clause-top
 climb_from-requires-clause-top g c =
     let node = older_node c.args.older.now.count c.args.newer.now.count (omega (arith, c.if-older-eq0.false)) c.if-newer-older.false c.if-newer-gt-MAX_COUNT.false in
-    omega (arith, node.below, node.top, c.depth_of.ensures)
+    omega (arith, node.below, node.top, c.depth_of.ensures.depth)
 
 pub returns-then-top-rest : goal.returns-then-top-rest
 returns-then-top-rest g c =
@@ -32,8 +32,8 @@ returns-then-top-rest g c =
     let none_left = ap (λ n. drop n rest) c.if-top-rest.true ∙ drop_all (length rest) rest (omega arith) in
     let given : roots_from_increment H older.count newer.count c.args.hashes.now ≡ Some value =
     ap (roots_from_increment H older.count newer.count) split
-    ∙ ap (λ d. whole (climb (two_values H d) layer (depth newer.count - layer) (older.count - 1) newer.count both rest)) (sym c.depth_of-2.ensures)
-    ∙ ap (λ d. whole (climb (two_values H c.depth_of-2.result) layer (d - layer) (older.count - 1) newer.count both rest)) (sym c.depth_of.ensures)
+    ∙ ap (λ d. whole (climb (two_values H d) layer (depth newer.count - layer) (older.count - 1) newer.count both rest)) (sym c.depth_of-2.ensures.depth)
+    ∙ ap (λ d. whole (climb (two_values H c.depth_of-2.result) layer (d - layer) (older.count - 1) newer.count both rest)) (sym c.depth_of.ensures.depth)
     ∙ ap whole (sym c.in-Some-climb_from.ensures.reached)
     ∙ ap (λ hs. whole (Some (value, hs))) none_left in (
       λ same. record {

@@ -15,8 +15,8 @@ loop-place-preserved c =
     let l = c.loop-place in
     record {
       items = c.push_reserved.ensures.items
-          ∙ ap (λ hs. hs ++ c.read_hash.result ∷ []) l.invariant.items
-          ∙ ap (λ h. first_hashes l.place c.args.bytes.now ++ h ∷ []) c.read_hash.ensures
+          ∙ ap (λ hs. hs ++ c.array_at.result.now ∷ []) l.invariant.items
+          ∙ ap (λ h. first_hashes l.place c.args.bytes.now ++ h ∷ []) c.array_at.ensures
           ∙ sym (rw add-one (first_hashes-more l.place c.args.bytes.now));
       len = search rules;
       room = search rules;

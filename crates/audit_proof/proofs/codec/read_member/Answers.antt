@@ -1,7 +1,8 @@
 use Rattle.std.proofs.Common.{◌≡◌, ◌++◌, ◌*◌, ◌-◌, ◌<◌, ℕ, length, get_or, take, drop, arith, sym, ap, ◌∙◌}
 use Rattle.std.proofs.lemmas.List.{take_rest}
 use Rattle.std.specs.List.{concat}
-use Rattle.audit_proof.specs.declared.bytes.TheConstants.{HEAD_LEN, HASH_LEN, MEMBER_MARK}
+use Rattle.audit_base.specs.declared.limits.TheConstants.{HASH_LEN}
+use Rattle.audit_proof.specs.declared.bytes.TheConstants.{HEAD_LEN, MEMBER_MARK}
 use Rattle.audit_proof.specs.ProofBytes.{first_hashes}
 use Rattle.audit_proof.proofs.WrittenBytes.{length-first_hashes, concat-first_hashes}
 use Rattle.audit_proof.proofs.ReadBytes.{bytes_from_head}

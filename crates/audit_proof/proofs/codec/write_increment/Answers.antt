@@ -1,5 +1,5 @@
 use Rattle.std.proofs.Common.{◌≡◌, All, length, subst, arith}
-use Rattle.audit_proof.specs.declared.bytes.TheConstants.{HASH_LEN}
+use Rattle.audit_base.specs.declared.limits.TheConstants.{HASH_LEN}
 use Rattle.audit_proof.specs.ProofBytes.{increment_in}
 use Rattle.audit_proof.proofs.ReadBytes.{increment_of-increment_bytes}
 use Rattle.audit_proof.proofs.codec.write_increment.Goals as goal

@@ -1,7 +1,6 @@
 use Rattle.std.proofs.Common.{◌≡◌, ◌-◌, ◌++◌, vec_len, vec_capacity, [], ◌∷◌, refl, sym, ap, ◌∙◌, arith}
 use Rattle.std.proofs.lemmas.List.{append-nil, append_assoc}
 use Rattle.sha2.specs.Sha256.{sha256}
-use Rattle.audit_tree.specs.Layers.{row_of}
 use Rattle.audit_tree.specs.Paths.{siblings_at}
 use Rattle.audit_tree.proofs.PathLemmas.{siblings_at-more, siblings_at-zero}
 use Rattle.audit_tree.proofs.paths.push_siblings.Goals.{in-Some, in_default}
@@ -9,7 +8,7 @@ use Rattle.audit_tree.proofs.paths.push_siblings.Goals as goal
 
 pub loop-layer-init : goal.loop-layer-init
 loop-layer-init c =
-    let leaves = row_of c.args.rows.now 0 in
+    let leaves = c.args.frozen.now.leaves in
     let none = ap (siblings_at sha256 leaves c.args.count c.args.leaf c.args.from) (let e : c.args.from - c.args.from ≡ 0 = omega arith in e)
     ∙ siblings_at-zero sha256 c.args.from leaves c.args.count c.args.leaf in
     record {
@@ -21,7 +20,7 @@ loop-layer-init c =
 pub loop-layer-preserved : goal.loop-layer-preserved
 loop-layer-preserved c =
     let l = c.loop-layer in
-    let leaves = row_of c.args.rows.now 0 in
+    let leaves = c.args.frozen.now.leaves in
     let old = c.args.hashes.now.items in
     let so_far = siblings_at sha256 leaves c.args.count c.args.leaf c.args.from (l.layer - c.args.from) in
     let more = siblings_at-more sha256 c.args.from leaves c.args.count c.args.leaf l.layer l.auto.layer in

@@ -1,0 +1,38 @@
+use std::alloc::Global;
+use std::env::{Args, Env, FillError};
+use std::{env, io};
+
+// What the program is called by its own texts.
+const NAME: [u8; 5] = *b"audit";
+
+// An environment in which the program has this name, whatever path it was started by: that path may be no text,
+// and nothing rests on it.
+#[derive(Drop)]
+struct Named<'a, E>(&'a E);
+
+impl<E: Env> Env for Named<'_, E> {
+    fn arg(&self, i: usize, buf: &mut [u8]) -> Result<usize, FillError> {
+        if i > 0 {
+            return self.0.arg(i, buf);
+        }
+        let Some(front) = buf.first_chunk_mut() else {
+            return Err(FillError::TooLong);
+        };
+        *front = NAME;
+        Ok(NAME.len())
+    }
+
+    fn var(&self, name: &str, buf: &mut [u8]) -> Result<usize, FillError> {
+        self.0.var(name, buf)
+    }
+
+    fn var_at(&self, i: usize, buf: &mut [u8]) -> Result<usize, FillError> {
+        self.0.var_at(i, buf)
+    }
+}
+
+/// The words of the command line, of which the first is the program's name. It fails where memory is refused
+/// (`OutOfMemory`), and where a word is no text.
+pub fn words<R: Env>(rt: &R, alloc: Global) -> io::Result<Args> {
+    env::args(&(Named(rt), alloc))
+}

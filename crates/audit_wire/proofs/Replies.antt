@@ -1,0 +1,158 @@
+-- The body of a reply is read as that reply, and has the size that its length field gives.
+use Rattle.std.proofs.Common.{◌≡◌, ℕ, ◌+◌, ◌*◌, ◌<◌, ◌^◌, true, ◌&&◌, leb, eqb, List, [], ◌∷◌, ◌++◌, length, take, drop, Some, None, refl, sym, ap, ◌∙◌, arith}
+use Rattle.std.specs.List.{concat, flat_map, AllByRecursion}
+use Rattle.std.specs.Int.{w16, w32, w64, to_be_bytes, from_be_bytes}
+use Rattle.std.proofs.lemmas.Bool.{and_from, le-leb, eq-eqb, cond-true}
+use Rattle.std.proofs.lemmas.List.{append-nil, take_at, drop_at, take_all}
+use Rattle.std.proofs.lemmas.Nat.{from_be_bytes-to_be_bytes_2, from_be_bytes-to_be_bytes_4, from_be_bytes-to_be_bytes_8}
+use Rattle.audit_base.specs.declared.limits.TheConstants.{HASH_LEN, MAX_MEMBER_HASHES, MAX_INCREMENT_HASHES, MAX_ENTRY}
+use Rattle.audit_base.specs.Bytes.{number_at}
+use Rattle.audit_base.specs.Hashes.{first_hashes}
+use Rattle.audit_base.proofs.HashRows.{flat_map-concat, first_hashes-concat, drop-concat, length-joined, length-concat}
+use Rattle.audit_wire.specs.declared.refusal.Refusal.{Refusal}
+use Rattle.audit_wire.specs.declared.refusal.Refusal.TheVariants as refusal
+use Rattle.audit_wire.specs.declared.reply.Reply.{Reply}
+use Rattle.audit_wire.specs.declared.reply.Reply.TheVariants as reply
+use Rattle.audit_wire.specs.Frame.{frame}
+use Rattle.audit_wire.specs.Reply.{IsWholeReply, reply_frame, reply_body, refusal_code, hash_list, IsReply, HasReplyFields, refusal_of, refused_with, acknowledgement_in, commitment_reply_in, membership_reply_in, increment_reply_in, entry_reply_in, refused_in, reply_in}
+
+-- the hashes of a reply, one after the other
+joined : (hashes : List (List ℕ)) (entry : List ℕ) → flat_map (λ (hash : List ℕ). hash) hashes ++ entry ≡ concat hashes ++ entry
+joined hashes entry = ap (λ bytes. bytes ++ entry) (flat_map-concat hashes)
+
+acknowledgement_again : (tag index count : ℕ) (root : List ℕ) → HasReplyFields (reply.Acknowledgement tag index count root)
+    → acknowledgement_in (to_be_bytes w32 tag ++ to_be_bytes w64 index ++ to_be_bytes w64 count ++ root) ≡ Some (reply.Acknowledgement tag index count root)
+unfolding acknowledgement_in
+acknowledgement_again tag index count root fits =
+    let fields : List ℕ = to_be_bytes w32 tag ++ to_be_bytes w64 index ++ to_be_bytes w64 count ++ root in
+    cond-true (eqb (length fields) 52) (Some (reply.Acknowledgement (number_at w32 0 fields) (number_at w64 4 fields) (number_at w64 12 fields) (take HASH_LEN (drop 20 fields)))) None
+    (eq-eqb (length fields) 52 (omega (arith, fits.3)))
+    ∙ ap (λ (last : List ℕ). Some (reply.Acknowledgement (number_at w32 0 fields) (number_at w64 4 fields) (number_at w64 12 fields) last)) (take_all HASH_LEN root (omega (arith, fits.3)))
+    ∙ ap (λ (n : ℕ). Some (reply.Acknowledgement n (number_at w64 4 fields) (number_at w64 12 fields) root)) (from_be_bytes-to_be_bytes_4 tag fits.0)
+    ∙ ap (λ (n : ℕ). Some (reply.Acknowledgement tag n (number_at w64 12 fields) root)) (from_be_bytes-to_be_bytes_8 index fits.1)
+    ∙ ap (λ (n : ℕ). Some (reply.Acknowledgement tag index n root)) (from_be_bytes-to_be_bytes_8 count fits.2)
+
+commitment_again : (tag count : ℕ) (root : List ℕ) → HasReplyFields (reply.Commitment tag count root)
+    → commitment_reply_in (to_be_bytes w32 tag ++ to_be_bytes w64 count ++ root) ≡ Some (reply.Commitment tag count root)
+unfolding commitment_reply_in
+commitment_again tag count root fits =
+    let fields : List ℕ = to_be_bytes w32 tag ++ to_be_bytes w64 count ++ root in
+    cond-true (eqb (length fields) 44) (Some (reply.Commitment (number_at w32 0 fields) (number_at w64 4 fields) (take HASH_LEN (drop 12 fields)))) None
+    (eq-eqb (length fields) 44 (omega (arith, fits.2)))
+    ∙ ap (λ (last : List ℕ). Some (reply.Commitment (number_at w32 0 fields) (number_at w64 4 fields) last)) (take_all HASH_LEN root (omega (arith, fits.2)))
+    ∙ ap (λ (n : ℕ). Some (reply.Commitment n (number_at w64 4 fields) root)) (from_be_bytes-to_be_bytes_4 tag fits.0)
+    ∙ ap (λ (n : ℕ). Some (reply.Commitment tag n root)) (from_be_bytes-to_be_bytes_8 count fits.1)
+
+membership_again : (tag : ℕ) (hashes : List (List ℕ)) (entry : List ℕ) → IsReply (reply.Membership tag hashes entry) → HasReplyFields (reply.Membership tag hashes entry)
+    → membership_reply_in (to_be_bytes w32 tag ++ hash_list hashes ++ entry) ≡ Some (reply.Membership tag hashes entry)
+unfolding membership_reply_in
+membership_again tag hashes entry within fits =
+    let all = concat hashes ++ entry in
+    let fields : List ℕ = to_be_bytes w32 tag ++ length hashes ∷ all in
+    let same : to_be_bytes w32 tag ++ hash_list hashes ++ entry ≡ fields = ap (λ (bytes : List ℕ). to_be_bytes w32 tag ++ length hashes ∷ bytes) (joined hashes entry) in
+    let size = length-joined hashes entry fits.1 in
+    let n = length hashes in
+    let short : (leb 5 (length fields) && leb n MAX_MEMBER_HASHES) ≡ true =
+    and_from (leb 5 (length fields)) (leb n MAX_MEMBER_HASHES) (le-leb 5 (length fields) (omega arith)) (le-leb n MAX_MEMBER_HASHES (omega (arith, within.0))) in
+    let there : ((leb 5 (length fields) && leb n MAX_MEMBER_HASHES) && leb (5 + HASH_LEN * n) (length fields)) ≡ true =
+    and_from (leb 5 (length fields) && leb n MAX_MEMBER_HASHES) (leb (5 + HASH_LEN * n) (length fields)) short (le-leb (5 + HASH_LEN * n) (length fields) (omega arith)) in
+    let whole : (((leb 5 (length fields) && leb n MAX_MEMBER_HASHES) && leb (5 + HASH_LEN * n) (length fields)) && leb (length fields) (5 + HASH_LEN * n + MAX_ENTRY)) ≡ true =
+    and_from ((leb 5 (length fields) && leb n MAX_MEMBER_HASHES) && leb (5 + HASH_LEN * n) (length fields)) (leb (length fields) (5 + HASH_LEN * n + MAX_ENTRY)) there
+    (le-leb (length fields) (5 + HASH_LEN * n + MAX_ENTRY) (omega (arith, within.1))) in
+    ap membership_reply_in same
+    ∙ cond-true (((leb 5 (length fields) && leb n MAX_MEMBER_HASHES) && leb (5 + HASH_LEN * n) (length fields)) && leb (length fields) (5 + HASH_LEN * n + MAX_ENTRY))
+    (Some (reply.Membership (number_at w32 0 fields) (first_hashes n all) (drop (HASH_LEN * n) all))) None whole
+    ∙ ap (λ (m : ℕ). Some (reply.Membership m (first_hashes n all) (drop (HASH_LEN * n) all))) (from_be_bytes-to_be_bytes_4 tag fits.0)
+    ∙ ap (λ (hs : List (List ℕ)). Some (reply.Membership tag hs (drop (HASH_LEN * n) all))) (first_hashes-concat hashes entry fits.1)
+    ∙ ap (λ (behind : List ℕ). Some (reply.Membership tag hashes behind)) (drop-concat hashes entry fits.1)
+
+increment_again : (tag : ℕ) (hashes : List (List ℕ)) → IsReply (reply.Incremental tag hashes) → HasReplyFields (reply.Incremental tag hashes)
+    → increment_reply_in (to_be_bytes w32 tag ++ hash_list hashes) ≡ Some (reply.Incremental tag hashes)
+unfolding increment_reply_in
+increment_again tag hashes within fits =
+    let all = concat hashes ++ [] in
+    let n = length hashes in
+    let fields : List ℕ = to_be_bytes w32 tag ++ n ∷ all in
+    let same : to_be_bytes w32 tag ++ hash_list hashes ≡ fields =
+    ap (λ (bytes : List ℕ). to_be_bytes w32 tag ++ n ∷ bytes) (flat_map-concat hashes ∙ sym (append-nil (concat hashes))) in
+    let size : length all ≡ HASH_LEN * n + 0 = length-joined hashes [] fits.1 in
+    let short : (leb 5 (length fields) && leb n MAX_INCREMENT_HASHES) ≡ true =
+    and_from (leb 5 (length fields)) (leb n MAX_INCREMENT_HASHES) (le-leb 5 (length fields) (omega arith)) (le-leb n MAX_INCREMENT_HASHES (omega (arith, within))) in
+    let whole : ((leb 5 (length fields) && leb n MAX_INCREMENT_HASHES) && eqb (length fields) (5 + HASH_LEN * n)) ≡ true =
+    and_from (leb 5 (length fields) && leb n MAX_INCREMENT_HASHES) (eqb (length fields) (5 + HASH_LEN * n)) short (eq-eqb (length fields) (5 + HASH_LEN * n) (omega arith)) in
+    ap increment_reply_in same
+    ∙ cond-true ((leb 5 (length fields) && leb n MAX_INCREMENT_HASHES) && eqb (length fields) (5 + HASH_LEN * n))
+    (Some (reply.Incremental (number_at w32 0 fields) (first_hashes n all))) None whole
+    ∙ ap (λ (m : ℕ). Some (reply.Incremental m (first_hashes n all))) (from_be_bytes-to_be_bytes_4 tag fits.0)
+    ∙ ap (λ (hs : List (List ℕ)). Some (reply.Incremental tag hs)) (first_hashes-concat hashes [] fits.1)
+
+entry_again : (tag : ℕ) (entry : List ℕ) → IsReply (reply.Entry tag entry) → tag < 2 ^ 32 → entry_reply_in (to_be_bytes w32 tag ++ entry) ≡ Some (reply.Entry tag entry)
+unfolding entry_reply_in
+entry_again tag entry within fits =
+    let fields : List ℕ = to_be_bytes w32 tag ++ entry in
+    cond-true (leb 4 (length fields) && leb (length fields) (4 + MAX_ENTRY)) (Some (reply.Entry (number_at w32 0 fields) (drop 4 fields))) None
+    (and_from (leb 4 (length fields)) (leb (length fields) (4 + MAX_ENTRY)) (le-leb 4 (length fields) (omega arith)) (le-leb (length fields) (4 + MAX_ENTRY) (omega (arith, within))))
+    ∙ ap (λ (n : ℕ). Some (reply.Entry n entry)) (from_be_bytes-to_be_bytes_4 tag fits)
+
+refusal_again : (code : Refusal) → refusal_of (refusal_code code) ≡ Some code
+refusal_again refusal.DamagedLog = refl
+refusal_again refusal.Full = refl
+refusal_again refusal.NoSuchVersion = refl
+refusal_again refusal.Worn = refl
+refusal_again refusal.Device = refl
+refusal_again refusal.Malformed = refl
+
+refused_again : (tag : ℕ) (code : Refusal) → tag < 2 ^ 32 → refused_in (to_be_bytes w32 tag ++ refusal_code code ∷ []) ≡ Some (reply.Refused tag code)
+unfolding refused_in
+refused_again tag code fits =
+    ap (refused_with (number_at w32 0 (to_be_bytes w32 tag ++ refusal_code code ∷ []))) (refusal_again code)
+    ∙ ap (λ (n : ℕ). Some (reply.Refused n code)) (from_be_bytes-to_be_bytes_4 tag fits)
+
+pub reply_again : (given : Reply) → IsReply given → HasReplyFields given → reply_in (reply_body given) ≡ Some given
+unfolding reply_in
+reply_again (reply.Acknowledgement tag index count root) within fits = acknowledgement_again tag index count root fits
+reply_again (reply.Commitment tag count root) within fits = commitment_again tag count root fits
+reply_again (reply.Membership tag hashes entry) within fits = membership_again tag hashes entry within fits
+reply_again (reply.Incremental tag hashes) within fits = increment_again tag hashes within fits
+reply_again (reply.Entry tag entry) within fits = entry_again tag entry within fits
+reply_again (reply.Refused tag code) within fits = refused_again tag code fits
+
+-- ---- sizes
+
+pub reply_size : (given : Reply) → IsReply given → HasReplyFields given → length (reply_body given) < 2 ^ 16
+reply_size (reply.Acknowledgement tag index count root) within fits = omega (arith, fits.3)
+reply_size (reply.Commitment tag count root) within fits = omega (arith, fits.2)
+reply_size (reply.Membership tag hashes entry) within fits = omega (arith, ap length (joined hashes entry), length-joined hashes entry fits.1, within.0, within.1)
+reply_size (reply.Incremental tag hashes) within fits = omega (arith, ap length (flat_map-concat hashes), length-concat hashes fits.1, within)
+reply_size (reply.Entry tag entry) within fits = omega (arith, within)
+reply_size (reply.Refused tag code) within fits = omega arith
+
+-- ---- replies in a row
+
+-- the bodies of two frames, and what follows them
+frame_split : (a b rest others : List ℕ) → length a < 2 ^ 16 → length b < 2 ^ 16 → frame a ++ rest ≡ frame b ++ others → (a ≡ b) × (rest ≡ others)
+frame_split a b rest others short_a short_b same =
+    let size : length a ≡ length b =
+    sym (from_be_bytes-to_be_bytes_2 (length a) short_a) ∙ ap (λ (bytes : List ℕ). from_be_bytes w16 (take 2 bytes)) same ∙ from_be_bytes-to_be_bytes_2 (length b) short_b in
+    let behind : a ++ rest ≡ b ++ others = ap (drop 2) same in (
+      sym (take_at a rest (length a) refl) ∙ ap (take (length a)) behind ∙ take_at b others (length a) (sym size),
+      sym (drop_at a rest (length a) refl) ∙ ap (drop (length a)) behind ∙ drop_at b others (length a) (sym size),
+    )
+
+pub same_first_reply : (one other : Reply) (rest others : List ℕ) → IsWholeReply one → IsWholeReply other → reply_frame one ++ rest ≡ reply_frame other ++ others
+    → (one ≡ other) × (rest ≡ others)
+same_first_reply one other rest others whole_one whole_other same =
+    let parts = frame_split (reply_body one) (reply_body other) rest others (reply_size one whole_one.within whole_one.fields) (reply_size other whole_other.within whole_other.fields) same in
+    let read : Some one ≡ Some other = sym (reply_again one whole_one.within whole_one.fields) ∙ ap reply_in parts.0 ∙ reply_again other whole_other.within whole_other.fields in
+    (cc, parts.1)
+
+no_reply : (one : Reply) (rest : List ℕ) → reply_frame one ++ rest ≡ [] → ⊥
+no_reply one rest none = cc
+
+pub same_replies : (replies others : List Reply) → AllByRecursion IsWholeReply replies → AllByRecursion IsWholeReply others → flat_map reply_frame replies ≡ flat_map reply_frame others → replies ≡ others
+same_replies [] [] all all_others same = refl
+same_replies [] (other ∷ others) all all_others same = absurd (no_reply other (flat_map reply_frame others) (sym same))
+same_replies (one ∷ replies) [] all all_others same = absurd (no_reply one (flat_map reply_frame replies) same)
+same_replies (one ∷ replies) (other ∷ others) all all_others same =
+    let first = same_first_reply one other (flat_map reply_frame replies) (flat_map reply_frame others) all.0 all_others.0 same in
+    ap (λ r. r ∷ replies) first.0 ∙ ap (λ rs. other ∷ rs) (same_replies replies others all.1 all_others.1 first.1)

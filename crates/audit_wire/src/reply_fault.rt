@@ -1,0 +1,12 @@
+use thiserror::Error;
+
+/// Why bytes weren't read as a reply.
+#[derive(Clone, Copy, Debug, Drop, Error, PartialEq, Eq)]
+pub enum ReplyFault {
+    /// The bytes are no reply's.
+    #[error("malformed reply")]
+    Malformed,
+    /// Memory was refused for the reply's parts.
+    #[error("out of memory")]
+    Memory,
+}

@@ -1,0 +1,175 @@
+//! Replies, as a client reads them.
+ghost use Rattle.std.specs.Prelude.{◌≡◌, ◌^◌, ◌<◌, ℕ, List, ◌++◌, length, IfSome, MatchOption};
+ghost use Rattle.audit_wire.specs.Frame.{frame};
+ghost use Rattle.audit_wire.specs.Reply.{acknowledgement_in, commitment_reply_in, membership_reply_in, increment_reply_in, entry_reply_in, refused_in, reply_in, IsReadAs};
+
+use crate::byte_list::ByteList;
+use crate::hash_list::HashList;
+use crate::limits::LENGTH_BYTES;
+use crate::refusal::Refusal;
+use crate::reply::Reply;
+use crate::reply_fault::ReplyFault;
+use crate::reply_kind::ReplyKind;
+use audit_base::{
+    HASH_LEN, MAX_ENTRY, MAX_INCREMENT_HASHES, MAX_MEMBER_HASHES, array_at, read_hashes, u32_at,
+    u64_at,
+};
+use std::alloc::Global;
+
+/// The body of the first frame of a session's output, and what follows that frame: nothing where the first frame
+/// isn't whole yet. It takes no memory.
+pub fn first_reply(output: &[u8]) -> Option<(&[u8], &[u8])>
+    ensures found { IfSome result (λ parts. output.now ≡ frame parts.0.now ++ parts.1.now) }
+    ensures only { (body rest : List ℕ) → length body < 2 ^ 16 → output.now ≡ frame body ++ rest
+        → MatchOption result ⊥ (λ parts. (parts.0.now ≡ body) × (parts.1.now ≡ rest)) }
+{
+    if output.len() < LENGTH_BYTES {
+        return None;
+    }
+    let size = u16::from_be_bytes([output[0], output[1]]) as usize;
+    let (_, behind) = output.split_at(LENGTH_BYTES);
+    if behind.len() < size {
+        return None;
+    }
+    Some(behind.split_at(size))
+}
+
+/// Reads the body of a frame as a reply: `Malformed` exactly where it is no reply's, and `Memory` where memory is
+/// refused for the hashes or the entry of one.
+pub fn read_reply(alloc: Global, body: &[u8]) -> Result<Reply, ReplyFault>
+    ensures { IsReadAs (reply_in body.now) result }
+{
+    read_by_kind(alloc, body)
+}
+
+#[tactic(auto, unfolding(crate::specs::Reply::reply_in))]
+fn read_by_kind(alloc: Global, body: &[u8]) -> Result<Reply, ReplyFault>
+    ensures { IsReadAs (reply_in body.now) result }
+{
+    let [first, fields @ ..] = body else {
+        return Err(ReplyFault::Malformed);
+    };
+    let Some(kind) = ReplyKind::from_byte(*first) else {
+        return Err(ReplyFault::Malformed);
+    };
+    match kind {
+        ReplyKind::Acknowledgement => acknowledgement_of(fields),
+        ReplyKind::Commitment => commitment_of(fields),
+        ReplyKind::Membership => membership_of(alloc, fields),
+        ReplyKind::Incremental => increment_of(alloc, fields),
+        ReplyKind::Entry => entry_of(alloc, fields),
+        ReplyKind::Refused => refused_of(fields),
+    }
+}
+
+#[tactic(auto, unfolding(crate::specs::Reply::acknowledgement_in))]
+fn acknowledgement_of(fields: &[u8]) -> Result<Reply, ReplyFault>
+    ensures { IsReadAs (acknowledgement_in fields.now) result }
+{
+    if fields.len() != 20 + HASH_LEN {
+        return Err(ReplyFault::Malformed);
+    }
+    Ok(Reply::Acknowledgement {
+        tag: u32_at(fields, 0),
+        index: u64_at(fields, 4),
+        count: u64_at(fields, 12),
+        root: *array_at(fields, 20),
+    })
+}
+
+#[tactic(auto, unfolding(crate::specs::Reply::commitment_reply_in))]
+fn commitment_of(fields: &[u8]) -> Result<Reply, ReplyFault>
+    ensures { IsReadAs (commitment_reply_in fields.now) result }
+{
+    if fields.len() != 12 + HASH_LEN {
+        return Err(ReplyFault::Malformed);
+    }
+    Ok(Reply::Commitment {
+        tag: u32_at(fields, 0),
+        count: u64_at(fields, 4),
+        root: *array_at(fields, 12),
+    })
+}
+
+#[tactic(auto, unfolding(crate::specs::Reply::membership_reply_in))]
+fn membership_of(alloc: Global, fields: &[u8]) -> Result<Reply, ReplyFault>
+    ensures { IsReadAs (membership_reply_in fields.now) result }
+{
+    if fields.len() < 5 {
+        return Err(ReplyFault::Malformed);
+    }
+    let number = fields[4] as usize;
+    let (_, behind) = fields.split_at(5);
+    if number > MAX_MEMBER_HASHES || behind.len() < HASH_LEN * number {
+        return Err(ReplyFault::Malformed);
+    }
+    let (_, entry) = behind.split_at(HASH_LEN * number);
+    if entry.len() > MAX_ENTRY {
+        return Err(ReplyFault::Malformed);
+    }
+    let Ok(hashes) = read_hashes(alloc, behind, number) else {
+        return Err(ReplyFault::Memory);
+    };
+    let Ok(entry) = Vec::from_slice(alloc, entry) else {
+        return Err(ReplyFault::Memory);
+    };
+    Ok(Reply::Membership {
+        tag: u32_at(fields, 0),
+        hashes: HashList::from_vec(hashes),
+        entry: ByteList::from_vec(entry),
+    })
+}
+
+#[tactic(auto, unfolding(crate::specs::Reply::increment_reply_in))]
+fn increment_of(alloc: Global, fields: &[u8]) -> Result<Reply, ReplyFault>
+    ensures { IsReadAs (increment_reply_in fields.now) result }
+{
+    if fields.len() < 5 {
+        return Err(ReplyFault::Malformed);
+    }
+    let number = fields[4] as usize;
+    let (_, behind) = fields.split_at(5);
+    if number > MAX_INCREMENT_HASHES || behind.len() != HASH_LEN * number {
+        return Err(ReplyFault::Malformed);
+    }
+    let Ok(hashes) = read_hashes(alloc, behind, number) else {
+        return Err(ReplyFault::Memory);
+    };
+    Ok(Reply::Incremental {
+        tag: u32_at(fields, 0),
+        hashes: HashList::from_vec(hashes),
+    })
+}
+
+#[tactic(auto, unfolding(crate::specs::Reply::entry_reply_in))]
+fn entry_of(alloc: Global, fields: &[u8]) -> Result<Reply, ReplyFault>
+    ensures { IsReadAs (entry_reply_in fields.now) result }
+{
+    if fields.len() < 4 || fields.len() > 4 + MAX_ENTRY {
+        return Err(ReplyFault::Malformed);
+    }
+    let (_, entry) = fields.split_at(4);
+    let Ok(entry) = Vec::from_slice(alloc, entry) else {
+        return Err(ReplyFault::Memory);
+    };
+    Ok(Reply::Entry {
+        tag: u32_at(fields, 0),
+        entry: ByteList::from_vec(entry),
+    })
+}
+
+#[tactic(auto, unfolding(crate::specs::Reply::refused_in))]
+fn refused_of(fields: &[u8]) -> Result<Reply, ReplyFault>
+    ensures { IsReadAs (refused_in fields.now) result }
+{
+    if fields.len() != 5 {
+        return Err(ReplyFault::Malformed);
+    }
+    match Refusal::from_code(fields[4]) {
+        Some(refusal) => Ok(Reply::Refused {
+            tag: u32_at(fields, 0),
+            refusal,
+        }),
+        None => Err(ReplyFault::Malformed),
+    }
+}
