@@ -19,5 +19,5 @@ module _ {D : Type 0} {g : sectors.Ghosts D} where
   calls_left fuse = fuse.left
 
   -- it still lets a call pass
-  abbrev pub is_whole : Fuse D g → Bool
-  is_whole fuse = nat_lt 0 (calls_left fuse)
+  abbrev pub is_intact : Fuse D g → Bool
+  is_intact fuse = nat_lt 0 (calls_left fuse)

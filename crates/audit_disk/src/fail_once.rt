@@ -62,7 +62,8 @@ fn passes(left: &mut Option<u64>) -> bool
 impl<D: Sectors> Sectors for FailOnce<D> {
     ghost use Rattle.audit_disk.specs.FailOnce.{fail_once_inner, fail_once_view, calls_before};
 
-    ghost view = { λ disk. shifted (D.view disk.gate.inner) disk.gate.place disk.gate.missed disk.gate.refused disk.gate.in_step disk.gate.fits };
+    ghost view = { λ disk. shifted (D.view disk.gate.inner) disk.gate.place disk.gate.missed disk.gate.refused
+        disk.gate.in_step disk.gate.fits };
 
     fn size(&self) -> u64 {
         self.gate.inner.size()

@@ -59,7 +59,8 @@ impl<F: SectorFile> Sectors for FileDisk<F> {
     ghost use Rattle.audit_disk.specs.File.{IsFileWrite, IsFileSync, ReadsFile};
     ghost use Rattle.audit_disk.specs.FileDisk.{file_disk_view, file_of, has_stopped, Reaches, IsShut, IsKeptBack};
 
-    ghost view = { λ disk. file_view (F.file disk.file) disk.sectors (unwrap_or disk.failed_at disk.clock) disk.clock disk.failures (sectors_fit disk.sectors disk.fits) disk.in_order disk.in_range disk.sized };
+    ghost view = { λ disk. file_view (F.file disk.file) disk.sectors (unwrap_or disk.failed_at disk.clock)
+        disk.clock disk.failures (sectors_fit disk.sectors disk.fits) disk.in_order disk.in_range disk.sized };
 
     fn size(&self) -> u64 {
         self.sectors

@@ -42,10 +42,11 @@ impl<D: Sectors> Fuse<D> {
 }
 
 impl<D: Sectors> Sectors for Fuse<D> {
-    ghost use Rattle.audit_disk.specs.Fuse.{fuse_inner, fuse_view, calls_left, is_whole};
+    ghost use Rattle.audit_disk.specs.Fuse.{fuse_inner, fuse_view, calls_left, is_intact};
     ghost use Rattle.audit_disk.specs.Passing.{PassesOn};
 
-    ghost view = { λ fuse. shifted (D.view fuse.gate.inner) fuse.gate.place fuse.gate.missed fuse.gate.refused fuse.gate.in_step fuse.gate.fits };
+    ghost view = { λ fuse. shifted (D.view fuse.gate.inner) fuse.gate.place fuse.gate.missed fuse.gate.refused
+        fuse.gate.in_step fuse.gate.fits };
 
     fn size(&self) -> u64 {
         self.gate.inner.size()
@@ -58,7 +59,7 @@ impl<D: Sectors> Sectors for Fuse<D> {
     fn read(&mut self, at: u64, into: &mut [u8; SECTOR_SIZE]) -> Result<(), DeviceFault>
         requires { at < (D.view (fuse_inner self.old)).size }
         ensures read { IsRead (fuse_view self.old) (fuse_view self.new) at into.new result }
-        ensures passes { PassesOn (is_whole self.old)
+        ensures passes { PassesOn (is_intact self.old)
             (IsRead (D.view (fuse_inner self.old)) (D.view (fuse_inner self.new)) at into.new result)
             (fuse_inner self.old) (fuse_inner self.new) result }
         ensures left { calls_left self.new ≡ calls_left self.old }
@@ -69,7 +70,7 @@ impl<D: Sectors> Sectors for Fuse<D> {
     fn write(&mut self, at: u64, bytes: &[u8; SECTOR_SIZE]) -> Result<(), DeviceFault>
         requires { at < (D.view (fuse_inner self.old)).size }
         ensures write { IsWrite (fuse_view self.old) (fuse_view self.new) at bytes.now result }
-        ensures passes { PassesOn (is_whole self.old)
+        ensures passes { PassesOn (is_intact self.old)
             ((fuse_view self.old).clock < last_count
             → IsWrite (D.view (fuse_inner self.old)) (D.view (fuse_inner self.new)) at bytes.now result)
             (fuse_inner self.old) (fuse_inner self.new) result }
@@ -82,7 +83,7 @@ impl<D: Sectors> Sectors for Fuse<D> {
 
     fn sync(&mut self) -> Result<(), DeviceFault>
         ensures sync { IsSync (fuse_view self.old) (fuse_view self.new) result }
-        ensures passes { PassesOn (is_whole self.old)
+        ensures passes { PassesOn (is_intact self.old)
             ((fuse_view self.old).clock < last_count
             → IsSync (D.view (fuse_inner self.old)) (D.view (fuse_inner self.new)) result)
             (fuse_inner self.old) (fuse_inner self.new) result }

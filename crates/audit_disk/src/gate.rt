@@ -90,7 +90,8 @@ impl<D: Sectors> Gate<D> {
         requires { IsFalse passes → MayShut self.old }
 
         ensures sync { IsSync (gate_view self.old) (gate_view self.new) result }
-        ensures passes { PassesOn passes (IsBelowEnd self.old → IsSync (D.view self.old.inner) (D.view self.new.inner) result)
+        ensures passes { PassesOn passes
+            (IsBelowEnd self.old → IsSync (D.view self.old.inner) (D.view self.new.inner) result)
             self.old.inner self.new.inner result }
         ensures shut { IsFalse passes → MayShut self.new }
         ensures missed { IsTrue passes → self.new.missed ≡ self.old.missed }

@@ -25,7 +25,8 @@ impl Sectors for MemDisk {
     ghost use Rattle.audit_device.specs.Calls.{IsRead, IsWrite, IsSync};
     ghost use Rattle.audit_disk.specs.MemDisk.{disk_view, disk_held, HoldsWrite, HoldsSync};
 
-    ghost view = { λ disk. memory_view disk.start.items (bytes_of disk.content.items) disk.log.calls.items disk.log.clock disk.log.failures disk.current disk.log.stamped disk.sized disk.log.in_range };
+    ghost view = { λ disk. memory_view disk.start.items (bytes_of disk.content.items) disk.log.calls.items
+        disk.log.clock disk.log.failures disk.current disk.log.stamped disk.sized disk.log.in_range };
 
     fn size(&self) -> u64 {
         self.start.len() as u64

@@ -85,7 +85,8 @@ pub(crate) fn crashed_blocks(
     calls: &[Call],
     pick: &[u64],
 ) -> Result<Vec<Block>, AllocError>
-    ensures { IfOk result (λ blocks. bytes_of blocks.items ≡ crashed (after_calls calls.now (map settled start.now)) pick.now) }
+    ensures { IfOk result (λ blocks. bytes_of blocks.items
+        ≡ crashed (after_calls calls.now (map settled start.now)) pick.now) }
 {
     let mut progress = progress_at(alloc, start, pick)?;
     for call in calls {
