@@ -1,8 +1,7 @@
 -- The content after some calls, and calls that end with a sync.
 use Rattle.std.proofs.Common.{◌≡◌, ℕ, zero, suc, ◌+◌, ◌<◌, List, [], ◌∷◌, ◌++◌, map, set, get_or, take, drop, length, refl, sym, ◌∙◌, ap, subst}
 use Rattle.std.proofs.lemmas.List.{take_more, take-append-drop, length-set}
-use Rattle.audit_device.specs.Image.{Image}
-use Rattle.audit_disk.specs.Held.{Held, settled, newest, bytes_of, crashed, after_write, after_sync}
+use Rattle.audit_disk.specs.Held.{Held, settled, newest, crashed, after_write, after_sync}
 use Rattle.audit_disk.specs.Memory.{after_call, after_calls}
 use Rattle.audit_disk.specs.Contents.{newest_of, content_after, EndSynced}
 use Rattle.audit_disk.specs.declared.block.Block.{Block}
