@@ -2,13 +2,14 @@ ghost use Rattle.std.specs.Prelude.{◌≡◌, ℕ, ◌-◌, ◌≤◌, List, []
 ghost use Rattle.sha2.specs.Hashers.{Holds256};
 ghost use Rattle.audit_mac.specs.Hmac.{hmac, key_block};
 
+use audit_base::HASH_LEN;
 use sha2::{Digest, Sha256};
 
 /// The length of a block of SHA-256 in bytes, to which HMAC pads its key.
 pub const BLOCK_LEN: usize = 64;
 
-/// The length of an HMAC-SHA-256 in bytes.
-pub const MAC_LEN: usize = 32;
+/// The length of an HMAC-SHA-256 in bytes: that of a digest.
+pub const MAC_LEN: usize = HASH_LEN;
 
 // The bytes ipad and opad of RFC 2104, section 2.
 const INNER_PAD: u8 = 0x36;

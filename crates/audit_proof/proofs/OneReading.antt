@@ -7,8 +7,9 @@ use Rattle.audit_base.specs.Bytes.{AreBytes}
 use Rattle.audit_proof.specs.declared.bytes.Head.{Head}
 use Rattle.audit_base.specs.declared.limits.TheConstants.{HASH_LEN, MAX_MEMBER_HASHES, MAX_INCREMENT_HASHES, MAX_ENTRY}
 use Rattle.audit_proof.specs.declared.bytes.TheConstants.{MEMBER_MARK, INCREMENT_MARK, HEAD_LEN}
-use Rattle.audit_proof.specs.ProofBytes.{Member, Increment, IsMember, IsIncrement, number_in, first_hashes, head_of, member_bytes, member_from, member_of, increment_bytes, increment_from, increment_of}
-use Rattle.audit_proof.proofs.WrittenBytes.{length-first_hashes, concat-first_hashes}
+use Rattle.audit_base.specs.Hashes.{first_hashes}
+use Rattle.audit_proof.specs.ProofBytes.{Member, Increment, IsMember, IsIncrement, number_in, head_of, member_bytes, member_from, member_of, increment_bytes, increment_from, increment_of}
+use Rattle.audit_base.proofs.HashRows.{length-first_hashes, concat-first_hashes}
 use Rattle.audit_proof.proofs.ReadBytes.{member_of-member_bytes, increment_of-increment_bytes, small_number, head_parts, bytes_from_head}
 
 -- a number of 8 bytes is below 2^64

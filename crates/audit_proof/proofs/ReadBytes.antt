@@ -7,7 +7,8 @@ use Rattle.audit_proof.specs.declared.bytes.Head.{Head}
 use Rattle.audit_base.specs.declared.limits.TheConstants.{HASH_LEN, MAX_MEMBER_HASHES, MAX_INCREMENT_HASHES, MAX_ENTRY}
 use Rattle.audit_proof.specs.declared.bytes.TheConstants.{MEMBER_MARK, INCREMENT_MARK, HEAD_LEN}
 use Rattle.audit_proof.specs.ProofBytes.{Member, Increment, IsMember, IsIncrement, number_bytes, number_in, head_of, proof_bytes, member_bytes, member_from, member_of, increment_bytes, increment_from, increment_of}
-use Rattle.audit_proof.proofs.WrittenBytes.{number_in-of, number_bytes-number_of, drop-proof_bytes, head_of-proof_bytes, first_hashes-concat, drop-concat, length-joined}
+use Rattle.audit_base.proofs.HashRows.{first_hashes-concat, drop-concat, length-joined}
+use Rattle.audit_proof.proofs.WrittenBytes.{number_in-of, number_bytes-number_of, drop-proof_bytes, head_of-proof_bytes}
 
 pub member_of-member_bytes : (p : Member) → IsMember p → member_of (member_bytes p) ≡ Some p
 member_of-member_bytes p fits =

@@ -1,14 +1,13 @@
 -- The bytes of proofs, written and read.
-use Rattle.std.proofs.Common.{◌≡◌, ℕ, zero, suc, ◌+◌, ◌*◌, ◌^◌, ◌<◌, ◌≤◌, List, [], ◌∷◌, ◌++◌, All, Option, Some, length, take, drop, get_or, refl, sym, ap, ◌∙◌, arith, length-append}
+use Rattle.std.proofs.Common.{◌≡◌, ℕ, ◌^◌, ◌<◌, ◌≤◌, List, [], ◌∷◌, ◌++◌, Option, Some, length, take, drop, get_or, refl, sym, ap, ◌∙◌, arith, length-append}
 use Rattle.std.specs.List.{concat}
 use Rattle.std.specs.Int.{w64, from_be_bytes}
 use Rattle.std.proofs.lemmas.Bool.{le-ltb, eq-eqb}
-use Rattle.std.proofs.lemmas.List.{take-append-drop, append_assoc, append-nil, drop-drop, take_at, drop_at, get_or_at}
+use Rattle.std.proofs.lemmas.List.{append_assoc, append-nil, take_at, drop_at, get_or_at}
 use Rattle.std.proofs.lemmas.Nat.{be_bytes_8, from_be_bytes-to_be_bytes_8}
 use Rattle.audit_proof.specs.declared.bytes.Head.{Head}
-use Rattle.audit_base.specs.declared.limits.TheConstants.{HASH_LEN}
 use Rattle.audit_proof.specs.declared.bytes.TheConstants.{HEAD_LEN}
-use Rattle.audit_proof.specs.ProofBytes.{number_bytes, number_in, first_hashes, head_of, proof_bytes}
+use Rattle.audit_proof.specs.ProofBytes.{number_bytes, number_in, head_of, proof_bytes}
 
 -- the number in 8 bytes
 unfoldable pub number_of : List ℕ → ℕ
@@ -31,67 +30,9 @@ pub number_bytes-number_of : (bytes : List ℕ) → length bytes ≡ 8 → ((i :
 unfolding number_bytes number_of
 number_bytes-number_of bytes long small = be_bytes_8 bytes (from_be_bytes w64 bytes) long small refl
 
--- hashes one after another
-length-concat : (hashes : List (List ℕ)) → All (λ hash. length hash ≡ HASH_LEN) hashes →
-    length (concat hashes) ≡ HASH_LEN * length hashes
-length-concat [] h = refl
-length-concat (hash ∷ hashes) h =
-    omega (arith, length-append hash (concat hashes), h 0 [] (omega arith), length-concat hashes (λ k d l. h (suc k) d (omega arith)))
-
 pub concat-push : (hashes : List (List ℕ)) (hash : List ℕ) → concat (hashes ++ hash ∷ []) ≡ concat hashes ++ hash
 concat-push [] hash = append-nil hash
 concat-push (x ∷ hashes) hash = ap (λ bs. x ++ bs) (concat-push hashes hash) ∙ sym (append_assoc x (concat hashes) hash)
-
-pub first_hashes-concat : (hashes : List (List ℕ)) (behind : List ℕ) → All (λ hash. length hash ≡ HASH_LEN) hashes →
-    first_hashes (length hashes) (concat hashes ++ behind) ≡ hashes
-unfolding first_hashes
-first_hashes-concat [] behind h = refl
-first_hashes-concat (hash ∷ hashes) behind h =
-    let long : length hash ≡ HASH_LEN = h 0 [] (omega arith) in
-    let front = append_assoc hash (concat hashes) behind in
-    ap (λ bs. take HASH_LEN bs ∷ first_hashes (length hashes) (drop HASH_LEN bs)) front
-    ∙ ap (λ bs. bs ∷ first_hashes (length hashes) (drop HASH_LEN (hash ++ (concat hashes ++ behind)))) (take_at hash (concat hashes ++ behind) HASH_LEN long)
-    ∙ ap (λ bs. hash ∷ first_hashes (length hashes) bs) (drop_at hash (concat hashes ++ behind) HASH_LEN long)
-    ∙ ap (λ hs. hash ∷ hs) (first_hashes-concat hashes behind (λ k d l. h (suc k) d (omega arith)))
-
-pub drop-concat : (hashes : List (List ℕ)) (behind : List ℕ) → All (λ hash. length hash ≡ HASH_LEN) hashes →
-    drop (HASH_LEN * length hashes) (concat hashes ++ behind) ≡ behind
-drop-concat hashes behind h = drop_at (concat hashes) behind (HASH_LEN * length hashes) (length-concat hashes h)
-
-pub length-joined : (hashes : List (List ℕ)) (behind : List ℕ) → All (λ hash. length hash ≡ HASH_LEN) hashes →
-    length (concat hashes ++ behind) ≡ HASH_LEN * length hashes + length behind
-length-joined hashes behind h = omega (arith, length-append (concat hashes) behind, length-concat hashes h)
-
-pub length-first_hashes : (n : ℕ) (bytes : List ℕ) → length (first_hashes n bytes) ≡ n
-unfolding first_hashes
-length-first_hashes zero bytes = refl
-length-first_hashes (suc n) bytes = ap suc (length-first_hashes n (drop HASH_LEN bytes))
-
-pub concat-first_hashes : (n : ℕ) (bytes : List ℕ) → concat (first_hashes n bytes) ++ drop (HASH_LEN * n) bytes ≡ bytes
-unfolding first_hashes
-concat-first_hashes zero bytes = refl
-concat-first_hashes (suc n) bytes =
-    let next = drop HASH_LEN bytes in
-    let more : HASH_LEN * suc n ≡ HASH_LEN + HASH_LEN * n = omega arith in
-    append_assoc (take HASH_LEN bytes) (concat (first_hashes n next)) (drop (HASH_LEN * suc n) bytes)
-    ∙ ap (λ bs. take HASH_LEN bytes ++ (concat (first_hashes n next) ++ bs))
-    (ap (λ k. drop k bytes) more ∙ sym (drop-drop (HASH_LEN * n) HASH_LEN bytes))
-    ∙ ap (λ bs. take HASH_LEN bytes ++ bs) (concat-first_hashes n next)
-    ∙ take-append-drop HASH_LEN bytes
-
-pub first_hashes-more : (n : ℕ) (bytes : List ℕ) →
-    first_hashes (suc n) bytes ≡ first_hashes n bytes ++ take HASH_LEN (drop (HASH_LEN * n) bytes) ∷ []
-unfolding first_hashes
-first_hashes-more zero bytes = refl
-first_hashes-more (suc n) bytes =
-    let more : HASH_LEN * suc n ≡ HASH_LEN + HASH_LEN * n = omega arith in
-    ap (λ hs. take HASH_LEN bytes ∷ hs) (first_hashes-more n (drop HASH_LEN bytes)
-    ∙ ap (λ bs. first_hashes n (drop HASH_LEN bytes) ++ take HASH_LEN bs ∷ [])
-    (drop-drop (HASH_LEN * n) HASH_LEN bytes ∙ ap (λ k. drop k bytes) (sym more)))
-
-pub first_hashes-none : (bytes : List ℕ) → first_hashes 0 bytes ≡ []
-unfolding first_hashes
-first_hashes-none bytes = refl
 
 -- what stands before the hashes and behind it
 module _ (mark first second : ℕ) (hashes : List (List ℕ)) (behind : List ℕ) where

@@ -1,7 +1,9 @@
 -- The way up from a node of a history tree with the hashes of a proof, from the root down: at each
 -- node into the half that holds the leaf, then the sibling's hash is taken from the list.
-use Rattle.std.specs.Prelude.{ℕ, zero, suc, ◌+◌, ◌-◌, ◌^◌, nat_le, nat_lt, List, [], ◌∷◌, Option, None, Some, if◌then◌else◌}
+use Rattle.std.specs.Prelude.{ℕ, zero, suc, ◌+◌, ◌-◌, ◌^◌, nat_le, nat_lt, List, [], ◌∷◌, ◌++◌, Option, None, Some, if◌then◌else◌}
 use Rattle.audit_tree.specs.Subtree.{parent_of}
+use Rattle.audit_proof.specs.declared.side.Side.{Side}
+use Rattle.audit_proof.specs.declared.side.Side.TheVariants.{Left, Right}
 use Rattle.audit_proof.specs.declared.steps.Versions.{Versions}
 
 -- a value and the hashes that are left over, or nothing where a hash was missing
@@ -15,6 +17,11 @@ pub record Steps (V : Type 0) : Type 0 where
   pub with_left : ℕ → V → List ℕ → V
 
 module _ {V : Type 0} where
+  -- up with the hash on one side
+  abbrev pub step_with : Steps V → Side → ℕ → V → List ℕ → V
+  step_with steps Left = steps.with_left
+  step_with steps Right = steps.with_right
+
   -- one layer up with no hash, and with the next one
   abbrev pub up_alone : (V → V) → Climbed V → Climbed V
   up_alone f None = None
@@ -69,3 +76,8 @@ two_values H top = record {
     newer = parent_of H hash value.newer;
   };
 }
+
+-- the text of a node over a value and the hash of its sibling on one side
+abbrev pub text_with : Side → List ℕ → List ℕ → List ℕ
+text_with Left value hash = 1 ∷ (hash ++ value)
+text_with Right value hash = 1 ∷ (value ++ hash)

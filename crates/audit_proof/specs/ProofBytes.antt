@@ -1,11 +1,12 @@
 -- The bytes of proofs: a mark, two numbers of 8 bytes with the high byte first, the number of hashes
 -- in one byte, the hashes, and behind those of a membership proof its entry. The layout is this
 -- project's own.
-use Rattle.std.specs.Prelude.{◌≡◌, ℕ, zero, suc, ◌+◌, ◌*◌, ◌^◌, ◌<◌, ◌≤◌, nat_lt, nat_le, ◌==◌, ◌&&◌, List, [], ◌∷◌, ◌++◌, All, Option, None, Some, length, take, drop, slice_index, if◌then◌else◌}
+use Rattle.std.specs.Prelude.{ℕ, ◌+◌, ◌*◌, ◌^◌, ◌<◌, ◌≤◌, nat_lt, nat_le, ◌==◌, ◌&&◌, List, [], ◌∷◌, ◌++◌, Option, None, Some, length, drop, slice_index, if◌then◌else◌}
 use Rattle.std.specs.List.{concat}
 use Rattle.std.specs.Int.{w64, to_be_bytes}
 use Rattle.audit_proof.specs.declared.bytes.Head.{Head}
 use Rattle.audit_base.specs.Bytes.{number_at}
+use Rattle.audit_base.specs.Hashes.{AreHashes, first_hashes}
 use Rattle.audit_base.specs.declared.limits.TheConstants.{HASH_LEN, MAX_MEMBER_HASHES, MAX_INCREMENT_HASHES, MAX_ENTRY}
 use Rattle.audit_proof.specs.declared.bytes.TheConstants.{MEMBER_MARK, INCREMENT_MARK, HEAD_LEN}
 use Rattle.audit_proof.specs.declared.member_proof.MemberProof.{MemberProof}
@@ -35,14 +36,14 @@ pub record IsMember (p : Member) : Type 0 where
   pub index : p.index < 2 ^ 64
   pub count : p.count < 2 ^ 64
   pub few : length p.hashes ≤ MAX_MEMBER_HASHES
-  pub hashes : All (λ hash. length hash ≡ HASH_LEN) p.hashes
+  pub hashes : AreHashes p.hashes
   pub entry : length p.entry ≤ MAX_ENTRY
 
 pub record IsIncrement (p : Increment) : Type 0 where
   pub older : p.older < 2 ^ 64
   pub newer : p.newer < 2 ^ 64
   pub few : length p.hashes ≤ MAX_INCREMENT_HASHES
-  pub hashes : All (λ hash. length hash ≡ HASH_LEN) p.hashes
+  pub hashes : AreHashes p.hashes
 
 -- a number as 8 bytes with the high byte first, and the number in the 8 bytes at a place
 unfoldable pub number_bytes : ℕ → List ℕ
@@ -61,11 +62,6 @@ member_bytes p = proof_bytes MEMBER_MARK p.index p.count p.hashes p.entry
 
 abbrev pub increment_bytes : Increment → List ℕ
 increment_bytes p = proof_bytes INCREMENT_MARK p.older p.newer p.hashes []
-
--- the first n hashes
-unfoldable pub first_hashes : ℕ → List ℕ → List (List ℕ)
-first_hashes zero bytes = []
-first_hashes (suc n) bytes = take HASH_LEN bytes ∷ first_hashes n (drop HASH_LEN bytes)
 
 -- the two numbers and the number of hashes, where there are so many bytes and they begin with the mark
 unfoldable pub head_of : ℕ → List ℕ → Option Head

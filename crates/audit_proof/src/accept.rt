@@ -2,7 +2,7 @@ ghost use Rattle.std.specs.Prelude.{◌≡◌, ◌↔◌, ℕ, List, IsTrue};
 ghost use Rattle.sha2.specs.Sha256.{sha256};
 ghost use Rattle.audit_proof.specs.Acceptance.{AcceptsLeaf, AcceptsMembership, AcceptsIncrement, IsMadeMembership, IsMadeIncrement};
 
-use crate::climb::climb_from;
+use crate::climb::{Way, climb_from};
 use crate::commitment::Commitment;
 use crate::laws::{Sha256Texts, TextHash};
 use crate::steps::{OneValue, TwoValues, Versions};
@@ -22,16 +22,13 @@ pub fn accepts_leaf<T: TextHash>(
     if commitment.count <= index || MAX_COUNT < commitment.count {
         return false;
     }
-    let depth = depth_of(commitment.count);
-    match climb_from(
-        &OneValue { hash },
-        0,
-        depth,
-        index,
-        commitment.count,
-        leaf,
-        hashes,
-    ) {
+    let way = Way {
+        from: 0,
+        height: depth_of(commitment.count),
+        place: index,
+        count: commitment.count,
+    };
+    match climb_from(&OneValue { hash }, way, leaf, hashes) {
         Some(top) => top.used == hashes.len() && is_same_hash(&top.value, &commitment.root),
         None => false,
     }
@@ -73,6 +70,12 @@ fn accepts_versions<T: TextHash>(
     };
     let layer = older.count.trailing_zeros();
     let height = depth_of(newer.count) - layer;
+    let way = Way {
+        from: layer,
+        height,
+        place: older.count - 1,
+        count: newer.count,
+    };
     let climber = TwoValues {
         hash,
         older_depth: depth_of(older.count),
@@ -81,15 +84,7 @@ fn accepts_versions<T: TextHash>(
         older: *first,
         newer: *first,
     };
-    match climb_from(
-        &climber,
-        layer,
-        height,
-        older.count - 1,
-        newer.count,
-        both,
-        rest,
-    ) {
+    match climb_from(&climber, way, both, rest) {
         Some(top) => top.used == rest.len() && are_roots(&top.value, older, newer),
         None => false,
     }

@@ -1,8 +1,9 @@
-ghost use Rattle.std.specs.Prelude.{◌≡◌, ◌+◌, ◌*◌, ◌≤◌, ◌<◌, ◌∷◌, [], ◌++◌, length, take, drop, IfSome, IfOk, OnOk, All, ◌^◌};
+ghost use Rattle.std.specs.Prelude.{◌≡◌, ◌+◌, ◌*◌, ◌≤◌, ◌<◌, ◌∷◌, [], ◌++◌, length, IfSome, IfOk, OnOk, ◌^◌};
 ghost use Rattle.std.specs.List.{concat};
-ghost use Rattle.audit_proof.specs.ProofBytes.{number_bytes, first_hashes, head_of, proof_bytes};
+ghost use Rattle.audit_base.specs.Hashes.{AreHashes};
+ghost use Rattle.audit_proof.specs.ProofBytes.{number_bytes, head_of, proof_bytes};
 
-use audit_base::{HASH_LEN, Hash, MAX_ENTRY, MAX_INCREMENT_HASHES, array_at, u64_at};
+use audit_base::{HASH_LEN, Hash, MAX_ENTRY, MAX_INCREMENT_HASHES, u64_at};
 use std::alloc::{AllocError, Global};
 
 /// What the bytes of a membership proof begin with.
@@ -47,18 +48,6 @@ pub fn read_head(mark: u8, bytes: &[u8]) -> Option<Head>
     })
 }
 
-// So many hashes at the front.
-pub fn read_hashes(alloc: Global, bytes: &[u8], number: usize) -> Result<Vec<Hash>, AllocError>
-    requires { HASH_LEN * number ≤ length bytes.now }
-    ensures { IfOk result (λ hashes. hashes.items ≡ first_hashes number bytes.now) }
-{
-    let mut hashes = Vec::with_capacity(alloc, number)?;
-    for place in 0..number {
-        hashes.push_reserved(*array_at(bytes, HASH_LEN * place));
-    }
-    Ok(hashes)
-}
-
 // Adds hashes one after another.
 fn push_hashes(bytes: &mut Vec<u8>, hashes: &[Hash]) -> Result<(), AllocError>
     ensures { OnOk result (bytes.new.items ≡ bytes.old.items ++ concat hashes.now) }
@@ -83,7 +72,7 @@ pub fn write_proof(
     ensures ok { IfOk result (λ bytes. bytes.items ≡ proof_bytes mark first second hashes.now behind.now) }
     ensures first { first < 2 ^ 64 }
     ensures second { second < 2 ^ 64 }
-    ensures whole { All (λ hash. length hash ≡ HASH_LEN) hashes.now }
+    ensures whole { AreHashes hashes.now }
 {
     let mut bytes = Vec::with_capacity(alloc, HEAD_LEN + HASH_LEN * hashes.len() + behind.len())?;
     bytes.push(mark)?;

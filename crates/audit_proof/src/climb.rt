@@ -1,7 +1,8 @@
 ghost use Rattle.std.specs.Prelude.{◌≡◌, ◌+◌, ◌-◌, ◌<◌, ◌≤◌, length, IfSome};
-ghost use Rattle.audit_proof.specs.Climb.{climb, up_alone, up_with};
+ghost use Rattle.audit_proof.specs.Climb.{climb, step_with, up_alone, up_with};
 ghost use Rattle.audit_proof.specs.Reached.{climbed_of};
 
+use crate::side::Side;
 use audit_base::Hash;
 
 /// How a value goes up a tree, from a node to the one over it.
@@ -10,7 +11,7 @@ pub trait Climber {
     type Value: Copy;
 
     ghost use Rattle.std.specs.Prelude.{◌≡◌, ℕ};
-    ghost use Rattle.audit_proof.specs.Climb.{Steps};
+    ghost use Rattle.audit_proof.specs.Climb.{Steps, step_with};
 
     // What each step makes of a value.
     ghost steps: { Self → Steps Self.Value };
@@ -19,13 +20,19 @@ pub trait Climber {
     fn alone(&self, layer: u32, value: &Self::Value) -> Self::Value
         ensures { result ≡ (steps self.now).alone layer value.now };
 
-    /// Up from a layer with a hash on the right.
-    fn with_right(&self, layer: u32, value: &Self::Value, right: &Hash) -> Self::Value
-        ensures { result ≡ (steps self.now).with_right layer value.now right.now };
+    /// Up from a layer with a hash on one side.
+    fn with_hash(&self, layer: u32, side: Side, value: &Self::Value, hash: &Hash) -> Self::Value
+        ensures { result ≡ step_with (steps self.now) side layer value.now hash.now };
+}
 
-    /// Up from a layer with a hash on the left.
-    fn with_left(&self, layer: u32, value: &Self::Value, left: &Hash) -> Self::Value
-        ensures { result ≡ (steps self.now).with_left layer value.now left.now };
+/// The way from a node of layer `from` that holds a place up to the node `height` layers higher, which has so many
+/// leaves from its start on.
+#[derive(Clone, Copy)]
+pub struct Way {
+    pub from: u32,
+    pub height: u32,
+    pub place: u64,
+    pub count: u64,
 }
 
 /// What a climb has reached: a value, and how many hashes it used.
@@ -45,89 +52,71 @@ fn reach_alone<C: Climber>(climber: &C, layer: u32, lower: Reached<C::Value>) ->
     }
 }
 
-fn reach_right<C: Climber>(
+fn reach_with<C: Climber>(
     climber: &C,
     layer: u32,
+    side: Side,
     lower: Reached<C::Value>,
     hashes: &[Hash],
 ) -> Option<Reached<C::Value>>
     requires { lower.used ≤ length hashes.now }
     ensures reached { climbed_of hashes.now result
-        ≡ up_with ((C.steps climber.now).with_right layer) (climbed_of hashes.now (Some lower)) }
+        ≡ up_with (step_with (C.steps climber.now) side layer) (climbed_of hashes.now (Some lower)) }
     ensures used { IfSome result (λ top. top.used ≤ length hashes.now) }
 {
     match hashes.get(lower.used) {
         None => None,
-        Some(right) => Some(Reached {
-            value: climber.with_right(layer, &lower.value, right),
+        Some(hash) => Some(Reached {
+            value: climber.with_hash(layer, side, &lower.value, hash),
             used: lower.used + 1,
         }),
     }
 }
 
-fn reach_left<C: Climber>(
-    climber: &C,
-    layer: u32,
-    lower: Reached<C::Value>,
-    hashes: &[Hash],
-) -> Option<Reached<C::Value>>
-    requires { lower.used ≤ length hashes.now }
-    ensures reached { climbed_of hashes.now result
-        ≡ up_with ((C.steps climber.now).with_left layer) (climbed_of hashes.now (Some lower)) }
-    ensures used { IfSome result (λ top. top.used ≤ length hashes.now) }
-{
-    match hashes.get(lower.used) {
-        None => None,
-        Some(left) => Some(Reached {
-            value: climber.with_left(layer, &lower.value, left),
-            used: lower.used + 1,
-        }),
-    }
-}
-
-// What a value reaches from a node of layer `from`, at the node that stands `height` layers higher
-// and has so many leaves from its start on, where the lower node holds a place among them.
+// What a value reaches at the end of a way with the first hashes of a list.
 pub fn climb_from<C: Climber>(
     climber: &C,
-    from: u32,
-    height: u32,
-    place: u64,
-    count: u64,
+    way: Way,
     value: C::Value,
     hashes: &[Hash],
 ) -> Option<Reached<C::Value>>
-    requires top { from + height ≤ 64 }
-    requires place { place < count }
+    requires top { way.from + way.height ≤ 64 }
+    requires place { way.place < way.count }
     ensures reached { climbed_of hashes.now result
-        ≡ climb (C.steps climber.now) from height place count value hashes.now }
+        ≡ climb (C.steps climber.now) way.from way.height way.place way.count value hashes.now }
     ensures used { IfSome result (λ top. top.used ≤ length hashes.now) }
 {
-    if height == 0 {
+    if way.height == 0 {
         return Some(Reached { value, used: 0 });
     }
-    let layer = from + height - 1;
+    let height = way.height - 1;
+    let layer = way.from + height;
     let half = 1 << layer;
-    if half <= place {
-        return match climb_from(
-            climber,
-            from,
-            height - 1,
-            place - half,
-            count - half,
-            value,
-            hashes,
-        ) {
+    if half <= way.place {
+        let right = Way {
+            from: way.from,
+            height,
+            place: way.place - half,
+            count: way.count - half,
+        };
+        return match climb_from(climber, right, value, hashes) {
             None => None,
-            Some(lower) => reach_left(climber, layer, lower, hashes),
+            Some(lower) => reach_with(climber, layer, Side::Left, lower, hashes),
         };
     }
-    match climb_from(climber, from, height - 1, place, count, value, hashes) {
+    let left = Way {
+        from: way.from,
+        height,
+        place: way.place,
+        count: way.count,
+    };
+    match climb_from(climber, left, value, hashes) {
         None => None,
         Some(lower) => {
-            if count <= half {
+            if way.count <= half {
                 Some(reach_alone(climber, layer, lower))
             } else {
-                reach_right(climber, layer, lower, hashes)
+                reach_with(climber, layer, Side::Right, lower, hashes)
             }
         }
     }

@@ -1,10 +1,10 @@
 ghost use Rattle.std.specs.Prelude.{◌≡◌, ◌≤◌, ◌↔◌, Some, None, vec_len, IfOk};
 ghost use Rattle.audit_proof.specs.ProofBytes.{member_in, member_bytes, member_of, increment_in, increment_bytes, increment_of};
 
-use crate::bytes::{HEAD_LEN, INCREMENT_MARK, MEMBER_MARK, read_hashes, read_head, write_proof};
+use crate::bytes::{HEAD_LEN, INCREMENT_MARK, MEMBER_MARK, read_head, write_proof};
 use crate::increment_proof::IncrementProof;
 use crate::member_proof::MemberProof;
-use audit_base::{HASH_LEN, MAX_ENTRY, MAX_INCREMENT_HASHES, MAX_MEMBER_HASHES};
+use audit_base::{HASH_LEN, MAX_ENTRY, MAX_INCREMENT_HASHES, MAX_MEMBER_HASHES, read_hashes};
 use std::alloc::{AllocError, Global};
 use thiserror::Error;
 

@@ -5,9 +5,10 @@ ghost use Rattle.audit_proof.specs.Acceptance.{AcceptsLeaf, AcceptsBoth};
 ghost use Rattle.audit_proof.specs.Collision.{IsCollision};
 
 use crate::accept::accepts_leaf;
+use crate::climb::Way;
 use crate::commitment::Commitment;
 use crate::laws::{Sha256Texts, TextHash};
-use crate::meeting::{Meeting, meet, meet_texts};
+use crate::meeting::{Branch, Meeting, meet};
 use audit_base::{Hash, are_equal};
 use audit_tree::{LEAF_MARK, depth_of, leaf_hash};
 use std::alloc::{AllocError, Global};
@@ -58,43 +59,28 @@ pub fn leaf_text(alloc: Global, entry: &[u8]) -> Result<Vec<u8>, AllocError>
 }
 
 // The collision that two accepted memberships of one index show, where their leaf texts differ.
-pub fn disagreement<T: TextHash>(
+fn disagreement<T: TextHash>(
     alloc: Global,
     hash: &T,
     commitment: &Commitment,
     index: u64,
-    left: &[u8],
-    lefts: &[Hash],
-    right: &[u8],
-    rights: &[Hash],
+    left: &Branch,
+    right: &Branch,
 ) -> Result<Collision, AllocError>
-    requires left { AcceptsLeaf T.value_of commitment.now index (T.value_of left.now) lefts.now }
-    requires right { AcceptsLeaf T.value_of commitment.now index (T.value_of right.now) rights.now }
-    requires differ { left.now ≢ right.now }
+    requires left { AcceptsLeaf T.value_of commitment.now index (T.value_of left.now.text.now) left.now.hashes.now }
+    requires right { AcceptsLeaf T.value_of commitment.now index (T.value_of right.now.text.now) right.now.hashes.now }
+    requires differ { left.now.text.now ≢ right.now.text.now }
     ensures { IfOk result (λ c. IsCollision T.value_of c.left.items c.right.items) }
 {
-    match meet_texts(alloc, hash, left, 0, right, 0)? {
+    let way = Way {
+        from: 0,
+        height: depth_of(commitment.count),
+        place: index,
+        count: commitment.count,
+    };
+    match meet(alloc, hash, way, left, right)? {
         Meeting::Met(collision) => Ok(collision),
-        Meeting::Apart(left, right) => {
-            let left_leaf = left.value;
-            let right_leaf = right.value;
-            let depth = depth_of(commitment.count);
-            match meet(
-                alloc,
-                hash,
-                depth,
-                index,
-                commitment.count,
-                left_leaf,
-                lefts,
-                right_leaf,
-                rights,
-            )? {
-                Meeting::Met(collision) => Ok(collision),
-                Meeting::Apart(_, _) => unreachable!(),
-                Meeting::Lost => unreachable!(),
-            }
-        }
+        Meeting::Apart(_, _) => unreachable!(),
         Meeting::Lost => unreachable!(),
     }
 }
@@ -137,18 +123,17 @@ pub fn collide<T: TextHash>(
     if are_equal(first.entry, second.entry) {
         return Err(CollideFault::NoDisagreement);
     }
-    let left = leaf_text(alloc, first.entry)?;
-    let right = leaf_text(alloc, second.entry)?;
-    let collision = disagreement(
-        alloc,
-        hash,
-        commitment,
-        index,
-        &left,
-        first.hashes,
-        &right,
-        second.hashes,
-    )?;
+    let first_text = leaf_text(alloc, first.entry)?;
+    let second_text = leaf_text(alloc, second.entry)?;
+    let left = Branch {
+        text: &first_text,
+        hashes: first.hashes,
+    };
+    let right = Branch {
+        text: &second_text,
+        hashes: second.hashes,
+    };
+    let collision = disagreement(alloc, hash, commitment, index, &left, &right)?;
     Ok(collision)
 }
 

@@ -13,6 +13,7 @@ mod increment_proof;
 pub mod laws;
 mod meeting;
 mod member_proof;
+mod side;
 mod steps;
 #[cfg(test)]
 mod tests;

@@ -1,14 +1,22 @@
 ghost use Rattle.std.specs.Prelude.{◌≡◌, ◌≢◌, ◌+◌, ◌<◌, ◌≤◌, ℕ, List, Some, length, drop, IfOk};
-ghost use Rattle.audit_proof.specs.Climb.{climb, one_value, up_alone, up_with};
+ghost use Rattle.audit_proof.specs.Climb.{climb, one_value, step_with, up_alone, up_with};
 ghost use Rattle.audit_proof.specs.Reached.{climbed_of};
 ghost use Rattle.audit_proof.specs.Meeting.{IsMeeting};
 
-use crate::climb::Reached;
+use crate::climb::{Reached, Way};
 use crate::collision::Collision;
 use crate::laws::TextHash;
+use crate::side::{Side, text_over};
 use audit_base::{Hash, is_same_hash};
-use audit_tree::{lone_text, pair_text};
+use audit_tree::lone_text;
 use std::alloc::{AllocError, Global};
+
+/// A leaf's text, and the hashes of its membership proof.
+#[derive(Clone, Copy)]
+pub struct Branch<'a> {
+    pub text: &'a [u8],
+    pub hashes: &'a [Hash],
+}
 
 /// What two climbs on one way, with different values below, come to.
 #[derive(Drop)]
@@ -71,10 +79,11 @@ fn meet_alone<T: TextHash>(
     meet_texts(alloc, hash, &left_text, left.used, &right_text, right.used)
 }
 
-// One layer up with hashes on the right.
-fn meet_right<T: TextHash>(
+// One layer up with hashes on one side.
+fn meet_with<T: TextHash>(
     alloc: Global,
     hash: &T,
+    side: Side,
     left: Reached<Hash>,
     lefts: &[Hash],
     right: Reached<Hash>,
@@ -84,8 +93,8 @@ fn meet_right<T: TextHash>(
     requires right { right.used ≤ length rights.now }
     requires differ { left.value ≢ right.value }
     ensures { IfOk result (IsMeeting T.value_of lefts.now rights.now
-        (up_with ((one_value T.value_of).with_right 0) (climbed_of lefts.now (Some left)))
-        (up_with ((one_value T.value_of).with_right 0) (climbed_of rights.now (Some right)))) }
+        (up_with (step_with (one_value T.value_of) side 0) (climbed_of lefts.now (Some left)))
+        (up_with (step_with (one_value T.value_of) side 0) (climbed_of rights.now (Some right)))) }
 {
     let Some(left_sibling) = lefts.get(left.used) else {
         return Ok(Meeting::Lost);
@@ -93,8 +102,8 @@ fn meet_right<T: TextHash>(
     let Some(right_sibling) = rights.get(right.used) else {
         return Ok(Meeting::Lost);
     };
-    let left_text = pair_text(&left.value, left_sibling);
-    let right_text = pair_text(&right.value, right_sibling);
+    let left_text = text_over(side, &left.value, left_sibling);
+    let right_text = text_over(side, &right.value, right_sibling);
     meet_texts(
         alloc,
         hash,
@@ -105,94 +114,67 @@ fn meet_right<T: TextHash>(
     )
 }
 
-// One layer up with hashes on the left.
-fn meet_left<T: TextHash>(
-    alloc: Global,
-    hash: &T,
-    left: Reached<Hash>,
-    lefts: &[Hash],
-    right: Reached<Hash>,
-    rights: &[Hash],
-) -> Result<Meeting, AllocError>
-    requires left { left.used ≤ length lefts.now }
-    requires right { right.used ≤ length rights.now }
-    requires differ { left.value ≢ right.value }
-    ensures { IfOk result (IsMeeting T.value_of lefts.now rights.now
-        (up_with ((one_value T.value_of).with_left 0) (climbed_of lefts.now (Some left)))
-        (up_with ((one_value T.value_of).with_left 0) (climbed_of rights.now (Some right)))) }
-{
-    let Some(left_sibling) = lefts.get(left.used) else {
-        return Ok(Meeting::Lost);
-    };
-    let Some(right_sibling) = rights.get(right.used) else {
-        return Ok(Meeting::Lost);
-    };
-    let left_text = pair_text(left_sibling, &left.value);
-    let right_text = pair_text(right_sibling, &right.value);
-    meet_texts(
-        alloc,
-        hash,
-        &left_text,
-        left.used + 1,
-        &right_text,
-        right.used + 1,
-    )
-}
-
-// What two climbs from different values of one leaf come to.
+// What the climbs of two different leaf texts on one way come to.
 pub fn meet<T: TextHash>(
     alloc: Global,
     hash: &T,
-    height: u32,
-    place: u64,
-    count: u64,
-    left: Hash,
-    lefts: &[Hash],
-    right: Hash,
-    rights: &[Hash],
+    way: Way,
+    left: &Branch,
+    right: &Branch,
 ) -> Result<Meeting, AllocError>
-    requires top { height ≤ 64 }
-    requires place { place < count }
-    requires differ { left ≢ right }
-    ensures { IfOk result (IsMeeting T.value_of lefts.now rights.now
-        (climb (one_value T.value_of) 0 height place count left lefts.now)
-        (climb (one_value T.value_of) 0 height place count right rights.now)) }
+    requires from { way.from ≡ 0 }
+    requires top { way.height ≤ 64 }
+    requires place { way.place < way.count }
+    requires differ { left.now.text.now ≢ right.now.text.now }
+    ensures { IfOk result (IsMeeting T.value_of left.now.hashes.now right.now.hashes.now
+        (climb (one_value T.value_of) 0 way.height way.place way.count (T.value_of left.now.text.now) left.now.hashes.now)
+        (climb (one_value T.value_of) 0 way.height way.place way.count (T.value_of right.now.text.now) right.now.hashes.now)) }
 {
-    if height == 0 {
-        let left = Reached {
-            value: left,
-            used: 0,
-        };
-        let right = Reached {
-            value: right,
-            used: 0,
-        };
-        return Ok(Meeting::Apart(left, right));
+    if way.height == 0 {
+        return meet_texts(alloc, hash, left.text, 0, right.text, 0);
     }
-    let below = height - 1;
-    let half = 1 << below;
-    if half <= place {
-        return match meet(
-            alloc,
-            hash,
-            below,
-            place - half,
-            count - half,
-            left,
-            lefts,
-            right,
-            rights,
-        )? {
-            Meeting::Apart(left, right) => meet_left(alloc, hash, left, lefts, right, rights),
+    let height = way.height - 1;
+    let half = 1 << height;
+    if half <= way.place {
+        let upper = Way {
+            from: 0,
+            height,
+            place: way.place - half,
+            count: way.count - half,
+        };
+        return match meet(alloc, hash, upper, left, right)? {
+            Meeting::Apart(over_left, over_right) => meet_with(
+                alloc,
+                hash,
+                Side::Left,
+                over_left,
+                left.hashes,
+                over_right,
+                right.hashes,
+            ),
             other => Ok(other),
         };
     }
-    match meet(alloc, hash, below, place, count, left, lefts, right, rights)? {
-        Meeting::Apart(left, right) => {
-            if count <= half {
-                meet_alone(alloc, hash, left, right)
+    let lower = Way {
+        from: 0,
+        height,
+        place: way.place,
+        count: way.count,
+    };
+    match meet(alloc, hash, lower, left, right)? {
+        Meeting::Apart(over_left, over_right) => {
+            if way.count <= half {
+                meet_alone(alloc, hash, over_left, over_right)
             } else {
-                meet_right(alloc, hash, left, lefts, right, rights)
+                meet_with(
+                    alloc,
+                    hash,
+                    Side::Right,
+                    over_left,
+                    left.hashes,
+                    over_right,
+                    right.hashes,
+                )
             }
         }
         other => Ok(other),

@@ -4,8 +4,9 @@ ghost use Rattle.audit_proof.specs.Climb.{one_value, two_values};
 
 use crate::climb::Climber;
 use crate::laws::TextHash;
+use crate::side::{Side, text_over};
 use audit_base::Hash;
-use audit_tree::{lone_text, pair_text};
+use audit_tree::lone_text;
 
 /// One value goes up: a membership proof.
 #[derive(Drop)]
@@ -22,12 +23,8 @@ impl<T: TextHash> Climber for OneValue<'_, T> {
         self.hash.hash(&lone_text(value))
     }
 
-    fn with_right(&self, _layer: u32, value: &Hash, right: &Hash) -> Hash {
-        self.hash.hash(&pair_text(value, right))
-    }
-
-    fn with_left(&self, _layer: u32, value: &Hash, left: &Hash) -> Hash {
-        self.hash.hash(&pair_text(left, value))
+    fn with_hash(&self, _layer: u32, side: Side, value: &Hash, hash: &Hash) -> Hash {
+        self.hash.hash(&text_over(side, value, hash))
     }
 }
 
@@ -70,17 +67,12 @@ impl<T: TextHash> Climber for TwoValues<'_, T> {
         }
     }
 
-    fn with_right(&self, layer: u32, value: &Versions, right: &Hash) -> Versions {
-        Versions {
-            older: self.older_alone(layer, &value.older),
-            newer: self.hash.hash(&pair_text(&value.newer, right)),
-        }
-    }
-
-    fn with_left(&self, _layer: u32, value: &Versions, left: &Hash) -> Versions {
-        Versions {
-            older: self.hash.hash(&pair_text(left, &value.older)),
-            newer: self.hash.hash(&pair_text(left, &value.newer)),
-        }
+    fn with_hash(&self, layer: u32, side: Side, value: &Versions, hash: &Hash) -> Versions {
+        let newer = self.hash.hash(&text_over(side, &value.newer, hash));
+        let older = match side {
+            Side::Left => self.hash.hash(&text_over(side, &value.older, hash)),
+            Side::Right => self.older_alone(layer, &value.older),
+        };
+        Versions { older, newer }
     }
 }

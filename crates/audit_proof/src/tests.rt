@@ -4,6 +4,7 @@ use audit_base::Hash;
 use audit_tree::{Tree, TreeError, leaf_hash};
 use hex::FromHex;
 use std::alloc::Global;
+use std::process::Abort;
 use std::test::Fail;
 
 mod proof_bytes;
@@ -187,11 +188,16 @@ impl TextHash for Weak {
     }
 }
 
+// The commitment of one leaf to texts of this length, by the weak hash.
+fn weak_commitment(len: usize) -> Commitment {
+    let mut root = [0; 32];
+    root[0] = (len % 256) as u8;
+    Commitment { count: 1, root }
+}
+
 #[test]
 fn texts_of_one_length_collide(rt: HostRuntime) -> Result<(), Fail> {
-    let mut root = [0; 32];
-    root[0] = 2;
-    let one = Commitment { count: 1, root };
+    let one = weak_commitment(2);
     let found = collide_two_with(rt.alloc(), &Weak, &one, 0, &[0xaa], &[], &[0xbb], &[])?;
     assert!(&rt; found.left.as_slice() != found.right.as_slice());
     assert_eq!(&rt; Weak.hash(&found.left), Weak.hash(&found.right));
@@ -214,5 +220,24 @@ fn texts_of_one_length_collide(rt: HostRuntime) -> Result<(), Fail> {
     )?;
     assert_eq!(&rt; above.left.len(), 65);
     assert_eq!(&rt; above.right.len(), 65);
+    Ok(())
+}
+
+// A collision of two entries of this length, each of one byte repeated.
+fn assert_entries_collide(rt: &impl Abort, alloc: Global, len: usize) -> Result<(), Fail> {
+    let first = vec![in alloc; 1; len]?;
+    let second = vec![in alloc; 2; len]?;
+    let one = weak_commitment(len.saturating_add(1));
+    let found = collide_two_with(alloc, &Weak, &one, 0, &first, &[], &second, &[])?;
+    assert_eq!(rt; found.left.len(), len.saturating_add(1));
+    assert_eq!(rt; found.right.len(), len.saturating_add(1));
+    Ok(())
+}
+
+#[test]
+fn entries_of_each_length_collide(rt: HostRuntime) -> Result<(), Fail> {
+    for len in 1..=MAX_ENTRY {
+        assert_entries_collide(&rt, rt.alloc(), len)?;
+    }
     Ok(())
 }

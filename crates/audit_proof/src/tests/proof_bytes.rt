@@ -1,5 +1,4 @@
 use super::*;
-use std::process::Abort;
 
 // The entry of kind 1 and payload `hi` under the zero key, and the proof of it under count 1.
 const FIRST_ENTRY: &str =

@@ -3,8 +3,8 @@ use Rattle.std.specs.List.{concat}
 use Rattle.std.proofs.lemmas.List.{drop_all, take_rest}
 use Rattle.audit_base.specs.declared.limits.TheConstants.{HASH_LEN}
 use Rattle.audit_proof.specs.declared.bytes.TheConstants.{HEAD_LEN, INCREMENT_MARK}
-use Rattle.audit_proof.specs.ProofBytes.{first_hashes}
-use Rattle.audit_proof.proofs.WrittenBytes.{length-first_hashes, concat-first_hashes}
+use Rattle.audit_base.specs.Hashes.{first_hashes}
+use Rattle.audit_base.proofs.HashRows.{length-first_hashes, concat-first_hashes}
 use Rattle.audit_proof.proofs.ReadBytes.{bytes_from_head}
 use Rattle.audit_proof.proofs.codec.read_increment.Goals as goal
 

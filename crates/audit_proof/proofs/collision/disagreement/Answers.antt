@@ -4,4 +4,4 @@ use Rattle.audit_proof.proofs.collision.disagreement.Goals as goal
 
 pub meet-requires-clause-top : goal.meet-requires-clause-top
 meet-requires-clause-top g c =
-    omega (arith, c.depth_of-depth.ensures.depth, depth-least c.args.commitment.now.count 24 c.requires.left.small)
+    omega (arith, c.depth_of.ensures.depth, depth-least c.args.commitment.now.count 24 c.requires.left.small)

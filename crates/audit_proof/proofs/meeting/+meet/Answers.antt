@@ -5,100 +5,107 @@ use Rattle.audit_proof.proofs.ClimbLemmas.{climb-none, climb-alone, climb-right,
 use Rattle.audit_proof.proofs.Meetings.{meeting_moved, meeting_up}
 use Rattle.audit_proof.proofs.meeting.+meet.Goals as goal
 
-pub returns-then-height-eq0 : goal.returns-then-height-eq0
-returns-then-height-eq0 g t c =
-    let steps = one_value g.T.TextHash.value_of in
-    record {
-      left_reached = rw c.if-height-eq0.true (climb-none steps 0 c.args.place c.args.count c.args.left c.args.lefts.now);
-      right_reached = rw c.if-height-eq0.true (climb-none steps 0 c.args.place c.args.count c.args.right c.args.rights.now);
-      left_used = omega arith;
-      right_used = omega arith;
-      different = c.requires.differ;
-    }
+pub returns-then-way-eq0 : goal.returns-then-way-eq0
+returns-then-way-eq0 g t c =
+    let H = g.T.TextHash.value_of in
+    let steps = one_value H in
+    let way = c.args.way in
+    let left = c.args.left.now in
+    let right = c.args.right.now in
+    let at_start = λ (value : List ℕ) (hashes : List (List ℕ)).
+    sym (ap (λ k. climb steps 0 k way.place way.count value hashes) c.if-way-eq0.true ∙ climb-none steps 0 way.place way.count value hashes) in
+    meeting_moved H left.hashes.now right.hashes.now c.meet_texts.result _ _ _ _
+    (c.meet_texts.ensures left.hashes.now right.hashes.now (omega arith) (omega arith))
+    (at_start (H left.text.now) left.hashes.now) (at_start (H right.text.now) right.hashes.now)
 
 pub returns-in-Apart : goal.returns-in-Apart
 returns-in-Apart g t c =
     let H = g.T.TextHash.value_of in
     let steps = one_value H in
-    let place = c.args.place in
-    let count = c.args.count in
-    let height = c.args.height - 1 in
-    let up : suc height ≡ c.args.height = omega (arith, c.if-height-eq0.false) in
+    let way = c.args.way in
+    let height = way.height - 1 in
+    let left = c.args.left.now in
+    let right = c.args.right.now in
+    let up : suc height ≡ way.height = omega (arith, c.if-way-eq0.false) in
     let half : 1 * 2 ^ height % 2 ^ 64 ≡ 2 ^ (0 + height) =
-    one_shl height 64 (omega (arith, c.requires.top, c.if-height-eq0.false)) ∙ ap (λ k. 2 ^ k) (sym (zero-add height)) in
+    one_shl height 64 (omega (arith, c.requires.top, c.if-way-eq0.false)) ∙ ap (λ k. 2 ^ k) (sym (zero-add height)) in
     let apart = rw c.in-Apart.is at c.in_ok-other.ensures in
-    let over = λ (value : List ℕ) (hashes : List (List ℕ)) (below : Climbed (List ℕ)) (reached : climb steps 0 height (place - 1 * 2 ^ height % 2 ^ 64) (count - 1 * 2 ^ height % 2 ^ 64) value hashes ≡ below).
-    ap (up_with (steps.with_left 0)) (sym reached ∙ ap (λ n. climb steps 0 height (place - n) (count - n) value hashes) half)
-    ∙ sym (climb-left steps 0 height place count value hashes (omega (arith, half, c.if-half-place.true)))
-    ∙ ap (λ k. climb steps 0 k place count value hashes) up in
-    meeting_moved H c.args.lefts.now c.args.rights.now c.meet_left.result _ _ _ _ c.meet_left.ensures
-    (over c.args.left c.args.lefts.now _ apart.left_reached) (over c.args.right c.args.rights.now _ apart.right_reached)
+    let over = λ (value : List ℕ) (hashes : List (List ℕ)) (below : Climbed (List ℕ)) (reached : climb steps 0 height (way.place - 1 * 2 ^ height % 2 ^ 64) (way.count - 1 * 2 ^ height % 2 ^ 64) value hashes ≡ below).
+    ap (up_with (steps.with_left 0)) (sym reached ∙ ap (λ n. climb steps 0 height (way.place - n) (way.count - n) value hashes) half)
+    ∙ sym (climb-left steps 0 height way.place way.count value hashes (omega (arith, half, c.if-half-way.true)))
+    ∙ ap (λ k. climb steps 0 k way.place way.count value hashes) up in
+    meeting_moved H left.hashes.now right.hashes.now c.meet_with.result _ _ _ _ c.meet_with.ensures
+    (over (H left.text.now) left.hashes.now _ apart.left_reached) (over (H right.text.now) right.hashes.now _ apart.right_reached)
 
 pub returns-in_default : goal.returns-in_default
 returns-in_default g t c =
     let H = g.T.TextHash.value_of in
     let steps = one_value H in
-    let place = c.args.place in
-    let count = c.args.count in
-    let height = c.args.height - 1 in
-    let up : suc height ≡ c.args.height = omega (arith, c.if-height-eq0.false) in
+    let way = c.args.way in
+    let height = way.height - 1 in
+    let left = c.args.left.now in
+    let right = c.args.right.now in
+    let up : suc height ≡ way.height = omega (arith, c.if-way-eq0.false) in
     let half : 1 * 2 ^ height % 2 ^ 64 ≡ 2 ^ (0 + height) =
-    one_shl height 64 (omega (arith, c.requires.top, c.if-height-eq0.false)) ∙ ap (λ k. 2 ^ k) (sym (zero-add height)) in
-    let lost = λ (value : List ℕ) (hashes : List (List ℕ)) (none : climb steps 0 height (place - 1 * 2 ^ height % 2 ^ 64) (count - 1 * 2 ^ height % 2 ^ 64) value hashes ≡ None).
-    ap (λ k. climb steps 0 k place count value hashes) (sym up)
-    ∙ climb-left steps 0 height place count value hashes (omega (arith, half, c.if-half-place.true))
-    ∙ ap (up_with (steps.with_left 0)) (ap (λ n. climb steps 0 height (place - n) (count - n) value hashes) (sym half) ∙ none) in
-    meeting_up H c.args.lefts.now c.args.rights.now c.in_ok-other.other _ _ _ _ c.in_ok-other.ensures c.in_default.not-Apart
-    (lost c.args.left c.args.lefts.now) (lost c.args.right c.args.rights.now)
+    one_shl height 64 (omega (arith, c.requires.top, c.if-way-eq0.false)) ∙ ap (λ k. 2 ^ k) (sym (zero-add height)) in
+    let lost = λ (value : List ℕ) (hashes : List (List ℕ)) (none : climb steps 0 height (way.place - 1 * 2 ^ height % 2 ^ 64) (way.count - 1 * 2 ^ height % 2 ^ 64) value hashes ≡ None).
+    ap (λ k. climb steps 0 k way.place way.count value hashes) (sym up)
+    ∙ climb-left steps 0 height way.place way.count value hashes (omega (arith, half, c.if-half-way.true))
+    ∙ ap (up_with (steps.with_left 0)) (ap (λ n. climb steps 0 height (way.place - n) (way.count - n) value hashes) (sym half) ∙ none) in
+    meeting_up H left.hashes.now right.hashes.now c.in_ok-other.other _ _ _ _ c.in_ok-other.ensures c.in_default.not-Apart
+    (lost (H left.text.now) left.hashes.now) (lost (H right.text.now) right.hashes.now)
 
-pub returns-then-count-half : goal.returns-then-count-half
-returns-then-count-half g t c =
+pub returns-then-way-half : goal.returns-then-way-half
+returns-then-way-half g t c =
     let H = g.T.TextHash.value_of in
     let steps = one_value H in
-    let place = c.args.place in
-    let count = c.args.count in
-    let height = c.args.height - 1 in
-    let up : suc height ≡ c.args.height = omega (arith, c.if-height-eq0.false) in
+    let way = c.args.way in
+    let height = way.height - 1 in
+    let left = c.args.left.now in
+    let right = c.args.right.now in
+    let up : suc height ≡ way.height = omega (arith, c.if-way-eq0.false) in
     let half : 1 * 2 ^ height % 2 ^ 64 ≡ 2 ^ (0 + height) =
-    one_shl height 64 (omega (arith, c.requires.top, c.if-height-eq0.false)) ∙ ap (λ k. 2 ^ k) (sym (zero-add height)) in
+    one_shl height 64 (omega (arith, c.requires.top, c.if-way-eq0.false)) ∙ ap (λ k. 2 ^ k) (sym (zero-add height)) in
     let apart = rw c.in-Apart-2.is at c.in_ok-other-2.ensures in
-    let over = λ (value : List ℕ) (hashes : List (List ℕ)) (below : Climbed (List ℕ)) (reached : climb steps 0 height place count value hashes ≡ below).
+    let over = λ (value : List ℕ) (hashes : List (List ℕ)) (below : Climbed (List ℕ)) (reached : climb steps 0 height way.place way.count value hashes ≡ below).
     ap (up_alone (steps.alone 0)) (sym reached)
-    ∙ sym (climb-alone steps 0 height place count value hashes (omega (arith, half, c.if-half-place.false)) (omega (arith, half, c.if-count-half.true)))
-    ∙ ap (λ k. climb steps 0 k place count value hashes) up in
-    meeting_moved H c.args.lefts.now c.args.rights.now c.meet_alone.result _ _ _ _ (c.meet_alone.ensures c.args.lefts.now c.args.rights.now apart.left_used apart.right_used)
-    (over c.args.left c.args.lefts.now _ apart.left_reached) (over c.args.right c.args.rights.now _ apart.right_reached)
+    ∙ sym (climb-alone steps 0 height way.place way.count value hashes (omega (arith, half, c.if-half-way.false)) (omega (arith, half, c.if-way-half.true)))
+    ∙ ap (λ k. climb steps 0 k way.place way.count value hashes) up in
+    meeting_moved H left.hashes.now right.hashes.now c.meet_alone.result _ _ _ _ (c.meet_alone.ensures left.hashes.now right.hashes.now apart.left_used apart.right_used)
+    (over (H left.text.now) left.hashes.now _ apart.left_reached) (over (H right.text.now) right.hashes.now _ apart.right_reached)
 
-pub returns-else-count-half : goal.returns-else-count-half
-returns-else-count-half g t c =
+pub returns-else-way-half : goal.returns-else-way-half
+returns-else-way-half g t c =
     let H = g.T.TextHash.value_of in
     let steps = one_value H in
-    let place = c.args.place in
-    let count = c.args.count in
-    let height = c.args.height - 1 in
-    let up : suc height ≡ c.args.height = omega (arith, c.if-height-eq0.false) in
+    let way = c.args.way in
+    let height = way.height - 1 in
+    let left = c.args.left.now in
+    let right = c.args.right.now in
+    let up : suc height ≡ way.height = omega (arith, c.if-way-eq0.false) in
     let half : 1 * 2 ^ height % 2 ^ 64 ≡ 2 ^ (0 + height) =
-    one_shl height 64 (omega (arith, c.requires.top, c.if-height-eq0.false)) ∙ ap (λ k. 2 ^ k) (sym (zero-add height)) in
+    one_shl height 64 (omega (arith, c.requires.top, c.if-way-eq0.false)) ∙ ap (λ k. 2 ^ k) (sym (zero-add height)) in
     let apart = rw c.in-Apart-2.is at c.in_ok-other-2.ensures in
-    let over = λ (value : List ℕ) (hashes : List (List ℕ)) (below : Climbed (List ℕ)) (reached : climb steps 0 height place count value hashes ≡ below).
+    let over = λ (value : List ℕ) (hashes : List (List ℕ)) (below : Climbed (List ℕ)) (reached : climb steps 0 height way.place way.count value hashes ≡ below).
     ap (up_with (steps.with_right 0)) (sym reached)
-    ∙ sym (climb-right steps 0 height place count value hashes (omega (arith, half, c.if-half-place.false)) (omega (arith, half, c.if-count-half.false)))
-    ∙ ap (λ k. climb steps 0 k place count value hashes) up in
-    meeting_moved H c.args.lefts.now c.args.rights.now c.meet_right.result _ _ _ _ c.meet_right.ensures
-    (over c.args.left c.args.lefts.now _ apart.left_reached) (over c.args.right c.args.rights.now _ apart.right_reached)
+    ∙ sym (climb-right steps 0 height way.place way.count value hashes (omega (arith, half, c.if-half-way.false)) (omega (arith, half, c.if-way-half.false)))
+    ∙ ap (λ k. climb steps 0 k way.place way.count value hashes) up in
+    meeting_moved H left.hashes.now right.hashes.now c.meet_with-else-way-half.result _ _ _ _ c.meet_with-else-way-half.ensures
+    (over (H left.text.now) left.hashes.now _ apart.left_reached) (over (H right.text.now) right.hashes.now _ apart.right_reached)
 
 pub returns-in_default-2 : goal.returns-in_default-2
 returns-in_default-2 g t c =
     let H = g.T.TextHash.value_of in
     let steps = one_value H in
-    let place = c.args.place in
-    let count = c.args.count in
-    let height = c.args.height - 1 in
-    let up : suc height ≡ c.args.height = omega (arith, c.if-height-eq0.false) in
+    let way = c.args.way in
+    let height = way.height - 1 in
+    let left = c.args.left.now in
+    let right = c.args.right.now in
+    let up : suc height ≡ way.height = omega (arith, c.if-way-eq0.false) in
     let half : 1 * 2 ^ height % 2 ^ 64 ≡ 2 ^ (0 + height) =
-    one_shl height 64 (omega (arith, c.requires.top, c.if-height-eq0.false)) ∙ ap (λ k. 2 ^ k) (sym (zero-add height)) in
-    let lost = λ (value : List ℕ) (hashes : List (List ℕ)) (none : climb steps 0 height place count value hashes ≡ None).
-    ap (λ k. climb steps 0 k place count value hashes) (sym up)
-    ∙ climb-lost steps 0 height place count value hashes (omega (arith, half, c.if-half-place.false)) none in
-    meeting_up H c.args.lefts.now c.args.rights.now c.in_ok-other-2.other _ _ _ _ c.in_ok-other-2.ensures c.in_default-2.not-Apart
-    (lost c.args.left c.args.lefts.now) (lost c.args.right c.args.rights.now)
+    one_shl height 64 (omega (arith, c.requires.top, c.if-way-eq0.false)) ∙ ap (λ k. 2 ^ k) (sym (zero-add height)) in
+    let lost = λ (value : List ℕ) (hashes : List (List ℕ)) (none : climb steps 0 height way.place way.count value hashes ≡ None).
+    ap (λ k. climb steps 0 k way.place way.count value hashes) (sym up)
+    ∙ climb-lost steps 0 height way.place way.count value hashes (omega (arith, half, c.if-half-way.false)) none in
+    meeting_up H left.hashes.now right.hashes.now c.in_ok-other-2.other _ _ _ _ c.in_ok-other-2.ensures c.in_default-2.not-Apart
+    (lost (H left.text.now) left.hashes.now) (lost (H right.text.now) right.hashes.now)
