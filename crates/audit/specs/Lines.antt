@@ -1,4 +1,4 @@
--- The lines of an input. Each ends in a line feed, which may be missing behind the last one.
+-- The lines of an input. Each ends in a line feed, which may be missing after the last one.
 use Rattle.std.specs.Prelude.{◌≡◌, ℕ, Bool, List, [], ◌∷◌, ◌==◌, if◌then◌else◌}
 use Rattle.std.specs.List.{before_first, after_first}
 
@@ -18,7 +18,7 @@ lines_of (byte ∷ bytes) = if byte == line_feed then [] ∷ lines_of bytes else
 abbrev pub is_line_feed : ℕ → Bool
 is_line_feed byte = byte == line_feed
 
--- the bytes before the first line feed, and those behind it
+-- the bytes before the first line feed, and those after it
 pub record IsCutInLines (bytes line rest : List ℕ) : Type 0 where
   pub first : line ≡ before_first is_line_feed bytes
   pub behind : rest ≡ after_first is_line_feed bytes

@@ -39,7 +39,7 @@ fn run_replay<R: Read, W: Write, M: Write>(
     }
 }
 
-// Prints what a replay was refused for. Where that can't be printed the status tells it alone.
+// Prints what a replay was refused for. Where that can't be printed the status alone reports it.
 fn refuse<M: Write>(fault: ReplayFault, messages: &mut M) -> Status {
     let (printed, status) = match fault {
         ReplayFault::InputTooLong => (writeln!(messages, "audit: input too long"), Status::Refused),

@@ -264,7 +264,7 @@ fn a_reader_or_a_writer_that_fails(rt: HostRuntime) -> Result<(), Fail> {
     Ok(())
 }
 
-// The status of a run that tells a fault of its output, or nothing.
+// The status of a run that reports a fault of its output, or nothing.
 fn status_over(
     rt: &impl Abort,
     alloc: Global,

@@ -2,6 +2,7 @@ pub use Rattle.audit_device.proofs.Images
 pub use Rattle.audit_device.proofs.Moments
 pub use Rattle.audit_device.proofs.Rows
 pub use Rattle.audit_device.proofs.Windows
+pub mod Contents
 pub mod FileCalls
 pub mod FileSectors
 pub mod FreshDisks

@@ -23,5 +23,6 @@ pub mod Memory
 pub mod Shifted
 -- What only bodies need.
 pub mod CallLog
+pub mod Contents
 pub mod Gate
 pub mod Progress

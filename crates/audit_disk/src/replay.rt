@@ -1,7 +1,8 @@
 //! What a crash leaves, from the calls that were made.
-ghost use Rattle.std.specs.Prelude.{◌≡◌, IfOk, map, replicate};
+ghost use Rattle.std.specs.Prelude.{◌≡◌, ◌≤◌, IfOk, length, map, replicate, take};
 ghost use Rattle.audit_disk.specs.Held.{settled, bytes_of, crashed};
 ghost use Rattle.audit_disk.specs.Memory.{after_calls};
+ghost use Rattle.audit_disk.specs.Contents.{newest_of, content_after, EndSynced};
 ghost use Rattle.audit_disk.specs.Progress.{AreProgress, landed_of, after_effect};
 
 use crate::SECTOR_SIZE;
@@ -78,8 +79,8 @@ fn landed_blocks(alloc: Global, progress: &[Progress]) -> Result<Vec<Block>, All
     progress.iter().map(|sector| sector.landed).collect(alloc)
 }
 
-/// What a crash leaves by these picks, after these calls on synced sectors.
-pub(crate) fn crashed_blocks(
+/// What a crash leaves by these picks, after these calls on synced sectors, each of them replayed.
+fn replayed_blocks(
     alloc: Global,
     start: &[Block],
     calls: &[Call],
@@ -93,4 +94,61 @@ pub(crate) fn crashed_blocks(
         apply(&mut progress, call);
     }
     landed_blocks(alloc, &progress)
+}
+
+/// How many calls there are up to the last sync.
+fn synced_calls(calls: &[Call]) -> usize
+    ensures within { result ≤ length calls.now }
+    ensures synced { EndSynced (take result calls.now) }
+{
+    let mut synced = 0;
+    for (k, call) in calls.iter().enumerate() {
+        if let Effect::Sync = call.effect {
+            synced = k + 1;
+        }
+    }
+    synced
+}
+
+/// Sets the content that a call writes.
+fn put(blocks: &mut [Block], call: &Call)
+    ensures { blocks.new ≡ content_after call.now.effect blocks.old }
+{
+    if let Effect::Write(at, block) = call.effect {
+        if at < blocks.len() {
+            blocks[at] = block;
+        }
+    }
+}
+
+/// The content after these calls.
+fn content_of_calls(
+    alloc: Global,
+    start: &[Block],
+    calls: &[Call],
+) -> Result<Vec<Block>, AllocError>
+    ensures { IfOk result (λ blocks. blocks.items
+        ≡ newest_of (after_calls calls.now (map settled start.now))) }
+{
+    let mut blocks = Vec::from_slice(alloc, start)?;
+    for call in calls {
+        put(&mut blocks, call);
+    }
+    Ok(blocks)
+}
+
+/// What a crash leaves by these picks, after these calls on synced sectors. Up to the last sync the content alone
+/// counts, so the calls from there on are replayed.
+pub(crate) fn crashed_blocks(
+    alloc: Global,
+    start: &[Block],
+    calls: &[Call],
+    pick: &[u64],
+) -> Result<Vec<Block>, AllocError>
+    ensures { IfOk result (λ blocks. bytes_of blocks.items
+        ≡ crashed (after_calls calls.now (map settled start.now)) pick.now) }
+{
+    let synced = synced_calls(calls);
+    let content = content_of_calls(alloc, start, &calls[..synced])?;
+    replayed_blocks(alloc, &content, &calls[synced..], pick)
 }

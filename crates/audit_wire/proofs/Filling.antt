@@ -21,7 +21,7 @@ two high low a b zero = a
 two high low a b (suc zero) = b
 two high low a b (suc (suc place)) = omega arith
 
--- bytes with as many behind the first two as these say are a frame
+-- bytes with as many after the first two as these say are a frame
 pub frame_of : (bytes : List ℕ) → get_or bytes 0 0 < 256 → get_or bytes 1 0 < 256 → length bytes ≡ 2 + size_at bytes → bytes ≡ frame (drop 2 bytes)
 frame_of [] a b e = absurd (omega arith)
 frame_of (high ∷ []) a b e = absurd (omega arith)
@@ -29,7 +29,7 @@ frame_of (high ∷ low ∷ body) a b e =
     let size : length body ≡ size_of high low = omega arith in
     ap (λ (front : List ℕ). front ++ body) (sym (be_bytes_2 (high ∷ low ∷ []) (length body) refl (two high low a b) size))
 
--- what comes behind leaves the two bytes of length
+-- what comes after leaves the two bytes of length
 pub size_at-append : (bytes more : List ℕ) → 2 ≤ length bytes → size_at (bytes ++ more) ≡ size_at bytes
 size_at-append [] more le = absurd (omega arith)
 size_at-append (high ∷ []) more le = absurd (omega arith)

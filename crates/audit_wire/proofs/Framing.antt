@@ -139,7 +139,7 @@ first_of_stream (high ∷ low ∷ bytes) =
       | inr e ↦ bad high low bytes (λ h. both_ways (is_body_size size) e (size_passes size h)) refl
     ]
 
--- ---- more bytes behind
+-- ---- more bytes after
 
 -- a choice after a request is that request and then the choice
 choice_in_front : (flag : Bool) (asked : Request) (framed later : Framed Request)
@@ -170,6 +170,6 @@ continued_below : (count : ℕ) (bytes more : List ℕ) → length bytes < count
 continued_below zero bytes more lt = absurd (omega arith)
 continued_below (suc count) bytes more lt = continued_step bytes more (λ shorter less. continued_below count shorter more (omega arith)) (first_of_stream bytes)
 
--- what came before stays, and what was left over is read together with what comes behind
+-- what came before stays, and what was left over is read together with what comes after
 pub requests-append : (bytes more : List ℕ) → framed_requests (bytes ++ more) ≡ continued (framed_requests bytes) more
 requests-append bytes more = continued_below (suc (length bytes)) bytes more (omega arith)

@@ -24,7 +24,7 @@ IsPartial [] = Unit {0}
 IsPartial (high ∷ []) = Unit {0}
 IsPartial (high ∷ low ∷ body) = IsBodySize (size_of high low) × (length body < size_of high low)
 
--- a length that no request has, and nothing behind it
+-- a length that no request has, and nothing after it
 abbrev pub IsBadLength : List ℕ → Type 0
 IsBadLength [] = ⊥
 IsBadLength (high ∷ []) = ⊥

@@ -64,7 +64,7 @@ taken_by fed.More piece = piece
 taken_by (fed.Body taken) piece = take taken piece
 taken_by (fed.Malformed taken) piece = take taken piece
 
--- a piece behind the bytes that are held back: the frame goes on, or its body is whole, or its length is malformed
+-- a piece after the bytes that are held back: the frame goes on, or its body is whole, or its length is malformed
 abbrev pub IsTaken : List ℕ → List ℕ → Fed → Progress → Type 0
 IsTaken held piece fed.More new = IsPartial (held ++ piece) × (new ≡ reading (held ++ piece))
 IsTaken held piece (fed.Body taken) new =

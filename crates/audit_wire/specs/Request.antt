@@ -33,7 +33,7 @@ kind_at byte =
     if byte == 4 then Some kind.Incremental else
     if byte == 5 then Some kind.Entry else None
 
--- what the bytes behind the first one say, for each kind
+-- what the bytes after the first one say, for each kind
 unfoldable pub append_in : List ℕ → Option Request
 append_in fields =
     if (nat_le 8 (length fields) && nat_le (length fields) (8 + MAX_PAYLOAD)) && not (number_at w32 4 fields == RESERVED_KIND)

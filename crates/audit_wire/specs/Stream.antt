@@ -79,7 +79,7 @@ IsMalformedPlace (high ∷ low ∷ bytes) =
     IsBodySize (size_of high low) → (size_of high low ≤ length bytes)
     × ((request : Request) → IsRequest request → request_body request ≢ take (size_of high low) bytes)
 
--- what stands behind the requests
+-- what stands after the requests
 abbrev pub EndsIn : Bool → List ℕ → List ℕ → Type 0
 EndsIn false rest place = IsPartial place × (rest ≡ place)
 EndsIn true rest place = IsMalformedPlace place × (rest ≡ [])

@@ -17,9 +17,9 @@ enum State {
     Reading,
     /// A body was handed out, and is lent until the next feed.
     Whole,
-    /// A malformed length was told.
+    /// A malformed length was reported.
     Malformed,
-    /// A malformed length was told, and more came after it.
+    /// A malformed length was reported, and more came after it.
     Closed,
 }
 

@@ -8,6 +8,7 @@
 mod byte_list;
 mod decoder;
 mod fed;
+mod fields;
 mod hash_list;
 mod laws;
 mod limits;

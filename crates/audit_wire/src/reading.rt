@@ -5,29 +5,11 @@ ghost use Rattle.audit_base.specs.Bytes.{number_at};
 ghost use Rattle.audit_wire.specs.Request.{request_body, request_in, IsRequest, append_in, commitment_in, membership_in, incremental_in, entry_in};
 ghost use Rattle.audit_wire.specs.View.{request_shown, request_read};
 
+use crate::fields::{AFTER_ONE_NUMBER, AFTER_TAG, AFTER_TWO_NUMBERS, PAYLOAD_AT, TAG_AT};
 use crate::malformed::Malformed;
 use crate::request_kind::RequestKind;
 use crate::view::RequestView;
 use audit_base::{MAX_PAYLOAD, RESERVED_KIND, u32_at, u64_at};
-
-// Where the fields stand behind a body's first byte: the request tag, then an append's kind and
-// payload, or one number or two.
-const TAG_AT: usize = 0;
-
-const KIND_AT: usize = 4;
-
-const PAYLOAD_AT: usize = 8;
-
-const FIRST_NUMBER_AT: usize = 4;
-
-const SECOND_NUMBER_AT: usize = 12;
-
-// How many bytes stand there where no number follows the tag, one, or two.
-const NO_NUMBER: usize = 4;
-
-const ONE_NUMBER: usize = 12;
-
-const TWO_NUMBERS: usize = 20;
 
 /// Reads the body of a frame as a request, and borrows an append's payload. Takes no memory.
 pub fn read_request(body: &[u8]) -> Result<RequestView<'_>, Malformed>
@@ -67,7 +49,7 @@ fn append_of(fields: &[u8]) -> Result<RequestView<'_>, Malformed>
     if fields.len() < PAYLOAD_AT || fields.len() > PAYLOAD_AT + MAX_PAYLOAD {
         return Err(Malformed);
     }
-    let kind = u32_at(fields, KIND_AT);
+    let kind = u32_at(fields, AFTER_TAG);
     if kind == RESERVED_KIND {
         return Err(Malformed);
     }
@@ -82,7 +64,7 @@ fn append_of(fields: &[u8]) -> Result<RequestView<'_>, Malformed>
 fn commitment_of(fields: &[u8]) -> Result<RequestView<'_>, Malformed>
     ensures { request_read result ≡ commitment_in fields.now }
 {
-    if fields.len() != NO_NUMBER {
+    if fields.len() != AFTER_TAG {
         return Err(Malformed);
     }
     Ok(RequestView::Commitment {
@@ -94,13 +76,13 @@ fn commitment_of(fields: &[u8]) -> Result<RequestView<'_>, Malformed>
 fn membership_of(fields: &[u8]) -> Result<RequestView<'_>, Malformed>
     ensures { request_read result ≡ membership_in fields.now }
 {
-    if fields.len() != TWO_NUMBERS {
+    if fields.len() != AFTER_TWO_NUMBERS {
         return Err(Malformed);
     }
     Ok(RequestView::Membership {
         tag: u32_at(fields, TAG_AT),
-        index: u64_at(fields, FIRST_NUMBER_AT),
-        count: u64_at(fields, SECOND_NUMBER_AT),
+        index: u64_at(fields, AFTER_TAG),
+        count: u64_at(fields, AFTER_ONE_NUMBER),
     })
 }
 
@@ -108,13 +90,13 @@ fn membership_of(fields: &[u8]) -> Result<RequestView<'_>, Malformed>
 fn incremental_of(fields: &[u8]) -> Result<RequestView<'_>, Malformed>
     ensures { request_read result ≡ incremental_in fields.now }
 {
-    if fields.len() != TWO_NUMBERS {
+    if fields.len() != AFTER_TWO_NUMBERS {
         return Err(Malformed);
     }
     Ok(RequestView::Incremental {
         tag: u32_at(fields, TAG_AT),
-        older: u64_at(fields, FIRST_NUMBER_AT),
-        newer: u64_at(fields, SECOND_NUMBER_AT),
+        older: u64_at(fields, AFTER_TAG),
+        newer: u64_at(fields, AFTER_ONE_NUMBER),
     })
 }
 
@@ -122,11 +104,11 @@ fn incremental_of(fields: &[u8]) -> Result<RequestView<'_>, Malformed>
 fn entry_of(fields: &[u8]) -> Result<RequestView<'_>, Malformed>
     ensures { request_read result ≡ entry_in fields.now }
 {
-    if fields.len() != ONE_NUMBER {
+    if fields.len() != AFTER_ONE_NUMBER {
         return Err(Malformed);
     }
     Ok(RequestView::Entry {
         tag: u32_at(fields, TAG_AT),
-        index: u64_at(fields, FIRST_NUMBER_AT),
+        index: u64_at(fields, AFTER_TAG),
     })
 }

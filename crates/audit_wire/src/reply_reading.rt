@@ -4,6 +4,7 @@ ghost use Rattle.audit_wire.specs.Frame.{frame};
 ghost use Rattle.audit_wire.specs.Reply.{acknowledgement_in, commitment_reply_in, membership_reply_in, increment_reply_in, entry_reply_in, refused_in, reply_in, IsReadAs};
 
 use crate::byte_list::ByteList;
+use crate::fields::{AFTER_ONE_BYTE, AFTER_ONE_NUMBER, AFTER_TAG, AFTER_TWO_NUMBERS, TAG_AT};
 use crate::hash_list::HashList;
 use crate::limits::LENGTH_BYTES;
 use crate::refusal::Refusal;
@@ -66,14 +67,14 @@ fn read_by_kind(alloc: Global, body: &[u8]) -> Result<Reply, ReplyFault>
 fn acknowledgement_of(fields: &[u8]) -> Result<Reply, ReplyFault>
     ensures { IsReadAs (acknowledgement_in fields.now) result }
 {
-    if fields.len() != 20 + HASH_LEN {
+    if fields.len() != AFTER_TWO_NUMBERS + HASH_LEN {
         return Err(ReplyFault::Malformed);
     }
     Ok(Reply::Acknowledgement {
-        tag: u32_at(fields, 0),
-        index: u64_at(fields, 4),
-        count: u64_at(fields, 12),
-        root: *array_at(fields, 20),
+        tag: u32_at(fields, TAG_AT),
+        index: u64_at(fields, AFTER_TAG),
+        count: u64_at(fields, AFTER_ONE_NUMBER),
+        root: *array_at(fields, AFTER_TWO_NUMBERS),
     })
 }
 
@@ -81,13 +82,13 @@ fn acknowledgement_of(fields: &[u8]) -> Result<Reply, ReplyFault>
 fn commitment_of(fields: &[u8]) -> Result<Reply, ReplyFault>
     ensures { IsReadAs (commitment_reply_in fields.now) result }
 {
-    if fields.len() != 12 + HASH_LEN {
+    if fields.len() != AFTER_ONE_NUMBER + HASH_LEN {
         return Err(ReplyFault::Malformed);
     }
     Ok(Reply::Commitment {
-        tag: u32_at(fields, 0),
-        count: u64_at(fields, 4),
-        root: *array_at(fields, 12),
+        tag: u32_at(fields, TAG_AT),
+        count: u64_at(fields, AFTER_TAG),
+        root: *array_at(fields, AFTER_ONE_NUMBER),
     })
 }
 
@@ -95,11 +96,11 @@ fn commitment_of(fields: &[u8]) -> Result<Reply, ReplyFault>
 fn membership_of(alloc: Global, fields: &[u8]) -> Result<Reply, ReplyFault>
     ensures { IsReadAs (membership_reply_in fields.now) result }
 {
-    if fields.len() < 5 {
+    if fields.len() < AFTER_ONE_BYTE {
         return Err(ReplyFault::Malformed);
     }
-    let number = fields[4] as usize;
-    let (_, behind) = fields.split_at(5);
+    let number = fields[AFTER_TAG] as usize;
+    let (_, behind) = fields.split_at(AFTER_ONE_BYTE);
     if number > MAX_MEMBER_HASHES || behind.len() < HASH_LEN * number {
         return Err(ReplyFault::Malformed);
     }
@@ -114,7 +115,7 @@ fn membership_of(alloc: Global, fields: &[u8]) -> Result<Reply, ReplyFault>
         return Err(ReplyFault::Memory);
     };
     Ok(Reply::Membership {
-        tag: u32_at(fields, 0),
+        tag: u32_at(fields, TAG_AT),
         hashes: HashList::from_vec(hashes),
         entry: ByteList::from_vec(entry),
     })
@@ -124,11 +125,11 @@ fn membership_of(alloc: Global, fields: &[u8]) -> Result<Reply, ReplyFault>
 fn increment_of(alloc: Global, fields: &[u8]) -> Result<Reply, ReplyFault>
     ensures { IsReadAs (increment_reply_in fields.now) result }
 {
-    if fields.len() < 5 {
+    if fields.len() < AFTER_ONE_BYTE {
         return Err(ReplyFault::Malformed);
     }
-    let number = fields[4] as usize;
-    let (_, behind) = fields.split_at(5);
+    let number = fields[AFTER_TAG] as usize;
+    let (_, behind) = fields.split_at(AFTER_ONE_BYTE);
     if number > MAX_INCREMENT_HASHES || behind.len() != HASH_LEN * number {
         return Err(ReplyFault::Malformed);
     }
@@ -136,7 +137,7 @@ fn increment_of(alloc: Global, fields: &[u8]) -> Result<Reply, ReplyFault>
         return Err(ReplyFault::Memory);
     };
     Ok(Reply::Incremental {
-        tag: u32_at(fields, 0),
+        tag: u32_at(fields, TAG_AT),
         hashes: HashList::from_vec(hashes),
     })
 }
@@ -145,15 +146,15 @@ fn increment_of(alloc: Global, fields: &[u8]) -> Result<Reply, ReplyFault>
 fn entry_of(alloc: Global, fields: &[u8]) -> Result<Reply, ReplyFault>
     ensures { IsReadAs (entry_reply_in fields.now) result }
 {
-    if fields.len() < 4 || fields.len() > 4 + MAX_ENTRY {
+    if fields.len() < AFTER_TAG || fields.len() > AFTER_TAG + MAX_ENTRY {
         return Err(ReplyFault::Malformed);
     }
-    let (_, entry) = fields.split_at(4);
+    let (_, entry) = fields.split_at(AFTER_TAG);
     let Ok(entry) = Vec::from_slice(alloc, entry) else {
         return Err(ReplyFault::Memory);
     };
     Ok(Reply::Entry {
-        tag: u32_at(fields, 0),
+        tag: u32_at(fields, TAG_AT),
         entry: ByteList::from_vec(entry),
     })
 }
@@ -162,12 +163,12 @@ fn entry_of(alloc: Global, fields: &[u8]) -> Result<Reply, ReplyFault>
 fn refused_of(fields: &[u8]) -> Result<Reply, ReplyFault>
     ensures { IsReadAs (refused_in fields.now) result }
 {
-    if fields.len() != 5 {
+    if fields.len() != AFTER_ONE_BYTE {
         return Err(ReplyFault::Malformed);
     }
-    match Refusal::from_code(fields[4]) {
+    match Refusal::from_code(fields[AFTER_TAG]) {
         Some(refusal) => Ok(Reply::Refused {
-            tag: u32_at(fields, 0),
+            tag: u32_at(fields, TAG_AT),
             refusal,
         }),
         None => Err(ReplyFault::Malformed),

@@ -234,7 +234,7 @@ fn a_malformed_length_that_is_put_back_comes_again(rt: HostRuntime) -> Result<()
     Ok(())
 }
 
-/// The frame of a reply comes behind what stands there, also where the room is exactly its size.
+/// The frame of a reply comes after what stands there, also where the room is exactly its size.
 fn check_reply(
     rt: &impl Abort,
     alloc: Global,

@@ -100,7 +100,7 @@ fn put_random(stream: &mut Vec<u8>, dice: &mut Dice, count: u64) -> Result<(), A
     Ok(())
 }
 
-/// A frame with this first byte, and random bytes behind it.
+/// A frame with this first byte, and random bytes after it.
 fn put_query(stream: &mut Vec<u8>, dice: &mut Dice, kind: u8, size: u8) -> Result<(), AllocError> {
     stream.extend_from_slice(&[0, size, kind])?;
     put_random(stream, dice, (size as u64).saturating_sub(1))
@@ -193,7 +193,7 @@ fn decoded(alloc: Global, stream: &[u8], dice: &mut Dice) -> Result<Reading, All
     Ok(reading)
 }
 
-/// The number in the first `size` bytes, and the bytes behind it.
+/// The number in the first `size` bytes, and the bytes after it.
 fn number_at_front(bytes: &[u8], size: usize) -> Option<(u64, &[u8])> {
     if bytes.len() < size {
         return None;
@@ -232,7 +232,7 @@ fn plain_request(body: &[u8], reading: &mut Reading) -> Option<()> {
     Some(())
 }
 
-/// The first frame's body, and the bytes behind it.
+/// The first frame's body, and the bytes after it.
 fn plain_frame(stream: &[u8]) -> Option<(&[u8], &[u8])> {
     let (size, rest) = number_at_front(stream, 2)?;
     if rest.len() < size as usize {
