@@ -41,7 +41,8 @@ pub fn accepts_member(commitment: &Commitment, index: u64, entry: &[u8], hashes:
     ensures exact { IsTrue result ↔ AcceptsMembership sha256 commitment.now index entry.now hashes.now }
 
     // What a tree makes is accepted under its root.
-    ensures made { (leaves : List (List ℕ)) → IsMadeMembership leaves commitment.now index entry.now hashes.now → IsTrue result }
+    ensures made { (leaves : List (List ℕ))
+        → IsMadeMembership leaves commitment.now index entry.now hashes.now → IsTrue result }
 {
     accepts_leaf(&Sha256Texts, commitment, index, leaf_hash(entry), hashes)
 }
@@ -97,7 +98,8 @@ pub fn accepts_increment(older: &Commitment, newer: &Commitment, hashes: &[Hash]
     ensures exact { IsTrue result ↔ AcceptsIncrement sha256 older.now newer.now hashes.now }
 
     // What a tree makes is accepted under its roots.
-    ensures made { (leaves : List (List ℕ)) → IsMadeIncrement leaves older.now newer.now hashes.now → IsTrue result }
+    ensures made { (leaves : List (List ℕ))
+        → IsMadeIncrement leaves older.now newer.now hashes.now → IsTrue result }
 {
     accepts_versions(&Sha256Texts, older, newer, hashes)
 }

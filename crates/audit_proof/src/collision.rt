@@ -105,12 +105,15 @@ pub fn collide<T: TextHash>(
     requires first { first.now.leaf ≡ leaf_of T.value_of first.now.entry.now }
     requires second { second.now.leaf ≡ leaf_of T.value_of second.now.entry.now }
     ensures not_accepted { (result ≡ Err CollideFault.NotAccepted)
-        ↔ ¬ (AcceptsBoth T.value_of commitment.now index first.now.entry.now first.now.hashes.now second.now.entry.now second.now.hashes.now) }
+        ↔ ¬ (AcceptsBoth T.value_of commitment.now index first.now.entry.now first.now.hashes.now
+        second.now.entry.now second.now.hashes.now) }
     ensures no_disagreement { (result ≡ Err CollideFault.NoDisagreement)
-        ↔ (AcceptsBoth T.value_of commitment.now index first.now.entry.now first.now.hashes.now second.now.entry.now second.now.hashes.now
+        ↔ (AcceptsBoth T.value_of commitment.now index first.now.entry.now first.now.hashes.now
+        second.now.entry.now second.now.hashes.now
         × (first.now.entry.now ≡ second.now.entry.now)) }
     ensures otherwise { (result ≢ Err CollideFault.NotAccepted) → (result ≢ Err CollideFault.NoDisagreement)
-        → AcceptsBoth T.value_of commitment.now index first.now.entry.now first.now.hashes.now second.now.entry.now second.now.hashes.now
+        → AcceptsBoth T.value_of commitment.now index first.now.entry.now first.now.hashes.now
+        second.now.entry.now second.now.hashes.now
         × (first.now.entry.now ≢ second.now.entry.now) }
     ensures ok { IfOk result (λ c. IsCollision T.value_of c.left.items c.right.items) }
 {

@@ -58,7 +58,8 @@ pub fn collide_two_with<T: TextHash>(
         → ((result ≡ Err CollideFault.NoDisagreement)
         ↔ (AcceptsBoth T.value_of commitment.now index entry1.now hashes1.now entry2.now hashes2.now
         × (entry1.now ≡ entry2.now))) }
-    ensures ok { IfOk result (λ c. AcceptsBoth T.value_of commitment.now index entry1.now hashes1.now entry2.now hashes2.now
+    ensures ok { IfOk result (λ c.
+        AcceptsBoth T.value_of commitment.now index entry1.now hashes1.now entry2.now hashes2.now
         × (entry1.now ≢ entry2.now) × IsCollision T.value_of c.left.items c.right.items) }
 {
     let first = Shown {
@@ -85,12 +86,15 @@ fn leaf_hash_with<T: TextHash>(alloc: Global, hash: &T, entry: &[u8]) -> Result<
 /// The commitment to leaf texts is that of the tree, as a `Commitment`: their number and their root. The function
 /// does nothing: its contract is the law.
 pub fn commitments_are_of_texts()
-    ensures { (texts : List (List ℕ)) → commitment_of texts ≡ ((commitment_to texts).count, (commitment_to texts).root) }
+    ensures { (texts : List (List ℕ))
+        → commitment_of texts ≡ ((commitment_to texts).count, (commitment_to texts).root) }
 {}
 
 /// The bytes of a proof are read in one way only: bytes are read as a proof exactly where it is within the limits
 /// and they are its bytes. The function does nothing: its contract is the law.
 pub fn one_reading_of_proof_bytes()
-    ensures member { (bytes : List ℕ) (proof : Member) → AreBytes bytes → (member_of bytes ≡ Some proof) ↔ (IsMember proof × (bytes ≡ member_bytes proof)) }
-    ensures increment { (bytes : List ℕ) (proof : Increment) → AreBytes bytes → (increment_of bytes ≡ Some proof) ↔ (IsIncrement proof × (bytes ≡ increment_bytes proof)) }
+    ensures member { (bytes : List ℕ) (proof : Member) → AreBytes bytes
+        → (member_of bytes ≡ Some proof) ↔ (IsMember proof × (bytes ≡ member_bytes proof)) }
+    ensures increment { (bytes : List ℕ) (proof : Increment) → AreBytes bytes
+        → (increment_of bytes ≡ Some proof) ↔ (IsIncrement proof × (bytes ≡ increment_bytes proof)) }
 {}

@@ -127,8 +127,10 @@ pub fn meet<T: TextHash>(
     requires place { way.place < way.count }
     requires differ { left.now.text.now ≢ right.now.text.now }
     ensures { IfOk result (IsMeeting T.value_of left.now.hashes.now right.now.hashes.now
-        (climb (one_value T.value_of) 0 way.height way.place way.count (T.value_of left.now.text.now) left.now.hashes.now)
-        (climb (one_value T.value_of) 0 way.height way.place way.count (T.value_of right.now.text.now) right.now.hashes.now)) }
+        (climb (one_value T.value_of) 0 way.height way.place way.count
+        (T.value_of left.now.text.now) left.now.hashes.now)
+        (climb (one_value T.value_of) 0 way.height way.place way.count
+        (T.value_of right.now.text.now) right.now.hashes.now)) }
 {
     if way.height == 0 {
         return meet_texts(alloc, hash, left.text, 0, right.text, 0);

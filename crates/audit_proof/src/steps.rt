@@ -45,7 +45,8 @@ pub struct TwoValues<'a, T> {
 impl<T: TextHash> TwoValues<'_, T> {
     // The older value over a node that has nothing on the right in the older tree.
     fn older_alone(&self, layer: u32, older: &Hash) -> Hash
-        ensures { result ≡ (if nat_lt layer self.now.older_depth then parent_of T.value_of older.now [] else older.now) }
+        ensures { result
+            ≡ (if nat_lt layer self.now.older_depth then parent_of T.value_of older.now [] else older.now) }
     {
         if layer < self.older_depth {
             self.hash.hash(&lone_text(older))

@@ -10,7 +10,8 @@ use audit_base::{HASH_LEN, MAX_COUNT};
 /// Where all leaf hashes have 32 bytes, so have a root, each node, and each hash of both proofs.
 pub fn hashes_keep_their_length()
     ensures root { (leaves : List (List ℕ)) → HaveHashLength leaves → length (root_of sha256 leaves) ≡ HASH_LEN }
-    ensures node { (leaves : List (List ℕ)) (count start layer : ℕ) → HaveHashLength leaves → start < count → count ≤ length leaves
+    ensures node { (leaves : List (List ℕ)) (count start layer : ℕ)
+        → HaveHashLength leaves → start < count → count ≤ length leaves
         → length (node_at sha256 leaves count start layer) ≡ HASH_LEN }
     ensures membership { (leaves : List (List ℕ)) (place : ℕ) → HaveHashLength leaves → place < length leaves
         → HaveHashLength (membership_path sha256 leaves place) }
@@ -24,13 +25,15 @@ pub fn hashes_keep_their_length()
 /// A node, a root and both proofs by the places of their nodes are those by the leaf hashes from a start on, over
 /// any hash function.
 pub fn places_and_leaves_agree()
-    ensures node { (H : List ℕ → List ℕ) (leaves : List (List ℕ)) (count start layer : ℕ) → start < count → count ≤ length leaves
+    ensures node { (H : List ℕ → List ℕ) (leaves : List (List ℕ)) (count start layer : ℕ)
+        → start < count → count ≤ length leaves
         → node_at H leaves count start layer ≡ subtree_hash H layer (drop start (take count leaves)) }
 
     // The root of a count is the node that starts at 0 of its depth's layer.
     ensures root { (H : List ℕ → List ℕ) (leaves : List (List ℕ)) (count : ℕ) → 1 ≤ count → count ≤ length leaves
         → root_of H (take count leaves) ≡ node_at H leaves count 0 (depth count) }
-    ensures membership { (H : List ℕ → List ℕ) (leaves : List (List ℕ)) (count place : ℕ) → place < count → count ≤ length leaves
+    ensures membership { (H : List ℕ → List ℕ) (leaves : List (List ℕ)) (count place : ℕ)
+        → place < count → count ≤ length leaves
         → membership_at H leaves count place ≡ membership_path H (take count leaves) place }
     ensures increment { (H : List ℕ → List ℕ) (leaves : List (List ℕ)) (older newer : ℕ) → 1 ≤ older → older ≤ newer
         → newer ≤ length leaves → newer ≤ MAX_COUNT
