@@ -1,8 +1,9 @@
 // Expected values are the rows of the format's definition, and those of an independent model of the store.
-use crate::{HeaderRefusal, find_header};
-use audit_chain::Key;
+use crate::{HeaderRefusal, find_header, scan};
+use audit_chain::{Event, FIRST_LINK, Key, Sealed, seal};
 use audit_disk::{FailOnce, MemDisk, Sectors};
-use audit_log::{Chosen, GENERATION_LIMIT, Header, write_header};
+use audit_log::{Chosen, GENERATION_LIMIT, Header, LogError, write_header};
+use audit_tree::leaf_hash;
 use std::alloc::Global;
 use std::process::Abort;
 use std::test::Fail;
@@ -107,5 +108,52 @@ fn headers_refused(rt: HostRuntime) -> Result<(), Fail> {
         Some(HeaderRefusal::Device)
     );
     assert!(rt; is_found(find_header(&mut failing), 1, true));
+    Ok(())
+}
+
+// A log of one entry of kind 1 with the payload `hi`, under a key of zeros, and its header.
+#[test]
+fn log_scanned(rt: HostRuntime) -> Result<(), Fail> {
+    let alloc = rt.alloc();
+    let key = Key::from_bytes([0; 32]);
+    let Sealed { bytes, link, next } = seal(
+        alloc,
+        &key,
+        &FIRST_LINK,
+        &Event::new(alloc, 1, b"hi")?,
+    )?;
+    let mut disk = MemDisk::new(alloc, 16)?;
+    let mut sector = [0; 512];
+    for (to, from) in sector.iter_mut().zip(bytes.iter()) {
+        *to = *from;
+    }
+    assert!(rt; disk.size() == 16);
+    disk.write(2, &sector)?;
+    let mut header = Header {
+        generation: 4,
+        sectors: 16,
+        count: 1,
+        end: 3,
+        root: leaf_hash(&bytes),
+        last_link: link,
+        key: next,
+    };
+    assert!(rt; header.meets_rules(header.generation % 2) && disk.size() == header.sectors);
+    let index = scan(alloc, &mut disk, &header)?;
+    assert_eq!(rt; index.count(), 1);
+    assert_eq!(rt; index.first_sector(0), Some(2));
+    header.last_link = [1; 32];
+    assert!(rt; header.meets_rules(header.generation % 2) && disk.size() == header.sectors);
+    assert_eq!(rt;
+        scan(alloc, &mut disk, &header).err(),
+        Some(LogError::DamagedLog { index: 1 })
+    );
+    header.count = 2;
+    header.end = 4;
+    assert!(rt; header.meets_rules(header.generation % 2) && disk.size() == header.sectors);
+    assert_eq!(rt;
+        scan(alloc, &mut disk, &header).err(),
+        Some(LogError::DamagedLog { index: 1 })
+    );
     Ok(())
 }
