@@ -272,35 +272,51 @@ fn room_is_reserved_at_each_count(rt: HostRuntime) -> Result<(), Fail> {
     Ok(())
 }
 
-// The root of 2^20 leaves is a model's, over the four bytes of each place.
-#[test]
-fn the_largest_tree(rt: HostRuntime) -> Result<(), Fail> {
-    let mut tree = Tree::new(rt.alloc());
-    for place in 0..1u32 << 20 {
+// A tree of so many leaves, over the four bytes of each place.
+fn tree_of_places(alloc: Global, count: u32) -> Result<Tree, TreeError> {
+    let mut tree = Tree::new(alloc);
+    for place in 0..count {
         tree.push(leaf_hash(&place.to_be_bytes()))?;
     }
+    Ok(tree)
+}
+
+// Fills a tree with leaf hashes of zeros.
+fn fill(tree: &mut Tree) -> Result<(), TreeError> {
+    for _ in tree.count()..MAX_COUNT {
+        tree.push([0; 32])?;
+    }
+    Ok(())
+}
+
+// The root of 2^20 leaves is a model's.
+#[test]
+fn a_tree_of_2_to_the_20_leaves(rt: HostRuntime) -> Result<(), Fail> {
+    let tree = tree_of_places(rt.alloc(), 1 << 20)?;
     assert_hex(
         &rt,
         rt.alloc(),
         &tree.root(),
         "d3dee2eed7a7edb0eab7ac020950d679237f01a8de00fcfdea6cb66fea44f9e9",
     )?;
-    tree.reserve(MAX_COUNT - (1 << 20))?;
-    for _ in 1u32 << 20..1 << 24 {
-        tree.push([0; 32])?;
-    }
+    Ok(())
+}
+
+#[test]
+fn the_largest_tree(rt: HostRuntime) -> Result<(), Fail> {
+    let mut tree = Tree::new(rt.alloc());
+    tree.reserve(MAX_COUNT)?;
+    fill(&mut tree)?;
     assert_eq!(&rt; tree.count(), MAX_COUNT);
     assert_eq!(&rt; tree.push([0; 32]).err(), Some(TreeError::Full));
-    assert_eq!(&rt; tree.count(), MAX_COUNT);
     assert_eq!(&rt; tree.frozen().len(), 33_554_431);
-    assert_eq!(&rt; tree.membership(0, MAX_COUNT)?.len(), 24);
-    assert_eq!(&rt; tree.membership(0, (1 << 23) + 1)?.len(), 24);
-    assert_eq!(&rt; tree.membership(0, 1 << 23)?.len(), 23);
-    assert_eq!(&rt; tree.incremental(1, MAX_COUNT)?.len(), 25);
-    assert_eq!(&rt; tree.incremental(1, 1 << 23)?.len(), 24);
-    assert_eq!(&rt;
-        tree.membership(MAX_COUNT, MAX_COUNT + 1).err(),
-        Some(TreeError::NoSuchVersion)
-    );
+    for (index, count, len) in [(0, MAX_COUNT, 24), (0, (1 << 23) + 1, 24), (0, 1 << 23, 23)] {
+        assert_eq!(&rt; tree.membership(index, count)?.len(), len);
+    }
+    for (older, newer, len) in [(1, MAX_COUNT, 25), (1, 1 << 23, 24)] {
+        assert_eq!(&rt; tree.incremental(older, newer)?.len(), len);
+    }
+    let past = tree.membership(MAX_COUNT, MAX_COUNT + 1);
+    assert_eq!(&rt; past.err(), Some(TreeError::NoSuchVersion));
     Ok(())
 }
