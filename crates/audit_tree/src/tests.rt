@@ -17,7 +17,7 @@ fn hex(alloc: Global, bytes: &[u8]) -> Result<String, AllocError> {
 
 fn assert_hex(rt: &impl Abort, alloc: Global, bytes: &[u8], expected: &str) -> Result<(), Fail> {
     let text = hex(alloc, bytes)?;
-    assert_eq!(rt; text.as_str(), expected);
+    assert!(rt; text.as_str() == expected, "{text}");
     Ok(())
 }
 
@@ -51,7 +51,7 @@ fn assert_sample_root(rt: &impl Abort, alloc: Global, tree: &Tree, count: u64) -
         3 => "8ce927e8575c4251922503a589ad2fa22b2b56370dde793885e5d7c7baefc6b5",
         _ => "d37ee418976dd95753c1c73862b9398fa2a2cf9b4ff0fdfe8b30cd95209614b7",
     };
-    assert_eq!(rt; tree.count(), count);
+    assert!(rt; tree.count() == count);
     assert_hex(rt, alloc, &tree.root(), expected)
 }
 
@@ -66,7 +66,7 @@ fn assert_hex_list(
     for hash in hashes {
         text.push_str(hex(alloc, hash)?.as_str())?;
     }
-    assert_eq!(rt; text.as_str(), expected);
+    assert!(rt; text.as_str() == expected, "{text}");
     Ok(())
 }
 
@@ -139,11 +139,11 @@ fn reserved_room_survives_a_push(rt: HostRuntime) -> Result<(), Fail> {
     let mut tree = Tree::new(rt.alloc());
     tree.reserve(3)?;
     tree.push(leaf_hash(b""))?;
-    assert_eq!(&rt; tree.spare(), 3);
+    assert!(&rt; tree.spare() == 3);
     tree.push_reserved(leaf_hash(&[0x00]));
     tree.push_reserved(leaf_hash(&[0x10]));
     tree.push_reserved(leaf_hash(&[0x20, 0x21]));
-    assert_eq!(&rt; tree.spare(), 0);
+    assert!(&rt; tree.spare() == 0);
     assert_sample_root(&rt, rt.alloc(), &tree, 4)
 }
 
@@ -310,15 +310,25 @@ fn counted_texts(alloc: Global, count: u8) -> Result<Vec<u8>, AllocError> {
     Ok(texts)
 }
 
+// The root, the nodes and the proofs of a tree of so many leaves.
+fn assert_plain_root(
+    rt: &impl Abort,
+    alloc: Global,
+    growing: &Tree,
+    count: u8,
+) -> Result<(), TreeError> {
+    let texts = counted_texts(alloc, count)?;
+    assert!(rt; growing.root() == plain::root(&texts), "{count}");
+    assert_plain(rt, alloc, growing, &texts)
+}
+
 #[test]
 fn growing_trees_to_33_match_the_plain_program(rt: HostRuntime) -> Result<(), Fail> {
     let mut growing = Tree::new(rt.alloc());
-    assert_eq!(&rt; growing.root(), plain::root(&[]));
+    assert_plain_root(&rt, rt.alloc(), &growing, 0)?;
     for place in 0..33u8 {
         growing.push(leaf_hash(&[place]))?;
-        let texts = counted_texts(rt.alloc(), place + 1)?;
-        assert!(&rt; growing.root() == plain::root(&texts), "{place}");
-        assert_plain(&rt, rt.alloc(), &growing, &texts)?;
+        assert_plain_root(&rt, rt.alloc(), &growing, place + 1)?;
     }
     Ok(())
 }
@@ -348,19 +358,26 @@ fn five_leaves_freeze_eight_hashes(rt: HostRuntime) -> Result<(), Fail> {
     ] {
         assert!(&rt; place_of(start, layer) == Some(place), "{place}");
     }
-    assert_eq!(&rt; counted_tree(rt.alloc(), 5)?.frozen().len(), 8);
+    assert!(&rt; counted_tree(rt.alloc(), 5)?.frozen().len() == 8);
+    Ok(())
+}
+
+// A tree with so much room at each count.
+fn expect_room(rt: &impl Abort, alloc: Global, more: u64) -> Result<(), TreeError> {
+    assert!(rt; more <= MAX_COUNT);
+    let mut tree = Tree::new(alloc);
+    for place in 0..70u8 {
+        tree.push(leaf_hash(&[place]))?;
+        tree.reserve(more)?;
+        assert!(rt; tree.spare() == more);
+    }
     Ok(())
 }
 
 #[test]
 fn room_is_reserved_at_each_count(rt: HostRuntime) -> Result<(), Fail> {
-    for more in 0..70u64 {
-        let mut tree = Tree::new(rt.alloc());
-        for place in 0..70u8 {
-            tree.push(leaf_hash(&[place]))?;
-            tree.reserve(more)?;
-            assert_eq!(&rt; tree.spare(), more);
-        }
+    for more in 0..70 {
+        expect_room(&rt, rt.alloc(), more)?;
     }
     Ok(())
 }
@@ -425,14 +442,19 @@ fn assert_increments(rt: &impl Abort, tree: &Tree) -> Result<(), TreeError> {
     Ok(())
 }
 
+// It is full, and tells so.
+fn is_full(tree: &mut Tree) -> bool {
+    tree.count() == MAX_COUNT
+        && tree.push([0; 32]).err() == Some(TreeError::Full)
+        && tree.frozen().len() == 33_554_431
+        && is_refused(tree.membership(MAX_COUNT, MAX_COUNT + 1))
+}
+
 #[test]
 fn the_largest_tree(rt: HostRuntime) -> Result<(), Fail> {
     let mut tree = largest_tree(rt.alloc())?;
-    assert_eq!(&rt; tree.count(), MAX_COUNT);
-    assert!(&rt; tree.push([0; 32]).err() == Some(TreeError::Full));
-    assert_eq!(&rt; tree.frozen().len(), 33_554_431);
+    assert!(&rt; is_full(&mut tree));
     assert_memberships(&rt, &tree)?;
     assert_increments(&rt, &tree)?;
-    assert!(&rt; is_refused(tree.membership(MAX_COUNT, MAX_COUNT + 1)));
     Ok(())
 }
