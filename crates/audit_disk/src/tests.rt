@@ -463,12 +463,12 @@ fn expect_uncreated(
     fault: FileFault,
 ) {
     let created = FileDisk::create(rt, path, sectors);
-    assert_eq!(judge; created.err(), Some(fault));
+    assert!(judge; created.err() == Some(fault));
 }
 
 fn expect_unopened(rt: &HostRuntime, judge: &impl Abort, path: &str, fault: FileFault) {
     let opened = FileDisk::open(rt, path);
-    assert_eq!(judge; opened.err(), Some(fault));
+    assert!(judge; opened.err() == Some(fault));
 }
 
 #[test]
