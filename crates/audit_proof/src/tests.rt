@@ -216,13 +216,18 @@ fn memberships_outside_the_limits_are_not_accepted(rt: HostRuntime) {
 }
 
 // The last is a full tree over the limit, whose increment to itself is its root alone.
+const OUTSIDE: [(u64, u64, &[Hash]); 5] = [
+    (0, FULL + 1, &[]),
+    (0, 0, &[]),
+    (u64::MAX, u64::MAX, &[[0; 32]]),
+    (FULL + 1, FULL + 1, &[[0; 32]]),
+    (1 << 25, 1 << 25, &[[0; 32]]),
+];
+
 #[test]
 fn increments_outside_the_limits_are_not_accepted(rt: HostRuntime) {
-    for newer in [FULL + 1, 0] {
-        assert!(&rt; !accepts_increment(&of_zeros(0), &of_zeros(newer), &[]));
-    }
-    for count in [u64::MAX, FULL + 1, 1 << 25] {
-        assert!(&rt; !accepts_increment(&of_zeros(count), &of_zeros(count), &[[0; 32]]));
+    for (older, newer, hashes) in OUTSIDE {
+        assert!(&rt; !accepts_increment(&of_zeros(older), &of_zeros(newer), hashes));
     }
 }
 
