@@ -38,27 +38,34 @@ fn outcome_of<R: Read>(alloc: Global, words: &[&str], input: &mut R) -> Outcome 
     }
 }
 
+// Whether this is all that the program did.
+fn did(found: &Outcome, output: &[u8], messages: &[u8], status: Status) -> bool {
+    found.output.as_slice() == output
+        && found.messages.as_slice() == messages
+        && found.status == status
+}
+
 fn expect_refused(rt: &impl Abort, alloc: Global, input: &[u8], message: &str, status: Status) {
     let mut input = input;
     let found = outcome_of(alloc, &["audit", "replay"], &mut input);
-    assert_eq!(rt; found.messages.as_slice(), message.as_bytes());
-    assert_eq!(rt; found.output.as_slice(), b"".as_slice(), "{message}");
-    assert_eq!(rt; found.status, status, "{message}");
+    assert!(rt; did(&found, b"", message.as_bytes(), status), "{message}");
+}
+
+// Whether the program prints the entries of the three events, also where its input comes byte by byte.
+fn prints_entries(alloc: Global, words: &[&str], text: &[u8]) -> bool {
+    let mut whole = text;
+    let found = outcome_of(alloc, words, &mut whole);
+    let again = outcome_of(alloc, words, &mut ByteByByte(text));
+    did(&found, ENTRIES.as_bytes(), b"", Status::Done)
+        && again.output.as_slice() == ENTRIES.as_bytes()
 }
 
 #[test]
 fn a_log_of_three_events(rt: HostRuntime) -> Result<(), Fail> {
-    let alloc = rt.alloc();
     let lines = "event 1 6869\nevent 7 -\nevent 4294967294 DEadBEef";
-    let text = format!(in alloc; "{KEY_LINE}{lines}")?;
-    for words in [["audit", "replay"].as_slice(), ["audit"].as_slice()] {
-        let found = outcome_of(alloc, words, &mut text.as_bytes());
-        assert_eq!(rt; found.output.as_slice(), ENTRIES.as_bytes());
-        assert_eq!(rt; found.messages.as_slice(), b"".as_slice());
-        assert_eq!(rt; found.status, Status::Done);
-        let found = outcome_of(alloc, words, &mut ByteByByte(text.as_bytes()));
-        assert_eq!(rt; found.output.as_slice(), ENTRIES.as_bytes());
-    }
+    let text = format!(in rt.alloc(); "{KEY_LINE}{lines}")?;
+    assert!(rt; prints_entries(rt.alloc(), &["audit", "replay"], text.as_bytes()));
+    assert!(rt; prints_entries(rt.alloc(), &["audit"], text.as_bytes()));
     Ok(())
 }
 
@@ -136,44 +143,34 @@ fn expect_refused_line(
     Ok(())
 }
 
+// A line of an event of this kind, whose payload is so many zero digits, and what else stands behind them.
+fn line_of(alloc: Global, kind: &str, digits: usize, rest: &str) -> Result<String, Fail> {
+    let zeros = vec![in alloc; b'0'; digits]?;
+    Ok(format!(in alloc; "event {kind} {}{rest}", str::from_utf8(&zeros)?)?)
+}
+
+// The kind, the digits and what stands behind them, and what is printed.
+const FAULTS: [(&str, usize, &str, &str); 7] = [
+    ("4294967295", 0, "-", "audit: line 2: reserved kind\n"),
+    ("4294967295", 8050, "", "audit: line 2: reserved kind\n"),
+    ("4294967295", 8051, "", "audit: line 2: bad event line\n"),
+    ("1", 8050, "", "audit: line 2: payload too long\n"),
+    ("1", 8050, "g", "audit: line 2: bad event line\n"),
+    ("1", 8048, "\nevent 2 zz", "audit: line 3: bad event line\n"),
+    (
+        "1",
+        0,
+        "zz\nevent 4294967295 -",
+        "audit: line 2: bad event line\n",
+    ),
+];
+
 // A bad line goes before the reserved kind, and that before a payload that is too long.
 #[test]
 fn faults_of_a_line_in_their_order(rt: HostRuntime) -> Result<(), Fail> {
-    let alloc = rt.alloc();
-    let long = vec![in alloc; b'0'; 2 * 4025]?;
-    let long = str::from_utf8(&long)?;
-    let good = format!(in alloc; "event 1 {}", &long[..2 * 4024])?;
-    for (line, message) in [
-        (
-            format!(in alloc; "event 4294967295 -")?,
-            "audit: line 2: reserved kind\n",
-        ),
-        (
-            format!(in alloc; "event 4294967295 {long}")?,
-            "audit: line 2: reserved kind\n",
-        ),
-        (
-            format!(in alloc; "event 4294967295 {long}0")?,
-            "audit: line 2: bad event line\n",
-        ),
-        (
-            format!(in alloc; "event 1 {long}")?,
-            "audit: line 2: payload too long\n",
-        ),
-        (
-            format!(in alloc; "event 1 {long}g")?,
-            "audit: line 2: bad event line\n",
-        ),
-        (
-            format!(in alloc; "{good}\nevent 2 zz")?,
-            "audit: line 3: bad event line\n",
-        ),
-        (
-            format!(in alloc; "event 1 zz\nevent 4294967295 -")?,
-            "audit: line 2: bad event line\n",
-        ),
-    ] {
-        expect_refused_line(&rt, alloc, line.as_bytes(), message)?;
+    for (kind, digits, rest, message) in FAULTS {
+        let line = line_of(rt.alloc(), kind, digits, rest)?;
+        expect_refused_line(&rt, rt.alloc(), line.as_bytes(), message)?;
     }
     Ok(())
 }
@@ -186,31 +183,32 @@ fn an_input_of_the_limit_and_one_byte_more(rt: HostRuntime) {
         (20_000_000, "audit: input too long\n"),
     ] {
         let found = outcome_of(rt.alloc(), &["audit"], &mut Zeros(len));
-        assert_eq!(rt; found.messages.as_slice(), message.as_bytes());
-        assert_eq!(rt; found.output.len(), 0);
-        assert_eq!(rt; found.status, Status::Refused);
+        assert!(rt; did(&found, b"", message.as_bytes(), Status::Refused));
     }
 }
 
 // 2,082 events of zeros with payloads of the limit, and one that fills an input up to its limit.
-#[test]
-fn a_log_of_the_longest_input(rt: HostRuntime) -> Result<(), Fail> {
-    let alloc = rt.alloc();
+fn longest_input(alloc: Global) -> Result<Vec<u8>, AllocError> {
     let mut input = Vec::from_slice(alloc, KEY_LINE.as_bytes())?;
-    for digits in [8048; 2082] {
-        push_event(alloc, &mut input, digits)?;
+    for _ in 0..2082 {
+        push_event(alloc, &mut input, 8048)?;
     }
     push_event(alloc, &mut input, 2464)?;
-    assert_eq!(rt; input.len(), 16_777_216);
-    let found = outcome_of(alloc, &["audit"], &mut input.as_slice());
-    assert_eq!(rt; found.status, Status::Done);
-    assert!(rt;
-        found.output.ends_with(
-            b"\ncommit 2083 39c237e4f860bd7153046ab2b236064f7d85158077aa61f75fa5e0423c9bad0c\n"
-        )
-    );
+    Ok(input)
+}
+
+#[test]
+fn a_log_of_the_longest_input(rt: HostRuntime) -> Result<(), Fail> {
+    let input = longest_input(rt.alloc())?;
+    assert!(rt; input.len() == 16_777_216);
+    let found = outcome_of(rt.alloc(), &["audit"], &mut input.as_slice());
+    assert!(rt; found.status == Status::Done);
+    assert!(rt; found.output.ends_with(LAST_COMMIT));
     Ok(())
 }
+
+const LAST_COMMIT: &[u8] =
+    b"\ncommit 2083 39c237e4f860bd7153046ab2b236064f7d85158077aa61f75fa5e0423c9bad0c\n";
 
 // A line of an event of kind 1 whose payload is zeros, spelled in so many digits.
 fn push_event(alloc: Global, input: &mut Vec<u8>, digits: usize) -> Result<(), AllocError> {
@@ -220,68 +218,72 @@ fn push_event(alloc: Global, input: &mut Vec<u8>, digits: usize) -> Result<(), A
     Ok(())
 }
 
+// A key line and one event.
+const SHORT_INPUT: &[u8] =
+    b"key 0000000000000000000000000000000000000000000000000000000000000000\nevent 1 6869\n";
+
+const FILE_FAULT: &[u8] = b"audit: file fault\n";
+
 #[test]
-fn a_reader_or_a_writer_that_fails(rt: HostRuntime) -> Result<(), Fail> {
-    let alloc = rt.alloc();
-    let text = format!(in alloc; "{KEY_LINE}event 1 6869\n")?;
+fn a_reader_that_fails(rt: HostRuntime) {
     for good_reads in 0..3 {
         let mut input = FailingReader {
-            bytes: text.as_bytes(),
+            bytes: SHORT_INPUT,
             good_reads,
         };
-        let found = outcome_of(alloc, &["audit"], &mut input);
-        assert_eq!(rt;
-            found.messages.as_slice(),
-            b"audit: file fault\n".as_slice()
-        );
-        assert_eq!(rt; found.output.len(), 0);
-        assert_eq!(rt; found.status, Status::Device);
+        let found = outcome_of(rt.alloc(), &["audit"], &mut input);
+        assert!(rt; did(&found, b"", FILE_FAULT, Status::Device));
     }
-    // The first line has 157 bytes, and both together 231.
-    for room in [0, 1, 100, 156, 157, 158, 230, 231] {
-        let mut output = FailingWriter {
-            room,
-            flushes: true,
-        };
-        let status = status_over(&rt, alloc, &["audit"], text.as_bytes(), &mut output);
-        assert_eq!(rt;
-            status,
-            if room < 231 {
-                Status::Device
-            } else {
-                Status::Done
-            }
-        );
-    }
-    for words in [["audit", "replay"], ["audit", "--help"]] {
-        let mut output = FailingWriter {
-            room: usize::MAX,
-            flushes: false,
-        };
-        let status = status_over(&rt, alloc, &words, text.as_bytes(), &mut output);
-        assert_eq!(rt; status, Status::Device);
-    }
-    Ok(())
 }
 
-// The status of a run that reports a fault of its output, or nothing.
-fn status_over(
-    rt: &impl Abort,
+// The first line of output has 157 bytes, and both together 231.
+#[test]
+fn a_writer_that_fails(rt: HostRuntime) {
+    for room in [0, 1, 100, 156, 157, 158, 230] {
+        assert!(rt;
+            ends_over(
+                rt.alloc(),
+                &["audit"],
+                room,
+                true,
+                Status::Device,
+                FILE_FAULT
+            )
+        );
+    }
+    assert!(rt; ends_over(rt.alloc(), &["audit"], 231, true, Status::Done, b""));
+}
+
+#[test]
+fn a_writer_that_fails_to_flush(rt: HostRuntime) {
+    for word in ["replay", "--help"] {
+        assert!(rt;
+            ends_over(
+                rt.alloc(),
+                &["audit", word],
+                usize::MAX,
+                false,
+                Status::Device,
+                FILE_FAULT
+            )
+        );
+    }
+}
+
+// Whether a run over an output with so much room ends with that status, and reports that.
+fn ends_over(
     alloc: Global,
     words: &[&str],
-    input: &[u8],
-    output: &mut FailingWriter,
-) -> Status {
-    let mut input = input;
+    room: usize,
+    flushes: bool,
+    status: Status,
+    told: &[u8],
+) -> bool {
+    let mut input = SHORT_INPUT;
+    let mut output = FailingWriter { room, flushes };
     let mut messages = Vec::new(alloc);
-    let status = run(alloc, words, &mut input, output, &mut messages);
-    let told = if status == Status::Done {
-        b"".as_slice()
-    } else {
-        b"audit: file fault\n".as_slice()
-    };
-    assert_eq!(rt; messages.as_slice(), told);
-    status
+    let found = run(alloc, words, &mut input, &mut output, &mut messages);
+    found == status && messages.as_slice() == told
 }
 
 fn tells(output: &[u8], words: &str) -> bool {
@@ -291,26 +293,43 @@ fn tells(output: &[u8], words: &str) -> bool {
     }
 }
 
+fn outcome_of_words(alloc: Global, words: &[&str]) -> Outcome {
+    outcome_of(alloc, words, &mut b"".as_slice())
+}
+
+fn is_help(found: &Outcome) -> bool {
+    found.status == Status::Done
+        && tells(&found.output, "Usage: audit")
+        && tells(&found.output, "replay")
+        && found.messages.is_empty()
+}
+
+fn is_usage(found: &Outcome) -> bool {
+    found.status == Status::Usage
+        && found.output.is_empty()
+        && tells(&found.messages, "Usage: audit")
+}
+
 #[test]
 fn help_and_usage(rt: HostRuntime) {
-    let help = outcome_of(rt.alloc(), &["audit", "--help"], &mut b"".as_slice());
-    assert_eq!(rt; help.status, Status::Done);
-    assert!(rt; tells(&help.output, "Usage: audit") && tells(&help.output, "replay"));
-    assert!(rt; help.messages.is_empty());
-    for words in [["audit", "repaly"], ["audit", "--fast"]] {
-        let usage = outcome_of(rt.alloc(), &words, &mut b"".as_slice());
-        assert_eq!(rt; usage.status, Status::Usage);
-        assert!(rt; usage.output.is_empty() && tells(&usage.messages, "Usage: audit"));
+    assert!(rt; is_help(&outcome_of_words(rt.alloc(), &["audit", "--help"])));
+    for word in ["repaly", "--fast"] {
+        assert!(rt; is_usage(&outcome_of_words(rt.alloc(), &["audit", word])));
     }
-    let codes = [
-        Status::Done,
-        Status::Refused,
-        Status::Usage,
-        Status::Device,
-        Status::Memory,
-    ];
-    for (code, status) in codes.iter().enumerate() {
-        assert_eq!(rt; usize::from(status.code()), code);
+}
+
+const CODES: [(Status, u8); 5] = [
+    (Status::Done, 0),
+    (Status::Refused, 1),
+    (Status::Usage, 2),
+    (Status::Device, 3),
+    (Status::Memory, 4),
+];
+
+#[test]
+fn codes_of_each_status(rt: HostRuntime) {
+    for (status, code) in CODES {
+        assert!(rt; status.code() == code);
     }
 }
 

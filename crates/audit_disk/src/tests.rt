@@ -2,9 +2,11 @@ use crate::{
     DeviceFault, FailOnce, FileDisk, FileFault, Fuse, MemDisk, OsFile, SECTOR_SIZE, Sectors,
     publish, write_sectors,
 };
+use std::alloc::{AllocError, Global};
 use std::env;
 use std::fs::{self, OpenOptions};
 use std::os::unix::fs::PermissionsExt;
+use std::path::PathBuf;
 use std::process::{self, Abort};
 use std::test::Fail;
 
@@ -23,99 +25,226 @@ fn found<D: Sectors>(rt: &impl Abort, disk: &mut D, at: u64) -> Result<u8, Devic
     Ok(into[0])
 }
 
-// Two writes to sector 2 of three, and what each pick leaves there.
-const PICKS: [([u64; 3], u8); 4] = [
-    ([0, 0, 0], 0),
-    ([0, 0, 1], b'x'),
-    ([0, 0, 2], b'y'),
-    ([9, 9, 9], b'y'),
+/// One call on a device of sectors of equal bytes, or a look at it, and what it gives.
+#[derive(Clone, Copy)]
+enum Step {
+    Size(u64),
+    Calls(u64),
+    Put(u64, u8),
+    PutFails(u64, u8),
+    Found(u64, u8),
+    FindFails(u64),
+    Syncs,
+    SyncFails,
+}
+
+/// Takes a step, and tells whether it gave what it says.
+fn takes<D: Sectors>(rt: &impl Abort, disk: &mut D, step: Step) -> bool {
+    match step {
+        Step::Size(sectors) => disk.size() == sectors,
+        Step::Calls(calls) => disk.calls() == calls,
+        Step::Put(at, byte) => put(rt, disk, at, byte),
+        Step::PutFails(at, byte) => !put(rt, disk, at, byte),
+        Step::Found(at, byte) => found(rt, disk, at) == Ok(byte),
+        Step::FindFails(at) => found(rt, disk, at).is_err(),
+        Step::Syncs => disk.sync().is_ok(),
+        Step::SyncFails => disk.sync().is_err(),
+    }
+}
+
+fn expect<D: Sectors>(rt: &impl Abort, disk: &mut D, steps: &[Step]) {
+    for (place, step) in steps.iter().enumerate() {
+        assert!(rt; takes(rt, disk, *step), "step {place}");
+    }
+}
+
+/// Takes the steps on what a crash with these picks leaves.
+fn expect_left(
+    rt: &impl Abort,
+    alloc: Global,
+    disk: &MemDisk,
+    picks: &[u64],
+    steps: &[Step],
+) -> Result<(), AllocError> {
+    expect(rt, &mut disk.crash(alloc, picks)?, steps);
+    Ok(())
+}
+
+/// What sector 2 of three holds after a crash with each of these picks, where sector 1 was never written.
+fn expect_picked(
+    rt: &impl Abort,
+    alloc: Global,
+    disk: &MemDisk,
+    cases: &[(&[u64], u8)],
+) -> Result<(), AllocError> {
+    for (picks, byte) in cases {
+        let steps = [Step::Found(2, *byte), Step::Found(1, 0), Step::Calls(0)];
+        expect_left(rt, alloc, disk, picks, &steps)?;
+    }
+    Ok(())
+}
+
+// Two writes to sector 2 of three, and what each pick leaves there before a sync and after it.
+const BEFORE_SYNC: [(&[u64], u8); 5] = [
+    (&[0, 0, 0], 0),
+    (&[0, 0, 1], b'x'),
+    (&[0, 0, 2], b'y'),
+    (&[9, 9, 9], b'y'),
+    (&[], 0),
 ];
+
+const AFTER_SYNC: [(&[u64], u8); 2] = [(&[], b'y'), (&[0, 0, 1], b'y')];
 
 #[test]
 fn a_crash_leaves_what_its_picks_say(rt: HostRuntime) -> Result<(), Fail> {
     let mut disk = MemDisk::new(rt.alloc(), 3)?;
-    assert_eq!(rt; disk.size(), 3);
-    assert!(rt; put(&rt, &mut disk, 2, b'x') && put(&rt, &mut disk, 2, b'y'));
-    assert_eq!(rt; found(&rt, &mut disk, 2)?, b'y');
-    for (pick, left) in PICKS {
-        let mut crashed = disk.crash(rt.alloc(), &pick)?;
-        assert_eq!(rt; found(&rt, &mut crashed, 2)?, left);
-        assert_eq!(rt; found(&rt, &mut crashed, 1)?, 0);
-        assert_eq!(rt; crashed.calls(), 0);
-    }
-    assert_eq!(rt; found(&rt, &mut disk.crash(rt.alloc(), &[])?, 2)?, 0);
-    disk.sync()?;
-    assert_eq!(rt; disk.calls(), 3);
-    assert_eq!(rt; found(&rt, &mut disk.crash(rt.alloc(), &[])?, 2)?, b'y');
-    assert_eq!(rt;
-        found(&rt, &mut disk.crash(rt.alloc(), &[0, 0, 1])?, 2)?,
-        b'y'
-    );
-    let mut other = MemDisk::from_sectors(rt.alloc(), &[[7; SECTOR_SIZE]])?;
-    assert_eq!(rt; found(&rt, &mut other, 0)?, 7);
-    assert_eq!(rt; MemDisk::from_sectors(rt.alloc(), &[])?.size(), 0);
+    let writes = [
+        Step::Size(3),
+        Step::Put(2, b'x'),
+        Step::Put(2, b'y'),
+        Step::Found(2, b'y'),
+    ];
+    expect(&rt, &mut disk, &writes);
+    expect_picked(&rt, rt.alloc(), &disk, &BEFORE_SYNC)?;
+    expect(&rt, &mut disk, &[Step::Syncs, Step::Calls(3)]);
+    expect_picked(&rt, rt.alloc(), &disk, &AFTER_SYNC)?;
     Ok(())
 }
 
-fn expect_image(rt: &impl Abort, disk: &mut MemDisk, image: [u8; 3]) -> Result<(), Fail> {
-    for (at, byte) in image.iter().enumerate() {
-        assert_eq!(rt; found(rt, disk, at as u64)?, *byte);
+#[test]
+fn a_device_begins_with_the_sectors_that_it_is_given(rt: HostRuntime) -> Result<(), Fail> {
+    let sectors = vec![in rt.alloc(); [7; SECTOR_SIZE]; 1]?;
+    expect(
+        &rt,
+        &mut MemDisk::from_sectors(rt.alloc(), &sectors)?,
+        &[Step::Found(0, 7)],
+    );
+    expect(
+        &rt,
+        &mut MemDisk::from_sectors(rt.alloc(), &[])?,
+        &[Step::Size(0)],
+    );
+    Ok(())
+}
+
+// What three sectors hold after a crash with each of these picks.
+fn expect_images(
+    rt: &impl Abort,
+    alloc: Global,
+    disk: &MemDisk,
+    cases: &[([u64; 3], [u8; 3])],
+) -> Result<(), AllocError> {
+    for (picks, [first, second, third]) in cases {
+        let steps = [
+            Step::Found(0, *first),
+            Step::Found(1, *second),
+            Step::Found(2, *third),
+        ];
+        expect_left(rt, alloc, disk, picks, &steps)?;
     }
     Ok(())
 }
+
+const SIX_IMAGES: [([u64; 3], [u8; 3]); 6] = [
+    ([0, 0, 0], [0, 0, 0]),
+    ([0, 0, 1], [0, 0, b'x']),
+    ([0, 0, 2], [0, 0, b'y']),
+    ([0, 1, 0], [0, b'z', 0]),
+    ([0, 1, 1], [0, b'z', b'x']),
+    ([0, 1, 2], [0, b'z', b'y']),
+];
+
+const ONE_IMAGE: [([u64; 3], [u8; 3]); 3] = [
+    ([0, 0, 0], [0, b'z', b'y']),
+    ([0, 1, 1], [0, b'z', b'y']),
+    ([9, 9, 9], [0, b'z', b'y']),
+];
 
 // Two writes to sector 2 and one to sector 1, and then a sync that fails: each of the six images, with the
 // picks that give it. After a sync that succeeds the content is the only one.
 #[test]
 fn six_images_of_three_writes_and_a_failed_sync(rt: HostRuntime) -> Result<(), Fail> {
     let mut disk = FailOnce::new(MemDisk::new(rt.alloc(), 3)?, 3);
-    assert!(rt; put(&rt, &mut disk, 2, b'x') && put(&rt, &mut disk, 2, b'y'));
-    assert!(rt; put(&rt, &mut disk, 1, b'z') && disk.sync().is_err());
+    let calls = [
+        Step::Put(2, b'x'),
+        Step::Put(2, b'y'),
+        Step::Put(1, b'z'),
+        Step::SyncFails,
+    ];
+    expect(&rt, &mut disk, &calls);
     let mut disk = disk.into_inner();
-    for (picks, image) in [
-        ([0, 0, 0], [0, 0, 0]),
-        ([0, 0, 1], [0, 0, b'x']),
-        ([0, 0, 2], [0, 0, b'y']),
-        ([0, 1, 0], [0, b'z', 0]),
-        ([0, 1, 1], [0, b'z', b'x']),
-        ([0, 1, 2], [0, b'z', b'y']),
-    ] {
-        expect_image(&rt, &mut disk.crash(rt.alloc(), &picks)?, image)?;
-    }
-    disk.sync()?;
-    for picks in [[0, 0, 0], [0, 1, 1], [9, 9, 9]] {
-        expect_image(&rt, &mut disk.crash(rt.alloc(), &picks)?, [0, b'z', b'y'])?;
-    }
+    expect_images(&rt, rt.alloc(), &disk, &SIX_IMAGES)?;
+    expect(&rt, &mut disk, &[Step::Syncs]);
+    expect_images(&rt, rt.alloc(), &disk, &ONE_IMAGE)?;
     Ok(())
 }
 
 #[test]
-fn wrappers_fail_at_the_call_that_was_asked(rt: HostRuntime) -> Result<(), Fail> {
+fn a_fuse_lets_so_many_calls_pass(rt: HostRuntime) -> Result<(), Fail> {
     let mut fuse = Fuse::new(MemDisk::new(rt.alloc(), 3)?, 1);
-    assert!(rt; put(&rt, &mut fuse, 2, b'x'));
-    assert!(rt; !put(&rt, &mut fuse, 2, b'y'));
-    assert!(rt; found(&rt, &mut fuse, 2).is_err() && fuse.sync().is_err());
-    assert_eq!(rt; (fuse.size(), fuse.calls()), (3, 3));
-    let disk = fuse.into_inner();
-    assert_eq!(rt; disk.calls(), 1);
-    assert_eq!(rt;
-        found(&rt, &mut disk.crash(rt.alloc(), &[0, 0, 2])?, 2)?,
-        b'x'
-    );
-    assert!(rt; Fuse::new(disk, 0).sync().is_err());
+    let calls = [
+        Step::Put(2, b'x'),
+        Step::PutFails(2, b'y'),
+        Step::FindFails(2),
+        Step::SyncFails,
+        Step::Size(3),
+        Step::Calls(3),
+    ];
+    expect(&rt, &mut fuse, &calls);
+    let mut disk = fuse.into_inner();
+    expect(&rt, &mut disk, &[Step::Calls(1)]);
+    expect_left(&rt, rt.alloc(), &disk, &[0, 0, 2], &[Step::Found(2, b'x')])?;
+    expect(&rt, &mut Fuse::new(disk, 0), &[Step::SyncFails]);
+    Ok(())
+}
 
-    for call in 0..4 {
-        let mut disk = FailOnce::new(MemDisk::new(rt.alloc(), 3)?, call);
-        assert_eq!(rt; put(&rt, &mut disk, 0, b'x'), call != 0);
-        assert_eq!(rt; found(&rt, &mut disk, 0).is_ok(), call != 1);
-        assert_eq!(rt; disk.sync().is_ok(), call != 2);
-        assert_eq!(rt; put(&rt, &mut disk, 1, b'y'), call != 3);
-        assert_eq!(rt; (disk.size(), disk.calls()), (3, 3));
-        let mut inner = disk.into_inner();
-        assert_eq!(rt;
-            found(&rt, &mut inner, 0)?,
-            if call == 0 { 0 } else { b'x' }
-        );
+// Four calls of which one fails, and what the first sector then holds.
+const FAILING: [([Step; 4], u8); 4] = [
+    (
+        [
+            Step::PutFails(0, b'x'),
+            Step::Found(0, 0),
+            Step::Syncs,
+            Step::Put(1, b'y'),
+        ],
+        0,
+    ),
+    (
+        [
+            Step::Put(0, b'x'),
+            Step::FindFails(0),
+            Step::Syncs,
+            Step::Put(1, b'y'),
+        ],
+        b'x',
+    ),
+    (
+        [
+            Step::Put(0, b'x'),
+            Step::Found(0, b'x'),
+            Step::SyncFails,
+            Step::Put(1, b'y'),
+        ],
+        b'x',
+    ),
+    (
+        [
+            Step::Put(0, b'x'),
+            Step::Found(0, b'x'),
+            Step::Syncs,
+            Step::PutFails(1, b'y'),
+        ],
+        b'x',
+    ),
+];
+
+#[test]
+fn one_call_fails_and_no_other(rt: HostRuntime) -> Result<(), Fail> {
+    for (call, (steps, left)) in FAILING.iter().enumerate() {
+        let mut disk = FailOnce::new(MemDisk::new(rt.alloc(), 3)?, call as u64);
+        expect(&rt, &mut disk, steps);
+        expect(&rt, &mut disk, &[Step::Size(3), Step::Calls(3)]);
+        expect(&rt, &mut disk.into_inner(), &[Step::Found(0, *left)]);
     }
     Ok(())
 }
@@ -179,28 +308,43 @@ fn play(rt: &impl Abort, disk: &mut FailOnce<MemDisk>, model: &mut Model, seed: 
     }
 }
 
+fn new_model() -> Model {
+    Model {
+        synced: [0; 4],
+        content: [0; 4],
+        pending: [[0; 16]; 4],
+        counts: [0; 4],
+    }
+}
+
+fn next_picks(seed: &mut u64) -> [u64; 4] {
+    [
+        next(seed) % 4,
+        next(seed) % 8,
+        next(seed) % 2,
+        next(seed) % 20,
+    ]
+}
+
+/// Plays a script and crashes: each sector holds what the model says.
+fn expect_as_model(rt: &impl Abort, alloc: Global, seed: &mut u64) -> Result<(), AllocError> {
+    let mut disk = FailOnce::new(MemDisk::new(alloc, 4)?, next(seed) % 32);
+    let mut model = new_model();
+    play(rt, &mut disk, &mut model, seed);
+    let picks = next_picks(seed);
+    let mut left = disk.into_inner().crash(alloc, &picks)?;
+    for (at, pick) in picks.iter().enumerate() {
+        let byte = model.left(at, *pick);
+        assert!(rt; takes(rt, &mut left, Step::Found(at as u64, byte)));
+    }
+    Ok(())
+}
+
 #[test]
 fn random_scripts_crash_as_a_plain_model_says(rt: HostRuntime) -> Result<(), Fail> {
     let mut seed = 1;
     for _ in 0..1000 {
-        let mut disk = FailOnce::new(MemDisk::new(rt.alloc(), 4)?, next(&mut seed) % 32);
-        let mut model = Model {
-            synced: [0; 4],
-            content: [0; 4],
-            pending: [[0; 16]; 4],
-            counts: [0; 4],
-        };
-        play(&rt, &mut disk, &mut model, &mut seed);
-        let pick = [
-            next(&mut seed) % 4,
-            next(&mut seed) % 8,
-            next(&mut seed) % 2,
-            next(&mut seed) % 20,
-        ];
-        let mut left = disk.into_inner().crash(rt.alloc(), &pick)?;
-        for at in 0..4 {
-            assert_eq!(rt; found(&rt, &mut left, at as u64)?, model.left(at, pick[at]));
-        }
+        expect_as_model(&rt, rt.alloc(), &mut seed)?;
     }
     Ok(())
 }
@@ -211,109 +355,174 @@ fn ten_thousand_writes_and_a_crash(rt: HostRuntime) -> Result<(), Fail> {
     for at in 0..10_000 {
         assert!(rt; put(&rt, &mut disk, at % 70, (at % 256) as u8));
     }
-    assert_eq!(rt; disk.calls(), 10_000);
-    let mut left = disk.crash(rt.alloc(), &[200; 70])?;
-    assert_eq!(rt; found(&rt, &mut left, 59)?, (9_999 % 256) as u8);
+    expect(&rt, &mut disk, &[Step::Calls(10_000)]);
+    let picks = vec![in rt.alloc(); 200; 70]?;
+    let last = [Step::Found(59, (9_999 % 256) as u8)];
+    expect_left(&rt, rt.alloc(), &disk, &picks, &last)?;
+    Ok(())
+}
+
+/// Two sectors of 1 and of 2.
+fn window(alloc: Global) -> Result<Vec<[u8; SECTOR_SIZE]>, AllocError> {
+    let mut sectors = Vec::new(alloc);
+    sectors.push([1; SECTOR_SIZE])?;
+    sectors.push([2; SECTOR_SIZE])?;
+    Ok(sectors)
+}
+
+/// Publishes the window from sector 2 on, by a mark of 9 in sector 0, and tells whether that succeeded.
+fn publishes<D: Sectors>(rt: &impl Abort, disk: &mut D, window: &[[u8; SECTOR_SIZE]]) -> bool {
+    assert!(rt; disk.size() == 4 && window.len() == 2);
+    publish(disk, 2, window, 0, &[9; SECTOR_SIZE]).is_ok()
+}
+
+// Of so many calls, and what a crash then leaves.
+const PUBLISHED: [(u64, bool, &[Step]); 6] = [
+    (0, false, &[Step::Found(0, 0)]),
+    (1, false, &[Step::Found(0, 0)]),
+    (2, false, &[Step::Found(0, 0)]),
+    (3, false, &[Step::Found(0, 0)]),
+    (
+        4,
+        false,
+        &[Step::Found(0, 9), Step::Found(2, 1), Step::Found(3, 2)],
+    ),
+    (
+        5,
+        true,
+        &[Step::Found(0, 9), Step::Found(2, 1), Step::Found(3, 2)],
+    ),
+];
+
+#[test]
+fn a_window_is_published_whole_or_not_at_all(rt: HostRuntime) -> Result<(), Fail> {
+    let window = window(rt.alloc())?;
+    for (calls, done, left) in &PUBLISHED {
+        let mut disk = Fuse::new(MemDisk::new(rt.alloc(), 4)?, *calls);
+        assert!(rt; publishes(&rt, &mut disk, &window) == *done);
+        expect_left(&rt, rt.alloc(), &disk.into_inner(), &[1, 1, 1, 1], left)?;
+    }
     Ok(())
 }
 
 #[test]
-fn a_window_is_published_whole_or_not_at_all(rt: HostRuntime) -> Result<(), Fail> {
-    let window = [[1; SECTOR_SIZE], [2; SECTOR_SIZE]];
-    for calls in 0..6 {
-        let mut disk = Fuse::new(MemDisk::new(rt.alloc(), 4)?, calls);
-        assert!(rt; disk.size() == 4);
-        let done = publish(&mut disk, 2, &window, 0, &[9; SECTOR_SIZE]).is_ok();
-        assert_eq!(rt; done, calls == 5);
-        let mut left = disk.into_inner().crash(rt.alloc(), &[1, 1, 1, 1])?;
-        let marked = found(&rt, &mut left, 0)? == 9;
-        assert_eq!(rt; marked, calls >= 4);
-        if marked {
-            assert_eq!(rt;
-                (found(&rt, &mut left, 2)?, found(&rt, &mut left, 3)?),
-                (1, 2)
-            );
-        }
-    }
+fn sectors_are_written_in_a_row(rt: HostRuntime) -> Result<(), Fail> {
+    let window = window(rt.alloc())?;
     let mut disk = MemDisk::new(rt.alloc(), 4)?;
-    assert!(rt; disk.size() == 4);
+    assert!(rt; disk.size() == 4 && window.len() == 2);
     write_sectors(&mut disk, 1, &window)?;
-    assert_eq!(rt;
-        (found(&rt, &mut disk, 1)?, found(&rt, &mut disk, 2)?),
-        (1, 2)
-    );
-    assert_eq!(rt; disk.calls(), 2);
+    let written = [Step::Found(1, 1), Step::Found(2, 2), Step::Calls(2)];
+    expect(&rt, &mut disk, &written);
     Ok(())
 }
 
 #[test]
 fn a_file_in_memory_keeps_its_sectors(rt: HostRuntime) -> Result<(), Fail> {
     let mut disk = FileDisk::in_memory(rt.alloc(), 3)?;
-    assert_eq!(rt; (disk.size(), disk.calls()), (3, 0));
-    assert!(rt; put(&rt, &mut disk, 1, b'x') && put(&rt, &mut disk, 2, b'y'));
-    disk.sync()?;
-    assert_eq!(rt;
-        (found(&rt, &mut disk, 1)?, found(&rt, &mut disk, 2)?),
-        (b'x', b'y')
-    );
-    assert_eq!(rt; (found(&rt, &mut disk, 0)?, disk.calls()), (0, 3));
+    let steps = [
+        Step::Size(3),
+        Step::Calls(0),
+        Step::Put(1, b'x'),
+        Step::Put(2, b'y'),
+        Step::Syncs,
+        Step::Found(1, b'x'),
+        Step::Found(2, b'y'),
+        Step::Found(0, 0),
+        Step::Calls(3),
+    ];
+    expect(&rt, &mut disk, &steps);
     Ok(())
+}
+
+/// The path of a file of this process in the folder for temporary files, where no file is yet.
+fn fresh_path(rt: &HostRuntime, name: &str) -> Result<PathBuf, Fail> {
+    let mut path = env::temp_dir(rt)?;
+    let file = format!(in rt.alloc(); "{name}_{}", process::id(rt.process()))?;
+    path.push(file.as_str())?;
+    let _ = fs::remove_file(rt, path.as_str());
+    Ok(path)
+}
+
+/// Makes a file of so many sectors, and takes the steps on it.
+fn expect_created(
+    rt: &HostRuntime,
+    judge: &impl Abort,
+    path: &str,
+    sectors: u64,
+    steps: &[Step],
+) -> Result<(), Fail> {
+    expect(judge, &mut FileDisk::create(rt, path, sectors)?, steps);
+    Ok(())
+}
+
+fn expect_uncreated(
+    rt: &HostRuntime,
+    judge: &impl Abort,
+    path: &str,
+    sectors: u64,
+    fault: FileFault,
+) {
+    let created = FileDisk::create(rt, path, sectors);
+    assert!(judge; created.err() == Some(fault));
+}
+
+fn expect_unopened(rt: &HostRuntime, judge: &impl Abort, path: &str, fault: FileFault) {
+    let opened = FileDisk::open(rt, path);
+    assert!(judge; opened.err() == Some(fault));
 }
 
 #[test]
 fn a_real_file_keeps_its_sectors(rt: HostRuntime) -> Result<(), Fail> {
-    let mut folder = env::temp_dir(&rt)?;
-    let name = format!(in rt.alloc(); "audit_disk_device_{}", process::id(rt.process()))?;
-    folder.push(name.as_str())?;
-    let path = folder.as_str();
-    let _ = fs::remove_file(&rt, path);
-
-    let mut disk = FileDisk::create(&rt, path, 3)?;
-    assert_eq!(rt; disk.size(), 3);
-    assert!(rt; put(&rt, &mut disk, 2, b'x'));
-    disk.sync()?;
-    assert_eq!(rt; disk.calls(), 2);
-    drop(disk);
-    assert_eq!(rt; FileDisk::create(&rt, path, 3).err(), Some(FileFault::Io));
-
-    let mut disk = FileDisk::open(&rt, path)?;
-    assert_eq!(rt; (disk.size(), disk.calls()), (3, 0));
-    assert_eq!(rt;
-        (found(&rt, &mut disk, 2)?, found(&rt, &mut disk, 1)?),
-        (b'x', 0)
-    );
-
-    let file = OpenOptions::new().write(true).open(&rt, path)?;
-    file.set_len(1024)?;
-    assert!(rt; found(&rt, &mut disk, 2).is_err());
-    file.set_len(1025)?;
-    assert_eq!(rt; FileDisk::open(&rt, path).err(), Some(FileFault::Length));
-    file.set_len(1024)?;
-    assert_eq!(rt; FileDisk::open(&rt, path)?.size(), 2);
-    assert_eq!(rt;
-        FileDisk::create(&rt, path, u64::MAX).err(),
-        Some(FileFault::Length)
-    );
+    let path = fresh_path(&rt, "audit_disk_device")?;
+    let path = path.as_str();
+    let written = [
+        Step::Size(3),
+        Step::Put(2, b'x'),
+        Step::Syncs,
+        Step::Calls(2),
+    ];
+    expect_created(&rt, &rt, path, 3, &written)?;
+    expect_uncreated(&rt, &rt, path, 3, FileFault::Io);
+    expect_cut(&rt, &rt, path)?;
+    expect_uncreated(&rt, &rt, path, u64::MAX, FileFault::Length);
     fs::remove_file(&rt, path)?;
-    assert_eq!(rt; FileDisk::open(&rt, path).err(), Some(FileFault::Io));
-    assert_eq!(rt; FileDisk::open(&rt, "/").err(), Some(FileFault::Io));
+    expect_unopened(&rt, &rt, path, FileFault::Io);
+    expect_unopened(&rt, &rt, "/", FileFault::Io);
+    Ok(())
+}
+
+/// A file of three sectors is opened, and then cut to two of them, and to a length that no device has.
+fn expect_cut(rt: &HostRuntime, judge: &impl Abort, path: &str) -> Result<(), Fail> {
+    let mut disk = FileDisk::open(rt, path)?;
+    let kept = [
+        Step::Size(3),
+        Step::Calls(0),
+        Step::Found(2, b'x'),
+        Step::Found(1, 0),
+    ];
+    expect(judge, &mut disk, &kept);
+    set_len(rt, path, 1024)?;
+    expect(judge, &mut disk, &[Step::FindFails(2)]);
+    set_len(rt, path, 1025)?;
+    expect_unopened(rt, judge, path, FileFault::Length);
+    set_len(rt, path, 1024)?;
+    expect(judge, &mut FileDisk::open(rt, path)?, &[Step::Size(2)]);
+    Ok(())
+}
+
+fn set_len(rt: &HostRuntime, path: &str, len: u64) -> Result<(), Fail> {
+    let file = OpenOptions::new().write(true).open(rt, path)?;
+    file.set_len(len)?;
     Ok(())
 }
 
 #[test]
 fn a_file_that_cant_be_laid_out_leaves_nothing(rt: HostRuntime) -> Result<(), Fail> {
-    let mut folder = env::temp_dir(&rt)?;
-    let name = format!(in rt.alloc(); "audit_disk_too_long_{}", process::id(rt.process()))?;
-    folder.push(name.as_str())?;
-    let path = folder.as_str();
-    let _ = fs::remove_file(&rt, path);
-
-    assert_eq!(rt;
-        FileDisk::create(&rt, path, 1 << 54).err(),
-        Some(FileFault::Io)
-    );
-    assert_eq!(rt; FileDisk::open(&rt, path).err(), Some(FileFault::Io));
-    assert_eq!(rt; FileDisk::create(&rt, path, 1)?.size(), 1);
+    let path = fresh_path(&rt, "audit_disk_too_long")?;
+    let path = path.as_str();
+    expect_uncreated(&rt, &rt, path, 1 << 54, FileFault::Io);
+    expect_unopened(&rt, &rt, path, FileFault::Io);
+    expect_created(&rt, &rt, path, 1, &[Step::Size(1)])?;
     fs::remove_file(&rt, path)?;
     Ok(())
 }
@@ -321,41 +530,47 @@ fn a_file_that_cant_be_laid_out_leaves_nothing(rt: HostRuntime) -> Result<(), Fa
 // A device of the system takes writes and refuses to be synced.
 #[test]
 fn after_a_failed_sync_a_file_takes_no_call(rt: HostRuntime) -> Result<(), Fail> {
-    let file = OpenOptions::new()
-        .read(true)
-        .write(true)
-        .open(&rt, "/dev/null")?;
-    let mut disk = FileDisk::over(OsFile::new(file), 1);
-    assert!(rt; put(&rt, &mut disk, 0, b'x'));
-    assert!(rt; disk.sync().is_err());
-    assert!(rt; !put(&rt, &mut disk, 0, b'x') && found(&rt, &mut disk, 0).is_err());
-    assert!(rt; disk.sync().is_err());
-    assert_eq!(rt; disk.calls(), 4);
+    let mut options = OpenOptions::new();
+    options.read(true).write(true);
+    let file = options.open(&rt, "/dev/null")?;
+    let steps = [
+        Step::Put(0, b'x'),
+        Step::SyncFails,
+        Step::PutFails(0, b'x'),
+        Step::FindFails(0),
+        Step::SyncFails,
+        Step::Calls(4),
+    ];
+    expect(&rt, &mut FileDisk::over(OsFile::new(file), 1), &steps);
     Ok(())
 }
 
 // Where the user is bound by a file's mode; a superuser may write every file.
 #[test]
 fn a_file_that_may_only_be_read_takes_no_write(rt: HostRuntime) -> Result<(), Fail> {
-    let mut folder = env::temp_dir(&rt)?;
-    let name = format!(in rt.alloc(); "audit_disk_read_only_{}", process::id(rt.process()))?;
-    folder.push(name.as_str())?;
-    let path = folder.as_str();
-    let _ = fs::remove_file(&rt, path);
-    drop(FileDisk::create(&rt, path, 1)?);
-
-    let file = OpenOptions::new().read(true).open(&rt, path)?;
-    let mut disk = FileDisk::over(OsFile::new(file), 1);
-    assert!(rt; !put(&rt, &mut disk, 0, b'x'));
-    assert_eq!(rt; (found(&rt, &mut disk, 0)?, disk.calls()), (0, 1));
-
-    fs::set_permissions(&rt, path, fs::Permissions::from_mode(0o444))?;
-    let writable = OpenOptions::new().write(true).open(&rt, path).is_ok();
-    let opened = FileDisk::open(&rt, path);
-    assert_eq!(rt;
-        opened.err(),
-        if writable { None } else { Some(FileFault::Io) }
-    );
+    let path = fresh_path(&rt, "audit_disk_read_only")?;
+    let path = path.as_str();
+    expect_created(&rt, &rt, path, 1, &[])?;
+    expect_unwritten(&rt, &rt, path)?;
+    expect_opened_as_allowed(&rt, &rt, path)?;
     fs::remove_file(&rt, path)?;
+    Ok(())
+}
+
+/// A file that was opened to be read.
+fn expect_unwritten(rt: &HostRuntime, judge: &impl Abort, path: &str) -> Result<(), Fail> {
+    let file = OpenOptions::new().read(true).open(rt, path)?;
+    let mut disk = FileDisk::over(OsFile::new(file), 1);
+    let steps = [Step::PutFails(0, b'x'), Step::Found(0, 0), Step::Calls(1)];
+    expect(judge, &mut disk, &steps);
+    Ok(())
+}
+
+/// A file that its mode allows only to read is opened as a device where this user may write it all the same.
+fn expect_opened_as_allowed(rt: &HostRuntime, judge: &impl Abort, path: &str) -> Result<(), Fail> {
+    fs::set_permissions(rt, path, fs::Permissions::from_mode(0o444))?;
+    let writable = OpenOptions::new().write(true).open(rt, path).is_ok();
+    let fault = FileDisk::open(rt, path).err();
+    assert_eq!(judge; fault, if writable { None } else { Some(FileFault::Io) });
     Ok(())
 }

@@ -38,29 +38,108 @@ fn counted_hashes(alloc: Global, count: u8) -> Result<Vec<Hash>, Fail> {
     Ok(hashes)
 }
 
+// The commitments of a tree that grows to so many texts of one byte.
+fn counted_commitments(alloc: Global, count: u8) -> Result<Vec<Commitment>, Fail> {
+    let mut tree = Tree::new(alloc);
+    let mut commitments = Vec::new(alloc);
+    for place in 0..count {
+        tree.push(leaf_hash(&[place]))?;
+        commitments.push(commitment_to(&tree))?;
+    }
+    Ok(commitments)
+}
+
+fn commitment_to(tree: &Tree) -> Commitment {
+    Commitment {
+        count: tree.count(),
+        root: tree.root(),
+    }
+}
+
+// Whether a made membership is accepted, but not of another text, nor with a hash more or one less.
+fn is_exact_membership(tree: &Tree, commitment: &Commitment, place: u8) -> Result<bool, Fail> {
+    let index = u64::from(place);
+    let other = place.wrapping_add(1);
+    let mut hashes = tree.membership(index, commitment.count)?;
+    let exact = accepts_member(commitment, index, &[place], &hashes)
+        && !accepts_member(commitment, index, &[other], &hashes);
+    hashes.push([0; 32])?;
+    let longer = accepts_member(commitment, index, &[place], &hashes);
+    hashes.truncate(hashes.len().saturating_sub(2));
+    let shorter = accepts_member(commitment, index, &[place], &hashes);
+    Ok(exact && !longer && (!shorter || place == 0 && commitment.count == 1))
+}
+
+fn assert_memberships(
+    rt: &impl Abort,
+    tree: &Tree,
+    commitment: &Commitment,
+    count: u8,
+) -> Result<(), Fail> {
+    for place in 0..count {
+        assert!(rt;
+            is_exact_membership(tree, commitment, place)?,
+            "{place} under {count}"
+        );
+    }
+    assert!(rt; !accepts_member(commitment, commitment.count, &[count], &[]));
+    Ok(())
+}
+
+fn assert_all_memberships(
+    rt: &impl Abort,
+    tree: &Tree,
+    commitments: &[Commitment],
+) -> Result<(), Fail> {
+    let mut count = 0u8;
+    for commitment in commitments {
+        count = count.saturating_add(1);
+        assert_memberships(rt, tree, commitment, count)?;
+    }
+    Ok(())
+}
+
 #[test]
 fn made_memberships_are_accepted_as_they_are(rt: HostRuntime) -> Result<(), Fail> {
     let tree = counted_tree(rt.alloc(), 33)?;
-    let mut growing = Tree::new(rt.alloc());
-    for count in 1..34u8 {
-        growing.push(leaf_hash(&[count - 1]))?;
-        let commitment = Commitment {
-            count: count as u64,
-            root: growing.root(),
-        };
-        for place in 0..count {
-            let mut hashes = tree.membership(place as u64, count as u64)?;
-            assert!(&rt; accepts_member(&commitment, place as u64, &[place], &hashes));
-            assert!(&rt; !accepts_member(&commitment, place as u64, &[place + 1], &hashes));
-            hashes.push([0; 32])?;
-            assert!(&rt; !accepts_member(&commitment, place as u64, &[place], &hashes));
-            hashes.truncate(hashes.len().saturating_sub(2));
-            assert!(&rt;
-                place == 0 && count == 1
-                    || !accepts_member(&commitment, place as u64, &[place], &hashes)
-            );
+    let commitments = counted_commitments(rt.alloc(), 33)?;
+    assert!(&rt; commitments.len() == 33);
+    assert_all_memberships(&rt, &tree, &commitments)
+}
+
+// Whether a made increment is accepted, but not backwards, nor with a hash more or one less.
+fn is_exact_increment(tree: &Tree, older: &Commitment, newer: &Commitment) -> Result<bool, Fail> {
+    let mut hashes = tree.incremental(older.count, newer.count)?;
+    let exact = accepts_increment(older, newer, &hashes)
+        && (older.count == newer.count || !accepts_increment(newer, older, &hashes));
+    hashes.push([0; 32])?;
+    let longer = accepts_increment(older, newer, &hashes);
+    hashes.truncate(hashes.len().saturating_sub(2));
+    let shorter = accepts_increment(older, newer, &hashes);
+    Ok(exact && !longer && !shorter)
+}
+
+fn assert_increments(
+    rt: &impl Abort,
+    tree: &Tree,
+    commitments: &[Commitment],
+    newer: &Commitment,
+) -> Result<(), Fail> {
+    for older in commitments {
+        if older.count <= newer.count {
+            assert!(rt; is_exact_increment(tree, older, newer)?);
         }
-        assert!(&rt; !accepts_member(&commitment, count as u64, &[count], &[]));
+    }
+    Ok(())
+}
+
+fn assert_all_increments(
+    rt: &impl Abort,
+    tree: &Tree,
+    commitments: &[Commitment],
+) -> Result<(), Fail> {
+    for newer in commitments {
+        assert_increments(rt, tree, commitments, newer)?;
     }
     Ok(())
 }
@@ -68,107 +147,121 @@ fn made_memberships_are_accepted_as_they_are(rt: HostRuntime) -> Result<(), Fail
 #[test]
 fn made_increments_are_accepted_as_they_are(rt: HostRuntime) -> Result<(), Fail> {
     let tree = counted_tree(rt.alloc(), 33)?;
-    let mut commitments = Vec::new(rt.alloc());
-    let mut growing = Tree::new(rt.alloc());
-    for count in 1..34u8 {
-        growing.push(leaf_hash(&[count - 1]))?;
-        let newer = Commitment {
-            count: count as u64,
-            root: growing.root(),
-        };
-        commitments.push(newer)?;
-        for older in &commitments {
-            let mut hashes = tree.incremental(older.count, newer.count)?;
-            assert!(&rt; accepts_increment(older, &newer, &hashes));
-            assert!(&rt; older.count == newer.count || !accepts_increment(&newer, older, &hashes));
-            hashes.push([0; 32])?;
-            assert!(&rt; !accepts_increment(older, &newer, &hashes));
-            hashes.truncate(hashes.len().saturating_sub(2));
-            assert!(&rt; !accepts_increment(older, &newer, &hashes));
-        }
+    let commitments = counted_commitments(rt.alloc(), 33)?;
+    assert!(&rt; commitments.len() == 33);
+    assert_all_increments(&rt, &tree, &commitments)
+}
+
+const FULL: u64 = 1 << 24;
+
+// The roots of full trees with `hello` as their first or as their last text.
+const FULL_WITH_FIRST: &str = "303c35d90e830791ae0ec69849ab6df4fef520b3201fd058de4fc2c6634201c3";
+
+const FULL_WITH_LAST: &str = "89a6951c2fd5564dfd50fefa7001470771d5465fc0657b2bcf05346e305fce09";
+
+// Whether `hello` is accepted under a full tree, with so many hashes.
+fn accepts_hello(alloc: Global, root: &str, index: u64, count: u8) -> Result<bool, Fail> {
+    let full = commitment(FULL, root)?;
+    let hashes = counted_hashes(alloc, count)?;
+    Ok(accepts_member(&full, index, b"hello", &hashes))
+}
+
+#[test]
+fn the_longest_memberships_are_accepted(rt: HostRuntime) -> Result<(), Fail> {
+    for (root, index, count, accepted) in [
+        (FULL_WITH_FIRST, 0, 24, true),
+        (FULL_WITH_FIRST, 0, 25, false),
+        (FULL_WITH_LAST, FULL - 1, 24, true),
+        (FULL_WITH_LAST, FULL, 24, false),
+    ] {
+        assert!(&rt; accepts_hello(rt.alloc(), root, index, count)? == accepted);
     }
     Ok(())
 }
 
-#[test]
-fn the_longest_proofs_are_accepted(rt: HostRuntime) -> Result<(), Fail> {
-    let full = 1 << 24;
-    let hashes = counted_hashes(rt.alloc(), 25)?;
-    if hashes.len() != 25 {
-        return Err("25 hashes".into());
-    }
-    let first = commitment(
-        full,
-        "303c35d90e830791ae0ec69849ab6df4fef520b3201fd058de4fc2c6634201c3",
-    )?;
-    assert!(&rt; accepts_member(&first, 0, b"hello", &hashes[..24]));
-    assert!(&rt; !accepts_member(&first, 0, b"hello", &hashes));
-    let last = commitment(
-        full,
-        "89a6951c2fd5564dfd50fefa7001470771d5465fc0657b2bcf05346e305fce09",
-    )?;
-    assert!(&rt; accepts_member(&last, full - 1, b"hello", &hashes[..24]));
-    assert!(&rt; !accepts_member(&last, full, b"hello", &hashes[..24]));
+// Whether the growth of a tree by its last leaf is accepted, with so many hashes.
+fn accepts_last(alloc: Global, count: u8) -> Result<bool, Fail> {
     let older = commitment(
-        full - 1,
+        FULL - 1,
         "4dded454fddbb4fb3276b135b882959c7bb3d37abc0509340c5696c28170f6a1",
     )?;
     let newer = commitment(
-        full,
+        FULL,
         "398e4ceb2cbb412547202a5db2d7ec1543a03ebd7a8066ef3a4656bdfd65afe6",
     )?;
-    assert!(&rt; accepts_increment(&older, &newer, &hashes));
-    assert!(&rt; !accepts_increment(&older, &newer, &hashes[..24]));
-    Ok(())
+    let hashes = counted_hashes(alloc, count)?;
+    Ok(accepts_increment(&older, &newer, &hashes))
 }
 
 #[test]
-fn counts_outside_the_limits_are_not_accepted(rt: HostRuntime) -> Result<(), Fail> {
-    let none = Commitment {
-        count: 0,
-        root: [0; 32],
-    };
-    let huge = Commitment {
-        count: u64::MAX,
-        root: [0; 32],
-    };
-    let over = Commitment {
-        count: (1 << 24) + 1,
-        root: [0; 32],
-    };
-    assert!(&rt; !accepts_member(&none, 0, b"", &[]));
-    assert!(&rt; !accepts_member(&huge, 0, b"", &[]));
-    assert!(&rt; !accepts_member(&over, u64::MAX, b"", &[]));
-    assert!(&rt; !accepts_increment(&none, &over, &[]));
-    assert!(&rt; !accepts_increment(&none, &none, &[]));
-    assert!(&rt; !accepts_increment(&huge, &huge, &[[0; 32]]));
-    assert!(&rt; !accepts_increment(&over, &over, &[[0; 32]]));
-    // A full tree over the limit, whose increment to itself is its root alone.
-    let full = Commitment {
-        count: 1 << 25,
-        root: [0; 32],
-    };
-    assert!(&rt; !accepts_increment(&full, &full, &[[0; 32]]));
+fn the_longest_increment_is_accepted(rt: HostRuntime) -> Result<(), Fail> {
+    assert!(&rt; accepts_last(rt.alloc(), 25)?);
+    assert!(&rt; !accepts_last(rt.alloc(), 24)?);
     Ok(())
+}
+
+// The commitment of so many entries to a root of zeros.
+fn of_zeros(count: u64) -> Commitment {
+    Commitment {
+        count,
+        root: [0; 32],
+    }
+}
+
+#[test]
+fn memberships_outside_the_limits_are_not_accepted(rt: HostRuntime) {
+    for (count, index) in [(0, 0), (u64::MAX, 0), (FULL + 1, u64::MAX)] {
+        assert!(&rt; !accepts_member(&of_zeros(count), index, b"", &[]));
+    }
+}
+
+// The last is a full tree over the limit, whose increment to itself is its root alone.
+const OUTSIDE: [(u64, u64, &[Hash]); 5] = [
+    (0, FULL + 1, &[]),
+    (0, 0, &[]),
+    (u64::MAX, u64::MAX, &[[0; 32]]),
+    (FULL + 1, FULL + 1, &[[0; 32]]),
+    (1 << 25, 1 << 25, &[[0; 32]]),
+];
+
+#[test]
+fn increments_outside_the_limits_are_not_accepted(rt: HostRuntime) {
+    for (older, newer, hashes) in OUTSIDE {
+        assert!(&rt; !accepts_increment(&of_zeros(older), &of_zeros(newer), hashes));
+    }
+}
+
+// Why a made proof of leaf 1 of three, of this entry, and another proof of it don't collide.
+fn fault_beside(
+    alloc: Global,
+    entry: &[u8],
+    other_entry: &[u8],
+    other_hashes: &[Hash],
+) -> Result<Option<CollideFault>, TreeError> {
+    let tree = counted_tree(alloc, 3)?;
+    let three = commitment_to(&tree);
+    let hashes = tree.membership(1, 3)?;
+    let found = collide_two(alloc, &three, 1, entry, &hashes, other_entry, other_hashes);
+    Ok(found.err())
 }
 
 #[test]
 fn equal_entries_do_not_collide(rt: HostRuntime) -> Result<(), Fail> {
-    let tree = counted_tree(rt.alloc(), 3)?;
-    let three = Commitment {
-        count: 3,
-        root: tree.root(),
-    };
-    let hashes = tree.membership(1, 3)?;
-    let same = collide_two(rt.alloc(), &three, 1, &[1], &hashes, &[1], &hashes);
-    assert_eq!(&rt; same.err(), Some(CollideFault::NoDisagreement));
-    let mut changed = tree.membership(1, 3)?;
+    let hashes = counted_tree(rt.alloc(), 3)?.membership(1, 3)?;
+    let same = fault_beside(rt.alloc(), &[1], &[1], &hashes)?;
+    assert!(&rt; same == Some(CollideFault::NoDisagreement));
+    let other = fault_beside(rt.alloc(), &[2], &[1], &hashes)?;
+    assert!(&rt; other == Some(CollideFault::NotAccepted));
+    Ok(())
+}
+
+#[test]
+fn a_proof_that_is_not_accepted_does_not_collide(rt: HostRuntime) -> Result<(), Fail> {
+    let mut changed = counted_tree(rt.alloc(), 3)?.membership(1, 3)?;
     changed.pop();
     changed.push([7; 32])?;
-    let unlike = collide_two(rt.alloc(), &three, 1, &[1], &hashes, &[1], &changed);
-    assert_eq!(&rt; unlike.err(), Some(CollideFault::NotAccepted));
-    let other = collide_two(rt.alloc(), &three, 1, &[2], &hashes, &[1], &hashes);
-    assert_eq!(&rt; other.err(), Some(CollideFault::NotAccepted));
+    let unlike = fault_beside(rt.alloc(), &[1], &[1], &changed)?;
+    assert!(&rt; unlike == Some(CollideFault::NotAccepted));
     Ok(())
 }
 
@@ -195,19 +288,45 @@ fn weak_commitment(len: usize) -> Commitment {
     Commitment { count: 1, root }
 }
 
+// What the weak hash shows of two entries, each the only one of a log, under a root of texts of this length.
+fn weakly(
+    alloc: Global,
+    len: usize,
+    first: &[u8],
+    second: &[u8],
+) -> Result<Collision, CollideFault> {
+    let one = weak_commitment(len);
+    collide_two_with(alloc, &Weak, &one, 0, first, &[], second, &[])
+}
+
+fn have_one_value(found: &Collision) -> bool {
+    found.left.as_slice() != found.right.as_slice()
+        && Weak.hash(&found.left) == Weak.hash(&found.right)
+}
+
+fn have_length(found: &Collision, len: usize) -> bool {
+    found.left.len() == len && found.right.len() == len
+}
+
 #[test]
 fn texts_of_one_length_collide(rt: HostRuntime) -> Result<(), Fail> {
-    let one = weak_commitment(2);
-    let found = collide_two_with(rt.alloc(), &Weak, &one, 0, &[0xaa], &[], &[0xbb], &[])?;
-    assert!(&rt; found.left.as_slice() != found.right.as_slice());
-    assert_eq!(&rt; Weak.hash(&found.left), Weak.hash(&found.right));
-    let same = collide_two_with(rt.alloc(), &Weak, &one, 0, &[0xaa], &[], &[0xaa], &[]);
-    assert_eq!(&rt; same.err(), Some(CollideFault::NoDisagreement));
-    let longer = collide_two_with(rt.alloc(), &Weak, &one, 0, &[0xaa], &[], &[0xbb, 0xbb], &[]);
-    assert_eq!(&rt; longer.err(), Some(CollideFault::NotAccepted));
-    let mut root = [0; 32];
-    root[0] = 65;
-    let two = Commitment { count: 2, root };
+    let found = weakly(rt.alloc(), 2, &[0xaa], &[0xbb])?;
+    assert!(&rt; have_one_value(&found));
+    Ok(())
+}
+
+#[test]
+fn texts_that_are_equal_or_longer_do_not_collide(rt: HostRuntime) {
+    let same = weakly(rt.alloc(), 2, &[0xaa], &[0xaa]);
+    assert!(&rt; same.err() == Some(CollideFault::NoDisagreement));
+    let longer = weakly(rt.alloc(), 2, &[0xaa], &[0xbb, 0xbb]);
+    assert!(&rt; longer.err() == Some(CollideFault::NotAccepted));
+}
+
+#[test]
+fn nodes_of_one_length_collide(rt: HostRuntime) -> Result<(), Fail> {
+    let mut two = weak_commitment(65);
+    two.count = 2;
     let above = collide_two_with(
         rt.alloc(),
         &Weak,
@@ -218,26 +337,37 @@ fn texts_of_one_length_collide(rt: HostRuntime) -> Result<(), Fail> {
         b"short",
         &[[2; 32]],
     )?;
-    assert_eq!(&rt; above.left.len(), 65);
-    assert_eq!(&rt; above.right.len(), 65);
+    assert!(&rt; have_length(&above, 65));
     Ok(())
 }
 
-// A collision of two entries of this length, each of one byte repeated.
-fn assert_entries_collide(rt: &impl Abort, alloc: Global, len: usize) -> Result<(), Fail> {
-    let first = vec![in alloc; 1; len]?;
-    let second = vec![in alloc; 2; len]?;
-    let one = weak_commitment(len.saturating_add(1));
-    let found = collide_two_with(alloc, &Weak, &one, 0, &first, &[], &second, &[])?;
-    assert_eq!(rt; found.left.len(), len.saturating_add(1));
-    assert_eq!(rt; found.right.len(), len.saturating_add(1));
+// Whether two entries of one length collide.
+fn entries_collide(alloc: Global, first: &[u8], second: &[u8]) -> Result<bool, CollideFault> {
+    let len = first.len().saturating_add(1);
+    let found = weakly(alloc, len, first, second)?;
+    Ok(have_length(&found, len))
+}
+
+fn assert_entries_collide(
+    rt: &impl Abort,
+    alloc: Global,
+    first: &[u8],
+    second: &[u8],
+) -> Result<(), CollideFault> {
+    for len in 1..=MAX_ENTRY {
+        assert!(rt; len <= first.len() && len <= second.len());
+        assert!(rt;
+            entries_collide(alloc, &first[..len], &second[..len])?,
+            "of {len}"
+        );
+    }
     Ok(())
 }
 
 #[test]
 fn entries_of_each_length_collide(rt: HostRuntime) -> Result<(), Fail> {
-    for len in 1..=MAX_ENTRY {
-        assert_entries_collide(&rt, rt.alloc(), len)?;
-    }
+    let first = vec![in rt.alloc(); 1; MAX_ENTRY]?;
+    let second = vec![in rt.alloc(); 2; MAX_ENTRY]?;
+    assert_entries_collide(&rt, rt.alloc(), &first, &second)?;
     Ok(())
 }
