@@ -1,0 +1,30 @@
+//! A program to be killed: it appends batches to a store in a file, and prints how many events are acknowledged
+//! after each. Another start opens the store, reads each entry and prints how many there are.
+//!
+//! Arguments: `format FILE`, `append FILE BATCHES` or `count FILE`.
+#![tactic(auto)]
+
+mod stores;
+
+use anyhow::{Context, bail};
+use std::env;
+use stores::{append, count, format};
+
+fn main(rt: HostRuntime) -> anyhow::Result<()> {
+    let mut words = env::args(&rt)?.skip(1);
+    let Some(task) = words.next() else {
+        println!(rt; "format FILE, append FILE BATCHES, or count FILE")?;
+        return Ok(());
+    };
+    let file = words.next().context("a file is wanted")?;
+    match task.as_str() {
+        "format" => format(&rt, &file),
+        "append" => {
+            let batches = words.next().context("a number of batches is wanted")?;
+            let batches: u32 = batches.parse().context("a decimal number is wanted")?;
+            append(&rt, &file, batches)
+        }
+        "count" => count(&rt, &file),
+        _ => bail!("there is no such task"),
+    }
+}
