@@ -1,0 +1,4 @@
+pub mod LogLines
+pub mod KeyFiles
+pub mod GatheredBatches
+pub mod Acks
