@@ -2,3 +2,4 @@ pub mod LogLines
 pub mod KeyFiles
 pub mod GatheredBatches
 pub mod Acks
+pub mod KnownEntries

@@ -6,3 +6,4 @@ pub mod Batches
 pub mod Acks
 pub mod Shown
 pub mod Gathering
+pub mod Proofs
