@@ -1,23 +1,15 @@
-//! The program `audit`: a tamper-evident audit store, whose first command replays a log from bytes to
-//! bytes.
+//! The program `audit`: a tamper-evident audit store.
 #![tactic(auto)]
 
 mod command;
-mod event_line;
-mod fault;
-mod input;
-mod output;
 mod program;
-mod replay;
-mod script;
-mod split;
-mod status;
 #[cfg(test)]
 mod tests;
 mod words;
 
+use audit_commands::{CommandFault, Status, report};
+use audit_store::StoreError;
 use program::run;
-use status::Status;
 use std::env::Args;
 use std::io;
 use std::io::{BufWriter, ErrorKind};
@@ -47,6 +39,7 @@ fn run_words(rt: &HostRuntime, words: Args) -> io::Result<Status> {
     let words: Vec<String> = words.collect(alloc)?;
     let mut output = BufWriter::with_capacity(alloc, OUTPUT_ROOM, io::writer(rt))?;
     Ok(run(
+        rt,
         alloc,
         &words,
         &mut rt.reader(),
@@ -57,10 +50,10 @@ fn run_words(rt: &HostRuntime, words: Args) -> io::Result<Status> {
 
 // Prints why the program couldn't begin: memory was refused, or a word is no text.
 fn explain_start(rt: &HostRuntime, error: &io::Error) -> Status {
-    if error.kind() == ErrorKind::OutOfMemory {
-        let _ = eprintln!(rt; "audit: 12 Memory");
-        return Status::Memory;
-    }
-    let _ = eprintln!(rt; "audit: bad argument");
-    Status::Usage
+    let fault = if error.kind() == ErrorKind::OutOfMemory {
+        CommandFault::Refused(StoreError::Memory)
+    } else {
+        CommandFault::BadArgument
+    };
+    report(fault, &mut rt.stderr())
 }

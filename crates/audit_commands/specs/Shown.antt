@@ -1,0 +1,12 @@
+-- What a store shows of itself.
+use Rattle.std.specs.Prelude.{ℕ, List, ◌++◌, codes}
+use Rattle.std.specs.Fmt.{decimal}
+use Rattle.audit_log.specs.declared.header.Header.{Header}
+use Rattle.audit_lines.specs.NumberedLine.{numbered_line}
+
+-- the commitment; then the sectors of the device, the end of the log and the generation
+unfoldable pub shown_lines : Header → List ℕ
+shown_lines header =
+    numbered_line (codes "commit ") header.count header.root
+    ++ codes "sectors " ++ decimal header.sectors ++ codes " end " ++ decimal header.end
+    ++ codes " generation " ++ decimal header.generation ++ codes "\n"

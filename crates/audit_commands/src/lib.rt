@@ -1,0 +1,38 @@
+//! The commands of the program `audit`, over words, readers, writers and devices.
+#![tactic(auto)]
+
+mod acknowledging;
+mod appending;
+mod arguments;
+mod batches;
+mod fault;
+mod files;
+mod formatting;
+mod key_file;
+mod proving;
+mod replaying;
+mod reporting;
+mod request;
+mod showing;
+mod status;
+mod text;
+
+pub use appending::append_lines;
+pub use arguments::{ProofRequest, proof_request, sectors_asked};
+pub use batches::batches_of;
+pub use fault::CommandFault;
+pub use formatting::format_device;
+pub use key_file::{key_of_file, read_key};
+pub use proving::proof_bytes;
+pub use replaying::replay;
+pub use reporting::report;
+pub use request::{Request, run};
+pub use showing::show;
+pub use status::Status;
+
+#[cfg(test)]
+mod file_tests;
+#[cfg(test)]
+mod store_tests;
+#[cfg(test)]
+mod tests;

@@ -1,0 +1,79 @@
+//! Proofs of a store's history, as bytes.
+ghost use Rattle.std.specs.Prelude.{◌≡◌, ◌≤◌, List, vec_len, IfOk};
+ghost use Rattle.audit_chain.specs.Event.{EventData};
+ghost use Rattle.audit_layout.specs.Origin.{Origin};
+ghost use Rattle.audit_proof.specs.ProofBytes.{member_in, increment_in};
+ghost use Rattle.audit_store.specs.Store.{Holds};
+ghost use Rattle.audit_commands.specs.Proofs.{member_of_log, increment_of_log, proof_of_log};
+ghost use Rattle.audit_base.specs.declared.limits.TheConstants.{MAX_ENTRY, MAX_MEMBER_HASHES, MAX_INCREMENT_HASHES};
+
+use crate::arguments::ProofRequest;
+use crate::fault::CommandFault;
+use audit_device::Sectors;
+use audit_proof::{IncrementProof, MAX_ENTRY, MemberProof, write_increment, write_member};
+use audit_store::{Store, StoreError};
+use std::alloc::Global;
+
+/// The bytes of a proof that a store makes, or its refusal. Nothing is written to the device.
+pub fn proof_bytes<D: Sectors>(
+    alloc: Global,
+    store: &mut Store<D>,
+    asked: ProofRequest,
+) -> Result<Vec<u8>, CommandFault>
+    // They are those of the events that the store holds.
+    ensures { (origin : Origin) (events : List EventData) → Holds store.old origin events
+        → IfOk result (λ bytes. bytes.items ≡ proof_of_log origin.first_key events asked) }
+{
+    match asked {
+        ProofRequest::Member { index, count } => {
+            let proof = member_proof(store, index, count)?;
+            Ok(write_member(alloc, &proof)?)
+        }
+        ProofRequest::Increment { older, newer } => {
+            let proof = increment_proof(store, older, newer)?;
+            Ok(write_increment(alloc, &proof)?)
+        }
+    }
+}
+
+// The membership proof of an event with its entry. An entry that is longer than any is damaged.
+fn member_proof<D: Sectors>(
+    store: &mut Store<D>,
+    index: u64,
+    count: u64,
+) -> Result<MemberProof, StoreError>
+    ensures few { IfOk result (λ proof. vec_len proof.hashes ≤ MAX_MEMBER_HASHES) }
+    ensures short { IfOk result (λ proof. vec_len proof.entry ≤ MAX_ENTRY) }
+    ensures log { (origin : Origin) (events : List EventData) → Holds store.old origin events
+        → IfOk result (λ proof. member_in proof ≡ member_of_log origin.first_key events index count) }
+{
+    let hashes = store.membership(index, count)?;
+    let entry = store.entry(index)?;
+    if entry.len() > MAX_ENTRY {
+        return Err(StoreError::DamagedLog { index });
+    }
+    Ok(MemberProof {
+        index,
+        count,
+        hashes,
+        entry,
+    })
+}
+
+// The incremental proof from the older to the newer count.
+fn increment_proof<D: Sectors>(
+    store: &Store<D>,
+    older: u64,
+    newer: u64,
+) -> Result<IncrementProof, StoreError>
+    ensures few { IfOk result (λ proof. vec_len proof.hashes ≤ MAX_INCREMENT_HASHES) }
+    ensures log { (origin : Origin) (events : List EventData) → Holds store.now origin events
+        → IfOk result (λ proof. increment_in proof ≡ increment_of_log origin.first_key events older newer) }
+{
+    let hashes = store.incremental(older, newer)?;
+    Ok(IncrementProof {
+        older,
+        newer,
+        hashes,
+    })
+}

@@ -1,0 +1,39 @@
+use crate::fault::CommandFault;
+use crate::status::Status;
+use audit_lines::LinesFault;
+use audit_store::StoreError;
+use std::io;
+use std::io::Write;
+
+/// Prints why a command wasn't done, in one line, and returns the status with which the program ends. Where it
+/// can't be printed, the status alone reports it. It takes no memory.
+pub fn report<M: Write>(fault: CommandFault, messages: &mut M) -> Status {
+    let _ = match fault {
+        CommandFault::BadArgument => writeln!(messages, "audit: bad argument"),
+        CommandFault::FileExists => writeln!(messages, "audit: file exists"),
+        CommandFault::File => writeln!(messages, "audit: file fault"),
+        CommandFault::Lines(cause) => print_lines_fault(cause, messages),
+        CommandFault::Refused(error) => print_refusal(error, messages),
+    };
+    fault.status()
+}
+
+fn print_lines_fault<M: Write>(fault: LinesFault, messages: &mut M) -> io::Result<()> {
+    match fault {
+        LinesFault::InputTooLong => writeln!(messages, "audit: input too long"),
+        LinesFault::Line { line, cause } => {
+            writeln!(messages, "audit: line {line}: {}", cause.name())
+        }
+        LinesFault::Read | LinesFault::Write => writeln!(messages, "audit: file fault"),
+        LinesFault::Memory => print_refusal(StoreError::Memory, messages),
+    }
+}
+
+// The number of the refusal and its name, and the index where it has one.
+fn print_refusal<M: Write>(error: StoreError, messages: &mut M) -> io::Result<()> {
+    let (number, name) = (error.number(), error.name());
+    match error {
+        StoreError::DamagedLog { index } => writeln!(messages, "audit: {number} {name} {index}"),
+        _ => writeln!(messages, "audit: {number} {name}"),
+    }
+}

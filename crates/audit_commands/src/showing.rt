@@ -1,0 +1,41 @@
+//! What a store shows of itself.
+ghost use Rattle.std.specs.Prelude.{◌≡◌, IfOk, OnOk, OnErr};
+ghost use Rattle.std.specs.Io.KnownBytes.{Appends};
+ghost use Rattle.audit_lines.specs.Writing.{WritesInPart};
+ghost use Rattle.audit_store.specs.Store.{counting};
+ghost use Rattle.audit_commands.specs.Shown.{shown_lines};
+
+use crate::fault::CommandFault;
+use audit_device::Sectors;
+use audit_lines::{push_number, put_line, write_whole};
+use audit_store::Store;
+use std::alloc::{AllocError, Global};
+use std::io::Write;
+
+/// Writes the line of the commitment, and that of the device's sectors, the end of the log and the generation.
+pub fn show<D: Sectors, W: Write>(
+    alloc: Global,
+    store: &Store<D>,
+    writer: &mut W,
+) -> Result<(), CommandFault>
+    ensures written { OnOk result (Appends (W.contents writer.old) (W.contents writer.new) (shown_lines (counting store.now))) }
+    ensures part { OnErr result (WritesInPart (W.contents writer.old) (W.contents writer.new) (shown_lines (counting store.now))) }
+{
+    let lines = lines_of(alloc, store)?;
+    write_whole(writer, &lines)?;
+    Ok(())
+}
+
+#[tactic(auto, unfolding(crate::specs::Shown::shown_lines, audit_lines::specs::NumberedLine::numbered_line))]
+fn lines_of<D: Sectors>(alloc: Global, store: &Store<D>) -> Result<Vec<u8>, AllocError>
+    ensures { IfOk result (λ lines. lines.items ≡ shown_lines (counting store.now)) }
+{
+    let mut lines = Vec::new(alloc);
+    let commitment = store.commitment();
+    put_line(&mut lines, b"commit ", commitment.count, &commitment.root)?;
+    push_number(&mut lines, b"sectors ", store.sectors())?;
+    push_number(&mut lines, b" end ", store.end())?;
+    push_number(&mut lines, b" generation ", store.generation())?;
+    lines.extend_from_slice(b"\n")?;
+    Ok(lines)
+}

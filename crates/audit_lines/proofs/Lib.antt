@@ -1,0 +1,9 @@
+pub mod FirstLine
+pub mod Decimal
+pub mod EventWords
+pub mod EventLines
+pub mod KeyLine
+pub mod Scripts
+pub mod Refusals
+pub mod Taking
+pub mod Writing
