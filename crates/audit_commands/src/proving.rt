@@ -10,7 +10,7 @@ ghost use Rattle.audit_base.specs.declared.limits.TheConstants.{MAX_ENTRY, MAX_M
 use crate::arguments::ProofRequest;
 use crate::fault::CommandFault;
 use audit_device::Sectors;
-use audit_proof::{IncrementProof, MAX_ENTRY, MemberProof, write_increment, write_member};
+use audit_proof::{IncrementProof, MemberProof, write_increment, write_member};
 use audit_store::{Store, StoreError};
 use std::alloc::Global;
 
@@ -36,7 +36,7 @@ pub fn proof_bytes<D: Sectors>(
     }
 }
 
-// The membership proof of an event with its entry. An entry that is longer than any is damaged.
+// The membership proof of an event with its entry.
 fn member_proof<D: Sectors>(
     store: &mut Store<D>,
     index: u64,
@@ -49,9 +49,6 @@ fn member_proof<D: Sectors>(
 {
     let hashes = store.membership(index, count)?;
     let entry = store.entry(index)?;
-    if entry.len() > MAX_ENTRY {
-        return Err(StoreError::DamagedLog { index });
-    }
     Ok(MemberProof {
         index,
         count,
