@@ -1,32 +1,73 @@
 use audit_commands::Request;
+use audit_serving::Request as Serving;
 use clap::{Arg, ArgAction, ArgMatches, Command, Error};
 use std::alloc::{AllocError, Global};
 use std::convert::AsStr;
 
-/// The request that the words of a command line make; the first word is the program's name. Without a
-/// command it is `Replay`. The error prints help or usage, or says that memory ran out.
-pub fn request_of<'a, S: AsStr>(alloc: Global, words: &'a [S]) -> Result<Request<'a>, Error> {
+/// What the words of a command line ask for.
+#[derive(Clone, Copy, Debug, PartialEq, Eq)]
+pub enum Asked<'a> {
+    /// A command that serves no sessions.
+    Plain(Request<'a>),
+    /// One that does.
+    Serving(Serving<'a>),
+}
+
+/// What the words of a command line ask for; the first word is the program's name. Without a command it is `Replay`.
+/// The error prints help or usage, or says that memory ran out.
+pub fn request_of<'a, S: AsStr>(alloc: Global, words: &'a [S]) -> Result<Asked<'a>, Error> {
     let matches = command(alloc)?.try_get_matches_from(words)?;
     match matches.subcommand() {
-        Some(("format", given)) => Ok(Request::Format {
+        Some(("serve", given)) => Ok(Asked::Serving(Serving::Serve {
+            file: word(given, "FILE"),
+            socket: word(given, "SOCKET"),
+            rounds: word(given, "ROUNDS"),
+            sessions: given.get_str("sessions"),
+        })),
+        Some(("loop", given)) => Ok(Asked::Serving(Serving::Loop {
+            file: word(given, "FILE"),
+            socket: word(given, "SOCKET"),
+        })),
+        Some((name, given)) => Ok(Asked::Plain(plain_request(name, given))),
+        None => Ok(Asked::Plain(Request::Replay)),
+    }
+}
+
+fn plain_request<'a>(name: &str, given: &ArgMatches<'a>) -> Request<'a> {
+    match name {
+        "format" => Request::Format {
             file: word(given, "FILE"),
             sectors: word(given, "SECTORS"),
             key_file: word(given, "KEYFILE"),
-        }),
-        Some(("append", given)) => Ok(Request::Append {
+        },
+        "append" => Request::Append {
             file: word(given, "FILE"),
-        }),
-        Some(("show", given)) => Ok(Request::Show {
+        },
+        "show" => Request::Show {
             file: word(given, "FILE"),
-        }),
-        Some(("prove", given)) => Ok(Request::Prove {
+        },
+        "check" => Request::Check {
+            proof: word(given, "PROOF"),
+            older: word(given, "OLDER"),
+            newer: given.get_str("NEWER"),
+        },
+        "export" => Request::Export {
+            file: word(given, "FILE"),
+            out: word(given, "OUT"),
+        },
+        "verify" => Request::Verify {
+            export: word(given, "EXPORT"),
+            key_file: word(given, "KEYFILE"),
+            commitment: word(given, "COMMIT"),
+        },
+        "prove" => Request::Prove {
             file: word(given, "FILE"),
             kind: word(given, "KIND"),
             first: word(given, "A"),
             second: word(given, "B"),
             out: word(given, "OUT"),
-        }),
-        _ => Ok(Request::Replay),
+        },
+        _ => Request::Replay,
     }
 }
 
@@ -44,7 +85,12 @@ fn command<'a>(alloc: Global) -> Result<Command<'a>, AllocError> {
         .subcommand(format_command(alloc)?)?
         .subcommand(append_command(alloc)?)?
         .subcommand(show_command(alloc)?)?
-        .subcommand(prove_command(alloc)?)
+        .subcommand(prove_command(alloc)?)?
+        .subcommand(check_command(alloc)?)?
+        .subcommand(export_command(alloc)?)?
+        .subcommand(verify_command(alloc)?)?
+        .subcommand(serve_command(alloc)?)?
+        .subcommand(loop_command(alloc)?)
 }
 
 fn format_command<'a>(alloc: Global) -> Result<Command<'a>, AllocError> {
@@ -83,6 +129,61 @@ fn prove_command<'a>(alloc: Global) -> Result<Command<'a>, AllocError> {
         .arg(required(alloc, "A", "The number of the event, or the older count"))?
         .arg(required(alloc, "B", "The count, or the newer one"))?
         .arg(required(alloc, "OUT", "The file for the proof, which is replaced"))
+}
+
+fn check_command<'a>(alloc: Global) -> Result<Command<'a>, AllocError> {
+    Command::new(alloc, "check")
+        .about("Checks a proof under a commitment, or under an older and a newer one")
+        .arg(required(alloc, "PROOF", "The file with the proof"))?
+        .arg(required(alloc, "OLDER", "The commitment, as COUNT:ROOT"))?
+        .arg(
+            Arg::new(alloc, "NEWER")
+                .action(ArgAction::Set)
+                .help("The newer commitment, for an incremental proof"),
+        )
+}
+
+fn export_command<'a>(alloc: Global) -> Result<Command<'a>, AllocError> {
+    Command::new(alloc, "export")
+        .about("Writes the entries of a store to a file")
+        .arg(required(alloc, "FILE", "The file of the store"))?
+        .arg(required(alloc, "OUT", "The file for the entries, which is replaced"))
+}
+
+fn verify_command<'a>(alloc: Global) -> Result<Command<'a>, AllocError> {
+    Command::new(alloc, "verify")
+        .about("Verifies an export of a store, and prints its events")
+        .arg(required(alloc, "EXPORT", "The file with the export"))?
+        .arg(required(
+            alloc,
+            "KEYFILE",
+            "The file with the first key, in 64 hex digits",
+        ))?
+        .arg(required(alloc, "COMMIT", "The commitment, as COUNT:ROOT"))
+}
+
+fn serve_command<'a>(alloc: Global) -> Result<Command<'a>, AllocError> {
+    Command::new(alloc, "serve")
+        .about("Serves sessions of a store over a socket, in rounds")
+        .arg(required(alloc, "FILE", "The file of the store"))?
+        .arg(required(alloc, "SOCKET", "The path of the socket, which is made"))?
+        .arg(required(alloc, "ROUNDS", "How many rounds"))?
+        .arg(
+            Arg::new(alloc, "sessions")
+                .long("sessions")
+                .value_name("N")
+                .action(ArgAction::Set)
+                .help("How many sessions each round has, 1 to 16 [default: 1]"),
+        )
+}
+
+fn loop_command<'a>(alloc: Global) -> Result<Command<'a>, AllocError> {
+    Command::new(alloc, "loop")
+        .about(
+            "Serves one session over a socket, whose frames come as lines of hex digits from standard input",
+        )
+        .arg(required(alloc, "FILE", "The file of the store"))?
+        .arg(required(alloc, "SOCKET", "The path of the socket, which is made"))
 }
 
 fn required<'a>(alloc: Global, id: &'a str, help: &'a str) -> Arg<'a> {

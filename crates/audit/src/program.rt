@@ -1,4 +1,4 @@
-use crate::command::request_of;
+use crate::command::{Asked, request_of};
 use audit_commands::{CommandFault, Status, report};
 use audit_store::StoreError;
 use clap::Error;
@@ -7,12 +7,13 @@ use std::alloc::Global;
 use std::convert::AsStr;
 use std::fs::Files;
 use std::io::{Read, Write};
+use std::net::Net;
 use std::os::unix::fs::FileExt;
 
 /// Runs the program on the words of a command line, of which the first is its name. Lines that begin
 /// with `audit: ` go to `messages`, and so does clap's usage; every other text goes to `output`, which is
 /// flushed in the end.
-pub fn run<F: Files, S: AsStr, R: Read, W: Write, M: Write>(
+pub fn run<F: Files + Net, S: AsStr, R: Read, W: Write, M: Write>(
     rt: &F,
     alloc: Global,
     words: &[S],
@@ -24,7 +25,12 @@ where
     F::File: FileExt,
 {
     match request_of(alloc, words) {
-        Ok(request) => audit_commands::run(rt, alloc, request, input, output, messages),
+        Ok(Asked::Plain(request)) => {
+            audit_commands::run(rt, alloc, request, input, output, messages)
+        }
+        Ok(Asked::Serving(request)) => {
+            audit_serving::run(rt, alloc, request, input, output, messages)
+        }
         Err(error) => explain(&error, output, messages),
     }
 }

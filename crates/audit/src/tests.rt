@@ -1,12 +1,13 @@
-use crate::command::request_of;
+use crate::command::{Asked, request_of};
 use crate::program::run;
 use audit_commands::{Request, Status};
+use audit_serving::Request as Serving;
 use std::alloc::Global;
 use std::io::{self, ErrorKind, Write};
 use std::str;
 
 // The request of a word, of several and of none.
-const REQUESTS: [(&[&str], Request<'static>); 6] = [
+const REQUESTS: [(&[&str], Request<'static>); 10] = [
     (&["audit"], Request::Replay),
     (&["audit", "replay"], Request::Replay),
     (
@@ -29,11 +30,42 @@ const REQUESTS: [(&[&str], Request<'static>); 6] = [
             out: "e",
         },
     ),
+    (
+        &["audit", "check", "a", "b"],
+        Request::Check {
+            proof: "a",
+            older: "b",
+            newer: None,
+        },
+    ),
+    (
+        &["audit", "check", "a", "b", "c"],
+        Request::Check {
+            proof: "a",
+            older: "b",
+            newer: Some("c"),
+        },
+    ),
+    (
+        &["audit", "verify", "a", "b", "c"],
+        Request::Verify {
+            export: "a",
+            key_file: "b",
+            commitment: "c",
+        },
+    ),
+    (
+        &["audit", "export", "a", "b"],
+        Request::Export {
+            file: "a",
+            out: "b",
+        },
+    ),
 ];
 
 fn asks(alloc: Global, words: &[&str], request: Request<'_>) -> bool {
     match request_of(alloc, words) {
-        Ok(found) => found == request,
+        Ok(found) => found == Asked::Plain(request),
         Err(_) => false,
     }
 }
@@ -42,6 +74,43 @@ fn asks(alloc: Global, words: &[&str], request: Request<'_>) -> bool {
 fn requests_of_words(rt: HostRuntime) {
     for (words, request) in REQUESTS {
         assert!(rt; asks(rt.alloc(), words, request));
+    }
+}
+
+// The same of a request for sessions.
+const SERVINGS: [(&[&str], Serving<'static>); 3] = [
+    (
+        &["audit", "serve", "a", "b", "c"],
+        Serving::Serve {
+            file: "a",
+            socket: "b",
+            rounds: "c",
+            sessions: None,
+        },
+    ),
+    (
+        &["audit", "serve", "a", "b", "c", "--sessions", "16"],
+        Serving::Serve {
+            file: "a",
+            socket: "b",
+            rounds: "c",
+            sessions: Some("16"),
+        },
+    ),
+    (
+        &["audit", "loop", "a", "b"],
+        Serving::Loop {
+            file: "a",
+            socket: "b",
+        },
+    ),
+];
+
+#[test]
+fn requests_for_sessions(rt: HostRuntime) {
+    for (words, request) in SERVINGS {
+        let found = request_of(rt.alloc(), words);
+        assert!(rt; matches!(&found, Ok(Asked::Serving(found)) if *found == request));
     }
 }
 
@@ -87,12 +156,17 @@ fn is_usage(found: &Outcome) -> bool {
         && tells(&found.messages, "Usage: audit")
 }
 
-const NO_REQUESTS: [&[&str]; 6] = [
+const NO_REQUESTS: [&[&str]; 11] = [
+    &["audit", "serve", "a", "b"],
+    &["audit", "loop", "a"],
     &["audit", "repaly"],
     &["audit", "--fast"],
     &["audit", "show"],
     &["audit", "show", "a", "b"],
     &["audit", "format", "a", "3"],
+    &["audit", "check", "a"],
+    &["audit", "verify", "a", "b"],
+    &["audit", "export", "a"],
     &["audit", "prove", "a", "member", "-3", "4", "b"],
 ];
 

@@ -38,11 +38,17 @@ pub fn are_equal(left: &[u8], right: &[u8]) -> bool
 pub fn are_zero(bytes: &[u8]) -> bool
     ensures { IsTrue result ↔ (bytes.now ≡ zeros (length bytes.now)) }
 {
-    each_is_zero(bytes)
+    largest(bytes) == 0
 }
 
-fn each_is_zero(bytes: &[u8]) -> bool
-    ensures { IsTrue result ↔ EachIndex bytes.now (λ k. slice_index bytes.now k ≡ 0) }
+// The largest byte, or zero where there is none. The loop has no way out, so that the compiler can take many bytes at
+// once.
+fn largest(bytes: &[u8]) -> u8
+    ensures { (result ≡ 0) ↔ EachIndex bytes.now (λ k. slice_index bytes.now k ≡ 0) }
 {
-    bytes.iter().all(|byte| *byte == 0)
+    let mut largest = 0;
+    for byte in bytes {
+        largest = largest.max(*byte);
+    }
+    largest
 }

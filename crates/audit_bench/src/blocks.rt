@@ -7,16 +7,22 @@ use std::time::Instant;
 // keystream, link, the two halves of the MAC, next key, leaf, and an inner node. They have 11 blocks.
 const MESSAGE_LENS: [usize; 7] = [50, 38, 96, 96, 46, 75, 65];
 
-/// The time of the SHA-256 of so many small events alone: seven messages of 11 blocks in all.
+/// The time of the SHA-256 of so many small events alone.
 pub fn measure(rt: &(impl Clock + Eprint), events: u32) -> io::Result<()> {
-    let message = [0x5a; 96];
     let start = Instant::now(rt)?;
+    let seen = hash_events(events);
+    let nanoseconds = start.elapsed(rt)?.as_nanos();
+    eprintln!(rt; "events {events} nanoseconds {nanoseconds} seen {seen}")
+}
+
+/// Hashes what so many small events have to be hashed: seven messages of 11 blocks in all for each.
+pub fn hash_events(events: u32) -> u8 {
+    let message = [0x5a; 96];
     let mut seen = 0;
     for _ in 0..events {
         for len in MESSAGE_LENS {
             seen ^= Sha256::digest(&message[..len])[0];
         }
     }
-    let nanoseconds = start.elapsed(rt)?.as_nanos();
-    eprintln!(rt; "events {events} nanoseconds {nanoseconds} seen {seen}")
+    seen
 }

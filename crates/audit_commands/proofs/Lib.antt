@@ -3,3 +3,5 @@ pub mod KeyFiles
 pub mod GatheredBatches
 pub mod Acks
 pub mod KnownEntries
+pub mod Exported
+pub mod Checks

@@ -3,6 +3,8 @@ use Rattle.std.specs.Prelude.{ℕ, nat_lt, ◌||◌, Option, Some, None, Result,
 use Rattle.std.specs.Str.{bytes_eq}
 use Rattle.audit_lines.specs.Number.{number_of}
 use Rattle.audit_log.specs.declared.header.TheConstants.{MIN_SECTORS, MAX_SECTORS}
+use Rattle.audit_auditor.specs.CommitmentWord.{commitment_of}
+use Rattle.audit_proof.specs.declared.commitment.Commitment.{Commitment}
 use Rattle.audit_store.specs.declared.store_error.StoreError.TheVariants.{BadSize}
 use Rattle.audit_commands.specs.declared.fault.CommandFault.{CommandFault}
 use Rattle.audit_commands.specs.declared.fault.CommandFault.TheVariants.{BadArgument, Refused}
@@ -30,3 +32,11 @@ proof_of kind (Some first) (Some second) =
 -- a word for the kind, and two numbers
 abbrev pub proof_asked : List ℕ → List ℕ → List ℕ → Option ProofRequest
 proof_asked kind first second = proof_of kind (number_of first) (number_of second)
+
+-- a commitment in a word
+abbrev pub asked_or_bad : Option Commitment → Result Commitment CommandFault
+asked_or_bad None = Err BadArgument
+asked_or_bad (Some commitment) = Ok commitment
+
+abbrev pub commitment_asked : List ℕ → Result Commitment CommandFault
+commitment_asked word = asked_or_bad (commitment_of word)

@@ -1,12 +1,21 @@
 -- How the program ends with each fault of a command.
+use Rattle.std.specs.Prelude.{◌≡◌, ◌⊎◌}
 use Rattle.audit_store.specs.declared.store_error.StoreError.{StoreError}
 use Rattle.audit_store.specs.declared.store_error.StoreError.TheVariants as store
+use Rattle.audit_disk.specs.declared.file_fault.FileFault.{FileFault}
+use Rattle.audit_disk.specs.declared.file_fault.FileFault.TheVariants as file
 use Rattle.audit_lines.specs.declared.fault.LinesFault.{LinesFault}
 use Rattle.audit_lines.specs.declared.fault.LinesFault.TheVariants as lines
+use Rattle.audit_proof.specs.declared.codec.ReadFault.{ReadFault}
+use Rattle.audit_proof.specs.declared.codec.ReadFault.TheVariants as reading
+use Rattle.audit_verify.specs.declared.fault.Cause.{Cause}
+use Rattle.audit_verify.specs.declared.fault.Cause.TheVariants as cause
+use Rattle.audit_auditor.specs.declared.fault.AuditorFault.{AuditorFault}
+use Rattle.audit_auditor.specs.declared.fault.AuditorFault.TheVariants as auditor
 use Rattle.audit_commands.specs.declared.status.Status.{Status}
 use Rattle.audit_commands.specs.declared.status.Status.TheVariants as ends
 use Rattle.audit_commands.specs.declared.fault.CommandFault.{CommandFault}
-use Rattle.audit_commands.specs.declared.fault.CommandFault.TheVariants.{BadArgument, FileExists, File, Lines, Refused}
+use Rattle.audit_commands.specs.declared.fault.CommandFault.TheVariants.{BadArgument, FileExists, File, Lines, Refused, Export, BadProof, NotAccepted}
 
 -- of lines
 abbrev pub status_of_lines : LinesFault → Status
@@ -31,9 +40,40 @@ status_of_refusal store.Device = ends.Device
 status_of_refusal store.Memory = ends.Memory
 status_of_refusal store.BadSize = ends.Refused
 
+-- of an export that isn't verified
+abbrev pub status_of_cause : Cause → Status
+status_of_cause cause.Short = ends.Refused
+status_of_cause cause.BadLength = ends.Refused
+status_of_cause cause.BadLink = ends.Refused
+status_of_cause cause.BadMac = ends.Refused
+status_of_cause cause.WrongCommitment = ends.Refused
+status_of_cause cause.ReadFault = ends.Device
+status_of_cause cause.Memory = ends.Memory
+
 abbrev pub status_of : CommandFault → Status
 status_of BadArgument = ends.Usage
 status_of FileExists = ends.Refused
 status_of File = ends.Device
 status_of (Lines cause) = status_of_lines cause
 status_of (Refused error) = status_of_refusal error
+status_of (Export fault) = status_of_cause fault.cause
+status_of BadProof = ends.Refused
+status_of NotAccepted = ends.Refused
+
+-- the fault of the same meaning
+abbrev pub of_auditor : AuditorFault → CommandFault
+of_auditor (auditor.Export fault) = Export fault
+of_auditor (auditor.Lines fault) = Lines fault
+
+abbrev pub of_reading : ReadFault → CommandFault
+of_reading reading.BadProof = BadProof
+of_reading reading.Memory = Refused store.Memory
+
+abbrev pub of_file : FileFault → CommandFault
+of_file file.Io = File
+of_file file.Length = File
+of_file file.Memory = Refused store.Memory
+
+-- a line couldn't be made for want of memory, or couldn't be written whole
+abbrev pub IsUnwritten : CommandFault → Type 0
+IsUnwritten fault = (fault ≡ Lines lines.Write) ⊎ (fault ≡ Refused store.Memory)

@@ -7,3 +7,6 @@ pub mod Acks
 pub mod Shown
 pub mod Gathering
 pub mod Proofs
+pub mod Appended
+pub mod Exports
+pub mod Checks

@@ -1,13 +1,16 @@
 -- The bytes of the proofs that a list of events has.
-use Rattle.std.specs.Prelude.{ℕ, List, [], take, slice_index_or}
+use Rattle.std.specs.Prelude.{◌≡◌, ◌⊎◌, ◌<◌, ◌≤◌, ℕ, List, [], take, slice_index_or}
 use Rattle.sha2.specs.Sha256.{sha256}
 use Rattle.audit_chain.specs.Event.{EventData}
 use Rattle.audit_chain.specs.Entries.{log_entries}
 use Rattle.audit_tree.specs.Paths.{membership_path, increment_path}
 use Rattle.audit_layout.specs.Headers.{log_leaves}
 use Rattle.audit_proof.specs.ProofBytes.{Member, Increment as Incremental, member_bytes, increment_bytes}
+use Rattle.audit_store.specs.Recovered.{IsOfDeviceOrMemory}
 use Rattle.audit_commands.specs.declared.arguments.ProofRequest.{ProofRequest}
 use Rattle.audit_commands.specs.declared.arguments.ProofRequest.TheVariants as asked
+use Rattle.audit_commands.specs.declared.fault.CommandFault.{CommandFault}
+use Rattle.audit_commands.specs.declared.fault.CommandFault.TheVariants.{BadArgument, FileExists, File, Lines, Refused, Export, BadProof, NotAccepted}
 
 -- that an event is one of the first `count`: its siblings on the way to their root, and its entry
 abbrev pub member_of_log : List ℕ → List EventData → ℕ → ℕ → Member
@@ -30,3 +33,19 @@ increment_of_log first_key events older newer = record {
 abbrev pub proof_of_log : List ℕ → List EventData → ProofRequest → List ℕ
 proof_of_log first_key events (asked.Member index count) = member_bytes (member_of_log first_key events index count)
 proof_of_log first_key events (asked.Increment older newer) = increment_bytes (increment_of_log first_key events older newer)
+
+-- a log of so many events has no such proof
+abbrev pub IsOutside : ProofRequest → ℕ → Type 0
+IsOutside (asked.Member index count) held = (count ≤ index) ⊎ (held < count)
+IsOutside (asked.Increment older newer) held = (older ≡ 0) ⊎ (newer < older) ⊎ (held < newer)
+
+-- the device failed, or memory was refused
+abbrev pub IsDeviceOrMemory : CommandFault → Type 0
+IsDeviceOrMemory (Refused error) = IsOfDeviceOrMemory error
+IsDeviceOrMemory (Lines cause) = ⊥
+IsDeviceOrMemory BadArgument = ⊥
+IsDeviceOrMemory FileExists = ⊥
+IsDeviceOrMemory File = ⊥
+IsDeviceOrMemory (Export fault) = ⊥
+IsDeviceOrMemory BadProof = ⊥
+IsDeviceOrMemory NotAccepted = ⊥

@@ -1,10 +1,12 @@
 //! Arguments that are judged by hand.
 ghost use Rattle.std.specs.Prelude.{◌≡◌};
-ghost use Rattle.audit_commands.specs.Arguments.{sectors_asked, proof_asked};
+ghost use Rattle.audit_commands.specs.Arguments.{sectors_asked, proof_asked, commitment_asked};
 
 use crate::fault::CommandFault;
+use audit_auditor::commitment_of;
 use audit_lines::number_of;
 use audit_log::{MAX_SECTORS, MIN_SECTORS};
+use audit_proof::Commitment;
 use audit_store::StoreError;
 
 /// The proof that is asked for.
@@ -60,4 +62,15 @@ pub fn proof_request(kind: &str, first: &str, second: &str) -> Option<ProofReque
         });
     }
     None
+}
+
+/// The commitment that a word asks for: a count, a colon and the 64 hex digits of a root. A word of another form is
+/// `BadArgument`.
+pub fn commitment_asked(word: &str) -> Result<Commitment, CommandFault>
+    ensures { result ≡ commitment_asked word.now }
+{
+    match commitment_of(word.as_bytes()) {
+        Some(commitment) => Ok(commitment),
+        None => Err(CommandFault::BadArgument),
+    }
 }

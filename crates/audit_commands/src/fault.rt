@@ -1,7 +1,13 @@
+ghost use Rattle.std.specs.Prelude.{◌≡◌};
+ghost use Rattle.audit_commands.specs.Faults.{status_of_cause};
+
 use crate::status::Status;
+use audit_auditor::AuditorFault;
 use audit_disk::FileFault;
 use audit_lines::LinesFault;
+use audit_proof::ReadFault;
 use audit_store::StoreError;
+use audit_verify::{Cause, VerifyFault};
 use std::alloc::AllocError;
 use std::io;
 use thiserror::Error;
@@ -24,6 +30,15 @@ pub enum CommandFault {
     /// The store refused.
     #[error(transparent)]
     Refused(StoreError),
+    /// An export isn't verified.
+    #[error("the export is not verified")]
+    Export(VerifyFault),
+    /// A file holds no proof.
+    #[error("the file holds no proof")]
+    BadProof,
+    /// A proof isn't accepted.
+    #[error("the proof is not accepted")]
+    NotAccepted,
 }
 
 impl CommandFault {
@@ -44,6 +59,8 @@ impl CommandFault {
             CommandFault::Refused(StoreError::Memory) => Status::Memory,
             CommandFault::Refused(StoreError::Device) => Status::Device,
             CommandFault::Refused(_) => Status::Refused,
+            CommandFault::Export(fault) => status_of_cause(fault.cause),
+            CommandFault::BadProof | CommandFault::NotAccepted => Status::Refused,
         }
     }
 }
@@ -84,12 +101,15 @@ impl From<AllocError> for CommandFault {
 
 impl From<FileFault> for CommandFault {
     ghost use Rattle.std.specs.Prelude.{◌≡◌};
-    ghost use Rattle.audit_commands.specs.declared.fault.CommandFault.TheVariants.{File};
+    ghost use Rattle.audit_commands.specs.Faults.{of_file};
 
-    ghost from_gives = { λ _ fault. fault ≡ File };
+    ghost from_gives = { λ given fault. fault ≡ of_file given };
 
-    fn from(_: FileFault) -> Self {
-        CommandFault::File
+    fn from(given: FileFault) -> Self {
+        match given {
+            FileFault::Io | FileFault::Length => CommandFault::File,
+            FileFault::Memory => CommandFault::Refused(StoreError::Memory),
+        }
     }
 }
 
@@ -101,5 +121,44 @@ impl From<io::Error> for CommandFault {
 
     fn from(_: io::Error) -> Self {
         CommandFault::File
+    }
+}
+
+// How the program ends where an export isn't verified.
+fn status_of_cause(cause: Cause) -> Status
+    ensures { result ≡ status_of_cause cause }
+{
+    match cause {
+        Cause::ReadFault => Status::Device,
+        Cause::Memory => Status::Memory,
+        _ => Status::Refused,
+    }
+}
+
+impl From<AuditorFault> for CommandFault {
+    ghost use Rattle.std.specs.Prelude.{◌≡◌};
+    ghost use Rattle.audit_commands.specs.Faults.{of_auditor};
+
+    ghost from_gives = { λ given fault. fault ≡ of_auditor given };
+
+    fn from(given: AuditorFault) -> Self {
+        match given {
+            AuditorFault::Export(fault) => CommandFault::Export(fault),
+            AuditorFault::Lines(fault) => CommandFault::Lines(fault),
+        }
+    }
+}
+
+impl From<ReadFault> for CommandFault {
+    ghost use Rattle.std.specs.Prelude.{◌≡◌};
+    ghost use Rattle.audit_commands.specs.Faults.{of_reading};
+
+    ghost from_gives = { λ given fault. fault ≡ of_reading given };
+
+    fn from(given: ReadFault) -> Self {
+        match given {
+            ReadFault::BadProof => CommandFault::BadProof,
+            ReadFault::Memory => CommandFault::Refused(StoreError::Memory),
+        }
     }
 }

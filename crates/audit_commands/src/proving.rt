@@ -1,10 +1,12 @@
 //! Proofs of a store's history, as bytes.
-ghost use Rattle.std.specs.Prelude.{◌≡◌, ◌≤◌, List, vec_len, IfOk};
+ghost use Rattle.std.specs.Prelude.{◌≡◌, ◌⊎◌, ◌<◌, ◌≤◌, true, false, Err, List, length, vec_len, MatchResult, IfOk, IfErr};
 ghost use Rattle.audit_chain.specs.Event.{EventData};
 ghost use Rattle.audit_layout.specs.Origin.{Origin};
 ghost use Rattle.audit_proof.specs.ProofBytes.{member_in, increment_in};
-ghost use Rattle.audit_store.specs.Store.{Holds};
-ghost use Rattle.audit_commands.specs.Proofs.{member_of_log, increment_of_log, proof_of_log};
+ghost use Rattle.audit_store.specs.Recovered.{IsOfDeviceOrMemory};
+ghost use Rattle.audit_store.specs.Queries.{IsProofOf};
+ghost use Rattle.audit_store.specs.Store.{counting, is_broken, Holds};
+ghost use Rattle.audit_commands.specs.Proofs.{member_of_log, increment_of_log, proof_of_log, IsOutside, IsDeviceOrMemory};
 ghost use Rattle.audit_base.specs.declared.limits.TheConstants.{MAX_ENTRY, MAX_MEMBER_HASHES, MAX_INCREMENT_HASHES};
 
 use crate::arguments::ProofRequest;
@@ -20,9 +22,14 @@ pub fn proof_bytes<D: Sectors>(
     store: &mut Store<D>,
     asked: ProofRequest,
 ) -> Result<Vec<u8>, CommandFault>
-    // They are those of the events that the store holds.
-    ensures { (origin : Origin) (events : List EventData) → Holds store.old origin events
-        → IfOk result (λ bytes. bytes.items ≡ proof_of_log origin.first_key events asked) }
+    ensures broken { is_broken store.old ≡ true → result ≡ Err (CommandFault.Refused StoreError.Broken) }
+    ensures outside { is_broken store.old ≡ false → IsOutside asked (counting store.old).count
+        → result ≡ Err (CommandFault.Refused StoreError.NoSuchVersion) }
+
+    // They are those of the events that the store holds, and only the device and memory can be in the way.
+    ensures log { (origin : Origin) (events : List EventData) → Holds store.old origin events
+        → (IsOutside asked (length events) → ⊥)
+        → MatchResult result (λ bytes. bytes.items ≡ proof_of_log origin.first_key events asked) IsDeviceOrMemory }
 {
     match asked {
         ProofRequest::Member { index, count } => {
@@ -44,8 +51,13 @@ fn member_proof<D: Sectors>(
 ) -> Result<MemberProof, StoreError>
     ensures few { IfOk result (λ proof. vec_len proof.hashes ≤ MAX_MEMBER_HASHES) }
     ensures short { IfOk result (λ proof. vec_len proof.entry ≤ MAX_ENTRY) }
+    ensures broken { is_broken store.old ≡ true → result ≡ Err StoreError.Broken }
+    ensures outside { is_broken store.old ≡ false → (count ≤ index) ⊎ ((counting store.old).count < count)
+        → result ≡ Err StoreError.NoSuchVersion }
     ensures log { (origin : Origin) (events : List EventData) → Holds store.old origin events
         → IfOk result (λ proof. member_in proof ≡ member_of_log origin.first_key events index count) }
+    ensures fault { (origin : Origin) (events : List EventData) → Holds store.old origin events
+        → index < count → count ≤ length events → IfErr result IsOfDeviceOrMemory }
 {
     let hashes = store.membership(index, count)?;
     let entry = store.entry(index)?;
@@ -64,6 +76,8 @@ fn increment_proof<D: Sectors>(
     newer: u64,
 ) -> Result<IncrementProof, StoreError>
     ensures few { IfOk result (λ proof. vec_len proof.hashes ≤ MAX_INCREMENT_HASHES) }
+    ensures outcome { IsProofOf (is_broken store.now)
+        ((older ≡ 0) ⊎ (newer < older) ⊎ ((counting store.now).count < newer)) result }
     ensures log { (origin : Origin) (events : List EventData) → Holds store.now origin events
         → IfOk result (λ proof. increment_in proof ≡ increment_of_log origin.first_key events older newer) }
 {

@@ -2,11 +2,13 @@ use crate::fault::CommandFault;
 use crate::status::Status;
 use audit_lines::LinesFault;
 use audit_store::StoreError;
+use audit_verify::VerifyFault;
 use std::io;
 use std::io::Write;
 
 /// Prints why a command wasn't done, in one line, and returns the status with which the program ends. Where it
-/// can't be printed, the status alone reports it. It takes no memory.
+/// can't be printed, the status alone reports it; that a proof isn't accepted is printed by its command. It takes no
+/// memory.
 pub fn report<M: Write>(fault: CommandFault, messages: &mut M) -> Status {
     let _ = match fault {
         CommandFault::BadArgument => writeln!(messages, "audit: bad argument"),
@@ -14,6 +16,9 @@ pub fn report<M: Write>(fault: CommandFault, messages: &mut M) -> Status {
         CommandFault::File => writeln!(messages, "audit: file fault"),
         CommandFault::Lines(cause) => print_lines_fault(cause, messages),
         CommandFault::Refused(error) => print_refusal(error, messages),
+        CommandFault::Export(fault) => print_export_fault(fault, messages),
+        CommandFault::BadProof => writeln!(messages, "audit: 32 BadProof"),
+        CommandFault::NotAccepted => Ok(()),
     };
     fault.status()
 }
@@ -27,6 +32,13 @@ fn print_lines_fault<M: Write>(fault: LinesFault, messages: &mut M) -> io::Resul
         LinesFault::Read | LinesFault::Write => writeln!(messages, "audit: file fault"),
         LinesFault::Memory => print_refusal(StoreError::Memory, messages),
     }
+}
+
+// The entry at fault, or the number of entries, and the number and name of the cause.
+fn print_export_fault<M: Write>(fault: VerifyFault, messages: &mut M) -> io::Result<()> {
+    let (index, cause) = (fault.index, fault.cause);
+    let (number, name) = (cause.number(), cause.name());
+    writeln!(messages, "audit: entry {index}: {number} {name}")
 }
 
 // The number of the refusal and its name, and the index where it has one.

@@ -1,8 +1,10 @@
 //! What the program is asked to do, and doing it.
 use crate::appending::append_lines;
-use crate::arguments::{proof_request, sectors_asked};
+use crate::arguments::{commitment_asked, proof_request, sectors_asked};
+use crate::checking::check_proof;
+use crate::exporting::{write_entries, write_exported};
 use crate::fault::CommandFault;
-use crate::files::{make_device, open_store};
+use crate::files::{make_device, open_store, replace_file};
 use crate::formatting::format_device;
 use crate::key_file::read_key;
 use crate::proving::proof_bytes;
@@ -11,10 +13,15 @@ use crate::reporting::report;
 use crate::showing::show;
 use crate::status::Status;
 use crate::text::write_number;
+use audit_auditor::verify_export;
+use audit_store::StoreError;
 use std::alloc::Global;
 use std::fs::{self, Files};
-use std::io::{Read, Write};
+use std::io::{BufWriter, Read, Write};
 use std::os::unix::fs::FileExt;
+
+// Room for entries of an export that weren't written yet, in bytes.
+const EXPORT_ROOM: usize = 1 << 16;
 
 /// What the program is asked to do, with the words of the command line as they were given.
 #[derive(Clone, Copy, Debug, PartialEq, Eq)]
@@ -40,6 +47,31 @@ pub enum Request<'a> {
         /// The file.
         file: &'a str,
     },
+    /// Check a proof under one commitment or two.
+    Check {
+        /// The file with the proof.
+        proof: &'a str,
+        /// The commitment, or the older one.
+        older: &'a str,
+        /// The newer commitment, for an incremental proof.
+        newer: Option<&'a str>,
+    },
+    /// Write the entries of the store in a file to another one.
+    Export {
+        /// The file.
+        file: &'a str,
+        /// The file for the export, which is replaced. It isn't the store's.
+        out: &'a str,
+    },
+    /// Verify an export, and write its events.
+    Verify {
+        /// The file with the export.
+        export: &'a str,
+        /// The file with the first key.
+        key_file: &'a str,
+        /// The commitment.
+        commitment: &'a str,
+    },
     /// Make a proof of the store in a file, and write it to another one.
     Prove {
         /// The file.
@@ -50,7 +82,7 @@ pub enum Request<'a> {
         first: &'a str,
         /// The count, or the newer one.
         second: &'a str,
-        /// The file for the proof, which is replaced.
+        /// The file for the proof, which is replaced. It isn't the store's.
         out: &'a str,
     },
 }
@@ -99,6 +131,22 @@ where
             append_lines(alloc, &mut store, input, output)
         }
         Request::Show { file } => show(alloc, &open_store(rt, alloc, file)?, output),
+        Request::Check {
+            proof,
+            older,
+            newer,
+        } => check_file(rt, alloc, proof, older, newer, output),
+        Request::Export { file, out } => export_file(rt, alloc, file, out, output),
+        Request::Verify {
+            export,
+            key_file,
+            commitment,
+        } => {
+            let first_key = read_key(alloc, &mut fs::open(rt, key_file)?)?;
+            let commitment = commitment_asked(commitment)?;
+            let mut export = fs::open(rt, export)?;
+            Ok(verify_export(alloc, &mut export, &first_key, &commitment, output)?)
+        }
         Request::Prove {
             file,
             kind,
@@ -111,7 +159,7 @@ where
             };
             let mut store = open_store(rt, alloc, file)?;
             let proof = proof_bytes(alloc, &mut store, asked)?;
-            fs::write(rt, out, proof.as_slice())?;
+            replace_file(rt, file, out)?.write_all(&proof)?;
             write_number(alloc, b"proof ", proof.len() as u64, output)
         }
     }
@@ -131,10 +179,51 @@ where
 {
     let sectors = sectors_asked(sectors)?;
     let first_key = read_key(alloc, &mut fs::open(rt, key_file)?)?;
-    let disk = make_device(rt, file, sectors)?;
+    let disk = make_device(rt, alloc, file, sectors)?;
     let formatted = format_device(alloc, disk, first_key, output);
     if matches!(formatted, Err(CommandFault::Refused(_))) {
         let _ = fs::remove_file(rt, file);
     }
     formatted
+}
+
+// The commitments are judged before the file is touched.
+fn check_file<F: Files, W: Write>(
+    rt: &F,
+    alloc: Global,
+    proof: &str,
+    older: &str,
+    newer: Option<&str>,
+    output: &mut W,
+) -> Result<(), CommandFault>
+where
+    F::File: FileExt,
+{
+    let older = commitment_asked(older)?;
+    let newer = match newer {
+        Some(word) => Some(commitment_asked(word)?),
+        None => None,
+    };
+    check_proof(alloc, &mut fs::open(rt, proof)?, &older, newer, output)
+}
+
+// The store is opened before the file of the export is made, which isn't that of the store.
+fn export_file<F: Files, W: Write>(
+    rt: &F,
+    alloc: Global,
+    file: &str,
+    out: &str,
+    output: &mut W,
+) -> Result<(), CommandFault>
+where
+    F::File: FileExt,
+{
+    let mut store = open_store(rt, alloc, file)?;
+    let export = replace_file(rt, file, out)?;
+    let Ok(mut export) = BufWriter::with_capacity(alloc, EXPORT_ROOM, export) else {
+        return Err(CommandFault::Refused(StoreError::Memory));
+    };
+    let size = write_entries(&mut store, &mut export)?;
+    export.flush()?;
+    write_exported(alloc, store.commitment().count, size, output)
 }

@@ -18,8 +18,10 @@ pub fn show<D: Sectors, W: Write>(
     store: &Store<D>,
     writer: &mut W,
 ) -> Result<(), CommandFault>
-    ensures written { OnOk result (Appends (W.contents writer.old) (W.contents writer.new) (shown_lines (counting store.now))) }
-    ensures part { OnErr result (WritesInPart (W.contents writer.old) (W.contents writer.new) (shown_lines (counting store.now))) }
+    ensures written { OnOk result (Appends (W.contents writer.old) (W.contents writer.new)
+        (shown_lines (counting store.now))) }
+    ensures part { OnErr result (WritesInPart (W.contents writer.old) (W.contents writer.new)
+        (shown_lines (counting store.now))) }
 {
     let lines = lines_of(alloc, store)?;
     write_whole(writer, &lines)?;

@@ -3,7 +3,7 @@ use Rattle.std.proofs.Common.{◌≡◌, ◌⊎◌, inl, inr, ⊎_elim, ℕ, ◌
 use Rattle.audit_device.specs.Image.{Sector, Image, sector_at, with_sector}
 use Rattle.audit_device.specs.View.{View, last_count}
 use Rattle.audit_device.specs.Calls.{Outcome, Continues, CountsFailure, Ticks, IsRead, IsWrite}
-use Rattle.audit_disk.specs.File.{overlaid, sectors_of, FileView, GoesOn, IsFileRead, IsFileWrite}
+use Rattle.audit_disk.specs.File.{overlaid, sectors_of, FileView, GoesOn, IsReadThrough, IsFileWrite}
 use Rattle.audit_disk.specs.FileView.{file_moment, file_view}
 use Rattle.audit_base.specs.declared.limits.TheConstants.{SECTOR_SIZE}
 use Rattle.audit_disk.proofs.FileSectors.{length-overlaid, sectors_of-overlaid, sector_at-sectors_of}
@@ -77,13 +77,13 @@ module _ (old new : FileView) (sectors reached reached' clock clock' failures fa
   now_out file reached clock bytes le left = let same : file.moment ≡ file_moment file.moment reached clock = omega arith in subst (λ (m : ℕ). file.left_at m bytes) same left
 
   module _ (more : failures ≤ failures') where
-    pub read_file : (at : ℕ) (into : Sector) (result : Outcome) → at < sectors → IsFileRead old new (SECTOR_SIZE * at) into result → clock' ≡ clock → reached' ≡ reached
+    pub read_file : (at : ℕ) (into : Sector) (result : Outcome) → at < sectors → IsReadThrough old new (SECTOR_SIZE * at) into result → clock' ≡ clock → reached' ≡ reached
         → CountsFailure failures failures' result → IsRead before after at into result
     read_file at into result lt read still same counts = record {
-      continues = continues read.goes_on (λ honest k le. omega (arith, read.moment honest)) (omega arith) more;
+      continues = continues read.only.goes_on (λ honest k le. omega (arith, read.only.moment honest)) (omega arith) more;
       clock = still;
       failures = counts;
-      content = λ honest. ap (λ (bytes : List ℕ). sectors_of sectors bytes) (read.same honest);
+      content = λ honest. ap (λ (bytes : List ℕ). sectors_of sectors bytes) (read.only.same honest);
       bytes = λ honest. found result (read.found honest);
     }
       where
@@ -92,7 +92,7 @@ module _ (old new : FileView) (sectors reached reached' clock clock' failures fa
         found (Err fault) is = tt
 
     -- the same where the answer is passed on
-    pub read_counted : (at : ℕ) (into : Sector) (answer result : Outcome) → at < sectors → IsFileRead old new (SECTOR_SIZE * at) into answer → clock' ≡ clock → reached' ≡ reached
+    pub read_counted : (at : ℕ) (into : Sector) (answer result : Outcome) → at < sectors → IsReadThrough old new (SECTOR_SIZE * at) into answer → clock' ≡ clock → reached' ≡ reached
         → CountsFailure failures failures' answer → result ≡ answer → IsRead before after at into result
     read_counted at into answer result lt read still stays counts same =
         subst (λ (r : Outcome). IsRead before after at into r) (sym same) (read_file at into answer lt read still stays counts)

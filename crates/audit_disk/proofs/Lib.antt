@@ -15,4 +15,5 @@ pub mod MemoryLemmas
 pub mod OverFiles
 pub mod Reached
 pub mod Replays
+pub mod RowReads
 pub mod ShiftedCalls

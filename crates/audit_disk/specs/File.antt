@@ -1,6 +1,7 @@
 -- A file of bytes that is written in whole sectors.
-use Rattle.std.specs.Prelude.{◌≡◌, ◌≢◌, ◌⊎◌, ℕ, zero, suc, ◌+◌, ◌*◌, ◌%◌, ◌<◌, ◌≤◌, List, [], ◌∷◌, ◌++◌, length, take, drop, Result, OnOk, OnErr}
-use Rattle.audit_device.specs.Image.{Sector, Image}
+use Rattle.std.specs.Prelude.{◌≡◌, ◌≢◌, ◌⊎◌, ℕ, zero, suc, ◌+◌, ◌*◌, ◌%◌, ◌^◌, ◌<◌, ◌≤◌, min, List, [], ◌∷◌, ◌++◌, length, take, drop, Result, OnOk, OnErr}
+use Rattle.std.proofs.Props.{props}
+use Rattle.audit_device.specs.Image.{Sector, Image, sector_at}
 use Rattle.audit_device.specs.View.{last_count}
 use Rattle.audit_device.specs.Calls.{CountsFailure, HasRisen}
 use Rattle.audit_base.specs.declared.limits.TheConstants.{SECTOR_SIZE}
@@ -28,6 +29,8 @@ pub record FileView : Type 1 where
   pub gave : ℕ → Sector → Type 0
   -- it is a file as described here
   pub honest : Type 0
+  -- a fact, of which nothing but its truth is known
+  pub given_once : (offset : ℕ) (bytes : Sector) → IsProp (gave offset bytes)
   pub bytes_left : honest → left_at moment bytes
   pub same_length : honest → (at : ℕ) (file : List ℕ) → left_at at file → length file ≡ length bytes
 
@@ -50,6 +53,35 @@ pub record IsFileRead {E : Type 0} (old new : FileView) (offset : ℕ) (into : S
   pub moment : old.honest → new.moment ≡ old.moment
   pub same : old.honest → new.bytes ≡ old.bytes
   pub found : old.honest → OnOk result (into ≡ take SECTOR_SIZE (drop offset old.bytes))
+
+-- Nothing was asked of it but reads, of whatever sectors.
+pub record OnlyReads (old new : FileView) : Type 0 where
+  pub goes_on : GoesOn old new
+  -- no failure was forgotten
+  pub failures : min old.failures last_count ≤ new.failures
+  pub moment : old.honest → new.moment ≡ old.moment
+  pub same : old.honest → new.bytes ≡ old.bytes
+
+-- The first so many of these sectors, one after the other, are what the file last gave from that offset on, and
+-- nothing was written there since.
+pub record HasRow (file : FileView) (offset count : ℕ) (sectors : Image) : Type 0 where
+  pub given : (at : ℕ) → at < count → file.gave (offset + SECTOR_SIZE * at) (sector_at sectors at)
+  pub found : file.honest → (at : ℕ) → at < count → sector_at sectors at ≡ take SECTOR_SIZE (drop (offset + SECTOR_SIZE * at) file.bytes)
+
+pub HasRow-prop : (file : FileView) (offset count : ℕ) (sectors : Image) → IsProp (HasRow file offset count sectors)
+HasRow-prop file offset count sectors = Prim.hlevel (file.given_once, props)
+
+-- What reads gave at offsets outside of the row still stands.
+abbrev pub KeepsOutside : FileView → FileView → ℕ → ℕ → Type 0
+KeepsOutside old new offset count =
+    (other : ℕ) (bytes : Sector) → ((at : ℕ) → at < count → other ≢ offset + SECTOR_SIZE * at) → old.gave other bytes → new.gave other bytes
+
+-- A read of so many sectors in a row: all of them, or an error.
+pub record IsRowRead {E : Type 0} (old new : FileView) (offset count : ℕ) (sectors : Image) (result : Result (Unit {0}) E) : Type 0 where
+  pub only : OnlyReads old new
+  pub failures : CountsFailure old.failures new.failures result
+  pub row : OnOk result (HasRow new offset count sectors)
+  pub still_given : KeepsOutside old new offset count
 
 pub record IsFileWrite {E : Type 0} (old new : FileView) (offset : ℕ) (bytes : Sector) (result : Result (Unit {0}) E) : Type 0 where
   pub goes_on : GoesOn old new
@@ -79,10 +111,22 @@ pub record ReadsFile {E : Type 0} (old new : FileView) (offset : ℕ) (into : Se
   pub given : OnOk result (new.gave offset into)
   pub fault : OnErr result (HasRisen old.failures new.failures)
 
+-- A read of one sector at that offset, for which others may have been read as well, or none.
+pub record IsReadThrough {E : Type 0} (old new : FileView) (offset : ℕ) (into : Sector) (result : Result (Unit {0}) E) : Type 0 where
+  pub only : OnlyReads old new
+  pub file : ReadsFile old new offset into result
+  pub found : old.honest → OnOk result (into ≡ take SECTOR_SIZE (drop offset old.bytes))
+
 -- a whole sector stands at that offset
 pub record IsSectorOffset (file : FileView) (offset : ℕ) : Type 0 where
   pub multiple : offset % SECTOR_SIZE ≡ 0
   pub within : file.honest → offset + SECTOR_SIZE ≤ length file.bytes
+
+-- so many whole sectors stand from that offset on
+pub record IsRowOffset (file : FileView) (offset count : ℕ) : Type 0 where
+  pub multiple : offset % SECTOR_SIZE ≡ 0
+  pub within : file.honest → offset + SECTOR_SIZE * count ≤ length file.bytes
+  pub fits : offset + SECTOR_SIZE * count < 2 ^ 64
 
 -- as many bytes as so many sectors have, and no call was made
 pub record IsUnusedFile (file : FileView) (sectors : ℕ) : Type 0 where

@@ -12,11 +12,11 @@ use Rattle.audit_disk.specs.declared.sector_file.SectorFile as files
 module _ {F : Type 0} {g : files.Ghosts F} where
   -- everything that is known of it as a device
   abbrev pub file_disk_view : FileDisk F g → View
-  file_disk_view disk = file_view (g.file disk.file) disk.sectors (unwrap_or disk.failed_at disk.clock) disk.clock disk.failures (sectors_fit disk.sectors disk.fits) disk.in_order disk.in_range disk.sized
+  file_disk_view disk = file_view (g.file disk.file.inner) disk.sectors (unwrap_or disk.failed_at disk.clock) disk.clock disk.failures (sectors_fit disk.sectors disk.fits) disk.in_order disk.in_range disk.sized
 
   -- everything that is known of its file
   abbrev pub file_of : FileDisk F g → FileView
-  file_of disk = g.file disk.file
+  file_of disk = g.file disk.file.inner
 
   -- a sync of it has failed
   abbrev pub has_stopped : FileDisk F g → Bool

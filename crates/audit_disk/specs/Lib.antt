@@ -26,3 +26,4 @@ pub mod CallLog
 pub mod Contents
 pub mod Gate
 pub mod Progress
+pub mod ReadAhead

@@ -1,6 +1,7 @@
 -- A file in memory: the sectors of a device, one after the other.
 use Rattle.std.specs.Prelude.{◌≡◌, ℕ, zero, suc, ◌*◌, ◌/◌, ◌%◌, ◌<◌, List, [], ◌∷◌, ◌++◌, length, refl}
 use Rattle.std.proofs.Common.{sym, ◌∙◌, ap, arith}
+use Rattle.std.proofs.Props.{props}
 use Rattle.std.proofs.lemmas.List.{length-append}
 use Rattle.audit_device.specs.Image.{Image, IsWhole, sector_at}
 use Rattle.audit_device.specs.View.{View}
@@ -31,6 +32,7 @@ joined_view device = record {
   failures = device.failures;
   gave = λ offset bytes. device.honest → offset % SECTOR_SIZE ≡ 0 → bytes ≡ sector_at device.content (offset / SECTOR_SIZE);
   honest = device.honest;
+  given_once = λ offset bytes. Prim.hlevel props;
   bytes_left = λ honest. (honest, (device.content, device.content_left honest, refl));
   same_length = λ honest at file left.
       ap length left.1.2

@@ -4,39 +4,53 @@ ghost use Rattle.audit_disk.specs.File.{IsUnusedFile};
 ghost use Rattle.audit_disk.specs.FileView.{file_view, sectors_fit};
 
 use crate::counted::counted;
+use crate::read_ahead::{ReadAhead, new_row};
 use crate::{DeviceFault, SECTOR_SIZE, SectorFile, Sectors};
+use std::alloc::{AllocError, Global};
 
-/// A device in a file: sector k stands at the offset k * 512. It is honest where the file's calls are.
+/// A device in a file: sector k stands at the offset k * 512. It is honest where the file's calls are. It reads ahead:
+/// reads that go on where the last one ended read rows of sectors, which every other call drops.
 ///
 /// After a sync that failed every call fails, is counted and doesn't reach the file: an operating system may have
 /// dropped what was written, and let the next sync succeed.
 #[derive(Drop)]
 pub struct FileDisk<F: SectorFile> {
-    file: F,
+    file: ReadAhead<F>,
     sectors: u64,
     clock: u64,
     failures: u64,
     /// The clock after the first sync that failed.
     failed_at: Option<u64>,
     ghost fits: { SECTOR_SIZE * sectors < 2 ^ 64 },
-    ghost sized: { (F.file file).honest → length (F.file file).bytes ≡ SECTOR_SIZE * sectors },
+    ghost sized: { (F.file file.inner).honest → length (F.file file.inner).bytes ≡ SECTOR_SIZE * sectors },
     ghost in_order: { unwrap_or failed_at clock ≤ clock },
     ghost in_range: { clock < 2 ^ 64 },
-    ghost in_step: { (F.file file).honest → (F.file file).moment ≤ unwrap_or failed_at clock },
+    ghost in_step: { (F.file file.inner).honest → (F.file file.inner).moment ≤ unwrap_or failed_at clock },
 }
 
 impl<F: SectorFile> FileDisk<F> {
-    ghost use Rattle.std.specs.Prelude.{IsTrue, IsFalse};
+    ghost use Rattle.std.specs.Prelude.{IsTrue, IsFalse, IfOk};
     ghost use Rattle.audit_disk.specs.FileDisk.{IsOverFile, Reaches, IsShut};
 
-    /// A device over a file of so many whole sectors.
-    pub fn over(file: F, sectors: u64) -> Self
+    /// A device over a file of so many whole sectors. It reads ahead; the memory for that, 64 KiB, is taken here.
+    pub fn over(alloc: Global, file: F, sectors: u64) -> Result<Self, AllocError>
+    where
+        F: Drop,
+        requires unused { IsUnusedFile (F.file file) sectors }
+        requires fits { SECTOR_SIZE * sectors < 2 ^ 64 }
+        ensures { IfOk result (λ disk. IsOverFile disk file sectors) }
+    {
+        Ok(FileDisk::with_row(file, sectors, new_row(alloc)?))
+    }
+
+    /// The same with memory that was taken before.
+    pub(crate) fn with_row(file: F, sectors: u64, row: Vec<[u8; SECTOR_SIZE]>) -> Self
         requires unused { IsUnusedFile (F.file file) sectors }
         requires fits { SECTOR_SIZE * sectors < 2 ^ 64 }
         ensures { IsOverFile result file sectors }
     {
         FileDisk {
-            file,
+            file: ReadAhead::new(file, row),
             sectors,
             clock: 0,
             failures: 0,
@@ -59,7 +73,7 @@ impl<F: SectorFile> Sectors for FileDisk<F> {
     ghost use Rattle.audit_disk.specs.File.{IsFileWrite, IsFileSync, ReadsFile};
     ghost use Rattle.audit_disk.specs.FileDisk.{file_disk_view, file_of, has_stopped, Reaches, IsShut, IsKeptBack};
 
-    ghost view = { λ disk. file_view (F.file disk.file) disk.sectors (unwrap_or disk.failed_at disk.clock)
+    ghost view = { λ disk. file_view (F.file disk.file.inner) disk.sectors (unwrap_or disk.failed_at disk.clock)
         disk.clock disk.failures (sectors_fit disk.sectors disk.fits) disk.in_order disk.in_range disk.sized };
 
     fn size(&self) -> u64 {
@@ -83,7 +97,8 @@ impl<F: SectorFile> Sectors for FileDisk<F> {
         if self.failed_at.is_some() {
             return counted(Err(DeviceFault), &mut self.failures);
         }
-        let outcome = self.file.read_at(SECTOR_SIZE as u64 * at, into);
+        let left = self.sectors - at;
+        let outcome = self.file.read_at(SECTOR_SIZE as u64 * at, left, into);
         counted(outcome, &mut self.failures)
     }
 

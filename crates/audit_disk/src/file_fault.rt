@@ -1,3 +1,4 @@
+use std::alloc::AllocError;
 use std::io;
 use thiserror::Error;
 
@@ -10,6 +11,9 @@ pub enum FileFault {
     /// Its length is no multiple of the sector's size, or would be 2^64 bytes or more.
     #[error("the length is no whole number of sectors")]
     Length,
+    /// Memory was refused.
+    #[error("out of memory")]
+    Memory,
 }
 
 impl From<io::Error> for FileFault {
@@ -20,5 +24,16 @@ impl From<io::Error> for FileFault {
 
     fn from(_: io::Error) -> Self {
         FileFault::Io
+    }
+}
+
+impl From<AllocError> for FileFault {
+    ghost use Rattle.std.specs.Prelude.{◌≡◌};
+    ghost use Rattle.audit_disk.specs.declared.file_fault.FileFault.TheVariants.{Memory};
+
+    ghost from_gives = { λ _ fault. fault ≡ Memory };
+
+    fn from(_: AllocError) -> Self {
+        FileFault::Memory
     }
 }

@@ -5,6 +5,7 @@ ghost use Rattle.audit_disk.specs.FileDisk.{IsFreshFile, file_disk_view};
 ghost use Rattle.audit_disk.specs.MemDisk.{IsFresh};
 
 use crate::os_file::OsFile;
+use crate::read_ahead::new_row;
 use crate::{FileDisk, FileFault, MemDisk, MemFile, SECTOR_SIZE};
 use std::alloc::{AllocError, Global};
 use std::fs::{self, Files, OpenFile, OpenOptions};
@@ -14,9 +15,11 @@ use std::path::Path;
 
 impl<F: FileExt + OpenFile + Drop> FileDisk<OsFile<F>> {
     /// Makes a file of so many zero sectors. A file that is there is not overwritten: that is a fault. A file
-    /// that can't be given its length or synced is removed again, where the system lets it be.
+    /// that can't be given its length or synced is removed again, where the system lets it be. Where memory is
+    /// refused, no file is made.
     pub fn create<R: Files<File = F>>(
         rt: &R,
+        alloc: Global,
         path: &str,
         sectors: u64,
     ) -> Result<FileDisk<OsFile<F>>, FileFault>
@@ -27,6 +30,7 @@ impl<F: FileExt + OpenFile + Drop> FileDisk<OsFile<F>> {
         let Some(length) = sectors.checked_mul(SECTOR_SIZE as u64) else {
             return Err(FileFault::Length);
         };
+        let row = new_row(alloc)?;
         let file = OpenOptions::new()
             .read(true)
             .write(true)
@@ -36,16 +40,21 @@ impl<F: FileExt + OpenFile + Drop> FileDisk<OsFile<F>> {
             let _ = fs::remove_file(rt, path);
             return Err(FileFault::Io);
         }
-        Ok(FileDisk::over(OsFile::new(file), sectors))
+        Ok(FileDisk::with_row(OsFile::new(file), sectors, row))
     }
 
     /// Opens a file as a device. Its length has to be a multiple of 512.
-    pub fn open<R: Files<File = F>>(rt: &R, path: &str) -> Result<FileDisk<OsFile<F>>, FileFault>
+    pub fn open<R: Files<File = F>>(
+        rt: &R,
+        alloc: Global,
+        path: &str,
+    ) -> Result<FileDisk<OsFile<F>>, FileFault>
         ensures { IfOk result IsFreshFile }
     {
         let file = OpenOptions::new().read(true).write(true).open(rt, path)?;
         let length = file.metadata()?.len();
-        Ok(FileDisk::over(OsFile::new(file), whole_sectors(length)?))
+        let sectors = whole_sectors(length)?;
+        Ok(FileDisk::over(alloc, OsFile::new(file), sectors)?)
     }
 }
 
@@ -57,7 +66,8 @@ impl FileDisk<MemFile> {
         ensures { IfOk result (λ disk. IsFresh (file_disk_view disk) (replicate sectors (replicate SECTOR_SIZE 0))) }
     {
         let disk = MemDisk::new(alloc, sectors)?;
-        Ok(FileDisk::over(MemFile { disk }, sectors))
+        let row = new_row(alloc)?;
+        Ok(FileDisk::with_row(MemFile { disk }, sectors, row))
     }
 }
 

@@ -15,6 +15,7 @@ mod mem_disk;
 mod mem_file;
 mod os_file;
 mod progress;
+mod read_ahead;
 mod replay;
 mod sector_file;
 

@@ -27,6 +27,11 @@ impl<F: FileExt + OpenFile + Drop> SectorFile for OsFile<F> {
         counted(outcome.map_err(|_| DeviceFault), &mut self.failures)
     }
 
+    fn read_row(&mut self, offset: u64, into: &mut [[u8; SECTOR_SIZE]]) -> Result<(), DeviceFault> {
+        let outcome = self.file.read_exact_at(into.as_flattened_mut(), offset);
+        counted(outcome.map_err(|_| DeviceFault), &mut self.failures)
+    }
+
     fn write_at(&mut self, offset: u64, bytes: &[u8; SECTOR_SIZE]) -> Result<(), DeviceFault> {
         let outcome = self.file.write_all_at(bytes, offset);
         counted(outcome.map_err(|_| DeviceFault), &mut self.failures)

@@ -1,4 +1,6 @@
-ghost use Rattle.audit_disk.specs.File.{FileView, IsSectorOffset, IsFileRead, IsFileWrite, IsFileSync};
+ghost use Rattle.std.specs.Prelude.{length};
+ghost use Rattle.audit_disk.specs.File.{FileView, IsSectorOffset, IsRowOffset};
+ghost use Rattle.audit_disk.specs.File.{IsFileRead, IsRowRead, IsFileWrite, IsFileSync};
 
 use crate::{DeviceFault, SECTOR_SIZE};
 
@@ -11,6 +13,18 @@ pub trait SectorFile {
     fn read_at(&mut self, offset: u64, into: &mut [u8; SECTOR_SIZE]) -> Result<(), DeviceFault>
         requires { IsSectorOffset (file self.old) offset }
         ensures { IsFileRead (file self.old) (file self.new) offset into.new result };
+
+    /// Reads sectors that stand one after the other from that offset on: as so many reads, of which the first that
+    /// fails is the last.
+    fn read_row(&mut self, offset: u64, into: &mut [[u8; SECTOR_SIZE]]) -> Result<(), DeviceFault>
+        requires { IsRowOffset (file self.old) offset (length into.old) }
+        ensures { IsRowRead (file self.old) (file self.new) offset (length into.old) into.new result }
+    {
+        for k in 0..into.len() {
+            self.read_at(offset + (SECTOR_SIZE * k) as u64, &mut into[k])?;
+        }
+        Ok(())
+    }
 
     /// Writes the bytes of one sector at that offset.
     fn write_at(&mut self, offset: u64, bytes: &[u8; SECTOR_SIZE]) -> Result<(), DeviceFault>

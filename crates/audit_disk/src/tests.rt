@@ -10,6 +10,8 @@ use std::path::PathBuf;
 use std::process::{self, Abort};
 use std::test::Fail;
 
+mod reading_ahead;
+
 /// Writes a sector of equal bytes, and tells whether that succeeded.
 fn put<D: Sectors>(rt: &impl Abort, disk: &mut D, at: u64, byte: u8) -> bool {
     assert!(rt; at < disk.size());
@@ -451,7 +453,11 @@ fn expect_created(
     sectors: u64,
     steps: &[Step],
 ) -> Result<(), Fail> {
-    expect(judge, &mut FileDisk::create(rt, path, sectors)?, steps);
+    expect(
+        judge,
+        &mut FileDisk::create(rt, rt.alloc(), path, sectors)?,
+        steps,
+    );
     Ok(())
 }
 
@@ -462,12 +468,12 @@ fn expect_uncreated(
     sectors: u64,
     fault: FileFault,
 ) {
-    let created = FileDisk::create(rt, path, sectors);
+    let created = FileDisk::create(rt, rt.alloc(), path, sectors);
     assert!(judge; created.err() == Some(fault));
 }
 
 fn expect_unopened(rt: &HostRuntime, judge: &impl Abort, path: &str, fault: FileFault) {
-    let opened = FileDisk::open(rt, path);
+    let opened = FileDisk::open(rt, rt.alloc(), path);
     assert!(judge; opened.err() == Some(fault));
 }
 
@@ -491,9 +497,32 @@ fn a_real_file_keeps_its_sectors(rt: HostRuntime) -> Result<(), Fail> {
     Ok(())
 }
 
+// Sectors in a row, of a file that is cut while they are read: those before its end are still found.
+#[test]
+fn a_real_file_is_read_in_rows(rt: HostRuntime) -> Result<(), Fail> {
+    let path = fresh_path(&rt, "audit_disk_rows")?;
+    let path = path.as_str();
+    let mut disk = FileDisk::create(&rt, rt.alloc(), path, 300)?;
+    for at in 0..300 {
+        assert!(&rt; put(&rt, &mut disk, at, (at % 251) as u8));
+    }
+    for at in 0..300 {
+        expect(&rt, &mut disk, &[Step::Found(at, (at % 251) as u8)]);
+    }
+    expect(&rt, &mut disk, &[Step::Syncs]);
+    set_len(&rt, path, 512 * 200)?;
+    for at in 0..300 {
+        let there = Step::Found(at, (at % 251) as u8);
+        let gone = Step::FindFails(at);
+        expect(&rt, &mut disk, &[if at < 200 { there } else { gone }]);
+    }
+    fs::remove_file(&rt, path)?;
+    Ok(())
+}
+
 /// A file of three sectors is opened, and then cut to two of them, and to a length that no device has.
 fn expect_cut(rt: &HostRuntime, judge: &impl Abort, path: &str) -> Result<(), Fail> {
-    let mut disk = FileDisk::open(rt, path)?;
+    let mut disk = FileDisk::open(rt, rt.alloc(), path)?;
     let kept = [
         Step::Size(3),
         Step::Calls(0),
@@ -506,7 +535,11 @@ fn expect_cut(rt: &HostRuntime, judge: &impl Abort, path: &str) -> Result<(), Fa
     set_len(rt, path, 1025)?;
     expect_unopened(rt, judge, path, FileFault::Length);
     set_len(rt, path, 1024)?;
-    expect(judge, &mut FileDisk::open(rt, path)?, &[Step::Size(2)]);
+    expect(
+        judge,
+        &mut FileDisk::open(rt, rt.alloc(), path)?,
+        &[Step::Size(2)],
+    );
     Ok(())
 }
 
@@ -541,7 +574,8 @@ fn after_a_failed_sync_a_file_takes_no_call(rt: HostRuntime) -> Result<(), Fail>
         Step::SyncFails,
         Step::Calls(4),
     ];
-    expect(&rt, &mut FileDisk::over(OsFile::new(file), 1), &steps);
+    let mut disk = FileDisk::over(rt.alloc(), OsFile::new(file), 1)?;
+    expect(&rt, &mut disk, &steps);
     Ok(())
 }
 
@@ -560,7 +594,7 @@ fn a_file_that_may_only_be_read_takes_no_write(rt: HostRuntime) -> Result<(), Fa
 /// A file that was opened to be read.
 fn expect_unwritten(rt: &HostRuntime, judge: &impl Abort, path: &str) -> Result<(), Fail> {
     let file = OpenOptions::new().read(true).open(rt, path)?;
-    let mut disk = FileDisk::over(OsFile::new(file), 1);
+    let mut disk = FileDisk::over(rt.alloc(), OsFile::new(file), 1)?;
     let steps = [Step::PutFails(0, b'x'), Step::Found(0, 0), Step::Calls(1)];
     expect(judge, &mut disk, &steps);
     Ok(())
@@ -570,7 +604,7 @@ fn expect_unwritten(rt: &HostRuntime, judge: &impl Abort, path: &str) -> Result<
 fn expect_opened_as_allowed(rt: &HostRuntime, judge: &impl Abort, path: &str) -> Result<(), Fail> {
     fs::set_permissions(rt, path, fs::Permissions::from_mode(0o444))?;
     let writable = OpenOptions::new().write(true).open(rt, path).is_ok();
-    let fault = FileDisk::open(rt, path).err();
+    let fault = FileDisk::open(rt, rt.alloc(), path).err();
     assert_eq!(judge; fault, if writable { None } else { Some(FileFault::Io) });
     Ok(())
 }

@@ -1,21 +1,28 @@
 //! A program to be killed: it appends batches to a store in a file, and prints how many events are acknowledged
 //! after each. Another start opens the store, reads each entry and prints how many there are.
 //!
-//! Arguments: `format FILE`, `append FILE BATCHES` or `count FILE`.
+//! It also stops a store in memory after each call of its device.
+//!
+//! Arguments: `format FILE`, `append FILE BATCHES`, `count FILE` or `stops`.
 #![tactic(auto)]
 
+mod stops;
 mod stores;
 
 use anyhow::{Context, bail};
 use std::env;
+use stops::try_stops;
 use stores::{append, count, format};
 
 fn main(rt: HostRuntime) -> anyhow::Result<()> {
     let mut words = env::args(&rt)?.skip(1);
     let Some(task) = words.next() else {
-        println!(rt; "format FILE, append FILE BATCHES, or count FILE")?;
+        println!(rt; "format FILE, append FILE BATCHES, count FILE, or stops")?;
         return Ok(());
     };
+    if task.as_str() == "stops" {
+        return try_stops(&rt);
+    }
     let file = words.next().context("a file is wanted")?;
     match task.as_str() {
         "format" => format(&rt, &file),

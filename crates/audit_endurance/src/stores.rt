@@ -1,10 +1,10 @@
 //! A store in a file.
 use anyhow::Context;
 use audit_chain::{Event, Key};
-use audit_disk::{FileDisk, OsFile};
+use audit_disk::{FileDisk, Sectors};
 use audit_store::{Failed, Store};
 use std::alloc::Global;
-use std::fs::{Files, OpenFile};
+use std::fs::Files;
 use std::os::unix::fs::FileExt;
 
 // The sectors of the device.
@@ -18,7 +18,7 @@ pub fn format<R: Files + AllocGlobal + Print>(rt: &R, file: &str) -> anyhow::Res
 where
     R::File: FileExt,
 {
-    let disk = FileDisk::create(rt, file, SECTORS)?;
+    let disk = FileDisk::create(rt, rt.alloc(), file, SECTORS)?;
     let key = Key::from_bytes([0; 32]);
     let store = made(Store::format(rt.alloc(), disk, key))?;
     println!(rt; "{}", store.commitment().count)?;
@@ -34,7 +34,7 @@ pub fn append<R: Files + AllocGlobal + Print>(
 where
     R::File: FileExt,
 {
-    let mut store = made(Store::open(rt.alloc(), FileDisk::open(rt, file)?))?;
+    let mut store = made(Store::open(rt.alloc(), FileDisk::open(rt, rt.alloc(), file)?))?;
     for number in 0..batches {
         let events = batch_of(rt.alloc(), number)?;
         let receipt = store.append(&events)?;
@@ -44,7 +44,7 @@ where
 }
 
 // A batch of small events.
-fn batch_of(alloc: Global, number: u32) -> anyhow::Result<Vec<Event>> {
+pub(crate) fn batch_of(alloc: Global, number: u32) -> anyhow::Result<Vec<Event>> {
     let mut events = Vec::new(alloc);
     for kind in 0..EVENTS {
         events.push(Event::new(alloc, kind, &number.to_be_bytes())?)?;
@@ -57,7 +57,7 @@ pub fn count<R: Files + AllocGlobal + Print>(rt: &R, file: &str) -> anyhow::Resu
 where
     R::File: FileExt,
 {
-    let mut store = made(Store::open(rt.alloc(), FileDisk::open(rt, file)?))?;
+    let mut store = made(Store::open(rt.alloc(), FileDisk::open(rt, rt.alloc(), file)?))?;
     let count = store.commitment().count;
     for index in 0..count {
         store.entry(index).context("an entry is missing")?;
@@ -67,9 +67,9 @@ where
 }
 
 // The store, or why there is none.
-fn made<F: FileExt + OpenFile + Drop>(
-    opened: Result<Store<FileDisk<OsFile<F>>>, Failed<FileDisk<OsFile<F>>>>,
-) -> anyhow::Result<Store<FileDisk<OsFile<F>>>> {
+pub(crate) fn made<D: Sectors + Drop>(
+    opened: Result<Store<D>, Failed<D>>,
+) -> anyhow::Result<Store<D>> {
     match opened {
         Ok(store) => Ok(store),
         Err(failed) => Err(failed.error.into()),

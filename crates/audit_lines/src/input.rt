@@ -60,7 +60,8 @@ fn read_to_end<R: Read>(
 
 // One read, of which any error is a fault.
 fn read_piece<R: Read>(reader: &mut R, piece: &mut [u8]) -> Result<usize, LinesFault>
-    ensures taken { IfOk result (λ taken. TakesPiece (R.remaining reader.old) (R.remaining reader.new) taken piece.new) }
+    ensures taken { IfOk result (λ taken. TakesPiece (R.remaining reader.old)
+        (R.remaining reader.new) taken piece.new) }
     ensures kept { OnErr result (Keeps (R.remaining reader.old) (R.remaining reader.new)) }
     ensures fault { IfErr result (λ fault. fault ≡ LinesFault.Read) }
 {

@@ -18,3 +18,4 @@ pub use input::{INPUT_LIMIT, read_input};
 pub use number::number_of;
 pub use output::{push_hex, push_number, put_line, write_whole};
 pub use script::{Script, read_script};
+pub use split::split_at_first;

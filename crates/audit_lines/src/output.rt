@@ -82,7 +82,8 @@ pub fn write_whole<W: Write>(writer: &mut W, text: &[u8]) -> Result<(), LinesFau
 // One write, which is made again where it was interrupted. A writer that takes nothing has failed.
 fn write_once<W: Write>(writer: &mut W, text: &[u8]) -> Result<usize, LinesFault>
     ensures within { IfOk result (λ written. written ≤ length text.now) }
-    ensures written { IfOk result (λ written. Appends (W.contents writer.old) (W.contents writer.new) (take written text.now)) }
+    ensures written { IfOk result (λ written. Appends (W.contents writer.old) (W.contents writer.new)
+        (take written text.now)) }
     ensures kept { OnErr result (Keeps (W.contents writer.old) (W.contents writer.new)) }
     ensures fault { IfErr result (λ fault. fault ≡ LinesFault.Write) }
 {

@@ -6,3 +6,5 @@ pub mod OneReading
 pub mod WrittenBytes
 pub mod MadeIncrement
 pub mod MadeMembership
+pub mod SharedNodes
+pub mod AcrossIncrement

@@ -6,6 +6,7 @@ use Rattle.sha2.specs.Sha256.{sha256}
 use Rattle.audit_base.specs.declared.limits.TheConstants.{MAX_COUNT}
 use Rattle.audit_tree.specs.Subtree.{leaf_of, leaf_hash_of, depth, root_of}
 use Rattle.audit_tree.specs.Paths.{membership_path, increment_path}
+use Rattle.audit_proof.specs.declared.climb.Way.{Way}
 use Rattle.audit_proof.specs.declared.commitment.Commitment.{Commitment}
 use Rattle.audit_proof.specs.declared.steps.Versions.{Versions}
 use Rattle.audit_proof.specs.Climb.{climb, whole, one_value, two_values}
@@ -22,6 +23,15 @@ root_from_leaf H place count leaf hashes =
 -- the root that a membership proof of a text gives
 abbrev pub root_from_membership : (List ℕ → List ℕ) → ℕ → ℕ → List ℕ → List (List ℕ) → Option (List ℕ)
 root_from_membership H place count text hashes = root_from_leaf H place count (leaf_of H text) hashes
+
+-- the way of an incremental proof, from the largest full node that ends the older tree up to the newer root
+abbrev pub way_between : ℕ → ℕ → Way
+way_between older newer = record {
+  from = trailing_zeros w64 older;
+  height = depth newer - trailing_zeros w64 older;
+  place = older - 1;
+  count = newer;
+}
 
 -- the older and the newer root that an incremental proof gives
 abbrev pub roots_from_increment : (List ℕ → List ℕ) → ℕ → ℕ → List (List ℕ) → Option Versions
@@ -52,6 +62,14 @@ pub record AcceptsIncrement (H : List ℕ → List ℕ) (older newer : Commitmen
   pub order : older.count ≤ newer.count
   pub small : newer.count ≤ MAX_COUNT
   pub roots : roots_from_increment H older.count newer.count hashes ≡ Some (record { older = older.root; newer = newer.root })
+
+-- an incremental proof between two commitments is accepted, and two membership proofs of one place, the first under
+-- the older commitment and the second under the newer
+pub record AcceptsThree (H : List ℕ → List ℕ) (older newer : Commitment) (steps : List (List ℕ)) (place : ℕ)
+    (text1 : List ℕ) (hashes1 : List (List ℕ)) (text2 : List ℕ) (hashes2 : List (List ℕ)) : Type 0 where
+  pub increment : AcceptsIncrement H older newer steps
+  pub first : AcceptsMembership H older place text1 hashes1
+  pub second : AcceptsMembership H newer place text2 hashes2
 
 -- the commitment, the text and the membership proof are those of a tree over these leaf hashes
 pub record IsMadeMembership (leaves : List (List ℕ)) (commitment : Commitment) (place : ℕ) (text : List ℕ)

@@ -4,3 +4,4 @@ pub mod Collision
 pub mod Meeting
 pub mod ProofBytes
 pub mod Reached
+pub mod SharedNode

@@ -1,6 +1,8 @@
-ghost use Rattle.std.specs.Prelude.{◌≡◌, ◌↔◌, ℕ, List, IsTrue};
+ghost use Rattle.std.specs.Prelude.{◌≡◌, ◌↔◌, ◌+◌, ◌≤◌, ℕ, List, IsTrue};
 ghost use Rattle.sha2.specs.Sha256.{sha256};
-ghost use Rattle.audit_proof.specs.Acceptance.{AcceptsLeaf, AcceptsMembership, AcceptsIncrement, IsMadeMembership, IsMadeIncrement};
+ghost use Rattle.audit_base.specs.declared.limits.TheConstants.{MAX_COUNT};
+ghost use Rattle.audit_tree.specs.Subtree.{depth};
+ghost use Rattle.audit_proof.specs.Acceptance.{AcceptsLeaf, AcceptsMembership, AcceptsIncrement, IsMadeMembership, IsMadeIncrement, way_between};
 
 use crate::climb::{Way, climb_from};
 use crate::commitment::Commitment;
@@ -54,8 +56,26 @@ fn are_roots(versions: &Versions, older: &Commitment, newer: &Commitment) -> boo
     is_same_hash(&versions.older, &older.root) && is_same_hash(&versions.newer, &newer.root)
 }
 
+// The way of an incremental proof, from the largest full node that ends the older tree up to the newer root.
+pub fn increment_way(older: &Commitment, newer: &Commitment) -> Way
+    requires some { 1 ≤ older.now.count }
+    requires order { older.now.count ≤ newer.now.count }
+    requires small { newer.now.count ≤ MAX_COUNT }
+    ensures way { result ≡ way_between older.now.count newer.now.count }
+    ensures top { result.from + result.height ≡ depth newer.now.count }
+{
+    let layer = older.count.trailing_zeros();
+    let height = depth_of(newer.count) - layer;
+    Way {
+        from: layer,
+        height,
+        place: older.count - 1,
+        count: newer.count,
+    }
+}
+
 // Whether an incremental proof is accepted.
-fn accepts_versions<T: TextHash>(
+pub fn accepts_versions<T: TextHash>(
     hash: &T,
     older: &Commitment,
     newer: &Commitment,
@@ -69,14 +89,7 @@ fn accepts_versions<T: TextHash>(
     let Some((first, rest)) = hashes.split_first() else {
         return false;
     };
-    let layer = older.count.trailing_zeros();
-    let height = depth_of(newer.count) - layer;
-    let way = Way {
-        from: layer,
-        height,
-        place: older.count - 1,
-        count: newer.count,
-    };
+    let way = increment_way(older, newer);
     let climber = TwoValues {
         hash,
         older_depth: depth_of(older.count),

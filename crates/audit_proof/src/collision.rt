@@ -8,7 +8,7 @@ use crate::accept::accepts_leaf;
 use crate::climb::Way;
 use crate::commitment::Commitment;
 use crate::laws::{Sha256Texts, TextHash};
-use crate::meeting::{Branch, Meeting, meet};
+use crate::meeting::{LeafBranch, Meeting, meet_leaves};
 use audit_base::{Hash, are_equal};
 use audit_tree::{LEAF_MARK, depth_of, leaf_hash};
 use std::alloc::{AllocError, Global};
@@ -64,8 +64,8 @@ fn disagreement<T: TextHash>(
     hash: &T,
     commitment: &Commitment,
     index: u64,
-    left: &Branch,
-    right: &Branch,
+    left: &LeafBranch,
+    right: &LeafBranch,
 ) -> Result<Collision, AllocError>
     requires left { AcceptsLeaf T.value_of commitment.now index (T.value_of left.now.text.now) left.now.hashes.now }
     requires right { AcceptsLeaf T.value_of commitment.now index (T.value_of right.now.text.now) right.now.hashes.now }
@@ -78,7 +78,7 @@ fn disagreement<T: TextHash>(
         place: index,
         count: commitment.count,
     };
-    match meet(alloc, hash, way, left, right)? {
+    match meet_leaves(alloc, hash, way, left, right)? {
         Meeting::Met(collision) => Ok(collision),
         Meeting::Apart(_, _) => unreachable!(),
         Meeting::Lost => unreachable!(),
@@ -128,11 +128,11 @@ pub fn collide<T: TextHash>(
     }
     let first_text = leaf_text(alloc, first.entry)?;
     let second_text = leaf_text(alloc, second.entry)?;
-    let left = Branch {
+    let left = LeafBranch {
         text: &first_text,
         hashes: first.hashes,
     };
-    let right = Branch {
+    let right = LeafBranch {
         text: &second_text,
         hashes: second.hashes,
     };

@@ -3,12 +3,13 @@
 ghost use Rattle.std.specs.Prelude.{◌≡◌, ◌≢◌, ◌↔◌, ℕ, List, Some, IfOk};
 ghost use Rattle.sha2.specs.Sha256.{sha256};
 ghost use Rattle.audit_tree.specs.Subtree.{leaf_of, commitment_of};
-ghost use Rattle.audit_proof.specs.Acceptance.{AcceptsBoth, commitment_to};
+ghost use Rattle.audit_proof.specs.Acceptance.{AcceptsBoth, AcceptsThree, commitment_to};
 ghost use Rattle.audit_proof.specs.Collision.{IsCollision};
 ghost use Rattle.audit_base.specs.Bytes.{AreBytes};
 ghost use Rattle.audit_proof.specs.ProofBytes.{Member, Increment, IsMember, IsIncrement, member_bytes, member_of, increment_bytes, increment_of};
 
 use crate::collision::{CollideFault, Collision, Shown, collide, leaf_text};
+use crate::collision_across::collide_across;
 use crate::commitment::Commitment;
 use audit_base::Hash;
 use sha2::{Digest, Sha256};
@@ -73,6 +74,53 @@ pub fn collide_two_with<T: TextHash>(
         hashes: hashes2,
     };
     collide(alloc, hash, commitment, index, &first, &second)
+}
+
+/// Two different texts with one value of a hash function, from an incremental proof between two commitments and two
+/// membership proofs of one index that are accepted over it, the first under the older commitment and the second
+/// under the newer one, with different entries.
+///
+/// A leaf's text is made before its proof is judged, so memory may be refused where
+/// `collide_three` would refuse a proof or equal entries.
+pub fn collide_three_with<T: TextHash>(
+    alloc: Global,
+    hash: &T,
+    older: &Commitment,
+    newer: &Commitment,
+    increment: &[Hash],
+    index: u64,
+    entry1: &[u8],
+    hashes1: &[Hash],
+    entry2: &[u8],
+    hashes2: &[Hash],
+) -> Result<Collision, CollideFault>
+    ensures not_accepted { result ≢ Err CollideFault.Memory
+        → ((result ≡ Err CollideFault.NotAccepted)
+        ↔ ¬ (AcceptsThree T.value_of older.now newer.now increment.now index
+        entry1.now hashes1.now entry2.now hashes2.now)) }
+    ensures no_disagreement { result ≢ Err CollideFault.Memory
+        → ((result ≡ Err CollideFault.NoDisagreement)
+        ↔ (AcceptsThree T.value_of older.now newer.now increment.now index
+        entry1.now hashes1.now entry2.now hashes2.now
+        × (entry1.now ≡ entry2.now))) }
+    ensures ok { IfOk result (λ c.
+        AcceptsThree T.value_of older.now newer.now increment.now index
+        entry1.now hashes1.now entry2.now hashes2.now
+        × (entry1.now ≢ entry2.now) × IsCollision T.value_of c.left.items c.right.items) }
+{
+    let older_leaf = leaf_hash_with(alloc, hash, entry1)?;
+    let newer_leaf = leaf_hash_with(alloc, hash, entry2)?;
+    let first = Shown {
+        entry: entry1,
+        leaf: older_leaf,
+        hashes: hashes1,
+    };
+    let second = Shown {
+        entry: entry2,
+        leaf: newer_leaf,
+        hashes: hashes2,
+    };
+    collide_across(alloc, hash, older, newer, increment, index, &first, &second)
 }
 
 // The hash of a leaf over its text, by any hash function.

@@ -1,6 +1,6 @@
 //! Proofs of a history tree, as an auditor uses them: whether a membership or an incremental proof
 //! is accepted under a commitment, two different texts of one digest where two accepted proofs
-//! disagree, and the bytes of both proofs.
+//! disagree, under one commitment or under two that an increment joins, and the bytes of both proofs.
 #![tactic(auto)]
 
 mod accept;
@@ -8,11 +8,13 @@ mod bytes;
 mod climb;
 mod codec;
 mod collision;
+mod collision_across;
 mod commitment;
 mod increment_proof;
 pub mod laws;
 mod meeting;
 mod member_proof;
+mod shared_node;
 mod side;
 mod steps;
 #[cfg(test)]
@@ -22,6 +24,7 @@ pub use accept::{accepts_increment, accepts_member};
 pub use audit_base::{MAX_ENTRY, MAX_INCREMENT_HASHES, MAX_MEMBER_HASHES};
 pub use codec::{ReadFault, read_increment, read_member, write_increment, write_member};
 pub use collision::{CollideFault, Collision, collide_two};
+pub use collision_across::collide_three;
 pub use commitment::Commitment;
 pub use increment_proof::IncrementProof;
 pub use member_proof::MemberProof;

@@ -13,8 +13,15 @@ use std::alloc::{AllocError, Global};
 
 /// A leaf's text, and the hashes of its membership proof.
 #[derive(Clone, Copy)]
-pub struct Branch<'a> {
+pub struct LeafBranch<'a> {
     pub text: &'a [u8],
+    pub hashes: &'a [Hash],
+}
+
+/// The value of a node, and the hashes on its way up.
+#[derive(Clone, Copy)]
+pub struct Branch<'a> {
+    pub value: &'a Hash,
     pub hashes: &'a [Hash],
 }
 
@@ -114,7 +121,18 @@ fn meet_with<T: TextHash>(
     )
 }
 
-// What the climbs of two different leaf texts on one way come to.
+// Where a climb begins: no hash is used.
+fn start(branch: &Branch) -> Reached<Hash>
+    ensures value { result.value ≡ branch.now.value.now }
+    ensures used { result.used ≡ 0 }
+{
+    Reached {
+        value: *branch.value,
+        used: 0,
+    }
+}
+
+// What the climbs of two different values on one way come to.
 pub fn meet<T: TextHash>(
     alloc: Global,
     hash: &T,
@@ -122,24 +140,23 @@ pub fn meet<T: TextHash>(
     left: &Branch,
     right: &Branch,
 ) -> Result<Meeting, AllocError>
-    requires from { way.from ≡ 0 }
-    requires top { way.height ≤ 64 }
+    requires top { way.from + way.height ≤ 64 }
     requires place { way.place < way.count }
-    requires differ { left.now.text.now ≢ right.now.text.now }
+    requires differ { left.now.value.now ≢ right.now.value.now }
     ensures { IfOk result (IsMeeting T.value_of left.now.hashes.now right.now.hashes.now
-        (climb (one_value T.value_of) 0 way.height way.place way.count
-        (T.value_of left.now.text.now) left.now.hashes.now)
-        (climb (one_value T.value_of) 0 way.height way.place way.count
-        (T.value_of right.now.text.now) right.now.hashes.now)) }
+        (climb (one_value T.value_of) way.from way.height way.place way.count
+        left.now.value.now left.now.hashes.now)
+        (climb (one_value T.value_of) way.from way.height way.place way.count
+        right.now.value.now right.now.hashes.now)) }
 {
     if way.height == 0 {
-        return meet_texts(alloc, hash, left.text, 0, right.text, 0);
+        return Ok(Meeting::Apart(start(left), start(right)));
     }
     let height = way.height - 1;
-    let half = 1 << height;
+    let half = 1 << (way.from + height);
     if half <= way.place {
         let upper = Way {
-            from: 0,
+            from: way.from,
             height,
             place: way.place - half,
             count: way.count - half,
@@ -158,7 +175,7 @@ pub fn meet<T: TextHash>(
         };
     }
     let lower = Way {
-        from: 0,
+        from: way.from,
         height,
         place: way.place,
         count: way.count,
@@ -178,6 +195,40 @@ pub fn meet<T: TextHash>(
                     right.hashes,
                 )
             }
+        }
+        other => Ok(other),
+    }
+}
+
+// What the climbs of two different leaf texts on one way come to.
+pub fn meet_leaves<T: TextHash>(
+    alloc: Global,
+    hash: &T,
+    way: Way,
+    left: &LeafBranch,
+    right: &LeafBranch,
+) -> Result<Meeting, AllocError>
+    requires from { way.from ≡ 0 }
+    requires top { way.height ≤ 64 }
+    requires place { way.place < way.count }
+    requires differ { left.now.text.now ≢ right.now.text.now }
+    ensures { IfOk result (IsMeeting T.value_of left.now.hashes.now right.now.hashes.now
+        (climb (one_value T.value_of) 0 way.height way.place way.count
+        (T.value_of left.now.text.now) left.now.hashes.now)
+        (climb (one_value T.value_of) 0 way.height way.place way.count
+        (T.value_of right.now.text.now) right.now.hashes.now)) }
+{
+    match meet_texts(alloc, hash, left.text, 0, right.text, 0)? {
+        Meeting::Apart(left_start, right_start) => {
+            let left_branch = Branch {
+                value: &left_start.value,
+                hashes: left.hashes,
+            };
+            let right_branch = Branch {
+                value: &right_start.value,
+                hashes: right.hashes,
+            };
+            meet(alloc, hash, way, &left_branch, &right_branch)
         }
         other => Ok(other),
     }

@@ -7,6 +7,7 @@ use std::alloc::Global;
 use std::process::Abort;
 use std::test::Fail;
 
+mod across;
 mod proof_bytes;
 
 // The tree over so many texts of one byte, which is the leaf's place.

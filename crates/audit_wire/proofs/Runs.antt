@@ -1,5 +1,5 @@
 -- Pieces in a row: what was handed out and what is held back are what the bytes so far hold.
-use Rattle.std.proofs.Common.{◌≡◌, ℕ, List, [], ◌∷◌, ◌++◌, length, take, drop, refl, sym, ap, subst, ◌∙◌, append_assoc}
+use Rattle.std.proofs.Common.{◌≡◌, ℕ, true, false, List, [], ◌∷◌, ◌++◌, length, take, drop, refl, sym, ap, subst, ◌∙◌, append_assoc}
 use Rattle.std.proofs.lemmas.List.{append-nil, take-append-drop}
 use Rattle.audit_wire.specs.declared.fed.Fed.{Fed}
 use Rattle.audit_wire.specs.declared.fed.Fed.TheVariants as fed
@@ -7,7 +7,7 @@ use Rattle.audit_wire.specs.declared.request.Request.{Request}
 use Rattle.audit_wire.specs.Frame.{frame, IsPartial, IsBadLength}
 use Rattle.audit_wire.specs.Request.{request_in}
 use Rattle.audit_wire.specs.Stream.{Framed, spoiled, all_in_front, framed_bodies, read_first, requests_of, requests_in, framed_requests}
-use Rattle.audit_wire.specs.Progress.{Progress, reading, whole, malformed, closed, rest_of, taken_of, is_spoiled, HasJustTaken, IsProgress, IsAnswer, taken_by, left_by, handed_out, bodies_ahead, requests_ahead, IsTaken, IsFed, Feeding, IsRun, bytes_taken, bodies_given, progress_after}
+use Rattle.audit_wire.specs.Progress.{Progress, reading, whole, malformed, closed, rest_of, taken_of, is_spoiled, HasJustTaken, IsProgress, IsAnswer, Spoils, taken_by, left_by, handed_out, bodies_ahead, requests_ahead, IsTaken, IsFed, Feeding, IsRun, bytes_taken, bodies_given, progress_after}
 use Rattle.audit_wire.proofs.Framing.{bodies_partial, bodies_bad, bodies_frame, requests_bad, requests_frame}
 
 bad-append : (bytes more : List ℕ) → IsBadLength bytes → framed_bodies (bytes ++ more) ≡ spoiled
@@ -59,14 +59,20 @@ parts fed.More piece later = refl
 parts (fed.Body taken) piece later = sym (sym (append_assoc (take taken piece) (drop taken piece) later) ∙ ap (λ (all : List ℕ). all ++ later) (take-append-drop taken piece))
 parts (fed.Malformed taken) piece later = sym (sym (append_assoc (take taken piece) (drop taken piece) later) ∙ ap (λ (all : List ℕ). all ++ later) (take-append-drop taken piece))
 
+-- what is ahead before a piece is what it hands out and what is ahead after the bytes that were taken
+pub fed_ahead : (old : Progress) (piece : List ℕ) (answer : Fed) (new : Progress) (later : List ℕ) → IsFed old piece answer new
+    → requests_ahead old (taken_by answer piece ++ later) ≡ requests_of (handed_out new) (requests_ahead new later)
+fed_ahead old piece answer new later f =
+    ahead_in old (taken_by answer piece ++ later)
+    ∙ ap requests_in (fed_bodies old piece later answer new f)
+    ∙ requests_in-front (handed_out new) (bodies_ahead new later)
+    ∙ ap (λ (behind : Framed Request). requests_of (handed_out new) behind) (sym (ahead_in new later))
+
 pub fed_requests : (old : Progress) (piece : List ℕ) (answer : Fed) (new : Progress) (later : List ℕ) → IsFed old piece answer new
     → requests_ahead old (piece ++ later) ≡ requests_of (handed_out new) (requests_ahead new (left_by answer piece ++ later))
 fed_requests old piece answer new later f =
     ap (λ (bytes : List ℕ). requests_ahead old bytes) (parts answer piece later)
-    ∙ ahead_in old (taken_by answer piece ++ (left_by answer piece ++ later))
-    ∙ ap requests_in (fed_bodies old piece (left_by answer piece ++ later) answer new f)
-    ∙ requests_in-front (handed_out new) (bodies_ahead new (left_by answer piece ++ later))
-    ∙ ap (λ (behind : Framed Request). requests_of (handed_out new) behind) (sym (ahead_in new (left_by answer piece ++ later)))
+    ∙ fed_ahead old piece answer new (left_by answer piece ++ later) f
 
 -- ---- how much of a piece is taken
 
@@ -83,6 +89,34 @@ fed_answer (reading held) piece answer new f = answer_taken held piece answer ne
 fed_answer (whole body) piece answer new f = answer_taken [] piece answer new f
 fed_answer (malformed bytes) piece answer new f = answer_dropped answer (length piece) new f.0
 fed_answer closed piece answer new f = answer_dropped answer (length piece) new f.0
+
+-- ---- what has come of a frame, and whether the stream is spoiled
+
+so_far_taken : (held piece : List ℕ) (answer : Fed) (new : Progress) → IsTaken held piece answer new → taken_of new ≡ held ++ taken_by answer piece
+so_far_taken held piece fed.More new t = ap taken_of t.1
+so_far_taken held piece (fed.Body taken) new t = ap taken_of t.2.3 ∙ sym t.2.2
+so_far_taken held piece (fed.Malformed taken) new t = ap taken_of t.3
+
+pub fed_so_far : (old : Progress) (piece : List ℕ) (answer : Fed) (new : Progress) → IsFed old piece answer new → is_spoiled old ≡ false
+    → taken_of new ≡ rest_of old ++ taken_by answer piece
+fed_so_far (reading held) piece answer new f live = so_far_taken held piece answer new f
+fed_so_far (whole body) piece answer new f live = so_far_taken [] piece answer new f
+fed_so_far (malformed bytes) piece answer new f live = absurd cc
+fed_so_far closed piece answer new f live = absurd cc
+
+spoils_taken : (held piece : List ℕ) (answer : Fed) (new : Progress) → IsTaken held piece answer new → Spoils answer false (is_spoiled new)
+spoils_taken held piece fed.More new t = ap is_spoiled t.1
+spoils_taken held piece (fed.Body taken) new t = (refl, ap is_spoiled t.2.3)
+spoils_taken held piece (fed.Malformed taken) new t = (refl, ap is_spoiled t.3)
+
+spoils_dropped : (answer : Fed) (new : Progress) → answer ≡ fed.More → new ≡ closed → Spoils answer true (is_spoiled new)
+spoils_dropped answer new told e = subst (λ (given : Fed). Spoils given true (is_spoiled new)) (sym told) (ap is_spoiled e)
+
+pub fed_spoils : (old : Progress) (piece : List ℕ) (answer : Fed) (new : Progress) → IsFed old piece answer new → Spoils answer (is_spoiled old) (is_spoiled new)
+fed_spoils (reading held) piece answer new f = spoils_taken held piece answer new f
+fed_spoils (whole body) piece answer new f = spoils_taken [] piece answer new f
+fed_spoils (malformed bytes) piece answer new f = spoils_dropped answer new f.0 f.1
+fed_spoils closed piece answer new f = spoils_dropped answer new f.0 f.1
 
 -- ---- a byte that is given back
 

@@ -1,5 +1,5 @@
 -- Where a decoder stands in its stream, and what one piece does to it.
-use Rattle.std.specs.Prelude.{◌≡◌, ℕ, ◌<◌, ◌≤◌, Bool, true, false, List, [], ◌∷◌, ◌++◌, length, take, drop, if◌then◌else◌}
+use Rattle.std.specs.Prelude.{◌≡◌, ℕ, ◌-◌, ◌<◌, ◌≤◌, Bool, true, false, List, [], ◌∷◌, ◌++◌, length, take, drop, if◌then◌else◌}
 use Rattle.audit_wire.specs.declared.fed.Fed.{Fed}
 use Rattle.audit_wire.specs.declared.fed.Fed.TheVariants as fed
 use Rattle.audit_wire.specs.Frame.{frame, IsBodySize, IsPartial, IsBadLength}
@@ -85,6 +85,18 @@ abbrev pub IsAnswer : Fed → ℕ → Progress → Type 0
 IsAnswer fed.More size new = Unit {0}
 IsAnswer (fed.Body taken) size new = (0 < taken) × (taken ≤ size) × HasJustTaken new
 IsAnswer (fed.Malformed taken) size new = (0 < taken) × (taken ≤ size) × HasJustTaken new
+
+-- whether the stream is spoiled before a piece and after it
+abbrev pub Spoils : Fed → Bool → Bool → Type 0
+Spoils fed.More before after = after ≡ before
+Spoils (fed.Body taken) before after = (before ≡ false) × (after ≡ false)
+Spoils (fed.Malformed taken) before after = (before ≡ false) × (after ≡ true)
+
+-- the bytes of a piece that were taken, but for the last one of a body or of a malformed length
+abbrev pub taken_but_one : Fed → List ℕ → List ℕ
+taken_but_one fed.More piece = piece
+taken_but_one (fed.Body taken) piece = take (taken - 1) piece
+taken_but_one (fed.Malformed taken) piece = take (taken - 1) piece
 
 -- the bytes of a piece that were not taken
 abbrev pub left_by : Fed → List ℕ → List ℕ

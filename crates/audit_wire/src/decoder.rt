@@ -1,6 +1,6 @@
-ghost use Rattle.std.specs.Prelude.{◌≡◌, ◌≢◌, ◌↔◌, ◌+◌, ◌-◌, ◌<◌, ◌≤◌, ℕ, List, [], ◌∷◌, ◌++◌, length, take, drop, min, IsTrue, IfOk, vec_len, vec_capacity};
+ghost use Rattle.std.specs.Prelude.{◌≡◌, ◌≢◌, ◌↔◌, ◌+◌, ◌-◌, ◌<◌, ◌≤◌, ℕ, List, [], ◌∷◌, ◌++◌, length, take, drop, min, IsTrue, false, IfOk, vec_len, vec_capacity};
 ghost use Rattle.audit_wire.specs.Frame.{IsPartial};
-ghost use Rattle.audit_wire.specs.Progress.{reading, rest_of, body_of, HasJustTaken, IsProgress, IsFed, IsAnswer, PutsBack, taken_of, handed_out, left_by, requests_ahead};
+ghost use Rattle.audit_wire.specs.Progress.{reading, rest_of, body_of, HasJustTaken, IsProgress, IsFed, IsAnswer, PutsBack, Spoils, taken_of, taken_by, handed_out, left_by, is_spoiled, requests_ahead};
 ghost use Rattle.audit_wire.specs.Stream.{requests_of};
 ghost use Rattle.audit_wire.specs.Filled.{IsFilled};
 
@@ -72,6 +72,14 @@ impl Decoder {
         ensures requests { (later : List ℕ) → requests_ahead self.old (piece.now ++ later)
             ≡ requests_of (handed_out self.new) (requests_ahead self.new (left_by result piece.now ++ later)) }
         ensures rest { IsPartial (rest_of self.new) }
+        // The same of the bytes that were taken, whatever comes after them.
+        ensures ahead { (later : List ℕ) → requests_ahead self.old (taken_by result piece.now ++ later)
+            ≡ requests_of (handed_out self.new) (requests_ahead self.new later) }
+        // The bytes since the end of the frame before are those that were held back and those that were taken.
+        ensures so_far { is_spoiled self.old ≡ false → taken_of self.new
+            ≡ rest_of self.old ++ taken_by result piece.now }
+        // A malformed length spoils the stream, and nothing else does or mends it.
+        ensures live { Spoils result (is_spoiled self.old) (is_spoiled self.new) }
     {
         self.advance(piece)
     }
@@ -114,7 +122,8 @@ impl Decoder {
         ensures before { PutsBack self.old self.new }
         // With that byte again, the stream's requests are those that they were after it.
         ensures requests { (byte : ℕ) (later : List ℕ) → taken_of self.old ≡ rest_of self.new ++ byte ∷ []
-            → requests_ahead self.new (byte ∷ later) ≡ requests_of (handed_out self.old) (requests_ahead self.old later) }
+            → requests_ahead self.new (byte ∷ later) ≡ requests_of (handed_out self.old)
+            (requests_ahead self.old later) }
     {
         self.undo();
     }
@@ -131,7 +140,7 @@ impl Decoder {
     /// Whether a frame is begun and not whole.
     pub fn pending(&self) -> bool
         ensures pending { IsTrue result ↔ (rest_of self.now ≢ []) }
-
+        ensures rest { IsPartial (rest_of self.now) }
         // It stands in one of four places of its stream, with what holds there.
         ensures progress { IsProgress self.now }
     {

@@ -1,5 +1,6 @@
 ghost use Rattle.std.specs.Prelude.{◌≡◌, ◌*◌, length};
 ghost use Rattle.std.specs.List.{flat_map};
+ghost use Rattle.audit_base.specs.Hashes.{AreHashes};
 
 use audit_base::Hash;
 use std::marker::Model;
@@ -45,7 +46,16 @@ impl HashList {
     pub fn as_bytes(&self) -> &[u8]
         ensures bytes { result.now ≡ flat_map (λ hash. hash) self.now }
         ensures size { length result.now ≡ length self.now * 32 }
+        ensures whole { AreHashes self.now }
     {
-        self.as_slice().as_flattened()
+        in_a_row(self.as_slice())
     }
+}
+
+fn in_a_row(hashes: &[Hash]) -> &[u8]
+    ensures bytes { result.now ≡ flat_map (λ hash. hash) hashes.now }
+    ensures size { length result.now ≡ length hashes.now * 32 }
+    ensures whole { AreHashes hashes.now }
+{
+    hashes.as_flattened()
 }

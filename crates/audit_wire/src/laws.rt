@@ -3,6 +3,7 @@
 ghost use Rattle.std.specs.Prelude.{◌≡◌, ◌<◌, ◌^◌, ℕ, length, List, [], ◌∷◌, ◌++◌, Some};
 ghost use Rattle.audit_wire.specs.declared.request.Request.{Request};
 ghost use Rattle.audit_base.specs.declared.limits.TheConstants.{HASH_LEN};
+ghost use Rattle.audit_wire.specs.declared.limits.TheConstants.{ACKNOWLEDGEMENT_FRAME, REFUSAL_FRAME};
 ghost use Rattle.audit_wire.specs.declared.refusal.Refusal.{Refusal};
 ghost use Rattle.audit_wire.specs.declared.reply.Reply.{Reply};
 ghost use Rattle.audit_wire.specs.declared.reply.Reply.TheVariants as reply;
@@ -13,13 +14,14 @@ ghost use Rattle.audit_wire.specs.Frame.{IsPartial};
 ghost use Rattle.audit_wire.specs.Request.{request_body, request_in, IsRequest};
 ghost use Rattle.audit_wire.specs.Stream.{Framed, begun, in_front, framed_bodies, framed_requests, continued, request_frame, IsReading};
 ghost use Rattle.audit_wire.specs.declared.fed.Fed.{Fed};
-ghost use Rattle.audit_wire.specs.Progress.{Progress, Feeding, reading, rest_of, is_spoiled, IsFed, taken_by, HasJustTaken, PutsBack, IsRun, bytes_taken, bodies_given, progress_after};
+ghost use Rattle.audit_wire.specs.Progress.{Progress, Feeding, reading, rest_of, is_spoiled, IsFed, taken_by, taken_but_one, requests_ahead, HasJustTaken, PutsBack, IsRun, bytes_taken, bodies_given, progress_after};
 
 /// A stream is read in one way only: two readings of one byte stream are the same requests, the same
 /// malformed place or none, and the same rest.
 pub fn one_reading_of_a_stream()
     ensures read { (bytes : List ℕ) → AreBytes bytes → IsReading bytes (framed_requests bytes) }
-    ensures only { (bytes : List ℕ) (framed : Framed Request) → AreBytes bytes → IsReading bytes framed → framed ≡ framed_requests bytes }
+    ensures only { (bytes : List ℕ) (framed : Framed Request) → AreBytes bytes → IsReading bytes framed
+        → framed ≡ framed_requests bytes }
 {}
 
 /// Every request has a frame that is read back as it, whatever follows; and a body is read as a
@@ -43,7 +45,12 @@ pub fn more_bytes_keep_the_requests()
 /// function of the bytes that it took.
 pub fn every_cut_gives_one_reading()
     ensures { (run : List Feeding) → IsRun (reading []) run → framed_bodies (bytes_taken run)
-        ≡ record { items = bodies_given run; malformed = is_spoiled (progress_after (reading []) run); rest = rest_of (progress_after (reading []) run) } }
+        ≡ record {
+          items = bodies_given run;
+          malformed = is_spoiled (progress_after (reading []) run);
+          rest = rest_of
+              (progress_after (reading []) run);
+        } }
 {}
 
 /// Every reply has a body that is read back as it, so that replies are told apart by their bytes; and the length
@@ -56,18 +63,36 @@ pub fn every_reply_is_read_back()
     ensures refused { (tag : ℕ) (code : Refusal) → length (reply_body (reply.Refused tag code)) ≡ 6 }
 {}
 
+/// The frames of an acknowledgement and of a refusal each have one size, whatever they say.
+pub fn replies_have_their_sizes()
+    ensures acknowledgement { (tag index count : ℕ) (root : List ℕ) → length root ≡ HASH_LEN
+        → length (reply_frame (reply.Acknowledgement tag index count root)) ≡ ACKNOWLEDGEMENT_FRAME }
+    ensures refused { (tag : ℕ) (code : Refusal) → length (reply_frame (reply.Refused tag code)) ≡ REFUSAL_FRAME }
+{}
+
 /// The output of a session is read as reply frames in one way only.
 pub fn one_reading_of_replies()
     ensures first { (one other : Reply) (rest others : List ℕ) → IsWholeReply one → IsWholeReply other
         → reply_frame one ++ rest ≡ reply_frame other ++ others → (one ≡ other) × (rest ≡ others) }
-    ensures all { (replies others : List Reply) → AllByRecursion IsWholeReply replies → AllByRecursion IsWholeReply others
+    ensures all { (replies others : List Reply) → AllByRecursion IsWholeReply replies
+        → AllByRecursion IsWholeReply others
         → flat_map reply_frame replies ≡ flat_map reply_frame others → replies ≡ others }
 {}
 
 /// A piece of which the last byte is given back is the piece without that byte: where feeding took all of it up to
-/// the end of a body or of a malformed length, the decoder is then where feeding the rest of it leaves it.
+/// the end of a body or of a malformed length, the decoder is then where feeding the rest of it leaves it. Of any piece
+/// it is where feeding the bytes that were taken but for the last one leaves it, and so the stream has the same
+/// requests ahead.
 pub fn a_byte_given_back_never_came()
-    ensures { (old taken new : Progress) (piece : List ℕ) (byte : ℕ) (answer : Fed) → IsFed old (piece ++ byte ∷ []) answer taken
+    ensures whole { (old taken new : Progress) (piece : List ℕ) (byte : ℕ) (answer : Fed)
+        → IsFed old (piece ++ byte ∷ []) answer taken
         → taken_by answer (piece ++ byte ∷ []) ≡ piece ++ byte ∷ [] → HasJustTaken taken → PutsBack taken new
         → IsFed old piece Fed.More new }
+    ensures any { (old taken new : Progress) (piece : List ℕ) (answer : Fed) → IsFed old piece answer taken
+        → HasJustTaken taken
+        → PutsBack taken new → IsFed old (taken_but_one answer piece) Fed.More new }
+    ensures ahead { (old taken new : Progress) (piece : List ℕ) (answer : Fed) (later : List ℕ)
+        → IsFed old piece answer taken
+        → HasJustTaken taken → PutsBack taken new → requests_ahead old (taken_but_one answer piece ++ later)
+        ≡ requests_ahead new later }
 {}

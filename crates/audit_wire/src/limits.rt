@@ -13,3 +13,9 @@ pub const MAX_BODY: usize = APPEND_HEAD + MAX_PAYLOAD;
 
 /// The longest frame of a request, its length field included.
 pub const MAX_FRAME: usize = LENGTH_BYTES + MAX_BODY;
+
+/// The frame of every acknowledgement, its length field included.
+pub const ACKNOWLEDGEMENT_FRAME: usize = 55;
+
+/// The frame of every refusal, its length field included.
+pub const REFUSAL_FRAME: usize = 8;

@@ -1,7 +1,8 @@
 ghost use Rattle.std.specs.Prelude.{◌≡◌, ◌+◌, ◌^◌, ◌<◌, ◌≤◌, ◌∷◌, ◌++◌, length, IsOk, OnOk, OnErr, vec_len, vec_capacity};
 ghost use Rattle.std.specs.Int.{w32, to_be_bytes};
+ghost use Rattle.audit_base.specs.Hashes.{AreHashes};
 ghost use Rattle.audit_wire.specs.Frame.{frame};
-ghost use Rattle.audit_wire.specs.Reply.{reply_body, reply_byte, hash_list, IsReply};
+ghost use Rattle.audit_wire.specs.Reply.{reply_body, reply_byte, hash_list, IsReply, HasReplyFields, IsWholeReply};
 
 use crate::hash_list::HashList;
 use crate::limits::LENGTH_BYTES;
@@ -26,6 +27,8 @@ pub fn write_reply(_alloc: Global, reply: &Reply, out: &mut Vec<u8>) -> Result<(
     // Where there is room for the frame, none is asked for; and room is never given back.
     ensures room { vec_len out.old + length (frame (reply_body reply.now)) ≤ vec_capacity out.old → IsOk result }
     ensures capacity { vec_capacity out.old ≤ vec_capacity out.new }
+    // Its parts are as wide as its fields, so that it is read back from its frame.
+    ensures whole { IsOk result → IsWholeReply reply.now }
 {
     let size = body_size(reply);
     out.reserve(LENGTH_BYTES + size)?;
@@ -65,6 +68,7 @@ fn put_body(out: &mut Vec<u8>, reply: &Reply)
     requires room { vec_len out.old + length (reply_body reply.now) ≤ vec_capacity out.old }
     ensures items { out.new.items ≡ out.old.items ++ reply_body reply.now }
     ensures capacity { vec_capacity out.old ≤ vec_capacity out.new }
+    ensures fields { HasReplyFields reply.now }
 {
     match reply {
         Reply::Acknowledgement {
@@ -117,6 +121,7 @@ fn put_hashes(out: &mut Vec<u8>, hashes: &HashList)
     requires room { vec_len out.old + length (hash_list hashes.now) ≤ vec_capacity out.old }
     ensures items { out.new.items ≡ out.old.items ++ hash_list hashes.now }
     ensures capacity { vec_capacity out.old ≤ vec_capacity out.new }
+    ensures whole { AreHashes hashes.now }
 {
     put(out, &[hashes.as_slice().len() as u8]);
     put(out, hashes.as_bytes());

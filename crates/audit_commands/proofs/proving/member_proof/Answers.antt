@@ -1,10 +1,12 @@
-use Rattle.std.proofs.Common.{◌∙◌, ◌≡◌, ◌<◌, ap, arith, length, List, ℕ}
-use Rattle.std.specs.Prelude.{take}
+use Rattle.std.proofs.Common.{◌∙◌, ◌≡◌, ◌<◌, ap, arith, length, refl, sym, subst, List, ℕ}
+use Rattle.std.specs.Prelude.{take, IfErr}
+use Rattle.std.proofs.lemmas.Result.{err_from_is_err_and}
 use Rattle.sha2.specs.Sha256.{sha256}
 use Rattle.audit_tree.specs.Paths.{membership_path}
 use Rattle.audit_layout.specs.Headers.{log_leaves, contents_of}
 use Rattle.audit_proof.specs.ProofBytes.{Member}
-use Rattle.audit_commands.proofs.KnownEntries.{index_known}
+use Rattle.audit_store.specs.Recovered.{IsOfDeviceOrMemory}
+use Rattle.audit_commands.proofs.KnownEntries.{index_known, only_memory, member_inside}
 use Rattle.audit_commands.proofs.proving.member_proof.Goals as goal
 
 pub returns-clause-log : goal.returns-clause-log
@@ -22,3 +24,11 @@ returns-clause-log g c = λ origin events h.
       entry = e;
     } in
     ap with_hashes hashes ∙ ap with_entry entry
+
+pub returns-in_err-hashes-clause-fault : goal.returns-in_err-hashes-clause-fault
+unfolding contents_of
+returns-in_err-hashes-clause-fault g c = λ origin events h before within.
+    let size : c.args.store.now.header.count ≡ length events = ap (λ header. header.count) h.events_are.header_is in
+    let memory = only_memory _ _ _ _ c.in_err-hashes.ensures.outcome h.sound (member_inside _ _ _ before (omega (arith, within, size))) refl in
+    let p = err_from_is_err_and c.from_residual.result c.from_residual.ensures.1 in
+    subst (λ result. IfErr result IsOfDeviceOrMemory) (sym p.1) (subst IsOfDeviceOrMemory (sym p.2) memory)

@@ -1,22 +1,17 @@
-use Rattle.std.proofs.Common.{◌≡◌, ◌-◌, ◌∷◌, Some, length, drop, sym, ap, ◌∙◌, arith, rules}
-use Rattle.std.specs.Int.{w64, trailing_zeros}
+use Rattle.std.proofs.Common.{◌≡◌, ◌∷◌, Some, length, drop, sym, ap, ◌∙◌, arith, rules}
 use Rattle.std.proofs.lemmas.List.{drop_all}
 use Rattle.audit_tree.proofs.OlderNode.{older_node}
 use Rattle.audit_tree.specs.Subtree.{depth}
+use Rattle.audit_proof.specs.declared.climb.Way.{Way}
 use Rattle.audit_proof.specs.declared.steps.Versions.{Versions}
 use Rattle.audit_proof.specs.Climb.{climb, two_values, whole}
 use Rattle.audit_proof.specs.Acceptance.{roots_from_increment}
 use Rattle.audit_proof.proofs.accept.accepts_versions.Goals as goal
 
-pub overflow_sub-height : goal.overflow_sub-height
-overflow_sub-height g c =
-    let node = older_node c.args.older.now.count c.args.newer.now.count (omega (arith, c.if-older-eq0.false)) c.if-newer-older.false c.if-newer-gt-MAX_COUNT.false in
-    omega (arith, node.below, c.depth_of.ensures.depth)
-
 pub climb_from-requires-clause-top : goal.climb_from-requires-clause-top
 climb_from-requires-clause-top g c =
     let node = older_node c.args.older.now.count c.args.newer.now.count (omega (arith, c.if-older-eq0.false)) c.if-newer-older.false c.if-newer-gt-MAX_COUNT.false in
-    omega (arith, node.below, node.top, c.depth_of.ensures.depth)
+    omega (arith, node.top, c.increment_way-way.ensures.top)
 
 pub returns-then-top-rest : goal.returns-then-top-rest
 returns-then-top-rest g c =
@@ -26,14 +21,13 @@ returns-then-top-rest g c =
     let value = c.in-Some-climb_from.top.value in
     let first = c.in-Some.first.now in
     let rest = c.in-Some.rest.now in
-    let layer = trailing_zeros w64 older.count in
     let both : Versions = record { older = first; newer = first } in
     let split : c.args.hashes.now ≡ first ∷ rest = search rules in
     let none_left = ap (λ n. drop n rest) c.if-top-rest.true ∙ drop_all (length rest) rest (omega arith) in
     let given : roots_from_increment H older.count newer.count c.args.hashes.now ≡ Some value =
     ap (roots_from_increment H older.count newer.count) split
-    ∙ ap (λ d. whole (climb (two_values H d) layer (depth newer.count - layer) (older.count - 1) newer.count both rest)) (sym c.depth_of-2.ensures.depth)
-    ∙ ap (λ d. whole (climb (two_values H c.depth_of-2.result) layer (d - layer) (older.count - 1) newer.count both rest)) (sym c.depth_of.ensures.depth)
+    ∙ ap (λ (way : Way). whole (climb (two_values H (depth older.count)) way.from way.height way.place way.count both rest)) (sym c.increment_way-way.ensures.way)
+    ∙ ap (λ d. whole (climb (two_values H d) c.increment_way-way.result.from c.increment_way-way.result.height c.increment_way-way.result.place c.increment_way-way.result.count both rest)) (sym c.depth_of.ensures.depth)
     ∙ ap whole (sym c.in-Some-climb_from.ensures.reached)
     ∙ ap (λ hs. whole (Some (value, hs))) none_left in (
       λ same. record {

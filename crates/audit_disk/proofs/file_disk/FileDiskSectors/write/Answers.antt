@@ -6,8 +6,8 @@ use Rattle.audit_disk.proofs.file_disk.FileDiskSectors.write.Goals as goal
 pub returns-clause-write : goal.returns-clause-write
 returns-clause-write g c =
     let disk = c.args.self.now in
-    let old = g.F.SectorFile.file disk.file in
-    let new = g.F.SectorFile.file c.write_at-outcome.new.self in
+    let old = g.F.SectorFile.file disk.file.inner in
+    let new = g.F.SectorFile.file c.write_at-outcome.new.self.inner in
     let next = disk.clock + 1 in
     let working = (c.is_shut.ensures.reaches c.if-is_shut.false).working in
     let below_end = (c.is_shut.ensures.reaches c.if-is_shut.false).below_end in

@@ -1,0 +1,4 @@
+pub mod CommitmentWord
+pub mod ReportLines
+pub mod VerifiedExport
+pub mod Judgment

@@ -1,0 +1,72 @@
+//! Proofs checked under commitments.
+ghost use Rattle.std.specs.Prelude.{◌≡◌, ◌↔◌, ◌++◌, None, codes, IfOk, IfErr, OnOk, OnErr, if◌then◌else◌};
+ghost use Rattle.std.specs.Io.KnownBytes.{Appends};
+ghost use Rattle.audit_proof.specs.ProofBytes.{member_of, increment_of};
+ghost use Rattle.audit_lines.specs.Writing.{WritesInPart};
+ghost use Rattle.audit_auditor.specs.Judgment.{Spells, IsJudgment};
+
+use audit_lines::{LinesFault, write_whole};
+use audit_proof::{
+    Commitment, IncrementProof, MemberProof, ReadFault, accepts_increment, accepts_member,
+    read_increment, read_member,
+};
+use std::alloc::Global;
+use std::io::Write;
+
+/// A proof of a log's history.
+#[derive(Drop)]
+pub enum Proof {
+    /// That an entry is one of a log's.
+    Member(MemberProof),
+    /// That a log goes on from an older one.
+    Increment(IncrementProof),
+}
+
+/// The proof that bytes spell; `BadProof` where they spell none.
+pub fn read_proof(alloc: Global, bytes: &[u8]) -> Result<Proof, ReadFault>
+    ensures read { IfOk result (Spells bytes.now) }
+    ensures bad { (result ≡ Err ReadFault.BadProof) ↔ ((member_of bytes.now ≡ None) × (increment_of bytes.now ≡ None)) }
+{
+    match read_member(alloc, bytes) {
+        Ok(proof) => Ok(Proof::Member(proof)),
+        Err(ReadFault::Memory) => Err(ReadFault::Memory),
+        Err(ReadFault::BadProof) => match read_increment(alloc, bytes) {
+            Ok(proof) => Ok(Proof::Increment(proof)),
+            Err(fault) => Err(fault),
+        },
+    }
+}
+
+/// Whether a proof is accepted: a membership proof under one commitment, an incremental proof under two. Nothing where it
+/// is another number of commitments. It takes no memory.
+pub fn judge_proof(proof: &Proof, older: &Commitment, newer: Option<Commitment>) -> Option<bool>
+    ensures { IsJudgment proof.now older.now newer result }
+{
+    match (proof, newer) {
+        (Proof::Member(member), None) => Some(
+            member.count == older.count
+                && accepts_member(older, member.index, &member.entry, &member.hashes),
+        ),
+        (Proof::Increment(increment), Some(newer)) => Some(
+            increment.older == older.count
+                && increment.newer == newer.count
+                && accepts_increment(older, &newer, &increment.hashes),
+        ),
+        _ => None,
+    }
+}
+
+/// Writes whether a proof is accepted, as a line.
+pub fn write_judgment<W: Write>(accepted: bool, writer: &mut W) -> Result<(), LinesFault>
+    ensures written { OnOk result (Appends (W.contents writer.old) (W.contents writer.new)
+        (if accepted then codes "accepted\n" else codes "not accepted\n")) }
+    ensures part { OnErr result (WritesInPart (W.contents writer.old) (W.contents writer.new)
+        (if accepted then codes "accepted\n" else codes "not accepted\n")) }
+    ensures fault { IfErr result (λ fault. fault ≡ LinesFault.Write) }
+{
+    if accepted {
+        write_whole(writer, b"accepted\n")
+    } else {
+        write_whole(writer, b"not accepted\n")
+    }
+}

@@ -1,0 +1,15 @@
+//! What an auditor asks without a store, over readers and writers: an export verified, a proof checked, and the words
+//! that spell commitments.
+#![tactic(auto)]
+
+mod checking;
+mod commitment_word;
+mod fault;
+#[cfg(test)]
+mod tests;
+mod verifying;
+
+pub use checking::{Proof, judge_proof, read_proof, write_judgment};
+pub use commitment_word::commitment_of;
+pub use fault::AuditorFault;
+pub use verifying::{verify_export, write_report};

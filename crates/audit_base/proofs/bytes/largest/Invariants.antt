@@ -1,0 +1,6 @@
+use Rattle.std.proofs.Common.{◌≡◌, ◌↔◌, ◌<◌, ℕ, get_or}
+use Rattle.audit_base.proofs.bytes.largest.Given as goal
+
+-- the largest byte is zero exactly where all bytes so far are
+abbrev pub invariant-loop-byte : goal.invariant-loop-byte
+invariant-loop-byte l = (l.largest ≡ 0) ↔ ((k : ℕ) → k < l.byte-index → get_or l.bytes k 0 ≡ 0)

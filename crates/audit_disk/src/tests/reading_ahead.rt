@@ -1,0 +1,211 @@
+//! Reading ahead, against a file of which each call is counted.
+
+ghost use Rattle.std.specs.Prelude.{◌<◌};
+ghost use Rattle.audit_disk.specs.OsFile.{unknown_file};
+
+use super::next;
+use crate::counted::counted;
+use crate::read_ahead::{ReadAhead, new_row};
+use crate::{DeviceFault, SECTOR_SIZE, SectorFile};
+use std::alloc::{AllocError, Global};
+use std::process::Abort;
+use std::test::Fail;
+
+const SECTORS: usize = 400;
+
+/// A file in memory of sectors of equal bytes, of which one can't be read.
+#[derive(Drop)]
+struct Patchy {
+    bytes: [u8; SECTORS],
+    bad: usize,
+    reads: u64,
+    rows: u64,
+    failures: u64,
+}
+
+impl Patchy {
+    fn give(&self, offset: u64, into: &mut [u8; SECTOR_SIZE]) -> Result<(), DeviceFault> {
+        let at = (offset / SECTOR_SIZE as u64) as usize;
+        if at >= SECTORS || at == self.bad {
+            return Err(DeviceFault);
+        }
+        *into = [self.bytes[at]; SECTOR_SIZE];
+        Ok(())
+    }
+
+    fn give_row(&self, offset: u64, into: &mut [[u8; SECTOR_SIZE]]) -> Result<(), DeviceFault> {
+        let mut there = offset;
+        for sector in into.iter_mut() {
+            self.give(there, sector)?;
+            there = there.saturating_add(SECTOR_SIZE as u64);
+        }
+        Ok(())
+    }
+}
+
+impl SectorFile for Patchy {
+    ghost file = { λ it. unknown_file it.failures };
+
+    fn read_at(&mut self, offset: u64, into: &mut [u8; SECTOR_SIZE]) -> Result<(), DeviceFault> {
+        self.reads = self.reads.saturating_add(1);
+        let outcome = self.give(offset, into);
+        counted(outcome, &mut self.failures)
+    }
+
+    fn read_row(&mut self, offset: u64, into: &mut [[u8; SECTOR_SIZE]]) -> Result<(), DeviceFault> {
+        self.rows = self.rows.saturating_add(1);
+        let outcome = self.give_row(offset, into);
+        counted(outcome, &mut self.failures)
+    }
+
+    fn write_at(&mut self, offset: u64, bytes: &[u8; SECTOR_SIZE]) -> Result<(), DeviceFault> {
+        let at = (offset / SECTOR_SIZE as u64) as usize;
+        if at < SECTORS {
+            self.bytes[at] = bytes[0];
+        }
+        Ok(())
+    }
+
+    fn sync(&mut self) -> Result<(), DeviceFault> {
+        Ok(())
+    }
+}
+
+type Ahead = ReadAhead<Patchy>;
+
+/// A file whose sector k holds bytes of value k modulo 251.
+fn new_ahead(alloc: Global, bad: usize) -> Result<Ahead, AllocError> {
+    let mut bytes = [0; SECTORS];
+    for at in 0..SECTORS {
+        bytes[at] = (at % 251) as u8;
+    }
+    let file = Patchy {
+        bytes,
+        bad,
+        reads: 0,
+        rows: 0,
+        failures: 0,
+    };
+    Ok(ReadAhead::new(file, new_row(alloc)?))
+}
+
+fn found(rt: &impl Abort, ahead: &mut Ahead, at: usize) -> Option<u8> {
+    assert!(rt; at < SECTORS);
+    let mut into = [0; SECTOR_SIZE];
+    let offset = (at * SECTOR_SIZE) as u64;
+    let read = ahead.read_at(offset, (SECTORS - at) as u64, &mut into);
+    read.ok()?;
+    assert!(rt; into.iter().all(|byte| *byte == into[0]));
+    Some(into[0])
+}
+
+fn write(rt: &impl Abort, ahead: &mut Ahead, at: usize, byte: u8) {
+    assert!(rt; at < SECTORS);
+    let written = ahead.write_at((at * SECTOR_SIZE) as u64, &[byte; SECTOR_SIZE]);
+    assert!(rt; written.is_ok());
+}
+
+/// Reads the sectors and expects of each what the file holds.
+fn expect_read(rt: &impl Abort, ahead: &mut Ahead, places: &[usize]) {
+    for at in places {
+        assert_eq!(rt; found(rt, ahead, *at), Some((*at % 251) as u8));
+    }
+}
+
+fn expect_calls(rt: &impl Abort, ahead: &Ahead, reads: u64, rows: u64) {
+    assert_eq!(rt; (ahead.inner.reads, ahead.inner.rows), (reads, rows));
+}
+
+// Rows of 2, 4, .. 128 sectors, one of 128 again, and one of the last 17.
+#[test]
+fn reads_that_go_on_read_rows(rt: HostRuntime) -> Result<(), Fail> {
+    let mut ahead = new_ahead(rt.alloc(), SECTORS)?;
+    for at in 0..SECTORS {
+        expect_read(&rt, &mut ahead, &[at]);
+    }
+    expect_calls(&rt, &ahead, 1, 9);
+    Ok(())
+}
+
+#[test]
+fn reads_elsewhere_read_one_sector_each(rt: HostRuntime) -> Result<(), Fail> {
+    let mut ahead = new_ahead(rt.alloc(), SECTORS)?;
+    expect_read(&rt, &mut ahead, &[7, 3, 399, 7, 5, 5]);
+    expect_calls(&rt, &ahead, 6, 0);
+    for back in 0..SECTORS {
+        expect_read(&rt, &mut ahead, &[SECTORS - 1 - back]);
+    }
+    expect_calls(&rt, &ahead, 406, 0);
+    Ok(())
+}
+
+// The first read is alone, and then rows from 11, 13 and 17 on; what was read is given again, in any order.
+#[test]
+fn sectors_that_were_read_are_given_again(rt: HostRuntime) -> Result<(), Fail> {
+    let mut ahead = new_ahead(rt.alloc(), SECTORS)?;
+    expect_read(&rt, &mut ahead, &[10, 11, 12, 13, 14, 15, 16, 17]);
+    expect_calls(&rt, &ahead, 1, 3);
+    expect_read(&rt, &mut ahead, &[24, 20, 17, 18, 24]);
+    expect_calls(&rt, &ahead, 1, 3);
+    expect_read(&rt, &mut ahead, &[16, 17, 25]);
+    expect_calls(&rt, &ahead, 3, 4);
+    Ok(())
+}
+
+#[test]
+fn a_write_and_a_sync_drop_what_was_read(rt: HostRuntime) -> Result<(), Fail> {
+    let mut ahead = new_ahead(rt.alloc(), SECTORS)?;
+    expect_read(&rt, &mut ahead, &[0, 1]);
+    write(&rt, &mut ahead, 2, b'w');
+    assert_eq!(&rt; found(&rt, &mut ahead, 2), Some(b'w'));
+    expect_read(&rt, &mut ahead, &[3]);
+    ahead.inner.bytes[3] = b'x';
+    expect_read(&rt, &mut ahead, &[3]);
+    assert!(&rt; ahead.sync().is_ok());
+    assert_eq!(&rt; found(&rt, &mut ahead, 3), Some(b'x'));
+    Ok(())
+}
+
+#[test]
+fn a_bad_sector_spoils_no_other(rt: HostRuntime) -> Result<(), Fail> {
+    let mut ahead = new_ahead(rt.alloc(), 100)?;
+    for at in 0..SECTORS {
+        let wanted = if at == 100 {
+            None
+        } else {
+            Some((at % 251) as u8)
+        };
+        assert_eq!(&rt; found(&rt, &mut ahead, at), wanted);
+    }
+    Ok(())
+}
+
+/// A call on the file and on a plain list of its bytes: a write, a sync, or some reads onwards from any place.
+fn play(rt: &impl Abort, ahead: &mut Ahead, model: &mut [u8; SECTORS], seed: &mut u64) {
+    let at = (next(seed) % SECTORS as u64) as usize;
+    match next(seed) % 8 {
+        0 => {
+            let byte = (next(seed) % 256) as u8;
+            write(rt, ahead, at, byte);
+            model[at] = byte;
+        }
+        1 => assert!(rt; ahead.sync().is_ok()),
+        _ => {
+            let end = (at + (next(seed) % 32) as usize).min(SECTORS);
+            for place in at..end {
+                assert_eq!(rt; found(rt, ahead, place), Some(model[place]));
+            }
+        }
+    }
+}
+
+#[test]
+fn random_calls_give_what_a_plain_list_holds(rt: HostRuntime) -> Result<(), Fail> {
+    let mut ahead = new_ahead(rt.alloc(), SECTORS)?;
+    let mut model = ahead.inner.bytes;
+    let mut seed = 7;
+    for _ in 0..2000 {
+        play(&rt, &mut ahead, &mut model, &mut seed);
+    }
+    Ok(())
+}

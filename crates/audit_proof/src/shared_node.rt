@@ -1,0 +1,162 @@
+ghost use Rattle.std.specs.Prelude.{◌≡◌, ◌+◌, ◌%◌, ◌^◌, ◌<◌, ◌≤◌, [], IfOk};
+ghost use Rattle.audit_proof.specs.Climb.{climb, two_values};
+ghost use Rattle.audit_proof.specs.declared.steps.Versions.{Versions};
+ghost use Rattle.audit_proof.specs.SharedNode.{Shares, OverLeft, OverRight, LeftHalf, climbed_both};
+
+use crate::climb::{Way, climb_from};
+use crate::laws::TextHash;
+use crate::steps::{TwoValues, Versions};
+use audit_base::Hash;
+use std::alloc::{AllocError, Global};
+
+/// A full node of the older tree of an increment, whose value the increment gives, and the siblings on its way up
+/// to the root of either tree.
+#[derive(Drop)]
+pub struct SharedNode {
+    /// The node's layer.
+    pub layer: u32,
+    /// The node's value in both trees.
+    pub value: Hash,
+    /// The siblings in the older tree, from the node up.
+    pub older_siblings: Vec<Hash>,
+    /// The siblings in the newer tree, from the node up.
+    pub newer_siblings: Vec<Hash>,
+    /// How many hashes of the increment were used.
+    pub used: usize,
+}
+
+// The node at which the way of an increment begins.
+fn first_node(alloc: Global, layer: u32, value: &Hash) -> SharedNode
+    ensures layer { result.layer ≡ layer }
+    ensures value { result.value ≡ value.now }
+    ensures older { result.older_siblings.items ≡ [] }
+    ensures newer { result.newer_siblings.items ≡ [] }
+    ensures used { result.used ≡ 0 }
+{
+    SharedNode {
+        layer,
+        value: *value,
+        older_siblings: Vec::new(alloc),
+        newer_siblings: Vec::new(alloc),
+        used: 0,
+    }
+}
+
+// The left half of a node through whose right half the way of an increment goes: its value is the next hash, and its
+// sibling in either tree is what the way has reached there.
+fn left_node<T: TextHash>(
+    alloc: Global,
+    climber: &TwoValues<T>,
+    right: Way,
+    first: &Hash,
+    hashes: &[Hash],
+) -> Result<Option<SharedNode>, AllocError>
+    requires top { right.from + right.height ≤ 63 }
+    requires place { right.place < right.count }
+    ensures { IfOk result (LeftHalf (right.from + right.height)
+        (climbed_both T.value_of climber.now.older_depth right first.now hashes.now) hashes.now) }
+{
+    let both = Versions {
+        older: *first,
+        newer: *first,
+    };
+    let Some(lower) = climb_from(climber, right, both, hashes) else {
+        return Ok(None);
+    };
+    let Some(value) = hashes.get(lower.used) else {
+        return Ok(None);
+    };
+    let Versions { older, newer } = lower.value;
+    let older_siblings = vec![in alloc; older]?;
+    let newer_siblings = vec![in alloc; newer]?;
+    Ok(Some(SharedNode {
+        layer: right.from + right.height,
+        value: *value,
+        older_siblings,
+        newer_siblings,
+        used: lower.used + 1,
+    }))
+}
+
+// One layer up with the next hash on the left, which both trees have.
+fn with_left(mut node: SharedNode, hashes: &[Hash]) -> Result<Option<SharedNode>, AllocError>
+    ensures { IfOk result (OverLeft hashes.now node) }
+{
+    let Some(hash) = hashes.get(node.used) else {
+        return Ok(None);
+    };
+    node.older_siblings.push(*hash)?;
+    node.newer_siblings.push(*hash)?;
+    node.used += 1;
+    Ok(Some(node))
+}
+
+// One layer up with the next hash on the right, which the newer tree alone has.
+fn with_right(mut node: SharedNode, hashes: &[Hash]) -> Result<Option<SharedNode>, AllocError>
+    ensures { IfOk result (OverRight hashes.now node) }
+{
+    let Some(hash) = hashes.get(node.used) else {
+        return Ok(None);
+    };
+    node.newer_siblings.push(*hash)?;
+    node.used += 1;
+    Ok(Some(node))
+}
+
+// The largest full node that holds an index and whose value is among the hashes of an increment, or nothing where a
+// hash is missing.
+pub fn shared_node<T: TextHash>(
+    alloc: Global,
+    climber: &TwoValues<T>,
+    way: Way,
+    index: u64,
+    first: &Hash,
+    hashes: &[Hash],
+) -> Result<Option<SharedNode>, AllocError>
+    requires top { way.from + way.height ≤ 64 }
+    requires place { way.place < way.count }
+    requires room { way.place < 2 ^ (way.from + way.height) }
+    requires index { index ≤ way.place }
+    requires begun { way.from ≤ climber.now.older_depth }
+    requires older { way.place < 2 ^ climber.now.older_depth }
+    requires ended { (way.place + 1) % 2 ^ way.from ≡ 0 }
+    ensures { IfOk result (Shares T.value_of climber.now.older_depth way index
+        (climbed_both T.value_of climber.now.older_depth way first.now hashes.now) hashes.now) }
+{
+    if way.height == 0 {
+        return Ok(Some(first_node(alloc, way.from, first)));
+    }
+    let height = way.height - 1;
+    let half = 1 << (way.from + height);
+    if half <= way.place {
+        let right = Way {
+            from: way.from,
+            height,
+            place: way.place - half,
+            count: way.count - half,
+        };
+        if index < half {
+            return left_node(alloc, climber, right, first, hashes);
+        }
+        return match shared_node(alloc, climber, right, index - half, first, hashes)? {
+            None => Ok(None),
+            Some(lower) => with_left(lower, hashes),
+        };
+    }
+    let left = Way {
+        from: way.from,
+        height,
+        place: way.place,
+        count: way.count,
+    };
+    match shared_node(alloc, climber, left, index, first, hashes)? {
+        None => Ok(None),
+        Some(lower) => {
+            if way.count <= half {
+                Ok(Some(lower))
+            } else {
+                with_right(lower, hashes)
+            }
+        }
+    }
+}

@@ -1,0 +1,144 @@
+-- Steps of a core in turn.
+use Rattle.std.proofs.Common.{◌≡◌, ◌∙◌, ℕ, ◌+◌, ◌<◌, false, Result, Ok, Err, OnOk, List, [], ◌∷◌, ◌++◌, length, map, take, drop, get_or, slice_set, arith, refl, sym, ap, subst}
+use Rattle.std.proofs.lemmas.List.{append-nil, map-append, take_more, drop_more, take-append-drop, length-map, length-take-le}
+use Rattle.audit_device.specs.declared.sectors.Sectors as sectors
+use Rattle.audit_chain.specs.Event.{EventData}
+use Rattle.audit_layout.specs.Origin.{Origin}
+use Rattle.audit_queue.specs.GroupCommit.{group_commit}
+use Rattle.audit_queue.specs.Arrivals.{Arrival, appends_among}
+use Rattle.audit_store.specs.Store.{is_broken, Holds}
+use Rattle.audit_store.specs.declared.store_error.StoreError.{StoreError}
+use Rattle.audit_store.specs.declared.store_error.StoreError.TheVariants.{Broken}
+use Rattle.audit_commit.specs.declared.committer.Committer.{Committer}
+use Rattle.audit_commit.specs.Committer.{store_of}
+use Rattle.audit_commit.specs.Flush.{IsFlushEnd, IsFlush}
+use Rattle.audit_sessions.specs.Steps.{StepData, a_piece, an_end, a_flush}
+use Rattle.audit_server.specs.declared.feed_fault.FeedFault.{FeedFault}
+use Rattle.audit_server.specs.declared.server_core.Core.{Core}
+use Rattle.audit_run.specs.Sessions.{SessionData, sessions_after, arrivals_by, state_after, sessions_run, arrivals_run, session_run}
+use Rattle.audit_server.specs.Running.{HaveEntered, AdvancesBy}
+use Rattle.audit_server.specs.Core.{committer_of, sessions_of, is_core_broken, IsSound, IsUntouched, IsPieceEnd, IsEndEnd, HasDone}
+use Rattle.audit_server.specs.declared.step.Step.{Step}
+use Rattle.audit_server.specs.declared.drive_fault.DriveFault.{DriveFault}
+use Rattle.audit_server.specs.Driving.{step_data, IsStepRefused, IsDriveStopped}
+use Rattle.audit_server.proofs.Sound.{entered_sound, flushed_sound}
+use Rattle.audit_run.proofs.Steps.{appends-append, sessions-append, arrivals-append, run-append}
+use Rattle.audit_server.proofs.Runs.{advances_none, advances_more, advances_as}
+
+abbrev refusal_of : FeedFault → Result (Unit {0}) FeedFault
+refusal_of fault = Err fault
+
+abbrev stop_of : DriveFault → Result (Unit {0}) DriveFault
+stop_of fault = Err fault
+
+module _ {D : Type 0} {g : sectors.Ghosts D} where
+  all_sound : (arrivals : List Arrival) (old new : Committer D g) → HaveEntered arrivals old new → is_broken (store_of old) ≡ false → is_broken (store_of new) ≡ false
+  all_sound [] old new same sound = ap (λ (c : Committer D g). is_broken (store_of c)) same ∙ sound
+  all_sound (arrival ∷ arrivals) old new all sound = all_sound arrivals all.0 new all.2 (entered_sound arrival old all.0 all.1 sound)
+
+  -- ---- one step
+
+  one_step : (step : StepData) (old new : Core D g) → sessions_of new ≡ sessions_after step (sessions_of old) → IsSound new
+      → AdvancesBy (appends_among (arrivals_by step (sessions_of old))) (λ origin. state_after origin step (sessions_of old)) (committer_of old) (committer_of new) → HasDone (step ∷ []) old new
+  one_step step old new sessions sound advances = record {
+    sessions = sessions;
+    sound = sound;
+    advances = advances_as (ap appends_among (sym (append-nil (arrivals_by step (sessions_of old))))) (λ origin state. refl) advances;
+  }
+
+  pub piece_done : (k : ℕ) (piece : List ℕ) (old new : Core D g) (result : Result (Unit {0}) FeedFault) → IsPieceEnd k piece old new result → IsSound old → OnOk result (HasDone (a_piece k piece ∷ []) old new)
+  piece_done k piece old new (Err fault) end sound = tt
+  piece_done k piece old new (Ok done) end sound =
+      one_step (a_piece k piece) old new (end.only ∙ ap (slice_set (sessions_of old) k) end.fed.session) (all_sound _ (committer_of old) (committer_of new) end.fed.run.entered sound) end.fed.run.advances
+
+  pub end_done : (k : ℕ) (old new : Core D g) (result : Result (Unit {0}) StoreError) → IsEndEnd k old new result → IsSound old → OnOk result (HasDone (an_end k ∷ []) old new)
+  end_done k old new (Err error) end sound = tt
+  end_done k old new (Ok done) end sound =
+      one_step (an_end k) old new (end.only ∙ ap (slice_set (sessions_of old) k) end.ended.session) (all_sound _ (committer_of old) (committer_of new) end.ended.frame.entered sound) end.ended.frame.advances
+
+  -- a flush that succeeded
+  flush_advances : (old new : Committer D g) → ((origin : Origin) (events : List EventData) → Holds (store_of old) origin events → (after : List EventData) × IsFlush origin old new events after (Ok tt)) → AdvancesBy [] group_commit old new
+  flush_advances old new flush = λ origin events holds.
+      let one = flush origin events holds in
+      (one.0, record { durable = one.1.durable; unbroken = one.1.unbroken; done = one.1.done })
+
+  pub flush_done : (old new : Core D g) (result : Result (Unit {0}) StoreError) → sessions_of new ≡ sessions_of old → IsFlushEnd (committer_of old) (committer_of new) result
+      → ((origin : Origin) (events : List EventData) → Holds (store_of (committer_of old)) origin events → (after : List EventData) × IsFlush origin (committer_of old) (committer_of new) events after result) → IsSound old → OnOk result (HasDone (a_flush ∷ []) old new)
+  flush_done old new (Err error) sessions end flush sound = tt
+  flush_done old new (Ok done) sessions end flush sound =
+      one_step a_flush old new sessions (flushed_sound (committer_of old) (committer_of new) end sound) (flush_advances (committer_of old) (committer_of new) flush)
+
+  -- ---- steps in a row
+
+  pub done_none : (core : Core D g) → IsSound core → HasDone [] core core
+  done_none core sound = record { sessions = refl; sound = sound; advances = advances_none (committer_of core) }
+
+  pub done_more : {steps later : List StepData} {old mid new : Core D g} → HasDone steps old mid → HasDone later mid new → HasDone (steps ++ later) old new
+  done_more {steps = steps} {later = later} {old = old} {mid = mid} {new = new} first next =
+      let sessions : List SessionData = sessions_of old in
+      record {
+        sessions = next.sessions ∙ ap (sessions_run later) first.sessions ∙ sym (sessions-append steps later sessions);
+        sound = next.sound;
+        advances =
+            advances_as
+            (sym (appends-append (arrivals_run steps sessions) (arrivals_run later (sessions_of mid)))
+            ∙ ap (λ (middle : List SessionData). appends_among (arrivals_run steps sessions ++ arrivals_run later middle)) first.sessions
+            ∙ ap appends_among (sym (arrivals-append steps later sessions)))
+            (λ origin state.
+            ap (λ (middle : List SessionData). session_run origin later middle (session_run origin steps sessions state)) first.sessions
+            ∙ sym (run-append origin steps later sessions state))
+            (advances_more first.advances next.advances);
+      }
+
+  -- ---- a list of steps
+
+  -- all steps before a place were done, and none by a broken core
+  pub record DoneTo (steps : List Step) (number : ℕ) (old now : Core D g) : Type 0 where
+    pub none : is_core_broken old → (number ≡ 0) × IsUntouched old now
+    pub done : IsSound old → HasDone (map step_data (take number steps)) old now
+
+  pub drive_none : (steps : List Step) (core : Core D g) → DoneTo steps 0 core core
+  drive_none steps core = record { none = λ broken. (refl, record { committer = refl; sessions = refl }); done = λ sound. done_none core sound }
+
+  pub still_broken : {steps : List Step} {number : ℕ} {old now : Core D g} → DoneTo steps number old now → is_core_broken old → is_core_broken now
+  still_broken to broken = ap (λ (c : Committer D g). is_broken (store_of c)) (to.none broken).1.committer ∙ broken
+
+  pub drive_more : {steps : List Step} {number : ℕ} {old now new : Core D g} (none : Step) → DoneTo steps number old now → number < length steps → (is_core_broken now → ⊥) → (IsSound now → HasDone (step_data (get_or steps number none) ∷ []) now new)
+      → DoneTo steps (number + 1) old new
+  drive_more {steps = steps} {number = number} {old = old} {new = new} none to within not_broken next = record {
+    none = λ broken. absurd (not_broken (still_broken to broken));
+    done = λ sound.
+        let first = to.done sound in
+        subst (λ (all : List StepData). HasDone all old new)
+        (sym (ap (map step_data) (take_more steps number none within) ∙ map-append step_data (take number steps) (get_or steps number none ∷ [])))
+        (done_more first (next first.sound));
+  }
+
+  pub drive_stopped : {steps : List Step} {number : ℕ} {old now new : Core D g} (none : Step) (fault : FeedFault) → DoneTo steps number old now → number < length steps → (IsSound now → IsStepRefused (step_data (get_or steps number none)) fault now new) → IsSound old
+      → IsDriveStopped steps (record { step = number; taken = fault.taken; error = fault.error }) old new
+  drive_stopped {steps = steps} {number = number} {now = now} none fault to within refused sound =
+      let first = to.done sound in
+      record {
+        before = map step_data (take number steps);
+        step = step_data (get_or steps number none);
+        later = map step_data (drop (number + 1) steps);
+        are =
+            ap (map step_data) (sym (take-append-drop number steps))
+            ∙ map-append step_data (take number steps) (drop number steps)
+            ∙ ap (λ (rest : List Step). map step_data (take number steps) ++ map step_data rest) (drop_more steps number none within);
+        count = length-map (take number steps) step_data ∙ length-take-le number steps (omega (arith, within));
+        mid = now;
+        done = first;
+        refused = refused first.sound;
+      }
+
+  pub drive_refused : {steps : List Step} {number : ℕ} {old now new : Core D g} (fault : FeedFault) → DoneTo steps number old now → (is_core_broken now → (refusal_of fault ≡ refusal_of (record { taken = 0; error = Broken })) × IsUntouched now new) → is_core_broken old
+      → (stop_of (record { step = number; taken = fault.taken; error = fault.error }) ≡ stop_of (record { step = 0; taken = 0; error = Broken })) × IsUntouched old new
+  drive_refused {number = number} fault to refused broken =
+      let now_refused = refused (still_broken to broken) in
+      let is : fault ≡ record { taken = 0; error = Broken } = cc (now_refused.0) in
+      let before = to.none broken in (
+        ap (λ (f : FeedFault). stop_of (record { step = number; taken = f.taken; error = f.error })) is
+            ∙ ap (λ (n : ℕ). stop_of (record { step = n; taken = 0; error = Broken })) before.0,
+        record { committer = now_refused.1.committer ∙ before.1.committer; sessions = now_refused.1.sessions ∙ before.1.sessions },
+      )

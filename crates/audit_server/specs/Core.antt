@@ -1,0 +1,64 @@
+-- What contracts see of a core, and what its calls do.
+use Rattle.std.specs.Prelude.{◌≡◌, ℕ, true, false, Result, List, slice_set}
+use Rattle.audit_device.specs.declared.sectors.Sectors as sectors
+use Rattle.audit_queue.specs.Arrivals.{appends_among}
+use Rattle.audit_store.specs.Store.{is_broken}
+use Rattle.audit_store.specs.declared.store_error.StoreError.{StoreError}
+use Rattle.audit_commit.specs.declared.committer.Committer.{Committer}
+use Rattle.audit_commit.specs.Committer.{store_of}
+use Rattle.audit_sessions.specs.Steps.{StepData}
+use Rattle.audit_server.specs.declared.server_core.Core.{Core}
+use Rattle.audit_server.specs.declared.feed_fault.FeedFault.{FeedFault}
+use Rattle.audit_run.specs.Sessions.{SessionData, session_at, sessions_run, arrivals_run, session_run}
+use Rattle.audit_run.specs.Serving.{CoreData}
+use Rattle.audit_server.specs.Running.{AdvancesBy}
+use Rattle.audit_server.specs.Feeding.{IsFed}
+use Rattle.audit_server.specs.Ending.{IsEnd}
+
+module _ {D : Type 0} {g : sectors.Ghosts D} where
+  -- its store with the queue and the outputs, and its sessions
+  abbrev pub committer_of : Core D g → Committer D g
+  committer_of core = core.committer
+
+  abbrev pub sessions_of : Core D g → List SessionData
+  sessions_of core = core.sessions.items
+
+  abbrev pub data_of : Core D g → CoreData D g
+  data_of core = record { committer = core.committer; sessions = core.sessions.items }
+
+  abbrev pub session_of : ℕ → Core D g → SessionData
+  session_of k core = session_at k core.sessions.items
+
+  abbrev pub is_core_broken : Core D g → Type 0
+  is_core_broken core = is_broken (store_of core.committer) ≡ true
+
+  abbrev pub IsSound : Core D g → Type 0
+  IsSound core = is_broken (store_of core.committer) ≡ false
+
+  -- the sessions but one are as they were
+  abbrev pub OnlySession : ℕ → Core D g → Core D g → Type 0
+  OnlySession k old new = sessions_of new ≡ slice_set (sessions_of old) k (session_of k new)
+
+  -- nothing has changed
+  pub record IsUntouched (old new : Core D g) : Type 0 where
+    pub committer : committer_of new ≡ committer_of old
+    pub sessions : sessions_of new ≡ sessions_of old
+
+  -- ---- a piece, and an end
+
+  pub record IsPieceEnd (k : ℕ) (piece : List ℕ) (old new : Core D g) (result : Result (Unit {0}) FeedFault) : Type 0 where
+    pub only : OnlySession k old new
+    pub fed : IsFed k piece (session_of k old) (session_of k new) (committer_of old) (committer_of new) result
+
+  pub record IsEndEnd (k : ℕ) (old new : Core D g) (result : Result (Unit {0}) StoreError) : Type 0 where
+    pub only : OnlySession k old new
+    pub ended : IsEnd k (session_of k old) (session_of k new) (committer_of old) (committer_of new) result
+
+  -- ---- steps in turn
+
+  -- From a core that isn't broken: the sessions are those after the steps; and on a store that holds events
+  -- acknowledgements are durable, and where the device counted no failure the state is that of the session run.
+  pub record HasDone (steps : List StepData) (old new : Core D g) : Type 0 where
+    pub sessions : sessions_of new ≡ sessions_run steps (sessions_of old)
+    pub sound : IsSound new
+    pub advances : AdvancesBy (appends_among (arrivals_run steps (sessions_of old))) (λ origin. session_run origin steps (sessions_of old)) (committer_of old) (committer_of new)

@@ -1,0 +1,39 @@
+-- A core as a core that serves sessions.
+use Rattle.std.specs.Prelude.{ℕ, Bool, List, [], ◌∷◌, slice_index_or}
+use Rattle.std.proofs.Common.{◌∙◌, sym, ap}
+use Rattle.audit_device.specs.declared.sectors.Sectors as sectors
+use Rattle.audit_commit.specs.Committer.{outputs_of}
+use Rattle.audit_sessions.specs.Steps.{StepData}
+use Rattle.audit_sessions.specs.Core.{CoreModel}
+use Rattle.audit_server.specs.declared.server_core.Core.{Core}
+use Rattle.audit_run.specs.Sessions.{SessionData, session_at, sessions_run}
+use Rattle.audit_server.specs.Core.{committer_of, sessions_of, data_of}
+use Rattle.audit_run.specs.Serving.{HasServed, KeepsOn}
+use Rattle.audit_run.proofs.Steps.{sessions-append}
+use Rattle.audit_run.proofs.Serving.{served_none, served_more, served_keeps, keeps_then, stays}
+
+module _ {D : Type 0} {g : sectors.Ghosts D} where
+  -- whether a session has ended, once a core has done these steps
+  abbrev pub ended_by : Core D g → List StepData → ℕ → Bool
+  ended_by core steps k = (session_at k (sessions_run steps (sessions_of core))).ended
+
+  abbrev pub output_of : Core D g → ℕ → List ℕ
+  output_of core k = slice_index_or (outputs_of (committer_of core)) k []
+
+  abbrev pub core_model : CoreModel (Core D g)
+  core_model = record {
+    ended = ended_by;
+    output = output_of;
+    Did = λ old new. HasServed (data_of old) (data_of new);
+    Reaches = λ old new. KeepsOn (data_of old) (data_of new);
+    nothing_done = λ core. served_none (data_of core);
+    more_done = λ old mid new steps later taken more first next. served_more (data_of old) (data_of mid) (data_of new) first next;
+    ended_by_steps = λ old new steps later taken k did.
+        ap (λ (sessions : List SessionData). (session_at k (sessions_run later sessions)).ended) did.sessions
+        ∙ ap (λ (sessions : List SessionData). (session_at k sessions).ended) (sym (sessions-append steps later (sessions_of old)));
+    ended_alone = λ core steps step k not.
+        ap (λ (sessions : List SessionData). (session_at k sessions).ended) (sessions-append steps (step ∷ []) (sessions_of core))
+        ∙ ap (λ (session : SessionData). session.ended) (stays (sessions_run steps (sessions_of core)) step k not);
+    done_reaches = λ old new steps taken did. served_keeps (data_of old) (data_of new) steps taken did;
+    reaches_on = λ old mid new first next. keeps_then (data_of old) (data_of mid) (data_of new) first next;
+  }

@@ -1,0 +1,12 @@
+use audit_store::StoreError;
+
+/// A list of steps that wasn't done whole.
+#[derive(Clone, Copy, Debug, Drop, PartialEq, Eq)]
+pub struct DriveFault {
+    /// How many steps were done: the next one was refused.
+    pub step: usize,
+    /// How many bytes of its piece were taken; 0 for an end or a flush.
+    pub taken: usize,
+    /// Why it was refused.
+    pub error: StoreError,
+}

@@ -1,0 +1,53 @@
+//! Steps done in turn.
+ghost use Rattle.std.specs.Prelude.{◌≡◌, ◌≢◌, [], ◌∷◌, Err, OnOk, IfErr, map};
+ghost use Rattle.std.specs.List.{AllByRecursion};
+ghost use Rattle.audit_store.specs.declared.store_error.StoreError.TheVariants.{Broken};
+ghost use Rattle.audit_server.specs.Core.{is_core_broken, IsSound, IsUntouched, HasDone};
+ghost use Rattle.audit_server.specs.Driving.{step_data, IsOfSession, IsStepRefused, IsDriveStopped};
+
+use crate::drive_fault::DriveFault;
+use crate::feed_fault::FeedFault;
+use crate::server_core::Core;
+use crate::step::Step;
+use audit_device::Sectors;
+
+/// Does these steps in turn, up to the first one that is refused.
+pub fn drive<D: Sectors>(core: &mut Core<D>, steps: &[Step]) -> Result<(), DriveFault>
+    requires { AllByRecursion IsOfSession steps.now }
+    // A core that met a fault of the device before does none.
+    ensures broken { is_core_broken core.old → steps.now ≢ []
+        → (result ≡ Err (record { step = 0; taken = 0; error = Broken })) × IsUntouched core.old core.new }
+    // Else all steps were done, or those before one that was refused.
+    ensures done { IsSound core.old → OnOk result (HasDone (map step_data steps.now) core.old core.new) }
+    ensures stopped { IsSound core.old → IfErr result (λ fault. IsDriveStopped steps.now fault core.old core.new) }
+{
+    for number in 0..steps.len() {
+        if let Err(fault) = do_step(core, &steps[number]) {
+            return Err(DriveFault {
+                step: number,
+                taken: fault.taken,
+                error: fault.error,
+            });
+        }
+    }
+    Ok(())
+}
+
+fn do_step<D: Sectors>(core: &mut Core<D>, step: &Step) -> Result<(), FeedFault>
+    requires { IsOfSession step.now }
+    ensures broken { is_core_broken core.old
+        → (result ≡ Err (record { taken = 0; error = Broken })) × IsUntouched core.old core.new }
+    ensures done { IsSound core.old → OnOk result (HasDone (step_data step.now ∷ []) core.old core.new) }
+    ensures refused { IsSound core.old
+        → IfErr result (λ fault. IsStepRefused (step_data step.now) fault core.old core.new) }
+{
+    let done = match *step {
+        Step::Feed { session, piece } => return core.feed(session, piece),
+        Step::End { session } => core.end(session),
+        Step::Flush => core.flush(),
+    };
+    match done {
+        Ok(()) => Ok(()),
+        Err(error) => Err(FeedFault { taken: 0, error }),
+    }
+}

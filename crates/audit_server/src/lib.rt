@@ -1,0 +1,20 @@
+//! The core that serves sessions over a store: bytes of requests come in by pieces, and bytes of replies wait to be
+//! taken.
+#![tactic(auto)]
+
+mod core_failed;
+mod drive_fault;
+mod driving;
+mod entering;
+mod feed_fault;
+mod server_core;
+mod session;
+mod session_core;
+mod step;
+
+pub use core_failed::CoreFailed;
+pub use drive_fault::DriveFault;
+pub use driving::drive;
+pub use feed_fault::FeedFault;
+pub use server_core::Core;
+pub use step::Step;

@@ -1,0 +1,192 @@
+ghost use Rattle.std.specs.Prelude.{◌≡◌};
+ghost use Rattle.audit_server.specs.Feeding.{place_after};
+
+use crate::entering::{Item, enter_body};
+use crate::feed_fault::FeedFault;
+use audit_commit::Committer;
+use audit_device::Sectors;
+use audit_queue::{Query, Question};
+use audit_store::StoreError;
+use audit_wire::{Decoder, Fed};
+use std::alloc::{AllocError, Global};
+use std::marker::Model;
+
+/// What the front of a piece was.
+#[derive(Clone, Copy, Debug, Drop, PartialEq, Eq)]
+pub(crate) enum Front {
+    /// No whole frame: all of the piece was taken.
+    Part,
+    /// A request, which ended after so many bytes of the piece, and was queued.
+    Request { taken: usize },
+    /// A malformed place, which was queued: the session has ended.
+    Malformed,
+}
+
+/// What a core keeps of a session: its decoder, and whether it has ended.
+#[derive(Drop)]
+pub(crate) struct Session {
+    decoder: Decoder,
+    ended: bool,
+}
+
+// How many bytes of a piece there are up to the end of a frame or of a malformed length.
+fn place_after(fed: Fed) -> Option<usize>
+    ensures { result ≡ place_after fed }
+{
+    match fed {
+        Fed::More => None,
+        Fed::Body { taken } | Fed::Malformed { taken } => Some(taken),
+    }
+}
+
+impl Model for Session {
+    ghost use Rattle.audit_run.specs.Sessions.{SessionData};
+    ghost use Rattle.audit_server.specs.Feeding.{session_view, IsLive};
+
+    ghost Value = { SessionData };
+
+    ghost view = { λ session. session_view session.decoder session.ended };
+
+    ghost invariant = { λ session. IsLive session.decoder session.ended };
+}
+
+impl Session {
+    ghost use Rattle.std.specs.Prelude.{◌≡◌, ◌<◌, ℕ, false, IfOk};
+    ghost use Rattle.audit_queue.specs.declared.limits.TheConstants.{SESSIONS};
+    ghost use Rattle.audit_store.specs.Store.{is_broken};
+    ghost use Rattle.audit_commit.specs.Committer.{store_of};
+    ghost use Rattle.audit_run.specs.Sessions.{new_session, ended_session};
+    ghost use Rattle.audit_server.specs.Feeding.{IsFront, IsFed};
+    ghost use Rattle.audit_server.specs.Ending.{IsFrameEnd, IsEnd};
+
+    /// A session at the front of its stream. It takes the room that it will ever have; the only error is that memory
+    /// is refused.
+    pub(crate) fn new(alloc: Global) -> Result<Session, AllocError>
+        ensures { IfOk result (λ session. session ≡ new_session) }
+    {
+        Ok(Session {
+            decoder: Decoder::new(alloc)?,
+            ended: false,
+        })
+    }
+
+    pub(crate) fn has_ended(&self) -> bool
+        ensures { result ≡ self.now.ended }
+    {
+        self.ended
+    }
+
+    /// Takes the next bytes of the session, of number `k`. Refused, it has taken the bytes before the one that made
+    /// whole what was refused.
+    pub(crate) fn feed<D: Sectors>(
+        &mut self,
+        committer: &mut Committer<D>,
+        alloc: Global,
+        k: usize,
+        piece: &[u8],
+    ) -> Result<(), FeedFault>
+        requires session { k < SESSIONS }
+        requires sound { is_broken (store_of committer.old) ≡ false }
+        ensures { IsFed k piece.now self.old self.new committer.old committer.new result }
+    {
+        if self.ended {
+            return Ok(());
+        }
+        self.feed_live(committer, alloc, k, piece)
+    }
+
+    fn feed_live<D: Sectors>(
+        &mut self,
+        committer: &mut Committer<D>,
+        alloc: Global,
+        k: usize,
+        piece: &[u8],
+    ) -> Result<(), FeedFault>
+        requires session { k < SESSIONS }
+        requires sound { is_broken (store_of committer.old) ≡ false }
+        requires live { self.old.ended ≡ false }
+        ensures { IsFed k piece.now self.old self.new committer.old committer.new result }
+    {
+        let mut taken = 0;
+        loop {
+            match self.take_front(committer, alloc, k, &piece[taken..]) {
+                Ok(Front::Request { taken: more }) => taken += more,
+                Ok(Front::Part) => return Ok(()),
+                Ok(Front::Malformed) => return Ok(()),
+                Err(fault) => {
+                    return Err(FeedFault {
+                        taken: taken + fault.taken,
+                        error: fault.error,
+                    });
+                }
+            }
+        }
+    }
+
+    // Takes a piece up to the end of its first frame.
+    fn take_front<D: Sectors>(
+        &mut self,
+        committer: &mut Committer<D>,
+        alloc: Global,
+        k: usize,
+        piece: &[u8],
+    ) -> Result<Front, FeedFault>
+        requires session { k < SESSIONS }
+        requires live { self.old.ended ≡ false }
+        ensures { IsFront k piece.now self.old self.new committer.old committer.new result }
+    {
+        let fed = self.decoder.feed(piece);
+        let Some(taken) = place_after(fed) else {
+            return Ok(Front::Part);
+        };
+        // A malformed length lends no bytes, and no bytes are no request.
+        match enter_body(committer, alloc, k, self.decoder.body()) {
+            Ok(Item::Request) => Ok(Front::Request { taken }),
+            Ok(Item::Malformed) => {
+                self.ended = true;
+                Ok(Front::Malformed)
+            }
+            Err(error) => {
+                self.decoder.put_back();
+                let taken = taken - 1;
+                Err(FeedFault { taken, error })
+            }
+        }
+    }
+
+    /// Ends the session, of number `k`: a frame that is begun is malformed then. Refused, it has not ended.
+    pub(crate) fn end<D: Sectors>(
+        &mut self,
+        committer: &mut Committer<D>,
+        k: usize,
+    ) -> Result<(), StoreError>
+        requires session { k < SESSIONS }
+        requires sound { is_broken (store_of committer.old) ≡ false }
+        ensures { IsEnd k self.old self.new committer.old committer.new result }
+    {
+        match self.end_frame(committer, k) {
+            Ok(()) => {
+                self.ended = true;
+                Ok(())
+            }
+            Err(error) => Err(error),
+        }
+    }
+
+    // Queues a frame that is begun as a malformed place.
+    fn end_frame<D: Sectors>(
+        &self,
+        committer: &mut Committer<D>,
+        k: usize,
+    ) -> Result<(), StoreError>
+        requires session { k < SESSIONS }
+        requires sound { is_broken (store_of committer.old) ≡ false }
+        ensures { IsFrameEnd k self.now committer.old committer.new result }
+    {
+        if self.ended || !self.decoder.pending() {
+            return Ok(());
+        }
+        let query = Query::Malformed;
+        committer.ask(Question { session: k, query })
+    }
+}

@@ -1,0 +1,35 @@
+use crate::server_core::Core;
+use audit_device::Sectors;
+use audit_sessions::SessionCore;
+use audit_store::StoreError;
+
+impl<D: Sectors> SessionCore for Core<D> {
+    ghost use Rattle.audit_server.specs.CoreModel.{core_model};
+
+    type Error = StoreError;
+
+    ghost model = { core_model };
+
+    fn feed(&mut self, session: usize, piece: &[u8]) -> Result<(), StoreError> {
+        match self.feed(session, piece) {
+            Ok(()) => Ok(()),
+            Err(fault) => Err(fault.error),
+        }
+    }
+
+    fn end(&mut self, session: usize) -> Result<(), StoreError> {
+        self.end(session)
+    }
+
+    fn flush(&mut self) -> Result<(), StoreError> {
+        self.flush()
+    }
+
+    fn take_output(&mut self, session: usize) -> Vec<u8> {
+        self.take_output(session)
+    }
+
+    fn ended(&self, session: usize) -> bool {
+        self.ended(session)
+    }
+}

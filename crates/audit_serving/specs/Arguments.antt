@@ -1,0 +1,22 @@
+-- Arguments that are judged by hand.
+use Rattle.std.specs.Prelude.{ℕ, nat_le, ◌&&◌, Option, Some, None, Result, Ok, Err, List, if◌then◌else◌}
+use Rattle.audit_lines.specs.Number.{number_of}
+use Rattle.audit_sessions.specs.declared.limits.TheConstants.{SESSIONS}
+use Rattle.audit_commands.specs.declared.fault.CommandFault.{CommandFault}
+use Rattle.audit_commands.specs.declared.fault.CommandFault.TheVariants.{BadArgument}
+
+-- any number
+abbrev pub or_bad : Option ℕ → Result ℕ CommandFault
+or_bad None = Err BadArgument
+or_bad (Some rounds) = Ok rounds
+
+abbrev pub rounds_asked : List ℕ → Result ℕ CommandFault
+rounds_asked word = or_bad (number_of word)
+
+-- a number of sessions that a core can have, and one at least
+abbrev pub judged_sessions : Option ℕ → Result ℕ CommandFault
+judged_sessions None = Err BadArgument
+judged_sessions (Some sessions) = if nat_le 1 sessions && nat_le sessions SESSIONS then Ok sessions else Err BadArgument
+
+abbrev pub sessions_asked : List ℕ → Result ℕ CommandFault
+sessions_asked word = judged_sessions (number_of word)

@@ -1,0 +1,4 @@
+pub mod StreamSteps
+pub mod Transitions
+pub mod Turns
+pub mod Runs

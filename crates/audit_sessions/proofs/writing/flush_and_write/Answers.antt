@@ -1,0 +1,11 @@
+use Rattle.std.proofs.Common.{length, map}
+use Rattle.audit_sessions.proofs.Turns.{on_ok}
+use Rattle.audit_sessions.proofs.Runs.{flush_then}
+use Rattle.audit_sessions.proofs.writing.flush_and_write.Goals as goal
+
+pub returns-clause-done : goal.returns-clause-done
+returns-clause-done g c =
+    let view = g.S.SessionStream.view in
+    on_ok c.write_turns.result
+    (flush_then g.C.SessionCore.model (length c.args.streams.now) c.args.core.now c.flush.new.self c.write_turns.new.core (map view c.args.streams.now) (map view c.write_turns.new.streams) c.in_ok-flush.ensures.did)
+    c.write_turns.ensures.done

@@ -1,0 +1,30 @@
+use Rattle.std.proofs.Common.{◌<◌, ℕ, suc, List, length, map, set, sym, subst, rules, arith, add-one}
+use Rattle.std.proofs.lemmas.List.{length-map}
+use Rattle.audit_sessions.specs.Streams.{StreamView}
+use Rattle.audit_sessions.specs.Transition.{Transition, AreTaken}
+use Rattle.audit_sessions.proofs.Transitions.{view_in, views_set}
+use Rattle.audit_sessions.proofs.Runs.{none_taken, take_more}
+use Rattle.audit_sessions.proofs.writing.write_turns.Goals as goal
+
+pub loop-session-init : goal.loop-session-init
+loop-session-init g c = none_taken g.C.SessionCore.model c.args.core.now (map g.S.SessionStream.view c.args.streams.now)
+
+pub returns-in_err-write_turn-clause-reaches : goal.returns-in_err-write_turn-clause-reaches
+returns-in_err-write_turn-clause-reaches g c =
+    let M = g.C.SessionCore.model in
+    M.reaches_on c.args.core.now c.loop-session.core c.write_turn.new.core
+    (M.done_reaches c.args.core.now c.loop-session.core c.loop-session.invariant.steps c.loop-session.invariant.taken c.loop-session.invariant.did)
+    c.write_turn.ensures.reaches
+
+pub loop-session-preserved : goal.loop-session-preserved
+loop-session-preserved g c =
+    let M = g.C.SessionCore.model in
+    let view = g.S.SessionStream.view in
+    let l = c.loop-session in
+    let new = c.write_turn.new.core in
+    let begun = map view c.args.streams.now in
+    let within : l.session < length l.streams = search rules in
+    let inside : l.session < length (map view l.streams) = omega (arith, within, length-map l.streams view) in
+    subst (λ (count : ℕ). Transition M c.args.core.now new begun (map view (set l.streams l.session c.write_turn.new.stream)) (AreTaken M count new)) (sym (add-one l.session))
+    (subst (λ (views : List StreamView). Transition M c.args.core.now new begun views (AreTaken M (suc l.session) new)) (views_set view l.streams l.session c.write_turn.new.stream)
+    (take_more M l.session c.args.core.now l.core new begun (map view l.streams) _ _ l.invariant inside (view_in view l.streams l.session c.index-streams-session.result within) c.in_ok-write_turn.ensures.done))

@@ -1,0 +1,28 @@
+-- How contracts see a core that serves sessions.
+use Rattle.std.specs.Prelude.{◌≡◌, ℕ, ◌==◌, Bool, if◌then◌else◌, List, [], ◌∷◌, ◌++◌}
+use Rattle.audit_sessions.specs.Steps.{StepData, IsAbout}
+
+-- the bytes of each session: none, or those of one session
+abbrev pub no_bytes : ℕ → List ℕ
+no_bytes session = []
+
+abbrev pub bytes_for : ℕ → List ℕ → ℕ → List ℕ
+bytes_for k bytes session = if session == k then bytes else []
+
+pub record CoreModel (C : Type 0) : Type 1 where
+  -- whether a session has ended once a core has done these steps
+  pub ended : C → List StepData → ℕ → Bool
+  -- the bytes that wait for a session
+  pub output : C → ℕ → List ℕ
+  -- a core came from one state to another by these steps, and these bytes were taken of the outputs of the sessions
+  pub Did : C → C → List StepData → (ℕ → List ℕ) → Type 0
+  -- a core came from one state to another by calls of which some may have been refused
+  pub Reaches : C → C → Type 0
+  pub nothing_done : (core : C) → Did core core [] no_bytes
+  pub more_done : (old mid new : C) (steps later : List StepData) (taken more : ℕ → List ℕ) → Did old mid steps taken → Did mid new later more
+      → Did old new (steps ++ later) (λ session. taken session ++ more session)
+  -- whether a session has ended depends on the steps alone, and on those of that session alone
+  pub ended_by_steps : (old new : C) (steps later : List StepData) (taken : ℕ → List ℕ) (k : ℕ) → Did old new steps taken → ended new later k ≡ ended old (steps ++ later) k
+  pub ended_alone : (core : C) (steps : List StepData) (step : StepData) (k : ℕ) → (IsAbout k step → ⊥) → ended core (steps ++ step ∷ []) k ≡ ended core steps k
+  pub done_reaches : (old new : C) (steps : List StepData) (taken : ℕ → List ℕ) → Did old new steps taken → Reaches old new
+  pub reaches_on : (old mid new : C) → Reaches old mid → Reaches mid new → Reaches old new

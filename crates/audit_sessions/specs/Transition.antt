@@ -1,0 +1,94 @@
+-- What a call does that serves the sessions of several streams.
+use Rattle.std.specs.Prelude.{◌≡◌, ℕ, ◌<◌, ◌≤◌, Bool, true, false, List, [], ◌∷◌, length, map}
+use Rattle.audit_sessions.specs.Steps.{StepData, an_end, a_flush, IsAbout, AreAbout}
+use Rattle.audit_sessions.specs.Rounds.{live_below, IsTurnOf, AreTurnsOf, IsWholeRun, IsCutRun}
+use Rattle.audit_sessions.specs.Streams.{StreamView, NoneFailed, AllKnown, IsStreamed, AreStreamed}
+use Rattle.audit_sessions.specs.Core.{CoreModel, bytes_for}
+
+-- The core did some steps, of a shape where no stream failed. What they brought was read of the streams, and what was
+-- taken of the outputs was written to them.
+pub record Transition {C : Type 0} (M : CoreModel C) (old new : C) (before after : List StreamView) (Shape : List StepData → Type 0) : Type 0 where
+  pub count : length after ≡ length before
+  pub steps : List StepData
+  pub taken : ℕ → List ℕ
+  pub did : M.Did old new steps taken
+  -- nothing was taken of the output of a session that has no stream
+  pub others : (k : ℕ) → length before ≤ k → taken k ≡ []
+  pub calm : NoneFailed after → NoneFailed before × Shape steps
+  pub known : AllKnown before → NoneFailed after → AllKnown after × AreStreamed steps taken before after
+
+-- The same of one session and its stream.
+pub record SessionTransition {C : Type 0} (M : CoreModel C) (k : ℕ) (old new : C) (before after : StreamView) (Shape : List StepData → Type 0) : Type 0 where
+  pub steps : List StepData
+  pub sent : List ℕ
+  pub did : M.Did old new steps (bytes_for k sent)
+  pub about : AreAbout k steps
+  pub calm : after.failed ≡ false → (before.failed ≡ false) × Shape steps
+  pub known : before.known ≡ true → after.failed ≡ false → (after.known ≡ true) × IsStreamed k steps sent before after
+
+-- The core did some steps of a shape, and no stream was used.
+pub record CoreTransition {C : Type 0} (M : CoreModel C) (old new : C) (Shape : List StepData → Type 0) : Type 0 where
+  pub steps : List StepData
+  pub taken : ℕ → List ℕ
+  pub did : M.Did old new steps taken
+  pub none : (k : ℕ) → taken k ≡ []
+  pub shape : Shape steps
+
+-- The core did some steps, of a shape where no stream failed.
+pub record EndsAs {C : Type 0} (M : CoreModel C) (old new : C) (before after : List StreamView) (Shape : List StepData → Type 0) : Type 0 where
+  pub count : length after ≡ length before
+  pub steps : List StepData
+  pub taken : ℕ → List ℕ
+  pub did : M.Did old new steps taken
+  -- nothing was taken of the output of a session that has no stream
+  pub others : (k : ℕ) → length before ≤ k → taken k ≡ []
+  pub calm : NoneFailed after → NoneFailed before × Shape steps
+
+-- ---- shapes
+
+-- one turn of a session
+abbrev pub IsOneTurn : ℕ → List StepData → Type 0
+IsOneTurn k steps = (step : StepData) × (steps ≡ step ∷ []) × IsTurnOf k step
+
+-- no step is about a session
+abbrev pub AreElsewhere : ℕ → List StepData → Type 0
+AreElsewhere k [] = Unit {0}
+AreElsewhere k (step ∷ steps) = (IsAbout k step → ⊥) × AreElsewhere k steps
+
+-- a turn of each live session below a number, and no step about another
+pub record AreTurnsBelow (count : ℕ) (ended : ℕ → Bool) (steps : List StepData) : Type 0 where
+  pub each : AreTurnsOf (live_below count ended) steps
+  pub below : (k : ℕ) → count ≤ k → AreElsewhere k steps
+
+-- the end of each live session below a number, and no step about another
+pub record AreEndsBelow (count : ℕ) (ended : ℕ → Bool) (steps : List StepData) : Type 0 where
+  pub each : steps ≡ map an_end (live_below count ended)
+  pub below : (k : ℕ) → count ≤ k → AreElsewhere k steps
+
+-- nothing waits for the sessions below a number
+abbrev pub AreEmpty : {C : Type 0} → CoreModel C → ℕ → C → Type 0
+AreEmpty M count core = (k : ℕ) → k < count → M.output core k ≡ []
+
+-- no step, but the output of a session, or of those below a number, was taken
+pub record IsTaken {C : Type 0} (M : CoreModel C) (k : ℕ) (old new : C) (steps : List StepData) : Type 0 where
+  pub none : steps ≡ []
+  pub empty : M.output new k ≡ []
+  pub others : (other : ℕ) → (other ≡ k → ⊥) → M.output new other ≡ M.output old other
+
+pub record AreTaken {C : Type 0} (M : CoreModel C) (count : ℕ) (new : C) (steps : List StepData) : Type 0 where
+  pub none : steps ≡ []
+  pub empty : AreEmpty M count new
+
+-- one flush, after which nothing waits for the sessions below a number
+pub record IsFlushed {C : Type 0} (M : CoreModel C) (count : ℕ) (new : C) (steps : List StepData) : Type 0 where
+  pub one : steps ≡ a_flush ∷ []
+  pub empty : AreEmpty M count new
+
+-- rounds up to the end of the last session, or as many as may be, after which nothing waits
+pub record IsServed {C : Type 0} (M : CoreModel C) (count turns : ℕ) (old new : C) (steps : List StepData) : Type 0 where
+  pub run : IsWholeRun count (M.ended old) turns steps
+  pub empty : AreEmpty M count new
+
+pub record IsCut {C : Type 0} (M : CoreModel C) (count : ℕ) (old new : C) (steps : List StepData) : Type 0 where
+  pub run : IsCutRun count (M.ended old) steps
+  pub empty : AreEmpty M count new

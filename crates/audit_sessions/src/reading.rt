@@ -1,0 +1,47 @@
+ghost use Rattle.std.specs.Prelude.{◌≡◌, ◌<◌, ◌≤◌, [], length, map, OnOk};
+ghost use Rattle.audit_sessions.specs.declared.limits.TheConstants.{SESSIONS, MAX_PIECE};
+ghost use Rattle.audit_sessions.specs.Transition.{Transition, SessionTransition, IsOneTurn, AreTurnsBelow};
+
+use crate::session_core::SessionCore;
+use crate::session_stream::SessionStream;
+
+/// One turn of a session: what one read of its stream gave is fed, and its end, or a fault, ends the session.
+fn read_turn<C: SessionCore, S: SessionStream>(
+    core: &mut C,
+    session: usize,
+    stream: &mut S,
+    buffer: &mut [u8],
+) -> Result<(), C::Error>
+    requires session { session < SESSIONS }
+    requires room { 0 < length buffer.old }
+    requires most { length buffer.old ≤ MAX_PIECE }
+    ensures reaches { C.model.Reaches core.old core.new }
+    ensures done { OnOk result (SessionTransition C.model session core.old core.new
+        (S.view stream.old) (S.view stream.new) (IsOneTurn session)) }
+{
+    match stream.read(buffer) {
+        Ok(count) if count > 0 => core.feed(session, &buffer[..count]),
+        _ => core.end(session),
+    }
+}
+
+/// A turn of each live session, in rising order.
+pub fn read_turns<C: SessionCore, S: SessionStream>(
+    core: &mut C,
+    streams: &mut [S],
+    buffer: &mut [u8],
+) -> Result<(), C::Error>
+    requires count { length streams.old ≤ SESSIONS }
+    requires room { 0 < length buffer.old }
+    requires most { length buffer.old ≤ MAX_PIECE }
+    ensures reaches { C.model.Reaches core.old core.new }
+    ensures done { OnOk result (Transition C.model core.old core.new (map S.view streams.old) (map S.view streams.new)
+        (AreTurnsBelow (length streams.old) (C.model.ended core.old []))) }
+{
+    for session in 0..streams.len() {
+        if !core.ended(session) {
+            read_turn(core, session, &mut streams[session], buffer)?;
+        }
+    }
+    Ok(())
+}

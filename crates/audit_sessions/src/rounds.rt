@@ -1,0 +1,85 @@
+ghost use Rattle.std.specs.Prelude.{◌≡◌, ◌≢◌, ◌<◌, ◌≤◌, ◌+◌, ℕ, [], true, false, length, map, OnOk};
+ghost use Rattle.audit_sessions.specs.declared.limits.TheConstants.{SESSIONS, MAX_PIECE, MAX_TURNS};
+ghost use Rattle.audit_sessions.specs.Rounds.{live_below, IsRound, AreRounds};
+ghost use Rattle.audit_sessions.specs.Transition.{Transition, CoreTransition, AreEndsBelow};
+
+use crate::limits::MAX_TURNS;
+use crate::reading::read_turns;
+use crate::session_core::SessionCore;
+use crate::session_stream::SessionStream;
+use crate::writing::flush_and_write;
+
+/// Whether a session below a number has not ended.
+pub fn has_live<C: SessionCore>(core: &C, count: usize) -> bool
+    requires { count ≤ SESSIONS }
+    ensures live { result ≡ true → live_below count (C.model.ended core.now []) ≢ [] }
+    ensures none { result ≡ false → live_below count (C.model.ended core.now []) ≡ [] }
+{
+    for session in 0..count {
+        if !core.ended(session) {
+            return true;
+        }
+    }
+    false
+}
+
+/// Ends each live session below a number.
+pub fn end_live<C: SessionCore>(core: &mut C, count: usize) -> Result<(), C::Error>
+    requires { count ≤ SESSIONS }
+    ensures reaches { C.model.Reaches core.old core.new }
+    ensures done { OnOk result (CoreTransition C.model core.old core.new
+        (AreEndsBelow count (C.model.ended core.old []))) }
+{
+    for session in 0..count {
+        if !core.ended(session) {
+            core.end(session)?;
+        }
+    }
+    Ok(())
+}
+
+/// A turn of each live session, a flush, and what waits for each session is written to its stream.
+fn serve_round<C: SessionCore, S: SessionStream>(
+    core: &mut C,
+    streams: &mut [S],
+    buffer: &mut [u8],
+) -> Result<(), C::Error>
+    requires count { length streams.old ≤ SESSIONS }
+    requires room { 0 < length buffer.old }
+    requires most { length buffer.old ≤ MAX_PIECE }
+    ensures reaches { C.model.Reaches core.old core.new }
+    ensures done { OnOk result (Transition C.model core.old core.new (map S.view streams.old) (map S.view streams.new)
+        (IsRound (length streams.old) (C.model.ended core.old []))) }
+{
+    read_turns(core, streams, buffer)?;
+    flush_and_write(core, streams)
+}
+
+/// Serves rounds as long as sessions are live, but not more than may be.
+pub fn serve_rounds<C: SessionCore, S: SessionStream>(
+    core: &mut C,
+    streams: &mut [S],
+    buffer: &mut [u8],
+    turns: &mut u64,
+) -> Result<(), C::Error>
+    requires count { length streams.old ≤ SESSIONS }
+    requires room { 0 < length buffer.old }
+    requires most { length buffer.old ≤ MAX_PIECE }
+    ensures most { turns.new ≤ MAX_TURNS }
+    ensures reaches { C.model.Reaches core.old core.new }
+    ensures done { OnOk result (Transition C.model core.old core.new (map S.view streams.old) (map S.view streams.new)
+        (AreRounds (length streams.old) (C.model.ended core.old) turns.new)) }
+    // Only where there were as many rounds as may be are sessions left live.
+    ensures all { OnOk result (turns.new < MAX_TURNS
+        → live_below (length streams.old) (C.model.ended core.new []) ≡ []) }
+{
+    *turns = 0;
+    for round in 0..MAX_TURNS {
+        if !has_live(core, streams.len()) {
+            return Ok(());
+        }
+        *turns = round + 1;
+        serve_round(core, streams, buffer)?;
+    }
+    Ok(())
+}

@@ -1,0 +1,74 @@
+ghost use Rattle.std.specs.Prelude.{◌≡◌, ◌<◌, ◌≤◌, [], true, false, length, map, IfOk, OnOk, None, Some};
+ghost use Rattle.audit_sessions.specs.declared.limits.TheConstants.{SESSIONS, MAX_PIECE, MAX_TURNS};
+ghost use Rattle.audit_sessions.specs.declared.serve_end.ServeFault.TheVariants as fault;
+ghost use Rattle.audit_sessions.specs.Transition.{Transition, EndsAs, IsServed, IsCut};
+
+use crate::limits::MAX_PIECE;
+use crate::rounds::{end_live, has_live, serve_rounds};
+use crate::serve_end::{ServeEnd, ServeFault};
+use crate::session_core::SessionCore;
+use crate::session_stream::SessionStream;
+use crate::writing::flush_and_write;
+
+/// Serves the sessions of these streams, the first of which is session 0, in rounds up to the end of the last one.
+///
+/// In each round every live session has one read of at most [`MAX_PIECE`] bytes, in rising order; then the core
+/// flushes, and then what waits for each session is written whole. The end of a stream, or a fault of a read, ends its
+/// session. A fault of a write does too, and what was to be written to it is dropped, now and later. After the last
+/// session has ended there is one flush more, and what waits is written. Where sessions are live after
+/// [`MAX_TURNS`](crate::MAX_TURNS) rounds, each of them is ended, with one flush more, and the fault is `ReadFault`.
+/// A refusal of the core ends it at once.
+pub fn serve<C: SessionCore, S: SessionStream>(
+    core: &mut C,
+    streams: &mut [S],
+) -> ServeEnd<C::Error>
+    requires { length streams.old ≤ SESSIONS }
+    ensures most { result.turns ≤ MAX_TURNS }
+    // Whatever happens, the core was called by its steps and `take_output` alone.
+    ensures reaches { C.model.Reaches core.old core.new }
+    // Without a fault it did whole rounds up to the end of the last session, and a flush; and where the streams tell
+    // their bytes, it was fed what was read, and all that the steps said was written.
+    ensures served { result.fault ≡ None → Transition C.model core.old core.new
+        (map S.view streams.old) (map S.view streams.new)
+        (IsServed C.model (length streams.old) result.turns core.old core.new) }
+    ensures cut { result.fault ≡ Some fault.ReadFault → (result.turns ≡ MAX_TURNS)
+        × EndsAs C.model core.old core.new (map S.view streams.old) (map S.view streams.new)
+        (IsCut C.model (length streams.old) core.old core.new) }
+{
+    let mut turns = 0;
+    let mut buffer = [0; MAX_PIECE];
+    let fault = match serve_all(core, streams, &mut buffer, &mut turns) {
+        Ok(false) => None,
+        Ok(true) => Some(ServeFault::ReadFault),
+        Err(error) => Some(ServeFault::Core(error)),
+    };
+    ServeEnd { turns, fault }
+}
+
+/// Serves up to the end, and reports whether sessions were still live after as many rounds as may be.
+fn serve_all<C: SessionCore, S: SessionStream>(
+    core: &mut C,
+    streams: &mut [S],
+    buffer: &mut [u8],
+    turns: &mut u64,
+) -> Result<bool, C::Error>
+    requires count { length streams.old ≤ SESSIONS }
+    requires room { 0 < length buffer.old }
+    requires most { length buffer.old ≤ MAX_PIECE }
+    ensures most { turns.new ≤ MAX_TURNS }
+    ensures reaches { C.model.Reaches core.old core.new }
+    ensures served { IfOk result (λ cut. cut ≡ false → Transition C.model core.old core.new
+        (map S.view streams.old) (map S.view streams.new)
+        (IsServed C.model (length streams.old) turns.new core.old core.new)) }
+    ensures cut { IfOk result (λ cut. cut ≡ true → (turns.new ≡ MAX_TURNS)
+        × EndsAs C.model core.old core.new (map S.view streams.old) (map S.view streams.new)
+        (IsCut C.model (length streams.old) core.old core.new)) }
+{
+    serve_rounds(core, streams, buffer, turns)?;
+    let cut = has_live(core, streams.len());
+    if cut {
+        end_live(core, streams.len())?;
+    }
+    flush_and_write(core, streams)?;
+    Ok(cut)
+}

@@ -1,0 +1,48 @@
+ghost use Rattle.std.specs.Prelude.{◌≡◌, ◌<◌, ℕ, [], ◌∷◌, OnOk};
+ghost use Rattle.audit_sessions.specs.declared.limits.TheConstants.{SESSIONS};
+ghost use Rattle.audit_sessions.specs.Steps.{a_piece, an_end, a_flush};
+ghost use Rattle.audit_sessions.specs.Core.{CoreModel, no_bytes, bytes_for};
+
+/// What serves the requests of sessions: it takes their bytes in any pieces, and keeps the bytes of the replies until
+/// they are taken.
+///
+/// Each of `feed`, `end` and `flush` that succeeds is one step. What steps do is the core's own; of the sessions it is
+/// known that whether one has ended depends on its steps alone.
+pub trait SessionCore {
+    /// Why a step is refused.
+    type Error;
+
+    /// How contracts see the core.
+    ghost model: { CoreModel Self };
+
+    /// Takes the next bytes of a session. Those of a session that has ended are dropped.
+    fn feed(&mut self, session: usize, piece: &[u8]) -> Result<(), Self::Error>
+        requires { session < SESSIONS }
+        ensures reaches { model.Reaches self.old self.new }
+        ensures did { OnOk result (model.Did self.old self.new (a_piece session piece.now ∷ []) no_bytes) };
+
+    /// Ends a session, of which nothing more comes.
+    fn end(&mut self, session: usize) -> Result<(), Self::Error>
+        requires { session < SESSIONS }
+        ensures reaches { model.Reaches self.old self.new }
+        ensures did { OnOk result (model.Did self.old self.new (an_end session ∷ []) no_bytes) };
+
+    /// Commits and answers what waits.
+    fn flush(&mut self) -> Result<(), Self::Error>
+        ensures reaches { model.Reaches self.old self.new }
+        ensures did { OnOk result (model.Did self.old self.new (a_flush ∷ []) no_bytes) };
+
+    /// The bytes that wait for a session, which then wait no more. Those of the other sessions stay.
+    fn take_output(&mut self, session: usize) -> Vec<u8>
+        requires { session < SESSIONS }
+        ensures taken { result.items ≡ model.output self.old session }
+        ensures did { model.Did self.old self.new [] (bytes_for session result.items) }
+        ensures empty { model.output self.new session ≡ [] }
+        ensures others { (other : ℕ) → (other ≡ session → ⊥)
+            → model.output self.new other ≡ model.output self.old other };
+
+    /// Whether a session has ended: by `end`, or by bytes that are no request.
+    fn ended(&self, session: usize) -> bool
+        requires { session < SESSIONS }
+        ensures { result ≡ model.ended self.now [] session };
+}

@@ -1,0 +1,65 @@
+ghost use Rattle.std.specs.Prelude.{◌≡◌, ◌<◌, IsTrue, true, length};
+ghost use Rattle.audit_sessions.specs.Streams.{StreamView, IsStreamRead, IsStreamWrite};
+ghost use Rattle.audit_sessions.specs.declared.health.Health.TheVariants as health;
+ghost use Rattle.audit_sessions.specs.Pairs.{view_of, pair_view, writer_of};
+
+use crate::health::Health;
+use crate::session_stream::SessionStream;
+use crate::stream_fault::StreamFault;
+use std::io::{Read, Write};
+
+/// A session's stream of a reader and a writer, each for itself. What is known of the two is known of the stream: of
+/// bytes in memory everything, of a socket nothing but whether a call has failed.
+#[derive(Debug, Drop)]
+pub struct StreamPair<R, W> {
+    reader: R,
+    writer: W,
+    health: Health,
+}
+
+impl<R: Read, W: Write> StreamPair<R, W> {
+    /// The stream that reads from the one and writes to the other.
+    pub fn new(reader: R, writer: W) -> StreamPair<R, W>
+        ensures { pair_view R.remaining W.contents result
+            ≡ view_of (R.remaining reader) (W.contents writer) health.Sound }
+    {
+        StreamPair {
+            reader,
+            writer,
+            health: Health::Sound,
+        }
+    }
+
+    /// The writer.
+    pub fn writer(&self) -> &W
+        ensures { result.now ≡ writer_of self.now }
+    {
+        &self.writer
+    }
+}
+
+impl<R: Read, W: Write> SessionStream for StreamPair<R, W> {
+    ghost view = { λ pair. pair_view R.remaining W.contents pair };
+
+    fn read(&mut self, buffer: &mut [u8]) -> Result<usize, StreamFault> {
+        match self.reader.read(buffer) {
+            Ok(count) => Ok(count),
+            Err(_) => {
+                self.health = self.health.after_read_fault();
+                Err(StreamFault)
+            }
+        }
+    }
+
+    fn write_all(&mut self, bytes: &[u8]) -> Result<(), StreamFault> {
+        if self.writer.write_all(bytes).is_err() || self.writer.flush().is_err() {
+            self.health = Health::Closed;
+            return Err(StreamFault);
+        }
+        Ok(())
+    }
+
+    fn is_closed(&self) -> bool {
+        self.health == Health::Closed
+    }
+}

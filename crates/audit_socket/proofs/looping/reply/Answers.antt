@@ -1,0 +1,13 @@
+use Rattle.std.proofs.Common.{◌≡◌, subst, rules}
+use Rattle.std.specs.Io.KnownBytes.{Keeps}
+use Rattle.audit_socket.specs.Frames.{HasLines}
+use Rattle.audit_socket.proofs.Lines.{lines_kept}
+use Rattle.audit_socket.proofs.Feeding.{replied}
+use Rattle.audit_socket.proofs.looping.reply.Goals as goal
+
+pub returns-clause-done : goal.returns-clause-done
+returns-clause-done g c =
+    let same : c.deref-2.result.now ≡ c.take_output-output.result.items = search rules in
+    let kept : Keeps (g.W.Write.contents c.write_frames.new.writer) (g.W.Write.contents c.flush-2.new.self) = search rules in
+    replied c.args.core.now c.flush.new.self c.take_output-output.new.self (g.W.Write.contents c.args.writer.now) (g.W.Write.contents c.flush-2.new.self) c.take_output-output.result.items c.in_default.ensures.did c.take_output-output.ensures.did
+    (lines_kept _ _ _ _ (subst (HasLines (g.W.Write.contents c.args.writer.now) (g.W.Write.contents c.write_frames.new.writer)) same c.in_ok-write_frames.ensures.written) kept)

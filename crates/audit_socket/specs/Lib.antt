@@ -1,0 +1,5 @@
+pub mod FrameLine
+pub mod Frames
+pub mod LoopFaults
+pub mod Looping
+pub mod RoundLine

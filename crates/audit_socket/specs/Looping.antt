@@ -1,0 +1,45 @@
+-- What a session over lines asks of a core, and what it writes.
+use Rattle.std.specs.Prelude.{◌≡◌, ℕ, ◌≤◌, Option, List, [], ◌∷◌, ◌++◌, length}
+use Rattle.audit_sessions.specs.declared.limits.TheConstants.{MAX_PIECE}
+use Rattle.audit_sessions.specs.Steps.{StepData, a_piece, an_end, a_flush, bytes_of}
+use Rattle.audit_sessions.specs.Core.{CoreModel}
+use Rattle.audit_socket.specs.Frames.{HasLines}
+
+-- pieces of the stream of session 0 alone
+abbrev pub ArePieces : List StepData → Type 0
+ArePieces [] = Unit {0}
+ArePieces (a_piece session piece ∷ steps) = (session ≡ 0) × (length piece ≤ MAX_PIECE) × ArePieces steps
+ArePieces (an_end session ∷ steps) = ⊥
+ArePieces (a_flush ∷ steps) = ⊥
+
+-- these bytes come in pieces of session 0, and the rest is still to come
+pub record Brings (bytes rest : List ℕ) (steps : List StepData) : Type 0 where
+  pub pieces : ArePieces steps
+  pub all : bytes_of 0 steps ++ rest ≡ bytes
+
+-- the bytes of a line, and then a flush
+pub record IsLineTurn (bytes : List ℕ) (steps : List StepData) : Type 0 where
+  pub pieces : List StepData
+  pub are : steps ≡ pieces ++ a_flush ∷ []
+  pub brings : Brings bytes [] pieces
+
+-- a turn for each line
+abbrev pub AreLineTurns : List (List ℕ) → List StepData → Type 0
+AreLineTurns [] steps = steps ≡ []
+AreLineTurns (bytes ∷ lines) steps =
+    (first : List StepData) × (later : List StepData) × (steps ≡ first ++ later) × IsLineTurn bytes first × AreLineTurns lines later
+
+-- a turn for each line, the end of the session, and one flush more
+pub record IsWholeLoop (lines : List (List ℕ)) (steps : List StepData) : Type 0 where
+  pub turns : List StepData
+  pub are : steps ≡ turns ++ (an_end 0 ∷ a_flush ∷ [])
+  pub each : AreLineTurns lines turns
+
+-- The core did steps of a shape. Of its outputs that of session 0 alone was taken, and its frames were written as lines.
+pub record LoopTransition {C : Type 0} (M : CoreModel C) (old new : C) (before after : Option (List ℕ)) (Shape : List StepData → Type 0) : Type 0 where
+  pub steps : List StepData
+  pub taken : ℕ → List ℕ
+  pub did : M.Did old new steps taken
+  pub others : (k : ℕ) → (k ≡ 0 → ⊥) → taken k ≡ []
+  pub shape : Shape steps
+  pub written : HasLines before after (taken 0)

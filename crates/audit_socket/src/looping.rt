@@ -1,0 +1,144 @@
+ghost use Rattle.std.specs.Prelude.{◌≡◌, ◌∷◌, [], ◌+◌, List, ℕ, length, IfOk, IfErr, OnOk, Err};
+ghost use Rattle.audit_sessions.specs.declared.limits.TheConstants.{MAX_PIECE};
+ghost use Rattle.audit_sessions.specs.Steps.{a_flush};
+ghost use Rattle.audit_sessions.specs.Transition.{CoreTransition};
+ghost use Rattle.audit_socket.specs.declared.loop_fault.LoopFault.TheVariants as fault;
+ghost use Rattle.audit_socket.specs.Looping.{Brings, AreLineTurns, IsWholeLoop, LoopTransition};
+ghost use Rattle.audit_socket.specs.LoopFaults.{IsNoLineFault};
+
+use crate::frame_line::bytes_of_line;
+use crate::input_line::next_line;
+use crate::link::Link;
+use crate::loop_fault::{LoopFault, ReplyFault};
+use crate::replying::write_frames;
+use audit_lines::LinesFault;
+use audit_sessions::{MAX_PIECE, SessionCore};
+use std::alloc::Global;
+use std::io::{BufRead, Read, Write};
+
+// The session that lines are for.
+const SESSION: usize = 0;
+
+/// Serves a session whose bytes come as lines of hex digits, through a connection. The bytes of each line are sent from
+/// the client's end, and what arrives at the server's is fed; then the core flushes, its replies go back, and each frame
+/// that arrives is written as a line. After the last line the session is ended, with one flush more.
+///
+/// A line that isn't hex digits is `BadLine`, after the replies to those before it.
+pub fn run_lines<C, A, B, R, W>(
+    alloc: Global,
+    core: &mut C,
+    link: &mut Link<A, B>,
+    reader: &mut R,
+    writer: &mut W,
+) -> Result<(), LoopFault<C::Error>>
+where
+    C: SessionCore,
+    A: Read + Write + Drop,
+    B: Read + Write + Drop,
+    R: BufRead,
+    W: Write,
+    ensures reaches { C.model.Reaches core.old core.new }
+    // Without a fault each line was fed and flushed in turn, then the session was ended; and the replies were written.
+    ensures done { OnOk result ((lines : List (List ℕ)) × LoopTransition C.model core.old core.new
+        (W.contents writer.old) (W.contents writer.new) (IsWholeLoop lines)) }
+    // A line that spells no bytes comes after the replies to all lines before it.
+    ensures bad { (number : ℕ) → result ≡ Err (fault.BadLine number)
+        → (lines : List (List ℕ)) × (length lines + 1 ≡ number) × LoopTransition C.model core.old core.new
+        (W.contents writer.old) (W.contents writer.new) (AreLineTurns lines) }
+{
+    let mut line = Vec::new(alloc);
+    let mut buffer = [0; MAX_PIECE];
+    for number in 1..u64::MAX {
+        if !next_line(reader, &mut line)? {
+            break;
+        }
+        let Some(bytes) = bytes_of_line(alloc, &line)? else {
+            return Err(LoopFault::BadLine(number));
+        };
+        send(core, link, &bytes, &mut buffer)?;
+        reply(alloc, core, link, &mut buffer, writer)?;
+    }
+    if let Err(error) = core.end(SESSION) {
+        return Err(LoopFault::Core(error));
+    }
+    reply(alloc, core, link, &mut buffer, writer)
+}
+
+// Sends bytes from the client's end, in pieces, and feeds what arrives at the server's.
+fn send<C, A, B>(
+    core: &mut C,
+    link: &mut Link<A, B>,
+    bytes: &[u8],
+    buffer: &mut [u8],
+) -> Result<(), LoopFault<C::Error>>
+where
+    C: SessionCore,
+    A: Read + Write + Drop,
+    B: Read + Write + Drop,
+    requires room { length buffer.old ≡ MAX_PIECE }
+    ensures reaches { C.model.Reaches core.old core.new }
+    ensures done { OnOk result (CoreTransition C.model core.old core.new (Brings bytes.now [])) }
+    ensures fault { IfErr result IsNoLineFault }
+{
+    let mut rest = bytes;
+    while !rest.is_empty() {
+        let (piece, behind) = rest.split_at(rest.len().min(MAX_PIECE));
+        let arrived = link.to_server(piece, buffer)?;
+        if let Err(error) = core.feed(SESSION, arrived) {
+            return Err(LoopFault::Core(error));
+        }
+        rest = behind;
+    }
+    Ok(())
+}
+
+// Flushes, sends the replies back, and writes the frames that arrive as lines.
+fn reply<C, A, B, W>(
+    alloc: Global,
+    core: &mut C,
+    link: &mut Link<A, B>,
+    buffer: &mut [u8],
+    writer: &mut W,
+) -> Result<(), LoopFault<C::Error>>
+where
+    C: SessionCore,
+    A: Read + Write + Drop,
+    B: Read + Write + Drop,
+    W: Write,
+    requires room { length buffer.old ≡ MAX_PIECE }
+    ensures reaches { C.model.Reaches core.old core.new }
+    ensures done { OnOk result (LoopTransition C.model core.old core.new (W.contents writer.old) (W.contents writer.new)
+        (λ steps. steps ≡ a_flush ∷ [])) }
+    ensures fault { IfErr result IsNoLineFault }
+{
+    if let Err(error) = core.flush() {
+        return Err(LoopFault::Core(error));
+    }
+    let output = core.take_output(SESSION);
+    let replies = send_back(alloc, link, &output, buffer)?;
+    write_frames(alloc, &replies, writer)?;
+    if writer.flush().is_err() {
+        return Err(LoopFault::Lines(LinesFault::Write));
+    }
+    Ok(())
+}
+
+// Sends bytes from the server's end, in pieces, and returns all that arrive at the client's.
+fn send_back<A: Read + Write + Drop, B: Read + Write + Drop>(
+    alloc: Global,
+    link: &mut Link<A, B>,
+    bytes: &[u8],
+    buffer: &mut [u8],
+) -> Result<Vec<u8>, ReplyFault>
+    requires room { length buffer.old ≡ MAX_PIECE }
+    ensures { IfOk result (λ arrived. arrived.items ≡ bytes.now) }
+{
+    let mut arrived = Vec::with_capacity(alloc, bytes.len())?;
+    let mut rest = bytes;
+    while !rest.is_empty() {
+        let (piece, behind) = rest.split_at(rest.len().min(MAX_PIECE));
+        arrived.extend_from_slice(link.to_client(piece, buffer)?)?;
+        rest = behind;
+    }
+    Ok(arrived)
+}
