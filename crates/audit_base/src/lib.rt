@@ -7,8 +7,6 @@ mod hash;
 mod hashes;
 pub mod laws;
 mod limits;
-#[cfg(test)]
-mod tests;
 
 pub use bytes::{are_equal, are_zero, array_at, u32_at, u64_at};
 pub use hash::{Hash, is_same_hash};

@@ -14,7 +14,11 @@ module _ {F : Type 0} {g : files.Ghosts F} where
   abbrev pub file_disk_view : FileDisk F g → View
   file_disk_view disk = file_view (g.file disk.file.inner) disk.sectors (unwrap_or disk.failed_at disk.clock) disk.clock disk.failures (sectors_fit disk.sectors disk.fits) disk.in_order disk.in_range disk.sized
 
-  -- everything that is known of its file
+  -- its file
+  abbrev pub inner_of : FileDisk F g → F
+  inner_of disk = disk.file.inner
+
+  -- everything that is known of that
   abbrev pub file_of : FileDisk F g → FileView
   file_of disk = g.file disk.file.inner
 

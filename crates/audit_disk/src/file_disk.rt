@@ -30,7 +30,7 @@ pub struct FileDisk<F: SectorFile> {
 
 impl<F: SectorFile> FileDisk<F> {
     ghost use Rattle.std.specs.Prelude.{IsTrue, IsFalse, IfOk};
-    ghost use Rattle.audit_disk.specs.FileDisk.{IsOverFile, Reaches, IsShut};
+    ghost use Rattle.audit_disk.specs.FileDisk.{inner_of, IsOverFile, Reaches, IsShut};
 
     /// A device over a file of so many whole sectors. It reads ahead; the memory for that, 64 KiB, is taken here.
     pub fn over(alloc: Global, file: F, sectors: u64) -> Result<Self, AllocError>
@@ -56,6 +56,13 @@ impl<F: SectorFile> FileDisk<F> {
             failures: 0,
             failed_at: None,
         }
+    }
+
+    /// The file, as the calls so far left it.
+    pub fn into_file(self) -> F
+        ensures { result ≡ inner_of self }
+    {
+        self.file.inner
     }
 
     /// Whether a write or a sync would not reach the file.

@@ -29,5 +29,3 @@ pub use mem_file::MemFile;
 pub use os_file::OsFile;
 pub use sector_file::SectorFile;
 
-#[cfg(test)]
-mod tests;

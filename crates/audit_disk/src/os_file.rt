@@ -1,3 +1,4 @@
+ghost use Rattle.std.specs.Prelude.{◌≡◌};
 ghost use Rattle.audit_disk.specs.OsFile.{unknown_file};
 
 use crate::counted::counted;
@@ -14,7 +15,9 @@ pub struct OsFile<F> {
 
 impl<F: FileExt + OpenFile + Drop> OsFile<F> {
     /// The file, of which no call has failed.
-    pub(crate) fn new(file: F) -> Self {
+    pub fn new(file: F) -> Self
+        ensures { result.failures ≡ 0 }
+    {
         OsFile { file, failures: 0 }
     }
 }

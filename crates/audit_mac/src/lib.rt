@@ -12,7 +12,5 @@
 #![tactic(auto)]
 
 mod mac;
-#[cfg(test)]
-mod tests;
 
 pub use mac::{BLOCK_LEN, MAC_LEN, Mac, hmac_sha256};

@@ -17,8 +17,6 @@ mod member_proof;
 mod shared_node;
 mod side;
 mod steps;
-#[cfg(test)]
-mod tests;
 
 pub use accept::{accepts_increment, accepts_member};
 pub use audit_base::{MAX_ENTRY, MAX_INCREMENT_HASHES, MAX_MEMBER_HASHES};

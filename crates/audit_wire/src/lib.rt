@@ -48,5 +48,3 @@ pub use request::Request;
 pub use view::RequestView;
 pub use writing::write_reply;
 
-#[cfg(test)]
-mod tests;

@@ -1,0 +1,610 @@
+use audit_disk::{
+    DeviceFault, FailOnce, FileDisk, FileFault, Fuse, MemDisk, OsFile, SECTOR_SIZE, Sectors,
+    publish, write_sectors,
+};
+use std::alloc::{AllocError, Global};
+use std::env;
+use std::fs::{self, OpenOptions};
+use std::os::unix::fs::PermissionsExt;
+use std::path::PathBuf;
+use std::process::{self, Abort};
+use std::test::Fail;
+
+mod reading_ahead;
+
+/// Writes a sector of equal bytes, and tells whether that succeeded.
+fn put<D: Sectors>(rt: &impl Abort, disk: &mut D, at: u64, byte: u8) -> bool {
+    assert!(rt; at < disk.size());
+    disk.write(at, &[byte; SECTOR_SIZE]).is_ok()
+}
+
+/// Reads a sector of equal bytes.
+fn found<D: Sectors>(rt: &impl Abort, disk: &mut D, at: u64) -> Result<u8, DeviceFault> {
+    assert!(rt; at < disk.size());
+    let mut into = [0; SECTOR_SIZE];
+    disk.read(at, &mut into)?;
+    assert!(rt; into.iter().all(|byte| *byte == into[0]));
+    Ok(into[0])
+}
+
+/// One call on a device of sectors of equal bytes, or a look at it, and what it gives.
+#[derive(Clone, Copy)]
+enum Step {
+    Size(u64),
+    Calls(u64),
+    Put(u64, u8),
+    PutFails(u64, u8),
+    Found(u64, u8),
+    FindFails(u64),
+    Syncs,
+    SyncFails,
+}
+
+/// Takes a step, and tells whether it gave what it says.
+fn takes<D: Sectors>(rt: &impl Abort, disk: &mut D, step: Step) -> bool {
+    match step {
+        Step::Size(sectors) => disk.size() == sectors,
+        Step::Calls(calls) => disk.calls() == calls,
+        Step::Put(at, byte) => put(rt, disk, at, byte),
+        Step::PutFails(at, byte) => !put(rt, disk, at, byte),
+        Step::Found(at, byte) => found(rt, disk, at) == Ok(byte),
+        Step::FindFails(at) => found(rt, disk, at).is_err(),
+        Step::Syncs => disk.sync().is_ok(),
+        Step::SyncFails => disk.sync().is_err(),
+    }
+}
+
+fn expect<D: Sectors>(rt: &impl Abort, disk: &mut D, steps: &[Step]) {
+    for (place, step) in steps.iter().enumerate() {
+        assert!(rt; takes(rt, disk, *step), "step {place}");
+    }
+}
+
+/// Takes the steps on what a crash with these picks leaves.
+fn expect_left(
+    rt: &impl Abort,
+    alloc: Global,
+    disk: &MemDisk,
+    picks: &[u64],
+    steps: &[Step],
+) -> Result<(), AllocError> {
+    expect(rt, &mut disk.crash(alloc, picks)?, steps);
+    Ok(())
+}
+
+/// What sector 2 of three holds after a crash with each of these picks, where sector 1 was never written.
+fn expect_picked(
+    rt: &impl Abort,
+    alloc: Global,
+    disk: &MemDisk,
+    cases: &[(&[u64], u8)],
+) -> Result<(), AllocError> {
+    for (picks, byte) in cases {
+        let steps = [Step::Found(2, *byte), Step::Found(1, 0), Step::Calls(0)];
+        expect_left(rt, alloc, disk, picks, &steps)?;
+    }
+    Ok(())
+}
+
+// Two writes to sector 2 of three, and what each pick leaves there before a sync and after it.
+const BEFORE_SYNC: [(&[u64], u8); 5] = [
+    (&[0, 0, 0], 0),
+    (&[0, 0, 1], b'x'),
+    (&[0, 0, 2], b'y'),
+    (&[9, 9, 9], b'y'),
+    (&[], 0),
+];
+
+const AFTER_SYNC: [(&[u64], u8); 2] = [(&[], b'y'), (&[0, 0, 1], b'y')];
+
+#[test]
+fn a_crash_leaves_what_its_picks_say(rt: HostRuntime) -> Result<(), Fail> {
+    let mut disk = MemDisk::new(rt.alloc(), 3)?;
+    let writes = [
+        Step::Size(3),
+        Step::Put(2, b'x'),
+        Step::Put(2, b'y'),
+        Step::Found(2, b'y'),
+    ];
+    expect(&rt, &mut disk, &writes);
+    expect_picked(&rt, rt.alloc(), &disk, &BEFORE_SYNC)?;
+    expect(&rt, &mut disk, &[Step::Syncs, Step::Calls(3)]);
+    expect_picked(&rt, rt.alloc(), &disk, &AFTER_SYNC)?;
+    Ok(())
+}
+
+#[test]
+fn a_device_begins_with_the_sectors_that_it_is_given(rt: HostRuntime) -> Result<(), Fail> {
+    let sectors = vec![in rt.alloc(); [7; SECTOR_SIZE]; 1]?;
+    expect(
+        &rt,
+        &mut MemDisk::from_sectors(rt.alloc(), &sectors)?,
+        &[Step::Found(0, 7)],
+    );
+    expect(
+        &rt,
+        &mut MemDisk::from_sectors(rt.alloc(), &[])?,
+        &[Step::Size(0)],
+    );
+    Ok(())
+}
+
+// What three sectors hold after a crash with each of these picks.
+fn expect_images(
+    rt: &impl Abort,
+    alloc: Global,
+    disk: &MemDisk,
+    cases: &[([u64; 3], [u8; 3])],
+) -> Result<(), AllocError> {
+    for (picks, [first, second, third]) in cases {
+        let steps = [
+            Step::Found(0, *first),
+            Step::Found(1, *second),
+            Step::Found(2, *third),
+        ];
+        expect_left(rt, alloc, disk, picks, &steps)?;
+    }
+    Ok(())
+}
+
+const SIX_IMAGES: [([u64; 3], [u8; 3]); 6] = [
+    ([0, 0, 0], [0, 0, 0]),
+    ([0, 0, 1], [0, 0, b'x']),
+    ([0, 0, 2], [0, 0, b'y']),
+    ([0, 1, 0], [0, b'z', 0]),
+    ([0, 1, 1], [0, b'z', b'x']),
+    ([0, 1, 2], [0, b'z', b'y']),
+];
+
+const ONE_IMAGE: [([u64; 3], [u8; 3]); 3] = [
+    ([0, 0, 0], [0, b'z', b'y']),
+    ([0, 1, 1], [0, b'z', b'y']),
+    ([9, 9, 9], [0, b'z', b'y']),
+];
+
+// Two writes to sector 2 and one to sector 1, and then a sync that fails: each of the six images, with the
+// picks that give it. After a sync that succeeds the content is the only one.
+#[test]
+fn six_images_of_three_writes_and_a_failed_sync(rt: HostRuntime) -> Result<(), Fail> {
+    let mut disk = FailOnce::new(MemDisk::new(rt.alloc(), 3)?, 3);
+    let calls = [
+        Step::Put(2, b'x'),
+        Step::Put(2, b'y'),
+        Step::Put(1, b'z'),
+        Step::SyncFails,
+    ];
+    expect(&rt, &mut disk, &calls);
+    let mut disk = disk.into_inner();
+    expect_images(&rt, rt.alloc(), &disk, &SIX_IMAGES)?;
+    expect(&rt, &mut disk, &[Step::Syncs]);
+    expect_images(&rt, rt.alloc(), &disk, &ONE_IMAGE)?;
+    Ok(())
+}
+
+#[test]
+fn a_fuse_lets_so_many_calls_pass(rt: HostRuntime) -> Result<(), Fail> {
+    let mut fuse = Fuse::new(MemDisk::new(rt.alloc(), 3)?, 1);
+    let calls = [
+        Step::Put(2, b'x'),
+        Step::PutFails(2, b'y'),
+        Step::FindFails(2),
+        Step::SyncFails,
+        Step::Size(3),
+        Step::Calls(3),
+    ];
+    expect(&rt, &mut fuse, &calls);
+    let mut disk = fuse.into_inner();
+    expect(&rt, &mut disk, &[Step::Calls(1)]);
+    expect_left(&rt, rt.alloc(), &disk, &[0, 0, 2], &[Step::Found(2, b'x')])?;
+    expect(&rt, &mut Fuse::new(disk, 0), &[Step::SyncFails]);
+    Ok(())
+}
+
+// Four calls of which one fails, and what the first sector then holds.
+const FAILING: [([Step; 4], u8); 4] = [
+    (
+        [
+            Step::PutFails(0, b'x'),
+            Step::Found(0, 0),
+            Step::Syncs,
+            Step::Put(1, b'y'),
+        ],
+        0,
+    ),
+    (
+        [
+            Step::Put(0, b'x'),
+            Step::FindFails(0),
+            Step::Syncs,
+            Step::Put(1, b'y'),
+        ],
+        b'x',
+    ),
+    (
+        [
+            Step::Put(0, b'x'),
+            Step::Found(0, b'x'),
+            Step::SyncFails,
+            Step::Put(1, b'y'),
+        ],
+        b'x',
+    ),
+    (
+        [
+            Step::Put(0, b'x'),
+            Step::Found(0, b'x'),
+            Step::Syncs,
+            Step::PutFails(1, b'y'),
+        ],
+        b'x',
+    ),
+];
+
+#[test]
+fn one_call_fails_and_no_other(rt: HostRuntime) -> Result<(), Fail> {
+    for (call, (steps, left)) in FAILING.iter().enumerate() {
+        let mut disk = FailOnce::new(MemDisk::new(rt.alloc(), 3)?, call as u64);
+        expect(&rt, &mut disk, steps);
+        expect(&rt, &mut disk, &[Step::Size(3), Step::Calls(3)]);
+        expect(&rt, &mut disk.into_inner(), &[Step::Found(0, *left)]);
+    }
+    Ok(())
+}
+
+/// A plain model of a device of four sectors of equal bytes.
+#[derive(Clone, Copy)]
+struct Model {
+    synced: [u8; 4],
+    content: [u8; 4],
+    pending: [[u8; 16]; 4],
+    counts: [usize; 4],
+}
+
+impl Model {
+    fn write(&mut self, at: usize, byte: u8) {
+        if at < 4 && self.counts[at] < 16 {
+            self.pending[at][self.counts[at]] = byte;
+            self.counts[at] += 1;
+            self.content[at] = byte;
+        }
+    }
+
+    fn sync(&mut self) {
+        self.synced = self.content;
+        self.counts = [0; 4];
+    }
+
+    fn left(&self, at: usize, pick: u64) -> u8 {
+        if at >= 4 {
+            return 0;
+        }
+        let last = self.counts[at].min(16);
+        let chosen = (pick as usize).min(last);
+        if chosen == 0 {
+            self.synced[at]
+        } else {
+            self.pending[at][chosen - 1]
+        }
+    }
+}
+
+fn next(seed: &mut u64) -> u64 {
+    *seed = seed
+        .wrapping_mul(6_364_136_223_846_793_005)
+        .wrapping_add(1_442_695_040_888_963_407);
+    *seed >> 33
+}
+
+/// Sixteen calls, of which one may fail, on a device and on the model.
+fn play(rt: &impl Abort, disk: &mut FailOnce<MemDisk>, model: &mut Model, seed: &mut u64) {
+    for _ in 0..16 {
+        let at = next(seed) % 4;
+        let byte = (next(seed) % 256) as u8;
+        if next(seed) % 8 == 0 {
+            if disk.sync().is_ok() {
+                model.sync();
+            }
+        } else if put(rt, disk, at, byte) {
+            model.write(at as usize, byte);
+        }
+    }
+}
+
+fn new_model() -> Model {
+    Model {
+        synced: [0; 4],
+        content: [0; 4],
+        pending: [[0; 16]; 4],
+        counts: [0; 4],
+    }
+}
+
+fn next_picks(seed: &mut u64) -> [u64; 4] {
+    [
+        next(seed) % 4,
+        next(seed) % 8,
+        next(seed) % 2,
+        next(seed) % 20,
+    ]
+}
+
+/// Plays a script and crashes: each sector holds what the model says.
+fn expect_as_model(rt: &impl Abort, alloc: Global, seed: &mut u64) -> Result<(), AllocError> {
+    let mut disk = FailOnce::new(MemDisk::new(alloc, 4)?, next(seed) % 32);
+    let mut model = new_model();
+    play(rt, &mut disk, &mut model, seed);
+    let picks = next_picks(seed);
+    let mut left = disk.into_inner().crash(alloc, &picks)?;
+    for (at, pick) in picks.iter().enumerate() {
+        let byte = model.left(at, *pick);
+        assert!(rt; takes(rt, &mut left, Step::Found(at as u64, byte)));
+    }
+    Ok(())
+}
+
+#[test]
+fn random_scripts_crash_as_a_plain_model_says(rt: HostRuntime) -> Result<(), Fail> {
+    let mut seed = 1;
+    for _ in 0..1000 {
+        expect_as_model(&rt, rt.alloc(), &mut seed)?;
+    }
+    Ok(())
+}
+
+#[test]
+fn ten_thousand_writes_and_a_crash(rt: HostRuntime) -> Result<(), Fail> {
+    let mut disk = MemDisk::new(rt.alloc(), 70)?;
+    for at in 0..10_000 {
+        assert!(rt; put(&rt, &mut disk, at % 70, (at % 256) as u8));
+    }
+    expect(&rt, &mut disk, &[Step::Calls(10_000)]);
+    let picks = vec![in rt.alloc(); 200; 70]?;
+    let last = [Step::Found(59, (9_999 % 256) as u8)];
+    expect_left(&rt, rt.alloc(), &disk, &picks, &last)?;
+    Ok(())
+}
+
+/// Two sectors of 1 and of 2.
+fn window(alloc: Global) -> Result<Vec<[u8; SECTOR_SIZE]>, AllocError> {
+    let mut sectors = Vec::new(alloc);
+    sectors.push([1; SECTOR_SIZE])?;
+    sectors.push([2; SECTOR_SIZE])?;
+    Ok(sectors)
+}
+
+/// Publishes the window from sector 2 on, by a mark of 9 in sector 0, and tells whether that succeeded.
+fn publishes<D: Sectors>(rt: &impl Abort, disk: &mut D, window: &[[u8; SECTOR_SIZE]]) -> bool {
+    assert!(rt; disk.size() == 4 && window.len() == 2);
+    publish(disk, 2, window, 0, &[9; SECTOR_SIZE]).is_ok()
+}
+
+// Of so many calls, and what a crash then leaves.
+const PUBLISHED: [(u64, bool, &[Step]); 6] = [
+    (0, false, &[Step::Found(0, 0)]),
+    (1, false, &[Step::Found(0, 0)]),
+    (2, false, &[Step::Found(0, 0)]),
+    (3, false, &[Step::Found(0, 0)]),
+    (
+        4,
+        false,
+        &[Step::Found(0, 9), Step::Found(2, 1), Step::Found(3, 2)],
+    ),
+    (
+        5,
+        true,
+        &[Step::Found(0, 9), Step::Found(2, 1), Step::Found(3, 2)],
+    ),
+];
+
+#[test]
+fn a_window_is_published_whole_or_not_at_all(rt: HostRuntime) -> Result<(), Fail> {
+    let window = window(rt.alloc())?;
+    for (calls, done, left) in &PUBLISHED {
+        let mut disk = Fuse::new(MemDisk::new(rt.alloc(), 4)?, *calls);
+        assert!(rt; publishes(&rt, &mut disk, &window) == *done);
+        expect_left(&rt, rt.alloc(), &disk.into_inner(), &[1, 1, 1, 1], left)?;
+    }
+    Ok(())
+}
+
+#[test]
+fn sectors_are_written_in_a_row(rt: HostRuntime) -> Result<(), Fail> {
+    let window = window(rt.alloc())?;
+    let mut disk = MemDisk::new(rt.alloc(), 4)?;
+    assert!(rt; disk.size() == 4 && window.len() == 2);
+    write_sectors(&mut disk, 1, &window)?;
+    let written = [Step::Found(1, 1), Step::Found(2, 2), Step::Calls(2)];
+    expect(&rt, &mut disk, &written);
+    Ok(())
+}
+
+#[test]
+fn a_file_in_memory_keeps_its_sectors(rt: HostRuntime) -> Result<(), Fail> {
+    let mut disk = FileDisk::in_memory(rt.alloc(), 3)?;
+    let steps = [
+        Step::Size(3),
+        Step::Calls(0),
+        Step::Put(1, b'x'),
+        Step::Put(2, b'y'),
+        Step::Syncs,
+        Step::Found(1, b'x'),
+        Step::Found(2, b'y'),
+        Step::Found(0, 0),
+        Step::Calls(3),
+    ];
+    expect(&rt, &mut disk, &steps);
+    Ok(())
+}
+
+/// The path of a file of this process in the folder for temporary files, where no file is yet.
+fn fresh_path(rt: &HostRuntime, name: &str) -> Result<PathBuf, Fail> {
+    let mut path = env::temp_dir(rt)?;
+    let file = format!(in rt.alloc(); "{name}_{}", process::id(rt.process()))?;
+    path.push(file.as_str())?;
+    let _ = fs::remove_file(rt, path.as_str());
+    Ok(path)
+}
+
+/// Makes a file of so many sectors, and takes the steps on it.
+fn expect_created(
+    rt: &HostRuntime,
+    judge: &impl Abort,
+    path: &str,
+    sectors: u64,
+    steps: &[Step],
+) -> Result<(), Fail> {
+    expect(
+        judge,
+        &mut FileDisk::create(rt, rt.alloc(), path, sectors)?,
+        steps,
+    );
+    Ok(())
+}
+
+fn expect_uncreated(
+    rt: &HostRuntime,
+    judge: &impl Abort,
+    path: &str,
+    sectors: u64,
+    fault: FileFault,
+) {
+    let created = FileDisk::create(rt, rt.alloc(), path, sectors);
+    assert!(judge; created.err() == Some(fault));
+}
+
+fn expect_unopened(rt: &HostRuntime, judge: &impl Abort, path: &str, fault: FileFault) {
+    let opened = FileDisk::open(rt, rt.alloc(), path);
+    assert!(judge; opened.err() == Some(fault));
+}
+
+#[test]
+fn a_real_file_keeps_its_sectors(rt: HostRuntime) -> Result<(), Fail> {
+    let path = fresh_path(&rt, "audit_disk_device")?;
+    let path = path.as_str();
+    let written = [
+        Step::Size(3),
+        Step::Put(2, b'x'),
+        Step::Syncs,
+        Step::Calls(2),
+    ];
+    expect_created(&rt, &rt, path, 3, &written)?;
+    expect_uncreated(&rt, &rt, path, 3, FileFault::Io);
+    expect_cut(&rt, &rt, path)?;
+    expect_uncreated(&rt, &rt, path, u64::MAX, FileFault::Length);
+    fs::remove_file(&rt, path)?;
+    expect_unopened(&rt, &rt, path, FileFault::Io);
+    expect_unopened(&rt, &rt, "/", FileFault::Io);
+    Ok(())
+}
+
+// Sectors in a row, of a file that is cut while they are read: those before its end are still found.
+#[test]
+fn a_real_file_is_read_in_rows(rt: HostRuntime) -> Result<(), Fail> {
+    let path = fresh_path(&rt, "audit_disk_rows")?;
+    let path = path.as_str();
+    let mut disk = FileDisk::create(&rt, rt.alloc(), path, 300)?;
+    for at in 0..300 {
+        assert!(&rt; put(&rt, &mut disk, at, (at % 251) as u8));
+    }
+    for at in 0..300 {
+        expect(&rt, &mut disk, &[Step::Found(at, (at % 251) as u8)]);
+    }
+    expect(&rt, &mut disk, &[Step::Syncs]);
+    set_len(&rt, path, 512 * 200)?;
+    for at in 0..300 {
+        let there = Step::Found(at, (at % 251) as u8);
+        let gone = Step::FindFails(at);
+        expect(&rt, &mut disk, &[if at < 200 { there } else { gone }]);
+    }
+    fs::remove_file(&rt, path)?;
+    Ok(())
+}
+
+/// A file of three sectors is opened, and then cut to two of them, and to a length that no device has.
+fn expect_cut(rt: &HostRuntime, judge: &impl Abort, path: &str) -> Result<(), Fail> {
+    let mut disk = FileDisk::open(rt, rt.alloc(), path)?;
+    let kept = [
+        Step::Size(3),
+        Step::Calls(0),
+        Step::Found(2, b'x'),
+        Step::Found(1, 0),
+    ];
+    expect(judge, &mut disk, &kept);
+    set_len(rt, path, 1024)?;
+    expect(judge, &mut disk, &[Step::FindFails(2)]);
+    set_len(rt, path, 1025)?;
+    expect_unopened(rt, judge, path, FileFault::Length);
+    set_len(rt, path, 1024)?;
+    expect(
+        judge,
+        &mut FileDisk::open(rt, rt.alloc(), path)?,
+        &[Step::Size(2)],
+    );
+    Ok(())
+}
+
+fn set_len(rt: &HostRuntime, path: &str, len: u64) -> Result<(), Fail> {
+    let file = OpenOptions::new().write(true).open(rt, path)?;
+    file.set_len(len)?;
+    Ok(())
+}
+
+#[test]
+fn a_file_that_cant_be_laid_out_leaves_nothing(rt: HostRuntime) -> Result<(), Fail> {
+    let path = fresh_path(&rt, "audit_disk_too_long")?;
+    let path = path.as_str();
+    expect_uncreated(&rt, &rt, path, 1 << 54, FileFault::Io);
+    expect_unopened(&rt, &rt, path, FileFault::Io);
+    expect_created(&rt, &rt, path, 1, &[Step::Size(1)])?;
+    fs::remove_file(&rt, path)?;
+    Ok(())
+}
+
+// A device of the system takes writes and refuses to be synced.
+#[test]
+fn after_a_failed_sync_a_file_takes_no_call(rt: HostRuntime) -> Result<(), Fail> {
+    let mut options = OpenOptions::new();
+    options.read(true).write(true);
+    let file = options.open(&rt, "/dev/null")?;
+    let steps = [
+        Step::Put(0, b'x'),
+        Step::SyncFails,
+        Step::PutFails(0, b'x'),
+        Step::FindFails(0),
+        Step::SyncFails,
+        Step::Calls(4),
+    ];
+    let mut disk = FileDisk::over(rt.alloc(), OsFile::new(file), 1)?;
+    expect(&rt, &mut disk, &steps);
+    Ok(())
+}
+
+// Where the user is bound by a file's mode; a superuser may write every file.
+#[test]
+fn a_file_that_may_only_be_read_takes_no_write(rt: HostRuntime) -> Result<(), Fail> {
+    let path = fresh_path(&rt, "audit_disk_read_only")?;
+    let path = path.as_str();
+    expect_created(&rt, &rt, path, 1, &[])?;
+    expect_unwritten(&rt, &rt, path)?;
+    expect_opened_as_allowed(&rt, &rt, path)?;
+    fs::remove_file(&rt, path)?;
+    Ok(())
+}
+
+/// A file that was opened to be read.
+fn expect_unwritten(rt: &HostRuntime, judge: &impl Abort, path: &str) -> Result<(), Fail> {
+    let file = OpenOptions::new().read(true).open(rt, path)?;
+    let mut disk = FileDisk::over(rt.alloc(), OsFile::new(file), 1)?;
+    let steps = [Step::PutFails(0, b'x'), Step::Found(0, 0), Step::Calls(1)];
+    expect(judge, &mut disk, &steps);
+    Ok(())
+}
+
+/// A file that its mode allows only to read is opened as a device where this user may write it all the same.
+fn expect_opened_as_allowed(rt: &HostRuntime, judge: &impl Abort, path: &str) -> Result<(), Fail> {
+    fs::set_permissions(rt, path, fs::Permissions::from_mode(0o444))?;
+    let writable = OpenOptions::new().write(true).open(rt, path).is_ok();
+    let fault = FileDisk::open(rt, rt.alloc(), path).err();
+    assert_eq!(judge; fault, if writable { None } else { Some(FileFault::Io) });
+    Ok(())
+}

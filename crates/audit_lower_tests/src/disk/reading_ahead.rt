@@ -1,0 +1,228 @@
+//! Reading ahead, against a file of which each call is counted.
+
+ghost use Rattle.std.specs.Prelude.{◌<◌};
+ghost use Rattle.audit_disk.specs.OsFile.{unknown_file};
+
+use super::next;
+use audit_disk::{DeviceFault, FileDisk, SECTOR_SIZE, SectorFile, Sectors};
+use std::alloc::{AllocError, Global};
+use std::process::Abort;
+use std::test::Fail;
+
+const SECTORS: usize = 400;
+
+// What sector 3 holds after a sync.
+const SYNCED: u8 = b'x';
+
+/// A file in memory of sectors of equal bytes, of which one can't be read, and sector 3 changes by each sync.
+#[derive(Drop)]
+struct Patchy {
+    bytes: [u8; SECTORS],
+    bad: usize,
+    reads: u64,
+    rows: u64,
+    failures: u64,
+}
+
+impl Patchy {
+    fn give(&self, offset: u64, into: &mut [u8; SECTOR_SIZE]) -> Result<(), DeviceFault> {
+        let at = (offset / SECTOR_SIZE as u64) as usize;
+        if at >= SECTORS || at == self.bad {
+            return Err(DeviceFault);
+        }
+        *into = [self.bytes[at]; SECTOR_SIZE];
+        Ok(())
+    }
+
+    fn count(&mut self, outcome: &Result<(), DeviceFault>) {
+        if outcome.is_err() {
+            self.failures = self.failures.saturating_add(1);
+        }
+    }
+
+    fn give_row(&self, offset: u64, into: &mut [[u8; SECTOR_SIZE]]) -> Result<(), DeviceFault> {
+        let mut there = offset;
+        for sector in into.iter_mut() {
+            self.give(there, sector)?;
+            there = there.saturating_add(SECTOR_SIZE as u64);
+        }
+        Ok(())
+    }
+}
+
+impl SectorFile for Patchy {
+    ghost file = { λ it. unknown_file it.failures };
+
+    fn read_at(&mut self, offset: u64, into: &mut [u8; SECTOR_SIZE]) -> Result<(), DeviceFault> {
+        self.reads = self.reads.saturating_add(1);
+        let outcome = self.give(offset, into);
+        self.count(&outcome);
+        outcome
+    }
+
+    fn read_row(&mut self, offset: u64, into: &mut [[u8; SECTOR_SIZE]]) -> Result<(), DeviceFault> {
+        self.rows = self.rows.saturating_add(1);
+        let outcome = self.give_row(offset, into);
+        self.count(&outcome);
+        outcome
+    }
+
+    fn write_at(&mut self, offset: u64, bytes: &[u8; SECTOR_SIZE]) -> Result<(), DeviceFault> {
+        let at = (offset / SECTOR_SIZE as u64) as usize;
+        if at < SECTORS {
+            self.bytes[at] = bytes[0];
+        }
+        Ok(())
+    }
+
+    fn sync(&mut self) -> Result<(), DeviceFault> {
+        self.bytes[3] = SYNCED;
+        Ok(())
+    }
+}
+
+type Disk = FileDisk<Patchy>;
+
+/// Bytes of value k modulo 251 for each sector k.
+fn counted_bytes() -> [u8; SECTORS] {
+    let mut bytes = [0; SECTORS];
+    for at in 0..SECTORS {
+        bytes[at] = (at % 251) as u8;
+    }
+    bytes
+}
+
+/// A device over a file whose sector k holds bytes of value k modulo 251.
+fn new_disk(alloc: Global, bad: usize) -> Result<Disk, AllocError> {
+    let file = Patchy {
+        bytes: counted_bytes(),
+        bad,
+        reads: 0,
+        rows: 0,
+        failures: 0,
+    };
+    FileDisk::over(alloc, file, SECTORS as u64)
+}
+
+fn found(rt: &impl Abort, disk: &mut Disk, at: usize) -> Option<u8> {
+    assert!(rt; (at as u64) < disk.size());
+    let mut into = [0; SECTOR_SIZE];
+    disk.read(at as u64, &mut into).ok()?;
+    assert!(rt; into.iter().all(|byte| *byte == into[0]));
+    Some(into[0])
+}
+
+fn write(rt: &impl Abort, disk: &mut Disk, at: usize, byte: u8) {
+    assert!(rt; (at as u64) < disk.size());
+    assert!(rt; disk.write(at as u64, &[byte; SECTOR_SIZE]).is_ok());
+}
+
+/// Reads the sectors and expects of each what the file holds.
+fn expect_read(rt: &impl Abort, disk: &mut Disk, places: &[usize]) {
+    for at in places {
+        assert_eq!(rt; found(rt, disk, *at), Some((*at % 251) as u8));
+    }
+}
+
+fn expect_calls(rt: &impl Abort, disk: Disk, reads: u64, rows: u64) {
+    let file = disk.into_file();
+    assert_eq!(rt; (file.reads, file.rows), (reads, rows));
+}
+
+// Rows of 2, 4, .. 128 sectors, one of 128 again, and one of the last 17.
+#[test]
+fn reads_that_go_on_read_rows(rt: HostRuntime) -> Result<(), Fail> {
+    let mut disk = new_disk(rt.alloc(), SECTORS)?;
+    for at in 0..SECTORS {
+        expect_read(&rt, &mut disk, &[at]);
+    }
+    expect_calls(&rt, disk, 1, 9);
+    Ok(())
+}
+
+#[test]
+fn reads_elsewhere_read_one_sector_each(rt: HostRuntime) -> Result<(), Fail> {
+    let mut disk = new_disk(rt.alloc(), SECTORS)?;
+    expect_read(&rt, &mut disk, &[7, 3, 399, 7, 5, 5]);
+    for back in 0..SECTORS {
+        expect_read(&rt, &mut disk, &[SECTORS - 1 - back]);
+    }
+    expect_calls(&rt, disk, 406, 0);
+    Ok(())
+}
+
+// The first read is alone, and then rows from 11, 13 and 17 on; what was read is given again, in any order.
+#[test]
+fn sectors_that_were_read_are_given_again(rt: HostRuntime) -> Result<(), Fail> {
+    let onwards = [10, 11, 12, 13, 14, 15, 16, 17];
+    for (again, reads, rows) in [
+        (&[] as &[usize], 1, 3),
+        (&[24, 20, 17, 18, 24], 1, 3),
+        (&[24, 20, 17, 18, 24, 16, 17, 25], 3, 4),
+    ] {
+        let mut disk = new_disk(rt.alloc(), SECTORS)?;
+        expect_read(&rt, &mut disk, &onwards);
+        expect_read(&rt, &mut disk, again);
+        expect_calls(&rt, disk, reads, rows);
+    }
+    Ok(())
+}
+
+#[test]
+fn a_write_and_a_sync_drop_what_was_read(rt: HostRuntime) -> Result<(), Fail> {
+    let mut disk = new_disk(rt.alloc(), SECTORS)?;
+    expect_read(&rt, &mut disk, &[0, 1]);
+    write(&rt, &mut disk, 2, b'w');
+    assert_eq!(&rt; found(&rt, &mut disk, 2), Some(b'w'));
+    expect_read(&rt, &mut disk, &[3]);
+    assert!(&rt; disk.sync().is_ok());
+    assert_eq!(&rt; found(&rt, &mut disk, 3), Some(SYNCED));
+    Ok(())
+}
+
+#[test]
+fn a_bad_sector_spoils_no_other(rt: HostRuntime) -> Result<(), Fail> {
+    let mut disk = new_disk(rt.alloc(), 100)?;
+    for at in 0..SECTORS {
+        let wanted = if at == 100 {
+            None
+        } else {
+            Some((at % 251) as u8)
+        };
+        assert_eq!(&rt; found(&rt, &mut disk, at), wanted);
+    }
+    Ok(())
+}
+
+/// A call on the device and on a plain list of its bytes: a write, a sync, or some reads onwards from any place.
+fn play(rt: &impl Abort, disk: &mut Disk, model: &mut [u8; SECTORS], seed: &mut u64) {
+    let at = (next(seed) % SECTORS as u64) as usize;
+    match next(seed) % 8 {
+        0 => {
+            let byte = (next(seed) % 256) as u8;
+            write(rt, disk, at, byte);
+            model[at] = byte;
+        }
+        1 => {
+            assert!(rt; disk.sync().is_ok());
+            model[3] = SYNCED;
+        }
+        _ => {
+            let end = (at + (next(seed) % 32) as usize).min(SECTORS);
+            for place in at..end {
+                assert_eq!(rt; found(rt, disk, place), Some(model[place]));
+            }
+        }
+    }
+}
+
+#[test]
+fn random_calls_give_what_a_plain_list_holds(rt: HostRuntime) -> Result<(), Fail> {
+    let mut disk = new_disk(rt.alloc(), SECTORS)?;
+    let mut model = counted_bytes();
+    let mut seed = 7;
+    for _ in 0..2000 {
+        play(&rt, &mut disk, &mut model, &mut seed);
+    }
+    Ok(())
+}

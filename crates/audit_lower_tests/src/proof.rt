@@ -1,0 +1,374 @@
+use audit_proof::*;
+use audit_proof::laws::{TextHash, collide_two_with};
+use audit_base::Hash;
+use audit_tree::{Tree, TreeError, leaf_hash};
+use hex::FromHex;
+use std::alloc::Global;
+use std::process::Abort;
+use std::test::Fail;
+
+mod across;
+mod proof_bytes;
+
+// The tree over so many texts of one byte, which is the leaf's place.
+fn counted_tree(alloc: Global, count: u8) -> Result<Tree, TreeError> {
+    let mut tree = Tree::new(alloc);
+    for place in 0..count {
+        tree.push(leaf_hash(&[place]))?;
+    }
+    Ok(tree)
+}
+
+fn hash(text: &str) -> Result<Hash, Fail> {
+    Ok(<[u8; 32] as FromHex>::from_hex(text)?)
+}
+
+fn commitment(count: u64, root: &str) -> Result<Commitment, Fail> {
+    Ok(Commitment {
+        count,
+        root: hash(root)?,
+    })
+}
+
+// So many hashes, the first of bytes 0, the next of bytes 1 and so on.
+fn counted_hashes(alloc: Global, count: u8) -> Result<Vec<Hash>, Fail> {
+    let mut hashes = Vec::new(alloc);
+    for place in 0..count {
+        hashes.push([place; 32])?;
+    }
+    Ok(hashes)
+}
+
+// The commitments of a tree that grows to so many texts of one byte.
+fn counted_commitments(alloc: Global, count: u8) -> Result<Vec<Commitment>, Fail> {
+    let mut tree = Tree::new(alloc);
+    let mut commitments = Vec::new(alloc);
+    for place in 0..count {
+        tree.push(leaf_hash(&[place]))?;
+        commitments.push(commitment_to(&tree))?;
+    }
+    Ok(commitments)
+}
+
+fn commitment_to(tree: &Tree) -> Commitment {
+    Commitment {
+        count: tree.count(),
+        root: tree.root(),
+    }
+}
+
+// Whether a made membership is accepted, but not of another text, nor with a hash more or one less.
+fn is_exact_membership(tree: &Tree, commitment: &Commitment, place: u8) -> Result<bool, Fail> {
+    let index = u64::from(place);
+    let other = place.wrapping_add(1);
+    let mut hashes = tree.membership(index, commitment.count)?;
+    let exact = accepts_member(commitment, index, &[place], &hashes)
+        && !accepts_member(commitment, index, &[other], &hashes);
+    hashes.push([0; 32])?;
+    let longer = accepts_member(commitment, index, &[place], &hashes);
+    hashes.truncate(hashes.len().saturating_sub(2));
+    let shorter = accepts_member(commitment, index, &[place], &hashes);
+    Ok(exact && !longer && (!shorter || place == 0 && commitment.count == 1))
+}
+
+fn assert_memberships(
+    rt: &impl Abort,
+    tree: &Tree,
+    commitment: &Commitment,
+    count: u8,
+) -> Result<(), Fail> {
+    for place in 0..count {
+        assert!(rt;
+            is_exact_membership(tree, commitment, place)?,
+            "{place} under {count}"
+        );
+    }
+    assert!(rt; !accepts_member(commitment, commitment.count, &[count], &[]));
+    Ok(())
+}
+
+fn assert_all_memberships(
+    rt: &impl Abort,
+    tree: &Tree,
+    commitments: &[Commitment],
+) -> Result<(), Fail> {
+    let mut count = 0u8;
+    for commitment in commitments {
+        count = count.saturating_add(1);
+        assert_memberships(rt, tree, commitment, count)?;
+    }
+    Ok(())
+}
+
+#[test]
+fn made_memberships_are_accepted_as_they_are(rt: HostRuntime) -> Result<(), Fail> {
+    let tree = counted_tree(rt.alloc(), 33)?;
+    let commitments = counted_commitments(rt.alloc(), 33)?;
+    assert!(&rt; commitments.len() == 33);
+    assert_all_memberships(&rt, &tree, &commitments)
+}
+
+// Whether a made increment is accepted, but not backwards, nor with a hash more or one less.
+fn is_exact_increment(tree: &Tree, older: &Commitment, newer: &Commitment) -> Result<bool, Fail> {
+    let mut hashes = tree.incremental(older.count, newer.count)?;
+    let exact = accepts_increment(older, newer, &hashes)
+        && (older.count == newer.count || !accepts_increment(newer, older, &hashes));
+    hashes.push([0; 32])?;
+    let longer = accepts_increment(older, newer, &hashes);
+    hashes.truncate(hashes.len().saturating_sub(2));
+    let shorter = accepts_increment(older, newer, &hashes);
+    Ok(exact && !longer && !shorter)
+}
+
+fn assert_increments(
+    rt: &impl Abort,
+    tree: &Tree,
+    commitments: &[Commitment],
+    newer: &Commitment,
+) -> Result<(), Fail> {
+    for older in commitments {
+        if older.count <= newer.count {
+            assert!(rt; is_exact_increment(tree, older, newer)?);
+        }
+    }
+    Ok(())
+}
+
+fn assert_all_increments(
+    rt: &impl Abort,
+    tree: &Tree,
+    commitments: &[Commitment],
+) -> Result<(), Fail> {
+    for newer in commitments {
+        assert_increments(rt, tree, commitments, newer)?;
+    }
+    Ok(())
+}
+
+#[test]
+fn made_increments_are_accepted_as_they_are(rt: HostRuntime) -> Result<(), Fail> {
+    let tree = counted_tree(rt.alloc(), 33)?;
+    let commitments = counted_commitments(rt.alloc(), 33)?;
+    assert!(&rt; commitments.len() == 33);
+    assert_all_increments(&rt, &tree, &commitments)
+}
+
+const FULL: u64 = 1 << 24;
+
+// The roots of full trees with `hello` as their first or as their last text.
+const FULL_WITH_FIRST: &str = "303c35d90e830791ae0ec69849ab6df4fef520b3201fd058de4fc2c6634201c3";
+
+const FULL_WITH_LAST: &str = "89a6951c2fd5564dfd50fefa7001470771d5465fc0657b2bcf05346e305fce09";
+
+// Whether `hello` is accepted under a full tree, with so many hashes.
+fn accepts_hello(alloc: Global, root: &str, index: u64, count: u8) -> Result<bool, Fail> {
+    let full = commitment(FULL, root)?;
+    let hashes = counted_hashes(alloc, count)?;
+    Ok(accepts_member(&full, index, b"hello", &hashes))
+}
+
+#[test]
+fn the_longest_memberships_are_accepted(rt: HostRuntime) -> Result<(), Fail> {
+    for (root, index, count, accepted) in [
+        (FULL_WITH_FIRST, 0, 24, true),
+        (FULL_WITH_FIRST, 0, 25, false),
+        (FULL_WITH_LAST, FULL - 1, 24, true),
+        (FULL_WITH_LAST, FULL, 24, false),
+    ] {
+        assert!(&rt; accepts_hello(rt.alloc(), root, index, count)? == accepted);
+    }
+    Ok(())
+}
+
+// Whether the growth of a tree by its last leaf is accepted, with so many hashes.
+fn accepts_last(alloc: Global, count: u8) -> Result<bool, Fail> {
+    let older = commitment(
+        FULL - 1,
+        "4dded454fddbb4fb3276b135b882959c7bb3d37abc0509340c5696c28170f6a1",
+    )?;
+    let newer = commitment(
+        FULL,
+        "398e4ceb2cbb412547202a5db2d7ec1543a03ebd7a8066ef3a4656bdfd65afe6",
+    )?;
+    let hashes = counted_hashes(alloc, count)?;
+    Ok(accepts_increment(&older, &newer, &hashes))
+}
+
+#[test]
+fn the_longest_increment_is_accepted(rt: HostRuntime) -> Result<(), Fail> {
+    assert!(&rt; accepts_last(rt.alloc(), 25)?);
+    assert!(&rt; !accepts_last(rt.alloc(), 24)?);
+    Ok(())
+}
+
+// The commitment of so many entries to a root of zeros.
+fn of_zeros(count: u64) -> Commitment {
+    Commitment {
+        count,
+        root: [0; 32],
+    }
+}
+
+#[test]
+fn memberships_outside_the_limits_are_not_accepted(rt: HostRuntime) {
+    for (count, index) in [(0, 0), (u64::MAX, 0), (FULL + 1, u64::MAX)] {
+        assert!(&rt; !accepts_member(&of_zeros(count), index, b"", &[]));
+    }
+}
+
+// The last is a full tree over the limit, whose increment to itself is its root alone.
+const OUTSIDE: [(u64, u64, &[Hash]); 5] = [
+    (0, FULL + 1, &[]),
+    (0, 0, &[]),
+    (u64::MAX, u64::MAX, &[[0; 32]]),
+    (FULL + 1, FULL + 1, &[[0; 32]]),
+    (1 << 25, 1 << 25, &[[0; 32]]),
+];
+
+#[test]
+fn increments_outside_the_limits_are_not_accepted(rt: HostRuntime) {
+    for (older, newer, hashes) in OUTSIDE {
+        assert!(&rt; !accepts_increment(&of_zeros(older), &of_zeros(newer), hashes));
+    }
+}
+
+// Why a made proof of leaf 1 of three, of this entry, and another proof of it don't collide.
+fn fault_beside(
+    alloc: Global,
+    entry: &[u8],
+    other_entry: &[u8],
+    other_hashes: &[Hash],
+) -> Result<Option<CollideFault>, TreeError> {
+    let tree = counted_tree(alloc, 3)?;
+    let three = commitment_to(&tree);
+    let hashes = tree.membership(1, 3)?;
+    let found = collide_two(alloc, &three, 1, entry, &hashes, other_entry, other_hashes);
+    Ok(found.err())
+}
+
+#[test]
+fn equal_entries_do_not_collide(rt: HostRuntime) -> Result<(), Fail> {
+    let hashes = counted_tree(rt.alloc(), 3)?.membership(1, 3)?;
+    let same = fault_beside(rt.alloc(), &[1], &[1], &hashes)?;
+    assert!(&rt; same == Some(CollideFault::NoDisagreement));
+    let other = fault_beside(rt.alloc(), &[2], &[1], &hashes)?;
+    assert!(&rt; other == Some(CollideFault::NotAccepted));
+    Ok(())
+}
+
+#[test]
+fn a_proof_that_is_not_accepted_does_not_collide(rt: HostRuntime) -> Result<(), Fail> {
+    let mut changed = counted_tree(rt.alloc(), 3)?.membership(1, 3)?;
+    changed.pop();
+    changed.push([7; 32])?;
+    let unlike = fault_beside(rt.alloc(), &[1], &[1], &changed)?;
+    assert!(&rt; unlike == Some(CollideFault::NotAccepted));
+    Ok(())
+}
+
+// A text's length.
+#[derive(Drop)]
+struct Weak;
+
+impl TextHash for Weak {
+    ghost use Rattle.std.specs.Prelude.{length, ◌%◌, ◌∷◌, replicate};
+
+    ghost value_of = { λ text. length text % 256 ∷ replicate 31 0 };
+
+    fn hash(&self, text: &[u8]) -> Hash {
+        let mut value = [0; 32];
+        value[0] = (text.len() % 256) as u8;
+        value
+    }
+}
+
+// The commitment of one leaf to texts of this length, by the weak hash.
+fn weak_commitment(len: usize) -> Commitment {
+    let mut root = [0; 32];
+    root[0] = (len % 256) as u8;
+    Commitment { count: 1, root }
+}
+
+// What the weak hash shows of two entries, each the only one of a log, under a root of texts of this length.
+fn weakly(
+    alloc: Global,
+    len: usize,
+    first: &[u8],
+    second: &[u8],
+) -> Result<Collision, CollideFault> {
+    let one = weak_commitment(len);
+    collide_two_with(alloc, &Weak, &one, 0, first, &[], second, &[])
+}
+
+fn have_one_value(found: &Collision) -> bool {
+    found.left.as_slice() != found.right.as_slice()
+        && Weak.hash(&found.left) == Weak.hash(&found.right)
+}
+
+fn have_length(found: &Collision, len: usize) -> bool {
+    found.left.len() == len && found.right.len() == len
+}
+
+#[test]
+fn texts_of_one_length_collide(rt: HostRuntime) -> Result<(), Fail> {
+    let found = weakly(rt.alloc(), 2, &[0xaa], &[0xbb])?;
+    assert!(&rt; have_one_value(&found));
+    Ok(())
+}
+
+#[test]
+fn texts_that_are_equal_or_longer_do_not_collide(rt: HostRuntime) {
+    let same = weakly(rt.alloc(), 2, &[0xaa], &[0xaa]);
+    assert!(&rt; same.err() == Some(CollideFault::NoDisagreement));
+    let longer = weakly(rt.alloc(), 2, &[0xaa], &[0xbb, 0xbb]);
+    assert!(&rt; longer.err() == Some(CollideFault::NotAccepted));
+}
+
+#[test]
+fn nodes_of_one_length_collide(rt: HostRuntime) -> Result<(), Fail> {
+    let mut two = weak_commitment(65);
+    two.count = 2;
+    let above = collide_two_with(
+        rt.alloc(),
+        &Weak,
+        &two,
+        1,
+        b"long",
+        &[[1; 32]],
+        b"short",
+        &[[2; 32]],
+    )?;
+    assert!(&rt; have_length(&above, 65));
+    Ok(())
+}
+
+// Whether two entries of one length collide.
+fn entries_collide(alloc: Global, first: &[u8], second: &[u8]) -> Result<bool, CollideFault> {
+    let len = first.len().saturating_add(1);
+    let found = weakly(alloc, len, first, second)?;
+    Ok(have_length(&found, len))
+}
+
+fn assert_entries_collide(
+    rt: &impl Abort,
+    alloc: Global,
+    first: &[u8],
+    second: &[u8],
+) -> Result<(), CollideFault> {
+    for len in 1..=MAX_ENTRY {
+        assert!(rt; len <= first.len() && len <= second.len());
+        assert!(rt;
+            entries_collide(alloc, &first[..len], &second[..len])?,
+            "of {len}"
+        );
+    }
+    Ok(())
+}
+
+#[test]
+fn entries_of_each_length_collide(rt: HostRuntime) -> Result<(), Fail> {
+    let first = vec![in rt.alloc(); 1; MAX_ENTRY]?;
+    let second = vec![in rt.alloc(); 2; MAX_ENTRY]?;
+    assert_entries_collide(&rt, rt.alloc(), &first, &second)?;
+    Ok(())
+}

@@ -1,0 +1,308 @@
+ghost use Rattle.std.specs.Prelude.{◌≡◌, ◌∷◌, replicate, slice_index_or};
+
+use super::*;
+use audit_proof::laws::collide_three_with;
+use std::alloc::AllocError;
+
+// The sum of the first bytes of a text's two sides, behind its mark.
+#[derive(Drop)]
+struct Sums;
+
+impl TextHash for Sums {
+    ghost use Rattle.std.specs.Prelude.{◌+◌, ◌%◌, ◌∷◌, replicate, slice_index_or};
+
+    ghost value_of = { λ text. (slice_index_or text 1 0 + slice_index_or text 33 0) % 256 ∷ replicate 31 0 };
+
+    fn hash(&self, text: &[u8]) -> Hash {
+        first_byte(byte_at(text, 1).wrapping_add(byte_at(text, 33)))
+    }
+}
+
+// The byte at a place, or 0 behind the end.
+fn byte_at(text: &[u8], place: usize) -> u8
+    ensures { result ≡ slice_index_or text.now place 0 }
+{
+    if place < text.len() { text[place] } else { 0 }
+}
+
+// A hash of one byte and zeros.
+fn first_byte(byte: u8) -> Hash
+    ensures { result ≡ byte ∷ replicate 31 0 }
+{
+    let mut value = [0; 32];
+    value[0] = byte;
+    value
+}
+
+// Two versions, an index and the numbers of hashes that the increment and the two memberships have there.
+#[derive(Drop)]
+struct Versions {
+    older: u64,
+    newer: u64,
+    index: u64,
+    increment: usize,
+    first: usize,
+    second: usize,
+}
+
+fn versions_at(tree: &Tree, older: u64, newer: u64, index: u64) -> Result<Versions, TreeError> {
+    Ok(Versions {
+        older,
+        newer,
+        index,
+        increment: tree.incremental(older, newer)?.len(),
+        first: tree.membership(index, older)?.len(),
+        second: tree.membership(index, newer)?.len(),
+    })
+}
+
+// So many hashes of zeros, of which the one at a place takes away what a leaf adds.
+fn zeros_but(alloc: Global, count: usize, place: usize, leaf: u8) -> Result<Vec<Hash>, AllocError> {
+    let mut hashes = Vec::new(alloc);
+    for at in 0..count {
+        let byte = if at == place {
+            0u8.wrapping_sub(leaf)
+        } else {
+            0
+        };
+        hashes.push(first_byte(byte))?;
+    }
+    Ok(hashes)
+}
+
+// The sum of a leaf that a hash takes away, or of one like all others.
+fn leaf_at(place: usize, count: usize, sum: u8) -> u8 {
+    if place < count { sum } else { 0 }
+}
+
+// What two entries show in trees whose roots and hashes are all zero. Each entry's sum isn't, and goes up to the
+// hash at its place, where it has one there.
+fn found(
+    alloc: Global,
+    at: &Versions,
+    first_place: usize,
+    second_place: usize,
+) -> Result<Collision, CollideFault> {
+    let first = leaf_at(first_place, at.first, 1);
+    let second = leaf_at(second_place, at.second, 2);
+    collide_three_with(
+        alloc,
+        &Sums,
+        &of_zeros(at.older),
+        &of_zeros(at.newer),
+        &zeros_but(alloc, at.increment, 0, 0)?,
+        at.index,
+        &[first, 1],
+        &zeros_but(alloc, at.first, first_place, first)?,
+        &[second, 2],
+        &zeros_but(alloc, at.second, second_place, second)?,
+    )
+}
+
+fn have_one_sum(found: &Collision) -> bool {
+    found.left.as_slice() != found.right.as_slice()
+        && Sums.hash(&found.left) == Sums.hash(&found.right)
+}
+
+fn assert_entries_collide_at(
+    rt: &impl Abort,
+    alloc: Global,
+    at: &Versions,
+    first_place: usize,
+) -> Result<(), CollideFault> {
+    for second_place in 0..=at.second {
+        let collision = found(alloc, at, first_place, second_place)?;
+        assert!(rt; have_one_sum(&collision), "{first_place} {second_place}");
+    }
+    Ok(())
+}
+
+fn assert_all_entries_collide(
+    rt: &impl Abort,
+    alloc: Global,
+    at: &Versions,
+) -> Result<(), CollideFault> {
+    for first_place in 0..=at.first {
+        assert_entries_collide_at(rt, alloc, at, first_place)?;
+    }
+    Ok(())
+}
+
+fn assert_versions_collide(
+    rt: &impl Abort,
+    alloc: Global,
+    tree: &Tree,
+    older: u64,
+    newer: u64,
+) -> Result<(), Fail> {
+    for index in 0..older {
+        let at = versions_at(tree, older, newer, index)?;
+        assert_all_entries_collide(rt, alloc, &at)?;
+    }
+    Ok(())
+}
+
+fn assert_older_versions_collide(
+    rt: &impl Abort,
+    alloc: Global,
+    tree: &Tree,
+    newer: u64,
+) -> Result<(), Fail> {
+    for older in 1..=newer {
+        assert_versions_collide(rt, alloc, tree, older, newer)?;
+    }
+    Ok(())
+}
+
+#[test]
+fn entries_under_any_two_versions_collide(rt: HostRuntime) -> Result<(), Fail> {
+    let tree = counted_tree(rt.alloc(), 17)?;
+    for newer in 1..=17 {
+        assert_older_versions_collide(&rt, rt.alloc(), &tree, newer)?;
+    }
+    Ok(())
+}
+
+// Entries of the tree without its last leaf at most: the first, those about its middle and the last, with the numbers
+// of their hashes there and with that leaf.
+const LARGEST: [(u64, usize, usize); 4] = [
+    (0, 24, 24),
+    (FULL / 2 - 1, 24, 24),
+    (FULL / 2, 24, 24),
+    (FULL - 2, 23, 24),
+];
+
+#[test]
+fn entries_under_the_largest_versions_collide(rt: HostRuntime) -> Result<(), Fail> {
+    for (index, first, second) in LARGEST {
+        let at = Versions {
+            older: FULL - 1,
+            newer: FULL,
+            index,
+            increment: 25,
+            first,
+            second,
+        };
+        assert_all_entries_collide(&rt, rt.alloc(), &at)?;
+    }
+    Ok(())
+}
+
+// Whether entries of one length collide, the first alone in its tree and the second with another.
+fn entries_collide_across(
+    alloc: Global,
+    first: &[u8],
+    second: &[u8],
+) -> Result<bool, CollideFault> {
+    let root = weak_commitment(first.len().saturating_add(1));
+    let mut pair = weak_commitment(65);
+    pair.count = 2;
+    let increment = [root.root, [0; 32]];
+    let found = collide_three_with(
+        alloc,
+        &Weak,
+        &root,
+        &pair,
+        &increment,
+        0,
+        first,
+        &[],
+        second,
+        &[[0; 32]],
+    )?;
+    Ok(have_one_value(&found))
+}
+
+fn assert_entries_collide_across(
+    rt: &impl Abort,
+    alloc: Global,
+    first: &[u8],
+    second: &[u8],
+) -> Result<(), CollideFault> {
+    for len in 1..=MAX_ENTRY {
+        assert!(rt; len <= first.len() && len <= second.len());
+        assert!(rt;
+            entries_collide_across(alloc, &first[..len], &second[..len])?,
+            "of {len}"
+        );
+    }
+    Ok(())
+}
+
+#[test]
+fn entries_of_each_length_collide_across_versions(rt: HostRuntime) -> Result<(), Fail> {
+    let first = vec![in rt.alloc(); 1; MAX_ENTRY]?;
+    let second = vec![in rt.alloc(); 2; MAX_ENTRY]?;
+    assert_entries_collide_across(&rt, rt.alloc(), &first, &second)?;
+    Ok(())
+}
+
+// What `aa` alone in its tree, and another entry with one behind it, show by the weak hash.
+fn weakly_across(
+    alloc: Global,
+    increment: &[Hash],
+    second: &[u8],
+) -> Result<Collision, CollideFault> {
+    let mut two = weak_commitment(65);
+    two.count = 2;
+    collide_three_with(
+        alloc,
+        &Weak,
+        &weak_commitment(2),
+        &two,
+        increment,
+        0,
+        &[0xaa],
+        &[],
+        second,
+        &[[0; 32]],
+    )
+}
+
+#[test]
+fn a_text_before_and_after_growth_collides(rt: HostRuntime) -> Result<(), Fail> {
+    let increment = [first_byte(2), [0; 32]];
+    let found = weakly_across(rt.alloc(), &increment, &[0xbb])?;
+    assert!(&rt; have_one_value(&found));
+    let shorter = weakly_across(rt.alloc(), &increment[..1], &[0xbb]);
+    assert!(&rt; shorter.err() == Some(CollideFault::NotAccepted));
+    let same = weakly_across(rt.alloc(), &increment, &[0xaa]);
+    assert!(&rt; same.err() == Some(CollideFault::NoDisagreement));
+    Ok(())
+}
+
+// Why made proofs of leaf 1 of three and of five, of these entries, and an increment don't collide.
+fn fault_across(
+    alloc: Global,
+    first: &[u8],
+    second: &[u8],
+    older: u8,
+    newer: u8,
+) -> Result<Option<CollideFault>, Fail> {
+    let tree = counted_tree(alloc, 5)?;
+    let three = commitment_to(&counted_tree(alloc, 3)?);
+    let found = collide_three(
+        alloc,
+        &three,
+        &commitment_to(&tree),
+        &tree.incremental(u64::from(older), u64::from(newer))?,
+        1,
+        first,
+        &tree.membership(1, 3)?,
+        second,
+        &tree.membership(1, 5)?,
+    );
+    Ok(found.err())
+}
+
+#[test]
+fn made_proofs_across_versions_do_not_collide(rt: HostRuntime) -> Result<(), Fail> {
+    let alloc = rt.alloc();
+    let same = fault_across(alloc, &[1], &[1], 3, 5)?;
+    assert!(&rt; same == Some(CollideFault::NoDisagreement));
+    for (first, second, older, newer) in [(2, 1, 3, 5), (1, 2, 3, 5), (1, 1, 3, 4), (1, 1, 2, 5)] {
+        let other = fault_across(alloc, &[first], &[second], older, newer)?;
+        assert!(&rt; other == Some(CollideFault::NotAccepted));
+    }
+    Ok(())
+}

@@ -1,0 +1,286 @@
+//! Streams of good and damaged frames, against a plain reading of the whole stream.
+
+ghost use Rattle.std.specs.Prelude.{◌<◌};
+
+use audit_wire::{Decoder, Fed, RequestView, read_request};
+use std::alloc::{AllocError, Global};
+use std::test::Fail;
+
+/// The digest of all readings, as a model of the formats in another language gives it for these
+/// streams.
+const EXPECTED: u64 = 0x8210_f49d_69d7_7597;
+
+const STREAMS: u64 = 10_000;
+
+/// Numbers that look random: Marsaglia's xorshift.
+#[derive(Drop)]
+struct Dice {
+    state: u64,
+}
+
+impl Dice {
+    fn below(&mut self, limit: u64) -> u64
+        requires { 0 < limit }
+        ensures { result < limit }
+    {
+        self.state ^= self.state << 13;
+        self.state ^= self.state >> 7;
+        self.state ^= self.state << 17;
+        (self.state >> 11) % limit
+    }
+
+    fn byte(&mut self) -> u8 {
+        self.below(256) as u8
+    }
+}
+
+/// What a reading gave: a digest of the requests, and how it ended.
+#[derive(Clone, Copy, Debug, PartialEq, Eq)]
+struct Reading {
+    digest: u64,
+    malformed: bool,
+    begun: bool,
+}
+
+impl Reading {
+    const NOTHING: Reading = Reading {
+        digest: 0xcbf2_9ce4_8422_2325,
+        malformed: false,
+        begun: false,
+    };
+
+    fn add(&mut self, number: u64) {
+        self.digest = (self.digest ^ number).wrapping_mul(0x100_0000_01b3);
+    }
+
+    fn add_all(&mut self, bytes: &[u8]) {
+        for byte in bytes {
+            self.add(*byte as u64);
+        }
+    }
+
+    fn add_request(&mut self, request: &RequestView) {
+        match request {
+            RequestView::Append { tag, kind, payload } => {
+                self.add(1);
+                self.add(*tag as u64);
+                self.add(*kind as u64);
+                self.add(payload.len() as u64);
+                self.add_all(payload);
+            }
+            RequestView::Commitment { tag } => {
+                self.add(2);
+                self.add(*tag as u64);
+            }
+            RequestView::Membership { tag, index, count } => {
+                self.add(3);
+                self.add(*tag as u64);
+                self.add(*index);
+                self.add(*count);
+            }
+            RequestView::Incremental { tag, older, newer } => {
+                self.add(4);
+                self.add(*tag as u64);
+                self.add(*older);
+                self.add(*newer);
+            }
+            RequestView::Entry { tag, index } => {
+                self.add(5);
+                self.add(*tag as u64);
+                self.add(*index);
+            }
+        }
+    }
+}
+
+fn put_random(stream: &mut Vec<u8>, dice: &mut Dice, count: u64) -> Result<(), AllocError> {
+    for _ in 0..count {
+        stream.push(dice.byte())?;
+    }
+    Ok(())
+}
+
+/// A frame with this first byte, and random bytes after it.
+fn put_query(stream: &mut Vec<u8>, dice: &mut Dice, kind: u8, size: u8) -> Result<(), AllocError> {
+    stream.extend_from_slice(&[0, size, kind])?;
+    put_random(stream, dice, (size as u64).saturating_sub(1))
+}
+
+fn put_append(stream: &mut Vec<u8>, dice: &mut Dice) -> Result<(), AllocError> {
+    let size = dice.below(24);
+    stream.extend_from_slice(&[0, 9 + size as u8, 1])?;
+    put_random(stream, dice, 4)?;
+    if dice.below(16) == 0 {
+        stream.extend_from_slice(&[0xff; 4])?;
+    } else {
+        put_random(stream, dice, 4)?;
+    }
+    put_random(stream, dice, size)
+}
+
+/// A frame that is hardly a request.
+fn put_junk(stream: &mut Vec<u8>, dice: &mut Dice) -> Result<(), AllocError> {
+    let size = dice.below(24);
+    stream.extend_from_slice(&[0, size as u8])?;
+    for _ in 0..size {
+        stream.push(dice.below(8) as u8)?;
+    }
+    Ok(())
+}
+
+fn put_frame(stream: &mut Vec<u8>, dice: &mut Dice) -> Result<(), AllocError> {
+    match dice.below(8) {
+        0..=2 => put_append(stream, dice),
+        3 => put_query(stream, dice, 2, 5),
+        4 => put_query(stream, dice, 3, 21),
+        5 => put_query(stream, dice, 4, 21),
+        6 => put_query(stream, dice, 5, 13),
+        _ => put_junk(stream, dice),
+    }
+}
+
+/// One to six frames, one byte of them changed in every fourth stream, and the end of every third
+/// cut off.
+fn stream_of(alloc: Global, dice: &mut Dice) -> Result<Vec<u8>, AllocError> {
+    let mut stream = Vec::new(alloc);
+    for _ in 0..dice.below(6) + 1 {
+        put_frame(&mut stream, dice)?;
+    }
+    if dice.below(4) == 0 && !stream.is_empty() {
+        let at = dice.below(stream.len() as u64) as usize;
+        stream[at] = dice.byte();
+    }
+    if dice.below(3) == 0 {
+        let size = dice.below(stream.len() as u64 + 1) as usize;
+        stream.truncate(size);
+    }
+    Ok(stream)
+}
+
+/// Feeds a piece, and again what was left of it.
+fn hear(decoder: &mut Decoder, piece: &[u8], reading: &mut Reading) {
+    let mut rest = piece;
+    while !rest.is_empty() && !reading.malformed {
+        match decoder.feed(rest) {
+            Fed::More => return,
+            Fed::Malformed { .. } => {
+                reading.malformed = true;
+                return;
+            }
+            Fed::Body { taken } => {
+                match read_request(decoder.body()) {
+                    Ok(request) => reading.add_request(&request),
+                    Err(_) => reading.malformed = true,
+                }
+                rest = &rest[taken..];
+            }
+        }
+    }
+}
+
+/// What a decoder gives for a stream in pieces of up to nine bytes.
+fn decoded(alloc: Global, stream: &[u8], dice: &mut Dice) -> Result<Reading, AllocError> {
+    let mut decoder = Decoder::new(alloc)?;
+    let mut reading = Reading::NOTHING;
+    let mut rest = stream;
+    while !rest.is_empty() {
+        let size = (dice.below(9) as usize + 1).min(rest.len());
+        let (piece, behind) = rest.split_at(size);
+        hear(&mut decoder, piece, &mut reading);
+        rest = behind;
+    }
+    reading.begun = !reading.malformed && decoder.pending();
+    Ok(reading)
+}
+
+/// The number in the first `size` bytes, and the bytes after it.
+fn number_at_front(bytes: &[u8], size: usize) -> Option<(u64, &[u8])> {
+    if bytes.len() < size {
+        return None;
+    }
+    let (front, rest) = bytes.split_at(size);
+    let mut number = 0u64;
+    for byte in front {
+        number = number.wrapping_mul(256).wrapping_add(*byte as u64);
+    }
+    Some((number, rest))
+}
+
+/// Reads a body by the table of the formats: first byte, size, and the widths of the numbers.
+fn plain_request(body: &[u8], reading: &mut Reading) -> Option<()> {
+    let (kind, mut rest) = number_at_front(body, 1)?;
+    let widths: &[usize] = match (kind, body.len()) {
+        (1, 9..=4033) => &[4, 4],
+        (2, 5) => &[4],
+        (3 | 4, 21) => &[4, 8, 8],
+        (5, 13) => &[4, 8],
+        _ => return None,
+    };
+    if kind == 1 && body.len() >= 9 && body[5..9] == [0xff; 4] {
+        return None;
+    }
+    reading.add(kind);
+    for width in widths {
+        let (number, behind) = number_at_front(rest, *width)?;
+        reading.add(number);
+        rest = behind;
+    }
+    if kind == 1 {
+        reading.add(rest.len() as u64);
+        reading.add_all(rest);
+    }
+    Some(())
+}
+
+/// The first frame's body, and the bytes after it.
+fn plain_frame(stream: &[u8]) -> Option<(&[u8], &[u8])> {
+    let (size, rest) = number_at_front(stream, 2)?;
+    if rest.len() < size as usize {
+        return None;
+    }
+    Some(rest.split_at(size as usize))
+}
+
+/// A plain reading of the whole stream.
+fn plain(stream: &[u8]) -> Reading {
+    let mut reading = Reading::NOTHING;
+    let mut rest = stream;
+    for _ in 0..=stream.len() {
+        match number_at_front(rest, 2) {
+            Some((1..=4033, _)) => {}
+            Some(_) => {
+                reading.malformed = true;
+                return reading;
+            }
+            None => break,
+        }
+        let Some((body, behind)) = plain_frame(rest) else {
+            break;
+        };
+        if plain_request(body, &mut reading).is_none() {
+            reading.malformed = true;
+            return reading;
+        }
+        rest = behind;
+    }
+    reading.begun = !rest.is_empty();
+    reading
+}
+
+#[test]
+fn ten_thousand_streams_in_any_cuts(rt: HostRuntime) -> Result<(), Fail> {
+    let mut total = Reading::NOTHING;
+    for i in 0..STREAMS {
+        let mut dice = Dice {
+            state: i.wrapping_mul(0x9E37_79B9_7F4A_7C15).wrapping_add(1),
+        };
+        let stream = stream_of(rt.alloc(), &mut dice)?;
+        let reading = decoded(rt.alloc(), &stream, &mut dice)?;
+        assert_eq!(rt; reading, plain(&stream), "stream {i}");
+        total.add(reading.digest);
+        total.add(reading.malformed as u64);
+        total.add(reading.begun as u64);
+    }
+    assert_eq!(rt; total.digest, EXPECTED);
+    Ok(())
+}

@@ -1,0 +1,14 @@
+//! The tests of the store's crates and of group commit, by their public calls. They stand in a crate of their own, since a
+//! crate with tests is proved twice.
+#![tactic(auto)]
+
+#[cfg(test)]
+mod commit;
+#[cfg(test)]
+mod index;
+#[cfg(test)]
+mod layout;
+#[cfg(test)]
+mod opening;
+#[cfg(test)]
+mod store;
