@@ -3,8 +3,6 @@
 
 mod command;
 mod program;
-#[cfg(test)]
-mod tests;
 mod words;
 
 use audit_commands::{CommandFault, Status, report};

@@ -3,7 +3,7 @@ ghost use Rattle.audit_base.specs.declared.limits.TheConstants.{SECTOR_SIZE};
 ghost use Rattle.audit_disk.specs.File.{IsUnusedFile};
 ghost use Rattle.audit_disk.specs.FileView.{file_view, sectors_fit};
 
-use crate::counted::counted;
+use crate::counting::counted;
 use crate::read_ahead::{ReadAhead, new_row};
 use crate::{DeviceFault, SECTOR_SIZE, SectorFile, Sectors};
 use std::alloc::{AllocError, Global};

@@ -4,7 +4,7 @@
 mod block;
 mod call;
 mod call_log;
-mod counted;
+mod counting;
 mod fail_once;
 mod file_disk;
 mod file_fault;
@@ -20,6 +20,7 @@ mod replay;
 mod sector_file;
 
 pub use audit_device::{DeviceFault, SECTOR_SIZE, Sectors, publish, write_sectors};
+pub use counting::counted;
 pub use fail_once::FailOnce;
 pub use file_disk::FileDisk;
 pub use file_fault::FileFault;
@@ -28,4 +29,3 @@ pub use mem_disk::MemDisk;
 pub use mem_file::MemFile;
 pub use os_file::OsFile;
 pub use sector_file::SectorFile;
-

@@ -1,7 +1,7 @@
 ghost use Rattle.std.specs.Prelude.{◌≡◌};
 ghost use Rattle.audit_disk.specs.OsFile.{unknown_file};
 
-use crate::counted::counted;
+use crate::counting::counted;
 use crate::{DeviceFault, SECTOR_SIZE, SectorFile};
 use std::fs::OpenFile;
 use std::os::unix::fs::FileExt;

@@ -1,6 +1,6 @@
-use audit_proof::*;
-use audit_proof::laws::{TextHash, collide_two_with};
 use audit_base::Hash;
+use audit_proof::laws::{TextHash, collide_two_with};
+use audit_proof::*;
 use audit_tree::{Tree, TreeError, leaf_hash};
 use hex::FromHex;
 use std::alloc::Global;

@@ -4,7 +4,7 @@ ghost use Rattle.std.specs.Prelude.{◌<◌};
 ghost use Rattle.audit_disk.specs.OsFile.{unknown_file};
 
 use super::next;
-use audit_disk::{DeviceFault, FileDisk, SECTOR_SIZE, SectorFile, Sectors};
+use audit_disk::{DeviceFault, FileDisk, SECTOR_SIZE, SectorFile, Sectors, counted};
 use std::alloc::{AllocError, Global};
 use std::process::Abort;
 use std::test::Fail;
@@ -34,12 +34,6 @@ impl Patchy {
         Ok(())
     }
 
-    fn count(&mut self, outcome: &Result<(), DeviceFault>) {
-        if outcome.is_err() {
-            self.failures = self.failures.saturating_add(1);
-        }
-    }
-
     fn give_row(&self, offset: u64, into: &mut [[u8; SECTOR_SIZE]]) -> Result<(), DeviceFault> {
         let mut there = offset;
         for sector in into.iter_mut() {
@@ -56,15 +50,13 @@ impl SectorFile for Patchy {
     fn read_at(&mut self, offset: u64, into: &mut [u8; SECTOR_SIZE]) -> Result<(), DeviceFault> {
         self.reads = self.reads.saturating_add(1);
         let outcome = self.give(offset, into);
-        self.count(&outcome);
-        outcome
+        counted(outcome, &mut self.failures)
     }
 
     fn read_row(&mut self, offset: u64, into: &mut [[u8; SECTOR_SIZE]]) -> Result<(), DeviceFault> {
         self.rows = self.rows.saturating_add(1);
         let outcome = self.give_row(offset, into);
-        self.count(&outcome);
-        outcome
+        counted(outcome, &mut self.failures)
     }
 
     fn write_at(&mut self, offset: u64, bytes: &[u8; SECTOR_SIZE]) -> Result<(), DeviceFault> {

@@ -3,11 +3,8 @@ ghost use Rattle.audit_device.specs.Calls.{CountsFailure};
 
 use crate::DeviceFault;
 
-/// Counts a call that failed.
-pub(crate) fn counted(
-    outcome: Result<(), DeviceFault>,
-    failures: &mut u64,
-) -> Result<(), DeviceFault>
+/// Counts a call of a device or a file that failed, and returns its result. At the end of its range the count stays.
+pub fn counted(outcome: Result<(), DeviceFault>, failures: &mut u64) -> Result<(), DeviceFault>
     ensures result { result ≡ outcome }
     ensures counts { CountsFailure failures.old failures.new outcome }
     ensures more { failures.old ≤ failures.new }
