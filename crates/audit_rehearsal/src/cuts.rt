@@ -1,0 +1,88 @@
+//! A stream cut into pieces: whatever the pieces are, the answers are the same.
+use crate::stores::{Device, new_core};
+use crate::texts::text_of;
+use anyhow::{anyhow, bail};
+use audit_server::Core;
+use std::alloc::Global;
+
+// An append of `hi` under kind 1 with tag 7.
+const APPEND: &[u8] = b"\x00\x0b\x01\x00\x00\x00\x07\x00\x00\x00\x01hi";
+
+/// Feeds the bytes in every two and three pieces, empty ones too, and byte by byte, and prints in how many ways, and what they
+/// were answered. It is an error if two ways differ.
+pub fn try_cuts<R: AllocGlobal + Print>(rt: &R, stream: &[u8]) -> anyhow::Result<()> {
+    let alloc = rt.alloc();
+    let whole = answers(alloc, &[stream])?;
+    let mut ways = 0u64;
+    for first in 0..=stream.len() {
+        let (front, rest) = cut(stream, first);
+        ways = ways.saturating_add(cuts_behind(alloc, front, rest, &whole)?);
+    }
+    if answers_by_bytes(alloc, stream)?.as_slice() != whole.as_slice() {
+        bail!("byte by byte it is answered otherwise");
+    }
+    println!(rt; "{ways} ways {}", text_of(alloc, &whole)?)?;
+    Ok(())
+}
+
+// The bytes before the place, and those from it on.
+fn cut(stream: &[u8], place: usize) -> (&[u8], &[u8]) {
+    stream.split_at_checked(place).unwrap_or((stream, &[]))
+}
+
+// In how many ways the rest is cut in two.
+fn cuts_behind(alloc: Global, front: &[u8], rest: &[u8], whole: &[u8]) -> anyhow::Result<u64> {
+    let mut ways = 0u64;
+    for second in 0..=rest.len() {
+        let (middle, back) = cut(rest, second);
+        if answers(alloc, &[front, middle, back])?.as_slice() != whole {
+            bail!(
+                "cut after {} and {second} bytes it is answered otherwise",
+                front.len()
+            );
+        }
+        ways = ways.saturating_add(1);
+    }
+    Ok(ways)
+}
+
+// What is answered to the pieces, by a store of one event; whether the session has ended, and how many events there are then.
+fn answers(alloc: Global, pieces: &[&[u8]]) -> anyhow::Result<Vec<u8>> {
+    let mut core = core_of_one_event(alloc)?;
+    for piece in pieces {
+        feed(&mut core, piece)?;
+    }
+    outcome(core)
+}
+
+fn answers_by_bytes(alloc: Global, stream: &[u8]) -> anyhow::Result<Vec<u8>> {
+    let mut core = core_of_one_event(alloc)?;
+    for piece in stream.chunks(1) {
+        feed(&mut core, piece)?;
+    }
+    outcome(core)
+}
+
+fn core_of_one_event(alloc: Global) -> anyhow::Result<Core<Device>> {
+    let mut core = new_core(alloc, 16, u64::MAX)?;
+    feed(&mut core, APPEND)?;
+    core.flush()?;
+    core.take_output(0);
+    Ok(core)
+}
+
+fn feed(core: &mut Core<Device>, piece: &[u8]) -> anyhow::Result<()> {
+    match core.feed(0, piece) {
+        Ok(()) => Ok(()),
+        Err(fault) => Err(fault.error.into()),
+    }
+}
+
+fn outcome(mut core: Core<Device>) -> anyhow::Result<Vec<u8>> {
+    core.flush()?;
+    let mut outcome = core.take_output(0);
+    outcome.push(u8::from(core.ended(0)))?;
+    let commitment = core.into_store().commitment();
+    outcome.extend_from_slice(&commitment.count.to_be_bytes())?;
+    Ok(outcome)
+}

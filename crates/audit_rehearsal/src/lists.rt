@@ -1,0 +1,156 @@
+//! Random lists of steps, and a digest of all that they make.
+use crate::plan::Plan;
+use crate::random::Random;
+use crate::stores::{Device, new_core, worn_core};
+use crate::streams::stream_of;
+use crate::texts::text_of;
+use anyhow::bail;
+use audit_disk::{MemDisk, SECTOR_SIZE, Sectors};
+use audit_server::{Core, drive};
+use audit_sessions::SESSIONS;
+use audit_store::Store;
+use sha2::{Digest, Sha256};
+use std::alloc::{AllocError, Global};
+
+// So many lists make a digest, and each of them has so many groups of four steps.
+const LISTS: u64 = 20;
+
+const GROUPS: usize = 40;
+
+/// Prints the digest of twenty lists, from that number on.
+pub fn play_lists<R: AllocGlobal + Print>(rt: &R, first: u64) -> anyhow::Result<()> {
+    let mut hasher = Sha256::new();
+    for place in 0..LISTS {
+        play_list(rt.alloc(), first.saturating_add(place), &mut hasher)?;
+    }
+    let digest: [u8; 32] = hasher.finalize();
+    println!(rt; "lists from {first} {}", text_of(rt.alloc(), &digest)?)?;
+    Ok(())
+}
+
+fn play_list(alloc: Global, number: u64, hasher: &mut Sha256) -> anyhow::Result<()> {
+    let mut random = Random::new(number);
+    let mut core = random_core(alloc, &mut random)?;
+    let streams = random_streams(alloc, &mut random)?;
+    let flushes = match random.below(3) {
+        0 => 4,
+        1 => 12,
+        _ => 60,
+    };
+    let mut plan = Plan::new(random, &streams, flushes);
+    let mut outputs = no_outputs(alloc)?;
+    for group in 0..GROUPS {
+        drive_four(&mut core, &mut plan)?;
+        gather(&mut core, &mut outputs, group % SESSIONS)?;
+    }
+    core.flush()?;
+    add_sessions(&mut core, &mut outputs, hasher)?;
+    add_store(core.into_store(), hasher)
+}
+
+// One store in eight is worn, and one in eight after its first commit.
+fn random_core(alloc: Global, random: &mut Random) -> anyhow::Result<Core<Device>> {
+    let sectors = match random.below(3) {
+        0 => random.below(6).saturating_add(3),
+        1 => random.below(30).saturating_add(10),
+        _ => random.below(80).saturating_add(40),
+    };
+    match random.below(8) {
+        0 => worn_core(alloc, sectors, 0),
+        1 => worn_core(alloc, sectors, 1),
+        _ => new_core(alloc, sectors, u64::MAX),
+    }
+}
+
+// The streams of 1 to 16 sessions.
+fn random_streams(alloc: Global, random: &mut Random) -> Result<Vec<Vec<u8>>, AllocError> {
+    let sessions = random.up_to(16);
+    let length = random.below(3);
+    let appends = match random.below(4) {
+        0..=1 => 7,
+        2 => 1,
+        _ => 0,
+    };
+    let mut streams = Vec::new(alloc);
+    for _ in 0..sessions {
+        let frames = match length {
+            0 => random.up_to(6),
+            1 => random.up_to(16),
+            _ => random.below(40).saturating_add(20),
+        };
+        streams.push(stream_of(alloc, random, frames, appends)?)?;
+    }
+    Ok(streams)
+}
+
+fn no_outputs(alloc: Global) -> Result<Vec<Vec<u8>>, AllocError> {
+    let mut outputs = Vec::new(alloc);
+    for _ in 0..SESSIONS {
+        outputs.push(Vec::new(alloc))?;
+    }
+    Ok(outputs)
+}
+
+fn drive_four(core: &mut Core<Device>, plan: &mut Plan) -> anyhow::Result<()> {
+    let steps = [
+        plan.next_step(),
+        plan.next_step(),
+        plan.next_step(),
+        plan.next_step(),
+    ];
+    if let Err(fault) = drive(core, &steps) {
+        bail!("step {} was refused: {}", fault.step, fault.error);
+    }
+    Ok(())
+}
+
+// Takes what waits for a session.
+fn gather(
+    core: &mut Core<Device>,
+    outputs: &mut [Vec<u8>],
+    session: usize,
+) -> Result<(), AllocError> {
+    let output = core.take_output(session % SESSIONS);
+    if let Some(gathered) = outputs.get_mut(session) {
+        gathered.extend_from_slice(&output)?;
+    }
+    Ok(())
+}
+
+// The length of each session's output and its bytes, and whether it has ended.
+fn add_sessions(
+    core: &mut Core<Device>,
+    outputs: &mut [Vec<u8>],
+    hasher: &mut Sha256,
+) -> anyhow::Result<()> {
+    for session in 0..SESSIONS {
+        gather(core, outputs, session)?;
+        if let Some(output) = outputs.get(session) {
+            hasher.update(&(output.len() as u64).to_be_bytes());
+            hasher.update(output);
+        }
+        hasher.update(&[u8::from(core.ended(session))]);
+    }
+    Ok(())
+}
+
+// Generation, count, end, root and the device.
+fn add_store(store: Store<Device>, hasher: &mut Sha256) -> anyhow::Result<()> {
+    let commitment = store.commitment();
+    hasher.update(&store.generation().to_be_bytes());
+    hasher.update(&commitment.count.to_be_bytes());
+    hasher.update(&store.end().to_be_bytes());
+    hasher.update(&commitment.root);
+    add_device(store.into_disk().into_inner(), hasher)
+}
+
+fn add_device(mut disk: MemDisk, hasher: &mut Sha256) -> anyhow::Result<()> {
+    let mut sector = [0; SECTOR_SIZE];
+    for at in 0..disk.size() {
+        if at < disk.size() {
+            disk.read(at, &mut sector)?;
+            hasher.update(&sector);
+        }
+    }
+    Ok(())
+}

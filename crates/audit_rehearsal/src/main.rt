@@ -1,0 +1,36 @@
+//! A rehearsal of sessions over stores in memory. Each line of standard input is a step of a scene, and what the sessions
+//! are answered is printed.
+//!
+//! | Line | What it does |
+//! |---|---|
+//! | `store SECTORS CALLS` | a core over a new store; its device fails once, after so many calls |
+//! | `worn SECTORS COMMITS` | a core over a store of no events with generations for so many commits |
+//! | `feed SESSION HEX`, `end SESSION`, `flush` | one step |
+//! | `drive SESSION HEX` | a list of steps: the piece, a flush, the end, and a flush |
+//! | `show SESSION` | prints what waits for the session, which is taken, and whether it has ended |
+//! | `open` | prints what the store holds, opens its device again, and prints what it holds then |
+//! | `cuts HEX` | feeds the bytes to new cores in every two and three pieces |
+//! | `lists FIRST` | twenty random lists of steps from that number on: prints a digest of all that they made |
+//! | `serve CALLS READ READS WRITE WAITS HEX HEX` | serves two streams over a device that fails once, after so many calls: so many bytes a read, reads before one fails, bytes a write; where WAITS is 1, a second read fails before the other stream was written to |
+#![tactic(auto)]
+
+mod cuts;
+mod lists;
+mod plan;
+mod random;
+mod scene;
+mod serving;
+mod stores;
+mod streams;
+mod texts;
+
+use scene::Scene;
+
+fn main(rt: HostRuntime) -> anyhow::Result<()> {
+    let mut scene = Scene::new();
+    for line in rt.lines(rt.alloc()) {
+        let line = line?;
+        scene.play(&rt, line.as_str())?;
+    }
+    Ok(())
+}

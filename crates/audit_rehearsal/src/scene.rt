@@ -1,0 +1,195 @@
+//! Lines of a scene, and what they do.
+use crate::cuts::try_cuts;
+use crate::lists::play_lists;
+use crate::serving::serve_scene;
+use crate::stores::{Device, TRIES, new_core, open_core, worn_core};
+use crate::texts::{bytes_of, number_of, text_of};
+use anyhow::{Context, bail};
+use audit_server::{Core, Step, drive};
+use audit_sessions::SESSIONS;
+use audit_store::{Store, StoreError};
+
+/// A core under way, if there is one.
+#[derive(Drop)]
+pub struct Scene {
+    core: Option<Core<Device>>,
+}
+
+impl Scene {
+    pub fn new() -> Scene {
+        Scene { core: None }
+    }
+
+    /// Does what a line says.
+    pub fn play<R: AllocGlobal + Print>(&mut self, rt: &R, line: &str) -> anyhow::Result<()> {
+        let (task, rest) = line.split_once(' ').unwrap_or((line, ""));
+        match task {
+            "#" => self.title(rt, line),
+            "store" | "worn" => self.begin(rt, task, rest),
+            "open" => self.open(rt),
+            "cuts" => try_cuts(rt, &bytes_of(rt.alloc(), rest)?),
+            "lists" => play_lists(rt, number_of(rest)?),
+            "serve" => serve_scene(rt, rest),
+            _ => self.step(rt, task, rest),
+        }
+    }
+
+    fn title<R: Print>(&self, rt: &R, line: &str) -> anyhow::Result<()> {
+        println!(rt; "{line}")?;
+        Ok(())
+    }
+
+    fn begin<R: AllocGlobal + Print>(
+        &mut self,
+        rt: &R,
+        task: &str,
+        rest: &str,
+    ) -> anyhow::Result<()> {
+        let (sectors, number) = rest.split_once(' ').context("two numbers are wanted")?;
+        let sectors = number_of(sectors)?;
+        let number = number_of(number)?;
+        println!(rt; "{task} {sectors} {number}")?;
+        let core = if task == "store" {
+            new_core(rt.alloc(), sectors, number)?
+        } else {
+            worn_core(rt.alloc(), sectors, number)?
+        };
+        self.core = Some(core);
+        Ok(())
+    }
+
+    fn open<R: AllocGlobal + Print>(&mut self, rt: &R) -> anyhow::Result<()> {
+        let core = self.core.take().context("there is no store")?;
+        let store = core.into_store();
+        print_store(rt, "held", &store)?;
+        let core = open_core(rt.alloc(), store.into_disk().into_inner())?;
+        let store = core.into_store();
+        print_store(rt, "opened", &store)?;
+        self.core = Some(open_core(rt.alloc(), store.into_disk().into_inner())?);
+        Ok(())
+    }
+
+    fn step<R: AllocGlobal + Print>(
+        &mut self,
+        rt: &R,
+        task: &str,
+        rest: &str,
+    ) -> anyhow::Result<()> {
+        let core = self.core.as_mut().context("there is no store")?;
+        let (session, digits) = rest.split_once(' ').unwrap_or((rest, ""));
+        if task == "flush" {
+            return flush(rt, core);
+        }
+        let session: usize = session.parse().context("a session is wanted")?;
+        let piece = bytes_of(rt.alloc(), digits)?;
+        match task {
+            "feed" => feed(rt, core, session, &piece),
+            "end" => end(rt, core, session),
+            "drive" => drive_steps(rt, core, session, &piece),
+            "show" => show(rt, core, session),
+            _ => bail!("there is no such step: {task}"),
+        }
+    }
+}
+
+// A call that memory is refused for is made again.
+fn feed<R: Print>(
+    rt: &R,
+    core: &mut Core<Device>,
+    session: usize,
+    piece: &[u8],
+) -> anyhow::Result<()> {
+    let mut rest = piece;
+    for _ in 0..TRIES {
+        let Err(fault) = core.feed(session % SESSIONS, rest) else {
+            return Ok(());
+        };
+        println!(rt; "refused {} taken {}", fault.error.name(), fault.taken)?;
+        if fault.error != StoreError::Memory {
+            return Ok(());
+        }
+        rest = rest.get(fault.taken..).unwrap_or(&[]);
+    }
+    bail!("memory is refused again and again")
+}
+
+fn end<R: Print>(rt: &R, core: &mut Core<Device>, session: usize) -> anyhow::Result<()> {
+    for _ in 0..TRIES {
+        let Err(error) = core.end(session % SESSIONS) else {
+            return Ok(());
+        };
+        println!(rt; "refused {}", error.name())?;
+        if error != StoreError::Memory {
+            return Ok(());
+        }
+    }
+    bail!("memory is refused again and again")
+}
+
+fn flush<R: Print>(rt: &R, core: &mut Core<Device>) -> anyhow::Result<()> {
+    for _ in 0..TRIES {
+        let Err(error) = core.flush() else {
+            return Ok(());
+        };
+        println!(rt; "refused {}", error.name())?;
+        if error != StoreError::Memory {
+            return Ok(());
+        }
+    }
+    bail!("memory is refused again and again")
+}
+
+fn drive_steps<R: Print>(
+    rt: &R,
+    core: &mut Core<Device>,
+    session: usize,
+    piece: &[u8],
+) -> anyhow::Result<()> {
+    let session = session % SESSIONS;
+    let steps = [
+        Step::Feed { session, piece },
+        Step::Flush,
+        Step::End { session },
+        Step::Flush,
+    ];
+    if let Err(fault) = drive(core, &steps) {
+        println!(rt;
+            "refused {} taken {} in step {}",
+            fault.error.name(),
+            fault.taken,
+            fault.step
+        )?;
+    }
+    Ok(())
+}
+
+fn show<R: AllocGlobal + Print>(
+    rt: &R,
+    core: &mut Core<Device>,
+    session: usize,
+) -> anyhow::Result<()> {
+    let output = core.take_output(session % SESSIONS);
+    let text = text_of(rt.alloc(), &output)?;
+    let end = if core.ended(session % SESSIONS) {
+        " ended"
+    } else {
+        ""
+    };
+    println!(rt; "{session} {text}{end}")?;
+    Ok(())
+}
+
+fn print_store<R: AllocGlobal + Print>(
+    rt: &R,
+    name: &str,
+    store: &Store<Device>,
+) -> anyhow::Result<()> {
+    let commitment = store.commitment();
+    let root = text_of(rt.alloc(), &commitment.root)?;
+    let (end, generation) = (store.end(), store.generation());
+    println!(rt;
+        "{name} {} {root} end {end} generation {generation}",
+        commitment.count
+    )?;
+    Ok(())
+}

@@ -1,0 +1,78 @@
+//! Stores in memory, and cores over them.
+use anyhow::bail;
+use audit_chain::Key;
+use audit_disk::{FailOnce, MemDisk, SECTOR_SIZE};
+use audit_log::Header;
+use audit_server::Core;
+use audit_store::{Failed, Store};
+use std::alloc::Global;
+
+/// The device of a scene. A device that is not to fail has a call that never comes.
+pub type Device = FailOnce<MemDisk>;
+
+// The last generation that a header may have.
+const LAST_GENERATION: u64 = (1 << 62) - 1;
+
+// What memory is refused for is tried so often.
+pub const TRIES: u64 = 3;
+
+/// A core over a new store on a device that fails once, after so many calls.
+pub fn new_core(alloc: Global, sectors: u64, calls: u64) -> anyhow::Result<Core<Device>> {
+    let disk = FailOnce::new(MemDisk::new(alloc, sectors)?, calls);
+    let key = Key::from_bytes([0; 32]);
+    core_over(alloc, made(Store::format(alloc, disk, key))?)
+}
+
+/// A core over a store of no events with generations for so many commits.
+pub fn worn_core(alloc: Global, sectors: u64, commits: u64) -> anyhow::Result<Core<Device>> {
+    let last = LAST_GENERATION.saturating_sub(commits.saturating_mul(2));
+    let mut content = Vec::new(alloc);
+    content.push(header_of(sectors, last.saturating_sub(1))?)?;
+    content.push(header_of(sectors, last)?)?;
+    for _ in 2..sectors {
+        content.push([0; SECTOR_SIZE])?;
+    }
+    open_core(alloc, MemDisk::from_sectors(alloc, &content)?)
+}
+
+// The header of no events.
+fn header_of(sectors: u64, generation: u64) -> anyhow::Result<[u8; SECTOR_SIZE]> {
+    let header = Header {
+        generation,
+        sectors,
+        count: 0,
+        end: 2,
+        root: [0; 32],
+        last_link: [0; 32],
+        key: Key::from_bytes([0; 32]),
+    };
+    if !header.meets_rules(header.generation % 2) {
+        bail!("there is no such header");
+    }
+    Ok(header.encode())
+}
+
+/// A core over the store that a device holds, which doesn't fail any more.
+pub fn open_core(alloc: Global, disk: MemDisk) -> anyhow::Result<Core<Device>> {
+    let disk = FailOnce::new(disk, u64::MAX);
+    core_over(alloc, made(Store::open(alloc, disk))?)
+}
+
+fn core_over(alloc: Global, store: Store<Device>) -> anyhow::Result<Core<Device>> {
+    let mut left = store;
+    for _ in 0..TRIES {
+        match Core::new(alloc, left) {
+            Ok(core) => return Ok(core),
+            Err(failed) => left = failed.store,
+        }
+    }
+    bail!("there is no memory for a core")
+}
+
+// The store, or why there is none.
+fn made(opened: Result<Store<Device>, Failed<Device>>) -> anyhow::Result<Store<Device>> {
+    match opened {
+        Ok(store) => Ok(store),
+        Err(failed) => Err(failed.error.into()),
+    }
+}

@@ -1,0 +1,29 @@
+//! Words and bytes as text.
+use anyhow::Context;
+use hex::ToHex;
+use sha2::{Digest, Sha256};
+use std::alloc::Global;
+
+// So many bytes are shown whole.
+const MOST_SHOWN: usize = 400;
+
+pub fn number_of(word: &str) -> anyhow::Result<u64> {
+    Ok(word.parse().context("a decimal number is wanted")?)
+}
+
+pub fn bytes_of(alloc: Global, word: &str) -> anyhow::Result<Vec<u8>> {
+    Ok(hex::decode(alloc, word).context("hex digits are wanted")?)
+}
+
+/// The digits of the bytes, or of their digest where there are many; `-` where there are none.
+pub fn text_of(alloc: Global, bytes: &[u8]) -> anyhow::Result<String> {
+    if bytes.is_empty() {
+        return Ok(format!(in alloc; "-")?);
+    }
+    if bytes.len() <= MOST_SHOWN {
+        return Ok(bytes.encode_hex(alloc)?);
+    }
+    let digest: [u8; 32] = Sha256::digest(bytes);
+    let digits: String = digest.encode_hex(alloc)?;
+    Ok(format!(in alloc; "{} bytes with digest {digits}", bytes.len())?)
+}
