@@ -43,7 +43,11 @@ where
     let mut bare = FileDisk::open(rt, rt.alloc(), file)?;
     let mut count = store.commitment().count;
     let batch = u64::from(size);
-    write_bare(&mut bare, LOG_START.saturating_add(count), batch.saturating_mul(u64::from(ROUNDS)))?;
+    write_bare(
+        &mut bare,
+        LOG_START.saturating_add(count),
+        batch.saturating_mul(u64::from(ROUNDS)),
+    )?;
     let frames = append_frames(rt.alloc(), size)?;
     let mut outputs = Vec::new(rt.alloc());
     let mut core = started(rt.alloc(), store)?;

@@ -53,7 +53,9 @@ where
         store = core.into_store();
     }
     let (reply, alone) = (low_time(&mut replies)?, low_time(&mut bare_work)?);
-    eprintln!(rt; "replies {QUESTIONS} nanoseconds {reply} bare {alone} events {count} seen {seen}")?;
+    eprintln!(rt;
+        "replies {QUESTIONS} nanoseconds {reply} bare {alone} events {count} seen {seen}"
+    )?;
     Ok(())
 }
 
@@ -101,6 +103,6 @@ fn bare_reply<D: Sectors>(store: &Store<D>, bare: &mut D, index: u64) -> anyhow:
     }
     let mut sector = [0; SECTOR_SIZE];
     bare.read(at, &mut sector)?;
-    let leaf = leaf_hash(&sector[..ENTRY_LEN]);
+    let leaf = leaf_hash(sector.get(..ENTRY_LEN).unwrap_or(&[]));
     Ok(leaf[0] ^ hashes.len() as u8)
 }

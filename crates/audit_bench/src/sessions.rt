@@ -58,7 +58,7 @@ fn fill<D: Sectors>(alloc: Global, store: &mut Store<D>, events: u64) -> anyhow:
 }
 
 /// A core over a store.
-pub fn started<D: Sectors>(alloc: Global, store: Store<D>) -> anyhow::Result<Core<D>> {
+pub fn started<D: Sectors + Drop>(alloc: Global, store: Store<D>) -> anyhow::Result<Core<D>> {
     match Core::new(alloc, store) {
         Ok(core) => Ok(core),
         Err(_) => bail!("no memory for a core"),
@@ -92,10 +92,7 @@ fn feed_frames<D: Sectors, const N: usize>(
     Ok(())
 }
 
-fn take_outputs<D: Sectors>(
-    core: &mut Core<D>,
-    outputs: &mut Vec<Vec<u8>>,
-) -> anyhow::Result<()> {
+fn take_outputs<D: Sectors>(core: &mut Core<D>, outputs: &mut Vec<Vec<u8>>) -> anyhow::Result<()> {
     for session in 0..SESSIONS {
         outputs.push(core.take_output(session))?;
     }
@@ -103,11 +100,7 @@ fn take_outputs<D: Sectors>(
 }
 
 /// Drops the outputs, which have to have so many replies that begin with this byte.
-pub fn drop_replies(
-    outputs: &mut Vec<Vec<u8>>,
-    first: u8,
-    wanted: usize,
-) -> anyhow::Result<()> {
+pub fn drop_replies(outputs: &mut Vec<Vec<u8>>, first: u8, wanted: usize) -> anyhow::Result<()> {
     let mut found = 0usize;
     for output in outputs.iter() {
         found = found.saturating_add(count_replies(output, first));
