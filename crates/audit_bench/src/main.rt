@@ -1,15 +1,18 @@
 //! Measures what the store's layers cost. Figures go to standard error, since they differ from run to run;
 //! standard output is fixed.
 //!
-//! Arguments: the number of small events, of leaves, and of frames, each a decimal number; then `store` or `export`, the
-//! name of a file that isn't there, and a number of events, for what a store of so many in a file costs, or verifying
-//! an export of so many.
+//! Arguments: the number of small events, of leaves, and of frames, each a decimal number; then `store`, `sessions` or
+//! `export`, the name of a file that isn't there, and a number of events, for what a store of so many in a file costs, or
+//! sessions over one, or verifying an export of so many.
 #![tactic(auto)]
 
 mod blocks;
 mod exports;
+mod flushes;
 mod frames;
 mod leaves;
+mod questions;
+mod sessions;
 mod stores;
 
 use anyhow::{Context, bail};
@@ -33,8 +36,9 @@ fn main(rt: HostRuntime) -> anyhow::Result<()> {
         let events: u32 = events.parse().context("a decimal number is wanted")?;
         match what.as_str() {
             "store" => stores::measure(&rt, &file, events)?,
+            "sessions" => sessions::measure(&rt, &file, events)?,
             "export" => exports::measure(&rt, &file, events)?,
-            _ => bail!("a store or an export is wanted"),
+            _ => bail!("a store, sessions or an export is wanted"),
         }
         println!(rt; "{what} measured")?;
     }

@@ -10,8 +10,8 @@ use std::os::unix::fs::FileExt;
 use std::rt::Clock;
 use std::time::Instant;
 
-// The small events of a large batch: each takes one sector, and a store takes no more sectors at once.
-const LARGE_BATCH: u32 = 64;
+/// The small events of a large batch: each takes one sector, and a store takes no more sectors at once.
+pub const LARGE_BATCH: u32 = 64;
 
 // How many batches of each size are timed: the least time counts.
 const ROUNDS: u32 = 300;
@@ -32,8 +32,8 @@ const READ_LENS: [usize; 3] = [38, 75, 65];
 // For a batch: the digests of two headers, and two roots of some thousand entries.
 const BATCH_LENS: [usize; 14] = [480, 480, 65, 65, 65, 65, 65, 65, 65, 65, 65, 65, 65, 65];
 
-// A device in a file of the operating system.
-type Disk<F> = FileDisk<OsFile<F>>;
+/// A device in a file of the operating system.
+pub type Disk<F> = FileDisk<OsFile<F>>;
 
 /// Makes a store of so many small events in the file, in large batches, after batches that are timed; and opens it
 /// again.
@@ -56,8 +56,8 @@ where
     time_opening(rt, file)
 }
 
-// The store, or why there is none.
-fn made<F: FileExt + OpenFile + Drop>(
+/// The store, or why there is none.
+pub fn made<F: FileExt + OpenFile + Drop>(
     opened: Result<Store<Disk<F>>, Failed<Disk<F>>>,
 ) -> anyhow::Result<Store<Disk<F>>> {
     match opened {
@@ -66,8 +66,8 @@ fn made<F: FileExt + OpenFile + Drop>(
     }
 }
 
-// So many events of the kind 1 with a payload of two bytes.
-fn small_events(alloc: Global, count: u32) -> anyhow::Result<Vec<Event>> {
+/// So many events of the kind 1 with a payload of two bytes.
+pub fn small_events(alloc: Global, count: u32) -> anyhow::Result<Vec<Event>> {
     let mut events = Vec::new(alloc);
     for _ in 0..count {
         events.push(Event::new(alloc, 1, b"hi")?)?;
@@ -92,7 +92,7 @@ where
     let mut seen = 0;
     for round in 0..ROUNDS {
         let start = Instant::now(rt)?;
-        seen ^= hash_events(&SEALED_LENS, size) ^ hash_messages(&BATCH_LENS, round);
+        seen ^= hash_events(&SEALED_LENS, size) ^ hash_messages(&BATCH_LENS, u64::from(round));
         write_bare(&mut bare, store.end(), u64::from(size))?;
         bare_work = bare_work.min(start.elapsed(rt)?.as_nanos());
         let start = Instant::now(rt)?;
@@ -103,8 +103,8 @@ where
     Ok(())
 }
 
-// What a batch writes, and its three syncs, of other bytes: so many sectors from that one on, and both headers'.
-fn write_bare<D: Sectors>(disk: &mut D, first: u64, count: u64) -> anyhow::Result<()> {
+/// What a batch writes, and its three syncs, of other bytes: so many sectors from that one on, and both headers'.
+pub fn write_bare<D: Sectors>(disk: &mut D, first: u64, count: u64) -> anyhow::Result<()> {
     for at in first..first.saturating_add(count) {
         write_one(disk, at)?;
     }
@@ -128,15 +128,15 @@ fn write_one<D: Sectors>(disk: &mut D, at: u64) -> anyhow::Result<()> {
 fn hash_events(lens: &[usize], events: u32) -> u8 {
     let mut seen = 0;
     for event in 0..events {
-        seen ^= hash_messages(lens, event);
+        seen ^= hash_messages(lens, u64::from(event));
     }
     seen
 }
 
-// Hashes a message of each of these lengths. They begin with a number, so that none is hashed once for all.
-fn hash_messages(lens: &[usize], number: u32) -> u8 {
+/// Hashes a message of each of these lengths. They begin with a number, so that none is hashed once for all.
+pub fn hash_messages(lens: &[usize], number: u64) -> u8 {
     let mut message = [0x5a; 480];
-    message[..4].copy_from_slice(&number.to_be_bytes());
+    message[..8].copy_from_slice(&number.to_be_bytes());
     let mut seen = 0;
     for len in lens {
         seen ^= Sha256::digest(message.get(..*len).unwrap_or(&[]))[0];

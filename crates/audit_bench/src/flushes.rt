@@ -1,0 +1,112 @@
+//! Group commit of small events that sessions append, beside the calls of the file and the SHA-256 messages that it can't
+//! do without.
+use crate::sessions::{ROUNDS, drop_replies, low_time, started, time_frames};
+use crate::stores::{Disk, hash_messages, write_bare};
+use audit_disk::FileDisk;
+use audit_log::LOG_START;
+use audit_store::Store;
+use std::alloc::Global;
+use std::fs::Files;
+use std::os::unix::fs::FileExt;
+use std::rt::Clock;
+use std::time::Instant;
+
+// The frame of an append of an event with a payload of two bytes.
+const APPEND_LEN: usize = 13;
+
+// The first byte of an acknowledgement.
+const ACKNOWLEDGEMENT: u8 = 0x81;
+
+// The lengths of the messages that are hashed for such an event: key of the keystream, link, the two halves of the MAC,
+// next key, and leaf. They have 9 blocks.
+const EVENT_LENS: [usize; 6] = [50, 38, 96, 96, 46, 75];
+
+// What is hashed of the two headers that a batch writes.
+const HEADER_LENS: [usize; 2] = [480, 480];
+
+// What is hashed for a node with one side, and with two: a block and two blocks.
+const LONE_LEN: usize = 33;
+
+const PAIR_LEN: usize = 65;
+
+/// Times flushes of so many appends, and before each the SHA-256 messages and the writes and syncs of the same sectors by
+/// a second handle of the file. The file has its sectors before.
+pub fn time_flushes<R: Files + AllocGlobal + Clock + Eprint>(
+    rt: &R,
+    store: Store<Disk<R::File>>,
+    file: &str,
+    size: u32,
+) -> anyhow::Result<Store<Disk<R::File>>>
+where
+    R::File: FileExt,
+{
+    let mut bare = FileDisk::open(rt, rt.alloc(), file)?;
+    let mut count = store.commitment().count;
+    let batch = u64::from(size);
+    write_bare(
+        &mut bare,
+        LOG_START.saturating_add(count),
+        batch.saturating_mul(u64::from(ROUNDS)),
+    )?;
+    let frames = append_frames(rt.alloc(), size)?;
+    let mut outputs = Vec::new(rt.alloc());
+    let mut core = started(rt.alloc(), store)?;
+    let (mut flushes, mut bare_work) = (Vec::new(rt.alloc()), Vec::new(rt.alloc()));
+    let mut seen = 0;
+    for _ in 0..ROUNDS {
+        let start = Instant::now(rt)?;
+        seen ^= hash_batch(count, batch);
+        write_bare(&mut bare, LOG_START.saturating_add(count), batch)?;
+        bare_work.push(start.elapsed(rt)?.as_nanos())?;
+        flushes.push(time_frames(rt, &mut core, &frames, &mut outputs)?)?;
+        drop_replies(&mut outputs, ACKNOWLEDGEMENT, frames.len())?;
+        count = count.saturating_add(batch);
+    }
+    let (flush, alone) = (low_time(&mut flushes)?, low_time(&mut bare_work)?);
+    eprintln!(rt; "flushes {size} nanoseconds {flush} bare {alone} seen {seen}")?;
+    Ok(core.into_store())
+}
+
+// The frames of so many appends of an event of the kind 1 with a payload of two bytes.
+fn append_frames(alloc: Global, size: u32) -> anyhow::Result<Vec<[u8; APPEND_LEN]>> {
+    let mut frames = Vec::new(alloc);
+    for tag in 0..size {
+        let mut frame = *b"\0\x0b\x01tag.\0\0\0\x01hi";
+        frame[3..7].copy_from_slice(&tag.to_be_bytes());
+        frames.push(frame)?;
+    }
+    Ok(frames)
+}
+
+// Hashes what a batch of so many small events after so many others has to have hashed: what each event has, and the inner
+// nodes that it completes; the root after them, and two headers.
+fn hash_batch(count: u64, size: u64) -> u8 {
+    let after = count.saturating_add(size);
+    let mut seen = hash_messages(&HEADER_LENS, after) ^ hash_root(after);
+    for number in count..after {
+        seen ^= hash_messages(&EVENT_LENS, number) ^ hash_nodes(number.saturating_add(1));
+    }
+    seen
+}
+
+// Hashes as many inner nodes as the last of so many leaves completes.
+fn hash_nodes(leaves: u64) -> u8 {
+    let mut seen = 0;
+    for layer in 0..leaves.trailing_zeros() {
+        seen ^= hash_messages(&[PAIR_LEN], u64::from(layer));
+    }
+    seen
+}
+
+// Hashes what the root of so many leaves has hashed: a node at each layer above that of the last full one.
+fn hash_root(leaves: u64) -> u8 {
+    let mut seen = 0;
+    let lowest = leaves.trailing_zeros();
+    let depth = u64::BITS.saturating_sub(leaves.saturating_sub(1).leading_zeros());
+    for layer in lowest..depth {
+        let has_right_side = layer > lowest && leaves.wrapping_shr(layer) % 2 == 1;
+        let len = if has_right_side { PAIR_LEN } else { LONE_LEN };
+        seen ^= hash_messages(&[len], u64::from(layer));
+    }
+    seen
+}
