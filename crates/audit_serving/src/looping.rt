@@ -30,16 +30,16 @@ where
     R: BufRead,
     W: Write,
     // Whatever happens, a stop at any moment leaves the events that the store held, and so does the end.
-    ensures kept { StoreKeepsOn store.entry result.0 }
+    ensures kept { StoreKeepsOn store result.0 }
     // Without a fault each line was fed to a new core over the store and flushed in turn, then the session was ended;
     // and the replies were written. Where the reader's bytes are known, these are what all their lines spell.
     ensures done { OnOk result.1 ((lines : List (List ℕ))
-        × LoopsOver store.entry result.0 (W.contents writer.old) (W.contents writer.new) (IsWholeLoop lines)
+        × LoopsOver store result.0 (W.contents writer.old) (W.contents writer.new) (IsWholeLoop lines)
         × IfSome (R.remaining reader.old) (Spells lines)) }
     // A line that spells no bytes comes after the replies to all lines before it.
     ensures bad { (number : ℕ) → result.1 ≡ Err (BadFrameLine number)
         → (lines : List (List ℕ)) × (length lines + 1 ≡ number)
-        × LoopsOver store.entry result.0 (W.contents writer.old) (W.contents writer.new) (AreLineTurns lines)
+        × LoopsOver store result.0 (W.contents writer.old) (W.contents writer.new) (AreLineTurns lines)
         × IfSome (R.remaining reader.old) (SpellsUpToBad lines) }
 {
     let mut core = match Core::new(alloc, store) {

@@ -29,10 +29,10 @@ pub fn serve_rounds<D: Sectors + Drop, W: Write>(
 ) -> (Store<D>, Result<(), ServingFault>)
     requires { sessions ≤ SESSIONS }
     // Whatever happens, a stop at any moment leaves the events that the store held, and so does the end.
-    ensures kept { StoreKeepsOn store.entry result.0 }
+    ensures kept { StoreKeepsOn store result.0 }
     // Without a fault each round was served, by a new core over the store that the one before left, and has its line.
     ensures served { OnOk result.1 ((turns : List ℕ) × (length turns ≡ rounds)
-        × ServesRounds sessions turns store.entry result.0
+        × ServesRounds sessions turns store result.0
         × Appends (W.contents writer.old) (W.contents writer.new) (round_lines 1 turns)) }
 {
     let mut store = store;
@@ -58,8 +58,8 @@ fn serve_round<D: Sectors + Drop>(
     sessions: usize,
 ) -> (Store<D>, Result<u64, ServingFault>)
     requires { sessions ≤ SESSIONS }
-    ensures kept { StoreKeepsOn store.entry result.0 }
-    ensures served { IfOk result.1 (λ turns. ServesRound sessions turns store.entry result.0) }
+    ensures kept { StoreKeepsOn store result.0 }
+    ensures served { IfOk result.1 (λ turns. ServesRound sessions turns store result.0) }
 {
     let mut streams = match socket.accept_streams(alloc, sessions) {
         Ok(streams) => streams,
