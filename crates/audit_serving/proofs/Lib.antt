@@ -1,1 +1,2 @@
 pub mod RoundLines
+pub mod Served

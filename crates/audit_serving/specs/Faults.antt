@@ -1,5 +1,4 @@
 -- How the program ends with each fault of a command that serves sessions, and which fault that is.
-use Rattle.std.specs.Prelude.{ℕ}
 use Rattle.audit_store.specs.declared.store_error.StoreError.{StoreError}
 use Rattle.audit_sessions.specs.declared.serve_end.ServeFault.{ServeFault}
 use Rattle.audit_sessions.specs.declared.serve_end.ServeFault.TheVariants as serving

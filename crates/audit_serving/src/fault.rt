@@ -1,4 +1,7 @@
 ghost use Rattle.std.specs.Prelude.{◌≡◌};
+ghost use Rattle.audit_store.specs.declared.store_error.StoreError.TheVariants.{Memory};
+ghost use Rattle.audit_commands.specs.declared.fault.CommandFault.TheVariants.{Refused};
+ghost use Rattle.audit_serving.specs.declared.fault.ServingFault.TheVariants.{Command};
 ghost use Rattle.audit_serving.specs.Faults.{status_of, of_serving, of_loop};
 
 use audit_commands::{CommandFault, Status, report};
@@ -76,6 +79,13 @@ pub fn fault_of_serving(fault: ServeFault<StoreError>) -> ServingFault
         ServeFault::Core(error) => ServingFault::Command(CommandFault::Refused(error)),
         ServeFault::ReadFault => ServingFault::TooManyTurns,
     }
+}
+
+/// The fault of a command whose core couldn't be made, since memory was refused.
+pub fn no_core() -> ServingFault
+    ensures { result ≡ Command (Refused Memory) }
+{
+    ServingFault::Command(CommandFault::Refused(StoreError::Memory))
 }
 
 /// The fault of a command whose session over lines stopped: a connection is a file.

@@ -1,36 +1,54 @@
 //! A session over lines, by a core over a store.
-ghost use Rattle.std.specs.Prelude.{◌≡◌};
+ghost use Rattle.std.specs.Prelude.{◌≡◌, ◌+◌, List, ℕ, length, IfSome, OnOk, Err};
+ghost use Rattle.audit_run.specs.Serving.{StoreKeepsOn};
+ghost use Rattle.audit_socket.specs.Input.{Spells, SpellsUpToBad};
+ghost use Rattle.audit_socket.specs.Looping.{AreLineTurns, IsWholeLoop};
+ghost use Rattle.audit_serving.specs.declared.fault.ServingFault.TheVariants.{BadFrameLine};
+ghost use Rattle.audit_serving.specs.Served.{LoopsOver};
 
-use crate::fault::{ServingFault, fault_of_loop};
-use audit_commands::CommandFault;
+use crate::fault::{ServingFault, fault_of_loop, no_core};
 use audit_device::Sectors;
 use audit_server::Core;
 use audit_socket::{Link, run_lines};
-use audit_store::{Store, StoreError};
+use audit_store::Store;
 use std::alloc::Global;
 use std::io::{BufRead, Read, Write};
 
 /// Serves a session whose bytes come as lines of hex digits, through a connection, by a core over the store, and writes
-/// each frame of its replies as a line.
+/// each frame of its replies as a line. The store is handed back, as the session left it.
 pub fn loop_over<D, A, B, R, W>(
     alloc: Global,
     store: Store<D>,
     link: &mut Link<A, B>,
     reader: &mut R,
     writer: &mut W,
-) -> Result<(), ServingFault>
+) -> (Store<D>, Result<(), ServingFault>)
 where
     D: Sectors + Drop,
     A: Read + Write + Drop,
     B: Read + Write + Drop,
     R: BufRead,
     W: Write,
+    // Whatever happens, a stop at any moment leaves the events that the store held, and so does the end.
+    ensures kept { StoreKeepsOn store result.0 }
+    // Without a fault each line was fed to a new core over the store and flushed in turn, then the session was ended;
+    // and the replies were written. Where the reader's bytes are known, these are what all their lines spell.
+    ensures done { OnOk result.1 ((lines : List (List ℕ))
+        × LoopsOver store result.0 (W.contents writer.old) (W.contents writer.new) (IsWholeLoop lines)
+        × IfSome (R.remaining reader.old) (Spells lines)) }
+    // A line that spells no bytes comes after the replies to all lines before it.
+    ensures bad { (number : ℕ) → result.1 ≡ Err (BadFrameLine number)
+        → (lines : List (List ℕ)) × (length lines + 1 ≡ number)
+        × LoopsOver store result.0 (W.contents writer.old) (W.contents writer.new) (AreLineTurns lines)
+        × IfSome (R.remaining reader.old) (SpellsUpToBad lines) }
 {
-    let Ok(mut core) = Core::new(alloc, store) else {
-        return Err(ServingFault::Command(CommandFault::Refused(StoreError::Memory)));
+    let mut core = match Core::new(alloc, store) {
+        Ok(core) => core,
+        Err(failed) => return (failed.store, Err(no_core())),
     };
-    match run_lines(alloc, &mut core, link, reader, writer) {
+    let done = match run_lines(alloc, &mut core, link, reader, writer) {
         Ok(()) => Ok(()),
         Err(fault) => Err(fault_of_loop(fault)),
-    }
+    };
+    (core.into_store(), done)
 }

@@ -84,7 +84,7 @@ where
             };
             let store = open_store(rt, alloc, file)?;
             let bound = SocketFile::bind(rt, socket)?;
-            let served = serve_rounds(alloc, store, &bound, rounds, sessions, output);
+            let (_, served) = serve_rounds(alloc, store, &bound, rounds, sessions, output);
             let removed = bound.remove(rt, socket);
             served?;
             Ok(removed?)
@@ -95,7 +95,8 @@ where
             let served = match connect(rt, &bound, socket) {
                 Ok(mut link) => {
                     let mut reader = BufReader::new(alloc, input)?;
-                    loop_over(alloc, store, &mut link, &mut reader, output)
+                    let (_, served) = loop_over(alloc, store, &mut link, &mut reader, output);
+                    served
                 }
                 Err(fault) => Err(fault),
             };

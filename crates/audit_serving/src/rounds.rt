@@ -1,23 +1,24 @@
 //! Rounds of serving, each by a new core over the same store.
-ghost use Rattle.std.specs.Prelude.{◌≡◌, ◌≤◌, List, ℕ, length, OnOk};
+ghost use Rattle.std.specs.Prelude.{◌≡◌, ◌≤◌, List, ℕ, length, map, IfOk, OnOk};
 ghost use Rattle.std.specs.Io.KnownBytes.{Appends};
-ghost use Rattle.audit_sessions.specs.declared.limits.TheConstants.{SESSIONS, MAX_TURNS};
+ghost use Rattle.audit_sessions.specs.declared.limits.TheConstants.{SESSIONS};
+ghost use Rattle.audit_run.specs.Serving.{StoreKeepsOn};
 ghost use Rattle.audit_serving.specs.Rounds.{round_lines};
+ghost use Rattle.audit_serving.specs.Served.{ServesRound, ServesRounds};
 
-use crate::fault::{ServingFault, fault_of_serving};
-use audit_commands::CommandFault;
+use crate::fault::{ServingFault, fault_of_serving, no_core};
 use audit_device::Sectors;
 use audit_server::Core;
 use audit_sessions::serve;
 use audit_socket::{SocketFile, write_round};
-use audit_store::{Store, StoreError};
+use audit_store::Store;
 use std::alloc::Global;
 use std::io::Write;
 
 /// Serves so many rounds: in each, so many connections are accepted, and a new core over the store serves them up to the
 /// end of the last one. After each round its line is written, with its number from 1 on and the number of its turns.
 ///
-/// A fault of a round ends it, and that round has no line.
+/// The store is handed back, as the rounds left it. A fault of a round ends them, and that round has no line.
 pub fn serve_rounds<D: Sectors + Drop, W: Write>(
     alloc: Global,
     store: Store<D>,
@@ -25,18 +26,28 @@ pub fn serve_rounds<D: Sectors + Drop, W: Write>(
     rounds: u64,
     sessions: usize,
     writer: &mut W,
-) -> Result<(), ServingFault>
+) -> (Store<D>, Result<(), ServingFault>)
     requires { sessions ≤ SESSIONS }
-    ensures written { OnOk result ((turns : List ℕ) × (length turns ≡ rounds)
+    // Whatever happens, a stop at any moment leaves the events that the store held, and so does the end.
+    ensures kept { StoreKeepsOn store result.0 }
+    // Without a fault each round was served, by a new core over the store that the one before left, and has its line.
+    ensures served { OnOk result.1 ((turns : List ℕ) × (length turns ≡ rounds)
+        × ServesRounds sessions turns store result.0
         × Appends (W.contents writer.old) (W.contents writer.new) (round_lines 1 turns)) }
 {
     let mut store = store;
     for round in 0..rounds {
-        let (kept, turns) = serve_round(alloc, store, socket, sessions)?;
+        let (kept, served) = serve_round(alloc, store, socket, sessions);
         store = kept;
-        write_round(alloc, round + 1, turns, writer)?;
+        let turns = match served {
+            Ok(turns) => turns,
+            Err(fault) => return (store, Err(fault)),
+        };
+        if let Err(fault) = write_round(alloc, round + 1, turns, writer) {
+            return (store, Err(fault.into()));
+        }
     }
-    Ok(())
+    (store, Ok(()))
 }
 
 // Serves one round, and returns the store, and how many turns it had.
@@ -45,16 +56,23 @@ fn serve_round<D: Sectors + Drop>(
     store: Store<D>,
     socket: &SocketFile,
     sessions: usize,
-) -> Result<(Store<D>, u64), ServingFault>
+) -> (Store<D>, Result<u64, ServingFault>)
     requires { sessions ≤ SESSIONS }
+    ensures kept { StoreKeepsOn store result.0 }
+    ensures served { IfOk result.1 (λ turns. ServesRound sessions turns store result.0) }
 {
-    let mut streams = socket.accept_streams(alloc, sessions)?;
-    let Ok(mut core) = Core::new(alloc, store) else {
-        return Err(ServingFault::Command(CommandFault::Refused(StoreError::Memory)));
+    let mut streams = match socket.accept_streams(alloc, sessions) {
+        Ok(streams) => streams,
+        Err(error) => return (store, Err(error.into())),
+    };
+    let mut core = match Core::new(alloc, store) {
+        Ok(core) => core,
+        Err(failed) => return (failed.store, Err(no_core())),
     };
     let end = serve(&mut core, &mut streams);
-    match end.fault {
-        None => Ok((core.into_store(), end.turns)),
+    let served = match end.fault {
+        None => Ok(end.turns),
         Some(fault) => Err(fault_of_serving(fault)),
-    }
+    };
+    (core.into_store(), served)
 }

@@ -1,5 +1,6 @@
 pub mod FrameLine
 pub mod Frames
+pub mod Input
 pub mod LoopFaults
 pub mod Looping
 pub mod RoundLine

@@ -1,19 +1,42 @@
+ghost use Rattle.std.specs.Prelude.{◌≡◌, ◌≤◌, ◌+◌, true, false, vec_len, IfOk, Ok};
+ghost use Rattle.std.specs.Io.KnownBytes.{IsAtEnd};
+ghost use Rattle.audit_socket.specs.declared.limits.TheConstants.{MAX_DIGITS};
+ghost use Rattle.audit_socket.specs.Input.{ReadsLine, TakesByte};
+
 use crate::limits::MAX_DIGITS;
 use audit_lines::LinesFault;
 use std::io::{BufRead, Read};
 
-// A line of the most digits, its line feed, and a byte more, by which a longer line is known.
-const MOST: u64 = MAX_DIGITS as u64 + 2;
-
 /// Reads the next line into the buffer, in place of what it holds, without its line feed, and reports whether there was
-/// one. Of a line that is longer than [`MAX_DIGITS`] only a part is read, which is longer than that too.
-pub fn next_line<R: BufRead>(reader: &mut R, line: &mut Vec<u8>) -> Result<bool, LinesFault> {
+/// one. Of a line that is longer than [`MAX_DIGITS`] only the front is read, which is one byte longer than that.
+///
+/// The faults are `Read` and `Memory`: the buffer then holds what was read of the line.
+pub fn next_line<R: BufRead>(reader: &mut R, line: &mut Vec<u8>) -> Result<bool, LinesFault>
+    // At any reader.
+    ensures within { vec_len line.new ≤ MAX_DIGITS + 1 }
+    // Where its bytes are known.
+    ensures none { result ≡ Ok false → IsAtEnd (R.remaining reader.old) }
+    ensures read { result ≡ Ok true → ReadsLine (R.remaining reader.old) (R.remaining reader.new) line.new.items }
+{
     line.clear();
-    let Ok(taken) = reader.take(MOST).read_until(b'\n', line) else {
-        return Err(LinesFault::Read);
-    };
-    if line.last() == Some(&b'\n') {
-        line.pop();
+    for _ in 0..MAX_DIGITS + 1 {
+        match next_byte(reader)? {
+            None => return Ok(!line.is_empty()),
+            Some(b'\n') => return Ok(true),
+            Some(byte) => line.push(byte)?,
+        }
     }
-    Ok(taken > 0)
+    Ok(true)
+}
+
+// The next byte, or none at the end.
+fn next_byte<R: BufRead>(reader: &mut R) -> Result<Option<u8>, LinesFault>
+    ensures { IfOk result (λ byte. TakesByte (R.remaining reader.old) (R.remaining reader.new) byte) }
+{
+    let mut byte = [0];
+    match reader.read(&mut byte) {
+        Ok(0) => Ok(None),
+        Ok(_) => Ok(Some(byte[0])),
+        Err(_) => Err(LinesFault::Read),
+    }
 }

@@ -1,8 +1,9 @@
-ghost use Rattle.std.specs.Prelude.{◌≡◌, ◌∷◌, [], ◌+◌, List, ℕ, length, IfOk, IfErr, OnOk, Err};
+ghost use Rattle.std.specs.Prelude.{◌≡◌, ◌∷◌, [], ◌+◌, List, ℕ, length, IfOk, IfErr, IfSome, OnOk, Err};
 ghost use Rattle.audit_sessions.specs.declared.limits.TheConstants.{MAX_PIECE};
 ghost use Rattle.audit_sessions.specs.Steps.{a_flush};
 ghost use Rattle.audit_sessions.specs.Transition.{CoreTransition};
 ghost use Rattle.audit_socket.specs.declared.loop_fault.LoopFault.TheVariants as fault;
+ghost use Rattle.audit_socket.specs.Input.{Spells, SpellsUpToBad};
 ghost use Rattle.audit_socket.specs.Looping.{Brings, AreLineTurns, IsWholeLoop, LoopTransition};
 ghost use Rattle.audit_socket.specs.LoopFaults.{IsNoLineFault};
 
@@ -39,29 +40,61 @@ where
     W: Write,
     ensures reaches { C.model.Reaches core.old core.new }
     // Without a fault each line was fed and flushed in turn, then the session was ended; and the replies were written.
+    // Where the reader's bytes are known, these are what all their lines spell.
     ensures done { OnOk result ((lines : List (List ℕ)) × LoopTransition C.model core.old core.new
-        (W.contents writer.old) (W.contents writer.new) (IsWholeLoop lines)) }
+        (W.contents writer.old) (W.contents writer.new) (IsWholeLoop lines)
+        × IfSome (R.remaining reader.old) (Spells lines)) }
     // A line that spells no bytes comes after the replies to all lines before it.
     ensures bad { (number : ℕ) → result ≡ Err (fault.BadLine number)
         → (lines : List (List ℕ)) × (length lines + 1 ≡ number) × LoopTransition C.model core.old core.new
-        (W.contents writer.old) (W.contents writer.new) (AreLineTurns lines) }
+        (W.contents writer.old) (W.contents writer.new) (AreLineTurns lines)
+        × IfSome (R.remaining reader.old) (SpellsUpToBad lines) }
 {
-    let mut line = Vec::new(alloc);
     let mut buffer = [0; MAX_PIECE];
-    for number in 1..u64::MAX {
-        if !next_line(reader, &mut line)? {
-            break;
-        }
-        let Some(bytes) = bytes_of_line(alloc, &line)? else {
-            return Err(LoopFault::BadLine(number));
-        };
-        send(core, link, &bytes, &mut buffer)?;
-        reply(alloc, core, link, &mut buffer, writer)?;
-    }
+    serve_lines(alloc, core, link, &mut buffer, reader, writer)?;
     if let Err(error) = core.end(SESSION) {
         return Err(LoopFault::Core(error));
     }
     reply(alloc, core, link, &mut buffer, writer)
+}
+
+// Serves each line, up to the end of the input.
+fn serve_lines<C, A, B, R, W>(
+    alloc: Global,
+    core: &mut C,
+    link: &mut Link<A, B>,
+    buffer: &mut [u8],
+    reader: &mut R,
+    writer: &mut W,
+) -> Result<(), LoopFault<C::Error>>
+where
+    C: SessionCore,
+    A: Read + Write + Drop,
+    B: Read + Write + Drop,
+    R: BufRead,
+    W: Write,
+    requires room { length buffer.old ≡ MAX_PIECE }
+    ensures reaches { C.model.Reaches core.old core.new }
+    ensures done { OnOk result ((lines : List (List ℕ)) × LoopTransition C.model core.old core.new
+        (W.contents writer.old) (W.contents writer.new) (AreLineTurns lines)
+        × IfSome (R.remaining reader.old) (Spells lines)) }
+    ensures bad { (number : ℕ) → result ≡ Err (fault.BadLine number)
+        → (lines : List (List ℕ)) × (length lines + 1 ≡ number) × LoopTransition C.model core.old core.new
+        (W.contents writer.old) (W.contents writer.new) (AreLineTurns lines)
+        × IfSome (R.remaining reader.old) (SpellsUpToBad lines) }
+{
+    let mut line = Vec::new(alloc);
+    for number in 1..u64::MAX {
+        if !next_line(reader, &mut line)? {
+            return Ok(());
+        }
+        let Some(bytes) = bytes_of_line(alloc, &line)? else {
+            return Err(LoopFault::BadLine(number));
+        };
+        send(core, link, &bytes, buffer)?;
+        reply(alloc, core, link, buffer, writer)?;
+    }
+    Err(LoopFault::Lines(LinesFault::Read))
 }
 
 // Sends bytes from the client's end, in pieces, and feeds what arrives at the server's.

@@ -1,17 +1,30 @@
-use Rattle.std.proofs.Common.{[], ◌∷◌, ◌++◌, ◌+◌, refl, arith, length-append}
-use Rattle.audit_serving.proofs.RoundLines.{no_rounds, round_more}
+use Rattle.std.proofs.Common.{[], ◌∷◌, ◌++◌, ◌+◌, Result, ℕ, arith, length-append, subst}
+use Rattle.std.specs.Prelude.{IfOk}
+use Rattle.audit_run.proofs.Serving.{kept_then}
+use Rattle.audit_serving.specs.declared.fault.ServingFault.{ServingFault}
+use Rattle.audit_serving.specs.Served.{ServesRound}
+use Rattle.audit_serving.proofs.RoundLines.{round_more}
+use Rattle.audit_serving.proofs.Served.{rounds_more}
 use Rattle.audit_serving.proofs.rounds.serve_rounds.Goals as goal
 
-pub loop-round-init : goal.loop-round-init
-loop-round-init g c = record { written = ([], refl, no_rounds (g.W.Write.contents c.args.writer.now)) }
+pub returns-in-Err-clause-kept : goal.returns-in-Err-clause-kept
+returns-in-Err-clause-kept g c = kept_then c.args.store c.loop-round.store c.serve_round-kept.result.0 c.loop-round.invariant.kept c.serve_round-kept.ensures.kept
+
+pub returns-in-Err-write_round-clause-kept : goal.returns-in-Err-write_round-clause-kept
+returns-in-Err-write_round-clause-kept g c = kept_then c.args.store c.loop-round.store c.serve_round-kept.result.0 c.loop-round.invariant.kept c.serve_round-kept.ensures.kept
 
 pub loop-round-preserved : goal.loop-round-preserved
 loop-round-preserved g c =
-    let before = c.loop-round.invariant.written in
+    let before = c.loop-round.invariant.served in
+    let left = c.serve_round-kept.result.0 in
+    let round : ServesRound c.args.sessions c.in-Ok.turns c.loop-round.store left =
+    subst (λ (answer : Result ℕ ServingFault). IfOk answer (λ turns. ServesRound c.args.sessions turns c.loop-round.store left)) c.in-Ok.is c.serve_round-kept.ensures.served in
     record {
-      written = (
-        before.0 ++ c.in_ok-kept.turns ∷ [],
-        omega (arith, before.1, length-append before.0 (c.in_ok-kept.turns ∷ [])),
-        round_more (g.W.Write.contents c.args.writer.now) (g.W.Write.contents c.loop-round.writer) (g.W.Write.contents c.write_round.new.writer) before.0 c.in_ok-kept.turns (c.loop-round.round + 1) before.2 (omega (arith, before.1)) c.in_ok-write_round.ensures.written,
+      kept = kept_then c.args.store c.loop-round.store left c.loop-round.invariant.kept c.serve_round-kept.ensures.kept;
+      served = (
+        before.0 ++ c.in-Ok.turns ∷ [],
+        omega (arith, before.1, length-append before.0 (c.in-Ok.turns ∷ [])),
+        rounds_more c.args.sessions c.in-Ok.turns before.0 c.args.store c.loop-round.store left before.2 round,
+        round_more (g.W.Write.contents c.args.writer.now) (g.W.Write.contents c.loop-round.writer) (g.W.Write.contents c.write_round.new.writer) before.0 c.in-Ok.turns (c.loop-round.round + 1) before.3 (omega (arith, before.1)) c.in_default.ensures.written,
       );
     }

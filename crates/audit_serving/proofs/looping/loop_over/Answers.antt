@@ -1,0 +1,30 @@
+use Rattle.std.proofs.Common.{◌≡◌, ◌∙◌, Err, sym, ap}
+use Rattle.audit_serving.specs.declared.fault.ServingFault.TheVariants.{BadFrameLine}
+use Rattle.audit_serving.specs.Served.{IsNewCore}
+use Rattle.audit_serving.proofs.Served.{bad_of_loop, told_ok, told_err, kept_by, looped}
+use Rattle.audit_serving.proofs.looping.loop_over.Goals.{in-Ok-run_lines, in-Err-run_lines}
+use Rattle.audit_serving.proofs.looping.loop_over.Goals as goal
+
+pub returns-clause-kept : goal.returns-clause-kept
+returns-clause-kept g c = kept_by c.args.store c.into_store.result c.in-Ok.core c.run_lines.new.core c.in-Ok.ensures.store c.into_store.ensures c.run_lines.ensures.reaches
+
+pub returns-clause-done : goal.returns-clause-done
+returns-clause-done g c =
+    let made : IsNewCore c.args.store c.in-Ok.core = record { store_is = c.in-Ok.ensures.store; waiting = c.in-Ok.ensures.waiting; outputs = c.in-Ok.ensures.outputs; sessions = c.in-Ok.ensures.sessions } in
+    elim c.match-run_lines.branch [
+      | in-Ok-run_lines w ↦
+          let ran = w.in-Ok-run_lines.ensures.done in
+          told_ok c.match-run_lines.done tt w.done-is (ran.0, looped c.args.store c.into_store.result c.in-Ok.core c.run_lines.new.core made c.into_store.ensures ran.1, ran.2)
+      | in-Err-run_lines w ↦ told_err _ c.match-run_lines.done w.fault_of_loop.result w.done-is
+    ]
+
+pub returns-clause-bad : goal.returns-clause-bad
+returns-clause-bad g c = λ number is.
+    let made : IsNewCore c.args.store c.in-Ok.core = record { store_is = c.in-Ok.ensures.store; waiting = c.in-Ok.ensures.waiting; outputs = c.in-Ok.ensures.outputs; sessions = c.in-Ok.ensures.sessions } in
+    elim c.match-run_lines.branch [
+      | in-Ok-run_lines w ↦ absurd (cc (sym w.done-is ∙ is))
+      | in-Err-run_lines w ↦
+          let told : w.fault_of_loop.result ≡ BadFrameLine number = cc (sym w.done-is ∙ is) in
+          let ran = c.run_lines.ensures.bad number (w.in-Err-run_lines.is ∙ ap Err (bad_of_loop w.in-Err-run_lines.fault number (sym w.fault_of_loop.ensures ∙ told))) in
+          (ran.0, ran.1, looped c.args.store c.into_store.result c.in-Ok.core c.run_lines.new.core made c.into_store.ensures ran.2, ran.3)
+    ]

@@ -1,0 +1,47 @@
+-- Serving a store by a new core: what was done, and the store that is left.
+use Rattle.std.specs.Prelude.{◌≡◌, ℕ, Option, List, [], ◌∷◌, length, replicate}
+use Rattle.audit_device.specs.declared.sectors.Sectors as sectors
+use Rattle.audit_store.specs.declared.store.Store.{Store}
+use Rattle.audit_queue.specs.declared.limits.TheConstants.{SESSIONS}
+use Rattle.audit_queue.specs.Waiting.{nothing_waits}
+use Rattle.audit_commit.specs.Committer.{store_of, waiting_of, outputs_of}
+use Rattle.audit_sessions.specs.Steps.{StepData}
+use Rattle.audit_sessions.specs.Streams.{StreamView}
+use Rattle.audit_sessions.specs.Transition.{Transition, IsServed}
+use Rattle.audit_run.specs.Sessions.{new_session}
+use Rattle.audit_server.specs.declared.server_core.Core.{Core}
+use Rattle.audit_server.specs.Core.{committer_of, sessions_of}
+use Rattle.audit_server.specs.CoreModel.{core_model}
+use Rattle.audit_socket.specs.Looping.{LoopTransition}
+
+module _ {D : Type 0} {g : sectors.Ghosts D} where
+  -- a core over the store, with nothing that waits and every session at the front of its stream
+  pub record IsNewCore (store : Store D g) (core : Core D g) : Type 0 where
+    pub store_is : store_of (committer_of core) ≡ store
+    pub waiting : waiting_of (committer_of core) ≡ nothing_waits
+    pub outputs : outputs_of (committer_of core) ≡ replicate SESSIONS []
+    pub sessions : sessions_of core ≡ replicate SESSIONS new_session
+
+  -- a session over lines, of this shape
+  pub record LoopsOver (old new : Store D g) (before after : Option (List ℕ)) (Shape : List StepData → Type 0) : Type 0 where
+    pub core : Core D g
+    pub made : IsNewCore old core
+    pub last : Core D g
+    pub left : new ≡ store_of (committer_of last)
+    pub run : LoopTransition core_model core last before after Shape
+
+  -- a round of so many sessions, of whose streams nothing is known, with so many turns
+  pub record ServesRound (sessions turns : ℕ) (old new : Store D g) : Type 0 where
+    pub core : Core D g
+    pub made : IsNewCore old core
+    pub last : Core D g
+    pub left : new ≡ store_of (committer_of last)
+    pub streams : List StreamView
+    pub later : List StreamView
+    pub each : length streams ≡ sessions
+    pub run : Transition core_model core last streams later (IsServed core_model sessions turns core last)
+
+  -- rounds in turn, each by a new core over the store that the one before left
+  abbrev pub ServesRounds : ℕ → List ℕ → Store D g → Store D g → Type 0
+  ServesRounds sessions [] old new = new ≡ old
+  ServesRounds sessions (turns ∷ later) old new = (mid : Store D g) × ServesRound sessions turns old mid × ServesRounds sessions later mid new
