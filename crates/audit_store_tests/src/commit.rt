@@ -1,6 +1,6 @@
 // Expected values are those of an independent model of the sessions, which shares no code with the crates.
-use audit_commit::Committer;
 use audit_chain::{Event, Key};
+use audit_commit::Committer;
 use audit_disk::{Fuse, MemDisk, Sectors};
 use audit_queue::{Query, Question};
 use audit_store::{Store, StoreError};

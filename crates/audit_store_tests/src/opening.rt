@@ -1,9 +1,9 @@
 // Expected values are the rows of the format's definition, and those of an independent model of the store.
-use audit_opening::{HeaderRefusal, find_header, scan};
 use audit_chain::{Event, FIRST_LINK, Key, Sealed, seal};
 use audit_disk::{FailOnce, MemDisk, Sectors};
 use audit_index::LogIndex;
 use audit_log::{Chosen, GENERATION_LIMIT, Header, LogError, write_header};
+use audit_opening::{HeaderRefusal, find_header, scan};
 use audit_tree::leaf_hash;
 use std::alloc::Global;
 use std::process::Abort;

@@ -47,4 +47,3 @@ pub use reply_reading::{first_reply, read_reply};
 pub use request::Request;
 pub use view::RequestView;
 pub use writing::write_reply;
-
