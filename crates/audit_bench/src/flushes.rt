@@ -4,7 +4,6 @@ use crate::sessions::{ROUNDS, drop_replies, low_time, started, time_frames};
 use crate::stores::{Disk, hash_messages, write_bare};
 use audit_disk::FileDisk;
 use audit_log::LOG_START;
-use audit_queue::SESSIONS;
 use audit_store::Store;
 use std::alloc::Global;
 use std::fs::Files;
@@ -50,7 +49,7 @@ where
         batch.saturating_mul(u64::from(ROUNDS)),
     )?;
     let frames = append_frames(rt.alloc(), size)?;
-    let mut outputs = Vec::with_capacity(rt.alloc(), SESSIONS)?;
+    let mut outputs = Vec::new(rt.alloc());
     let mut core = started(rt.alloc(), store)?;
     let (mut flushes, mut bare_work) = (Vec::new(rt.alloc()), Vec::new(rt.alloc()));
     let mut seen = 0;

@@ -4,8 +4,6 @@ use crate::stores::Disk;
 use anyhow::bail;
 use audit_disk::{FileDisk, SECTOR_SIZE, Sectors};
 use audit_log::LOG_START;
-use audit_queue::SESSIONS;
-use audit_server::Core;
 use audit_store::Store;
 use audit_tree::leaf_hash;
 use std::alloc::Global;
@@ -39,18 +37,19 @@ where
     let mut bare = FileDisk::open(rt, rt.alloc(), file)?;
     let mut store = store;
     let count = store.commitment().count;
+    let mut outputs = Vec::new(rt.alloc());
     let (mut replies, mut bare_work) = (Vec::new(rt.alloc()), Vec::new(rt.alloc()));
     let mut seen = 0;
     for round in 0..ROUNDS {
-        let batch = round.saturating_mul(3);
-        let indices = some_indices(rt.alloc(), batch, count)?;
+        let indices = some_indices(rt.alloc(), round.saturating_mul(2), count)?;
         let start = Instant::now(rt)?;
         seen ^= bare_replies(&store, &mut bare, &indices)?;
         bare_work.push(start.elapsed(rt)?.as_nanos())?;
+        let indices = some_indices(rt.alloc(), round.saturating_mul(2).saturating_add(1), count)?;
+        let frames = question_frames(rt.alloc(), &indices, count)?;
         let mut core = started(rt.alloc(), store)?;
-        // The first batch finds memory that nothing was written to yet.
-        let _ = time_batch(rt, &mut core, batch.saturating_add(1), count)?;
-        replies.push(time_batch(rt, &mut core, batch.saturating_add(2), count)?)?;
+        replies.push(time_frames(rt, &mut core, &frames, &mut outputs)?)?;
+        drop_replies(&mut outputs, MEMBERSHIP, frames.len())?;
         store = core.into_store();
     }
     let (reply, alone) = (low_time(&mut replies)?, low_time(&mut bare_work)?);
@@ -58,21 +57,6 @@ where
         "replies {QUESTIONS} nanoseconds {reply} bare {alone} events {count} seen {seen}"
     )?;
     Ok(())
-}
-
-// Times a batch of questions for membership proofs under a count.
-fn time_batch<R: AllocGlobal + Clock, D: Sectors>(
-    rt: &R,
-    core: &mut Core<D>,
-    batch: u32,
-    count: u64,
-) -> anyhow::Result<u128> {
-    let indices = some_indices(rt.alloc(), batch, count)?;
-    let frames = question_frames(rt.alloc(), &indices, count)?;
-    let mut outputs = Vec::with_capacity(rt.alloc(), SESSIONS)?;
-    let time = time_frames(rt, core, &frames, &mut outputs)?;
-    drop_replies(&mut outputs, MEMBERSHIP, frames.len())?;
-    Ok(time)
 }
 
 // Numbers below the count, all over it: others for each batch.
