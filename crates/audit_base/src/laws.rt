@@ -2,10 +2,10 @@ ghost use Rattle.std.specs.Prelude.{◌≡◌, ◌^◌};
 
 use crate::{
     ENTRY_OVERHEAD, HASH_LEN, LAYERS, MAX_COUNT, MAX_ENTRY, MAX_ENTRY_SECTORS,
-    MAX_INCREMENT_HASHES, MAX_MEMBER_HASHES, MAX_PAYLOAD, RESERVED_KIND, SECTOR_SIZE,
+    MAX_INCREMENT_HASHES, MAX_MEMBER_HASHES, MAX_PAYLOAD, RESERVED_KIND, SECTOR_SIZE, SESSIONS,
 };
 
-/// The limits of the formats, each as its number. The function does nothing: its contract is the law.
+/// The limits of the formats and of sessions, each as its number. The function does nothing: its contract is the law.
 pub fn limits_are_these_numbers()
     ensures hash { HASH_LEN ≡ 32 }
     ensures sector { SECTOR_SIZE ≡ 512 }
@@ -18,4 +18,5 @@ pub fn limits_are_these_numbers()
     ensures layers { LAYERS ≡ 25 }
     ensures member_hashes { MAX_MEMBER_HASHES ≡ 24 }
     ensures increment_hashes { MAX_INCREMENT_HASHES ≡ 25 }
+    ensures sessions { SESSIONS ≡ 16 }
 {}

@@ -1,4 +1,4 @@
-//! The limits of the formats. Where one follows from others it is their sum or product, so that raising one is a
+//! The limits of the formats and of sessions. Where one follows from others it is their sum or product, so that raising one is a
 //! change of one line here and of the law that fixes its number.
 
 /// A SHA-256 digest (FIPS 180-4), in bytes: so long are hashes, keys, links and MACs.
@@ -39,3 +39,6 @@ pub const MAX_MEMBER_HASHES: usize = MAX_DEPTH;
 
 /// The most hashes of an incremental proof: the node that ends the older tree, and its siblings.
 pub const MAX_INCREMENT_HASHES: usize = MAX_DEPTH + 1;
+
+/// How many sessions a store serves at once: they are numbered from 0.
+pub const SESSIONS: usize = 16;

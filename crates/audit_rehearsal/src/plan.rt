@@ -2,8 +2,8 @@
 ghost use Rattle.audit_server.specs.Driving.{IsOfSession};
 
 use crate::random::Random;
+use audit_base::SESSIONS;
 use audit_server::Step;
-use audit_sessions::SESSIONS;
 
 /// What is left of the streams, and how steps are drawn.
 #[derive(Drop)]

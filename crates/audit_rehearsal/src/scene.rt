@@ -5,8 +5,8 @@ use crate::serving::serve_scene;
 use crate::stores::{Device, TRIES, new_core, open_core, worn_core};
 use crate::texts::{bytes_of, number_of, text_of};
 use anyhow::{Context, bail};
+use audit_base::SESSIONS;
 use audit_server::{Core, Step, drive};
-use audit_sessions::SESSIONS;
 use audit_store::{Store, StoreError};
 
 /// A core under way, if there is one.

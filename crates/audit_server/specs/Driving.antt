@@ -3,7 +3,7 @@ use Rattle.std.specs.Prelude.{◌≡◌, ◌<◌, Err, List, ◌++◌, ◌∷◌
 use Rattle.audit_device.specs.declared.sectors.Sectors as sectors
 use Rattle.audit_chain.specs.Event.{EventData}
 use Rattle.audit_layout.specs.Origin.{Origin}
-use Rattle.audit_queue.specs.declared.limits.TheConstants.{SESSIONS}
+use Rattle.audit_base.specs.declared.limits.TheConstants.{SESSIONS}
 use Rattle.audit_store.specs.Store.{Holds}
 use Rattle.audit_commit.specs.Committer.{store_of}
 use Rattle.audit_commit.specs.Flush.{IsFlushEnd, IsFlush}

@@ -52,7 +52,7 @@ impl Model for Session {
 
 impl Session {
     ghost use Rattle.std.specs.Prelude.{◌≡◌, ◌<◌, ℕ, false, IfOk};
-    ghost use Rattle.audit_queue.specs.declared.limits.TheConstants.{SESSIONS};
+    ghost use Rattle.audit_base.specs.declared.limits.TheConstants.{SESSIONS};
     ghost use Rattle.audit_store.specs.Store.{is_broken};
     ghost use Rattle.audit_commit.specs.Committer.{store_of};
     ghost use Rattle.audit_run.specs.Sessions.{new_session, ended_session};

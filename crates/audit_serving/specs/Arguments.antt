@@ -1,7 +1,7 @@
 -- Arguments that are judged by hand.
 use Rattle.std.specs.Prelude.{ℕ, nat_le, ◌&&◌, Option, Some, None, Result, Ok, Err, List, if◌then◌else◌}
 use Rattle.audit_lines.specs.Number.{number_of}
-use Rattle.audit_sessions.specs.declared.limits.TheConstants.{SESSIONS}
+use Rattle.audit_base.specs.declared.limits.TheConstants.{SESSIONS}
 use Rattle.audit_commands.specs.declared.fault.CommandFault.{CommandFault}
 use Rattle.audit_commands.specs.declared.fault.CommandFault.TheVariants.{BadArgument}
 

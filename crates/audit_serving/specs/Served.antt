@@ -2,7 +2,7 @@
 use Rattle.std.specs.Prelude.{◌≡◌, ℕ, Option, List, [], ◌∷◌, length, replicate}
 use Rattle.audit_device.specs.declared.sectors.Sectors as sectors
 use Rattle.audit_store.specs.declared.store.Store.{Store}
-use Rattle.audit_queue.specs.declared.limits.TheConstants.{SESSIONS}
+use Rattle.audit_base.specs.declared.limits.TheConstants.{SESSIONS}
 use Rattle.audit_queue.specs.Waiting.{nothing_waits}
 use Rattle.audit_commit.specs.Committer.{store_of, waiting_of, outputs_of}
 use Rattle.audit_sessions.specs.Steps.{StepData}

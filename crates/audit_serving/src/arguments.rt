@@ -1,11 +1,11 @@
 //! Arguments that are judged by hand.
 ghost use Rattle.std.specs.Prelude.{◌≡◌, ◌≤◌, IfOk};
-ghost use Rattle.audit_sessions.specs.declared.limits.TheConstants.{SESSIONS};
+ghost use Rattle.audit_base.specs.declared.limits.TheConstants.{SESSIONS};
 ghost use Rattle.audit_serving.specs.Arguments.{rounds_asked, sessions_asked};
 
+use audit_base::SESSIONS;
 use audit_commands::CommandFault;
 use audit_lines::number_of;
-use audit_sessions::SESSIONS;
 
 /// The number of rounds that a word asks for, of 1 to 20 decimal digits and below 2^64. A word of another form is
 /// `BadArgument`.

@@ -1,7 +1,7 @@
 //! Rounds of serving, each by a new core over the same store.
 ghost use Rattle.std.specs.Prelude.{◌≡◌, ◌≤◌, List, ℕ, length, map, IfOk, OnOk};
 ghost use Rattle.std.specs.Io.KnownBytes.{Appends};
-ghost use Rattle.audit_sessions.specs.declared.limits.TheConstants.{SESSIONS};
+ghost use Rattle.audit_base.specs.declared.limits.TheConstants.{SESSIONS};
 ghost use Rattle.audit_run.specs.Serving.{StoreKeepsOn};
 ghost use Rattle.audit_serving.specs.Rounds.{round_lines};
 ghost use Rattle.audit_serving.specs.Served.{ServesRound, ServesRounds};

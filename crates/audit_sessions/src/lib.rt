@@ -19,7 +19,7 @@ mod stream_pair;
 mod writing;
 
 pub use duplex_stream::DuplexStream;
-pub use limits::{MAX_PIECE, MAX_TURNS, SESSIONS};
+pub use limits::{MAX_PIECE, MAX_TURNS};
 pub use serve_end::{ServeEnd, ServeFault};
 pub use serving::serve;
 pub use session_core::SessionCore;

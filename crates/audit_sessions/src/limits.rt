@@ -1,8 +1,5 @@
 //! The limits of serving.
 
-/// How many sessions a core has: they are numbered from 0.
-pub const SESSIONS: usize = 16;
-
 /// The most bytes that a session's turn reads.
 pub const MAX_PIECE: usize = 4_096;
 

@@ -1,5 +1,6 @@
 ghost use Rattle.std.specs.Prelude.{◌≡◌, ◌<◌, ◌≤◌, [], length, map, OnOk};
-ghost use Rattle.audit_sessions.specs.declared.limits.TheConstants.{SESSIONS, MAX_PIECE};
+ghost use Rattle.audit_base.specs.declared.limits.TheConstants.{SESSIONS};
+ghost use Rattle.audit_sessions.specs.declared.limits.TheConstants.{MAX_PIECE};
 ghost use Rattle.audit_sessions.specs.Transition.{Transition, SessionTransition, IsOneTurn, AreTurnsBelow};
 
 use crate::session_core::SessionCore;

@@ -1,5 +1,6 @@
 ghost use Rattle.std.specs.Prelude.{◌≡◌, ◌≢◌, ◌<◌, ◌≤◌, ◌+◌, ℕ, [], true, false, length, map, OnOk};
-ghost use Rattle.audit_sessions.specs.declared.limits.TheConstants.{SESSIONS, MAX_PIECE, MAX_TURNS};
+ghost use Rattle.audit_base.specs.declared.limits.TheConstants.{SESSIONS};
+ghost use Rattle.audit_sessions.specs.declared.limits.TheConstants.{MAX_PIECE, MAX_TURNS};
 ghost use Rattle.audit_sessions.specs.Rounds.{live_below, IsRound, AreRounds};
 ghost use Rattle.audit_sessions.specs.Transition.{Transition, CoreTransition, AreEndsBelow};
 

@@ -1,5 +1,6 @@
 ghost use Rattle.std.specs.Prelude.{◌≡◌, ◌<◌, ◌≤◌, [], true, false, length, map, IfOk, OnOk, None, Some};
-ghost use Rattle.audit_sessions.specs.declared.limits.TheConstants.{SESSIONS, MAX_PIECE, MAX_TURNS};
+ghost use Rattle.audit_base.specs.declared.limits.TheConstants.{SESSIONS};
+ghost use Rattle.audit_sessions.specs.declared.limits.TheConstants.{MAX_PIECE, MAX_TURNS};
 ghost use Rattle.audit_sessions.specs.declared.serve_end.ServeFault.TheVariants as fault;
 ghost use Rattle.audit_sessions.specs.Transition.{Transition, EndsAs, IsServed, IsCut};
 

@@ -1,5 +1,5 @@
 ghost use Rattle.std.specs.Prelude.{◌≡◌, ◌<◌, ℕ, [], ◌∷◌, OnOk};
-ghost use Rattle.audit_sessions.specs.declared.limits.TheConstants.{SESSIONS};
+ghost use Rattle.audit_base.specs.declared.limits.TheConstants.{SESSIONS};
 ghost use Rattle.audit_sessions.specs.Steps.{a_piece, an_end, a_flush};
 ghost use Rattle.audit_sessions.specs.Core.{CoreModel, no_bytes, bytes_for};
 

@@ -1,5 +1,5 @@
 ghost use Rattle.std.specs.Prelude.{◌≡◌, ◌<◌, ◌≤◌, [], length, map, OnOk};
-ghost use Rattle.audit_sessions.specs.declared.limits.TheConstants.{SESSIONS};
+ghost use Rattle.audit_base.specs.declared.limits.TheConstants.{SESSIONS};
 ghost use Rattle.audit_sessions.specs.Transition.{Transition, SessionTransition, IsTaken, AreTaken, IsFlushed};
 
 use crate::session_core::SessionCore;

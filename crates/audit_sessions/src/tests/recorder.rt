@@ -1,11 +1,12 @@
 //! A core that keeps a record of the steps asked of it.
 ghost use Rattle.std.specs.Prelude.{◌≡◌, ◌<◌, ℕ, [], ◌∷◌, IfOk, OnOk, length, map};
-ghost use Rattle.audit_sessions.specs.declared.limits.TheConstants.{SESSIONS};
+ghost use Rattle.audit_base.specs.declared.limits.TheConstants.{SESSIONS};
 ghost use Rattle.audit_sessions.specs.Steps.{a_piece, an_end, a_flush};
 ghost use Rattle.audit_sessions.specs.Core.{CoreModel, no_bytes, bytes_for};
 ghost use Rattle.audit_sessions.specs.Recorder.{recorder_model};
 
-use crate::{SESSIONS, SessionCore};
+use crate::SessionCore;
+use audit_base::SESSIONS;
 use std::alloc::{AllocError, Global};
 use std::marker::Model;
 use std::mem;
@@ -37,7 +38,7 @@ pub struct Recorder {
 impl Model for Recorder {
     ghost use Rattle.std.specs.Prelude.{◌≡◌, length, map};
     ghost use Rattle.audit_sessions.specs.Recorder.{RecorderData};
-    ghost use Rattle.audit_sessions.specs.declared.limits.TheConstants.{SESSIONS};
+    ghost use Rattle.audit_base.specs.declared.limits.TheConstants.{SESSIONS};
 
     ghost Value = { RecorderData };
 
