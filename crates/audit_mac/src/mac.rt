@@ -1,5 +1,6 @@
 ghost use Rattle.std.specs.Prelude.{◌≡◌, ℕ, ◌-◌, ◌≤◌, List, [], ◌++◌, length, map, drop, replicate, bit_xor};
 ghost use Rattle.sha2.specs.Hashers.{Holds256};
+ghost use Rattle.sha2.specs.Sha256.{sha256};
 ghost use Rattle.audit_mac.specs.Hmac.{hmac, key_block};
 
 use audit_base::HASH_LEN;
@@ -61,9 +62,18 @@ impl Mac {
 pub fn hmac_sha256(key: &[u8], text: &[u8]) -> [u8; MAC_LEN]
     ensures { result ≡ hmac key.now text.now }
 {
-    let mut mac = Mac::new(key);
-    mac.update(text);
-    mac.finish()
+    let block = padded_key(key);
+    let inner = digest_after(&masked(&block, INNER_PAD), text);
+    digest_after(&masked(&block, OUTER_PAD), &inner)
+}
+
+// The SHA-256 of a block and then a text.
+fn digest_after(block: &[u8; BLOCK_LEN], text: &[u8]) -> [u8; HASH_LEN]
+    ensures { result ≡ sha256 (block.now ++ text.now) }
+{
+    let mut hasher = hasher_of(block);
+    hasher.update(text);
+    hasher.finalize()
 }
 
 // The key as one block: its digest where it is longer, and then zeros.
