@@ -59,6 +59,7 @@ impl Mac {
 
 /// The HMAC-SHA-256 (RFC 2104) of a text under a key of any length, in 32 bytes. It never fails and
 /// takes no memory.
+#[tactic(auto, unfolding(crate::specs::Hmac::hmac))]
 pub fn hmac_sha256(key: &[u8], text: &[u8]) -> [u8; MAC_LEN]
     ensures { result ≡ hmac key.now text.now }
 {
