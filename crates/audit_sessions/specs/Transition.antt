@@ -81,13 +81,13 @@ pub record SessionReached {C : Type 0} (M : CoreModel C) (k : ℕ) (old new : C)
   pub calm : after.failed ≡ false → before.failed ≡ false
   pub known : before.known ≡ true → after.failed ≡ false → IsReadOf k steps lost sent before after
 
--- The core went by some steps that bring no bytes, and no stream was used.
-pub record CoreReached {C : Type 0} (M : CoreModel C) (old new : C) : Type 0 where
+-- The core went by some steps of a shape, and no stream was used.
+pub record CoreReached {C : Type 0} (M : CoreModel C) (old new : C) (Shape : List StepData → Type 0) : Type 0 where
   pub steps : List StepData
   pub taken : ℕ → List ℕ
   pub reaches : M.Reaches old new steps taken
   pub none : (k : ℕ) → taken k ≡ []
-  pub brings : (k : ℕ) → bytes_of k steps ≡ []
+  pub shape : Shape steps
 
 -- ---- shapes
 
@@ -99,6 +99,10 @@ IsOneTurn k steps = (step : StepData) × (steps ≡ step ∷ []) × IsTurnOf k s
 abbrev pub AreElsewhere : ℕ → List StepData → Type 0
 AreElsewhere k [] = Unit {0}
 AreElsewhere k (step ∷ steps) = (IsAbout k step → ⊥) × AreElsewhere k steps
+
+-- of no session do steps bring bytes
+abbrev pub BringNothing : List StepData → Type 0
+BringNothing steps = (k : ℕ) → bytes_of k steps ≡ []
 
 -- a turn of each live session below a number, and no step about another
 pub record AreTurnsBelow (count : ℕ) (ended : ℕ → Bool) (steps : List StepData) : Type 0 where

@@ -6,9 +6,9 @@ ghost use Rattle.audit_sessions.specs.Core.{CoreModel, GoesBy, no_bytes, bytes_f
 /// What serves the requests of sessions: it takes their bytes in any pieces, and keeps the bytes of the replies until
 /// they are taken.
 ///
-/// Each of `feed`, `end` and `flush` that succeeds is one step, and one that is refused is a part of its step: nothing,
-/// all of it, or the first bytes of its piece. What steps do is the core's own; of the sessions it is known that whether
-/// one has ended depends on its steps alone.
+/// Each of `feed`, `end` and `flush` that succeeds is one step, and one that is refused is a part of its step: all of
+/// it, nothing, or the first bytes of its piece. What steps do is the core's own; of the sessions it is known that
+/// whether one has ended depends on its steps alone.
 pub trait SessionCore {
     /// Why a step is refused.
     type Error;
