@@ -161,7 +161,7 @@ module _ {C : Type 0} (M : CoreModel C) where
 
   -- ---- a flush, a round
 
-  flushed : (old new : C) (views : List StreamView) → M.Did old new (a_flush ∷ []) no_bytes → Transition M old new views views (λ steps. steps ≡ a_flush ∷ [])
+  pub flushed : (old new : C) (views : List StreamView) → M.Did old new (a_flush ∷ []) no_bytes → Transition M old new views views (λ steps. steps ≡ a_flush ∷ [])
   flushed old new views did = record {
     count = refl;
     steps = a_flush ∷ [];

@@ -13,16 +13,16 @@ none_of_both bytes more none also = ap (λ (front : List ℕ). front ++ more) no
 
 -- ---- one session and its stream
 
-bytes_here : (k : ℕ) (sent : List ℕ) → bytes_for k sent k ≡ sent
+pub bytes_here : (k : ℕ) (sent : List ℕ) → bytes_for k sent k ≡ sent
 bytes_here k sent = cond-true (eqb k k) sent [] (eq-eqb k k refl)
 
-bytes_there : (k other : ℕ) (sent : List ℕ) → (other ≡ k → ⊥) → bytes_for k sent other ≡ []
+pub bytes_there : (k other : ℕ) (sent : List ℕ) → (other ≡ k → ⊥) → bytes_for k sent other ≡ []
 bytes_there k other sent apart = cond-false (eqb other k) sent [] (ne_eqb other k apart)
 
-here : (k : ℕ) (views : List StreamView) (view : StreamView) → k < length views → view_at k (set views k view) ≡ view
+pub here : (k : ℕ) (views : List StreamView) (view : StreamView) → k < length views → view_at k (set views k view) ≡ view
 here k views view within = get_or-set_same views k view no_stream within
 
-there : (k other : ℕ) (views : List StreamView) (view : StreamView) → (other ≡ k → ⊥) → view_at other (set views k view) ≡ view_at other views
+pub there : (k other : ℕ) (views : List StreamView) (view : StreamView) → (other ≡ k → ⊥) → view_at other (set views k view) ≡ view_at other views
 there k other views view apart = get_or-set_other views k other view no_stream apart
 
 module _ {C : Type 0} {M : CoreModel C} where
