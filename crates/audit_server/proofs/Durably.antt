@@ -1,7 +1,7 @@
 -- Acknowledgements are durable, however a call ended.
-use Rattle.std.proofs.Common.{◌≡◌, ◌≢◌, ◌∙◌, ℕ, ◌<◌, ◌≤◌, Bool, true, false, if◌then◌else◌, Result, Ok, Err, List, [], ◌∷◌, ◌++◌, length, map, take, drop, get_or, slice_set, refl, sym, ap, subst}
+use Rattle.std.proofs.Common.{◌≡◌, ◌≢◌, ◌⊎◌, ◌∙◌, inl, inr, ℕ, ◌<◌, ◌≤◌, Bool, true, false, if◌then◌else◌, Result, Ok, Err, List, [], ◌∷◌, ◌++◌, length, map, take, drop, get_or, slice_set, refl, sym, ap, subst}
 use Rattle.std.proofs.lemmas.Bool.{false≢true}
-use Rattle.std.proofs.lemmas.List.{append-nil, set-get_or, take-map, drop-map, take_all, drop_more}
+use Rattle.std.proofs.lemmas.List.{append-nil, set-get_or, take-map, drop-map, take_all, take-append-drop, drop_more}
 use Rattle.audit_device.specs.declared.sectors.Sectors as sectors
 use Rattle.audit_chain.specs.Event.{EventData}
 use Rattle.audit_layout.specs.Origin.{Origin}
@@ -15,8 +15,8 @@ use Rattle.audit_commit.specs.declared.committer.Committer.{Committer}
 use Rattle.audit_commit.specs.Flush.{IsFlush}
 use Rattle.audit_commit.specs.Committer.{store_of, state_of}
 use Rattle.audit_commit.specs.Durable.{IsDurable}
-use Rattle.audit_sessions.specs.Steps.{StepData, a_piece, an_end, a_flush}
-use Rattle.audit_sessions.specs.Core.{no_bytes}
+use Rattle.audit_sessions.specs.Steps.{StepData, a_piece, an_end, a_flush, IsPartOf}
+use Rattle.audit_sessions.specs.Core.{GoesBy, no_bytes}
 use Rattle.audit_run.specs.Sessions.{SessionData, ended_session, sessions_run, arrivals_by_piece, arrivals_run}
 use Rattle.audit_run.specs.Serving.{CoreData, IsDurablyServed}
 use Rattle.audit_run.proofs.Serving.{put_back_none, durably_none, durably_more}
@@ -25,6 +25,7 @@ use Rattle.audit_server.specs.declared.feed_fault.FeedFault.{FeedFault}
 use Rattle.audit_server.specs.declared.server_core.Core.{Core}
 use Rattle.audit_server.specs.Core.{committer_of, sessions_of, data_of, session_of, IsSound, IsUntouched, IsPieceEnd, IsEndEnd, HasDone}
 use Rattle.audit_server.specs.Driving.{step_data, is_of_broken, part_done, step_done, whole_done, next_done, steps_done}
+use Rattle.audit_server.specs.CoreModel.{core_model}
 use Rattle.audit_server.proofs.Steps.{DoneTo, piece_done, end_done}
 
 -- the refusal of a core that wasn't broken
@@ -41,6 +42,20 @@ other_refusal Broken other = absurd (other refl)
 other_refusal Device other = refl
 other_refusal Memory other = refl
 other_refusal BadSize other = refl
+
+-- what was done of a step that was refused is a part of it
+some_part : (step : StepData) (fault : FeedFault) → IsPartOf step (part_done fault step)
+some_part (a_piece k piece) fault = decide (is_of_broken fault.error)
+  where
+    decide : (b : Bool) → IsPartOf (a_piece k piece) (if b then [] else a_piece k (take fault.taken piece) ∷ [])
+    decide true = inl refl
+    decide false = inr (take fault.taken piece, drop fault.taken piece, sym (take-append-drop fault.taken piece), refl)
+some_part (an_end k) fault = inl refl
+some_part a_flush fault = inl refl
+
+whole_or_none : (step : StepData) (result : Result (Unit {0}) StoreError) → (whole_done step result ≡ []) ⊎ (whole_done step result ≡ step ∷ [])
+whole_or_none step (Ok done) = inr refl
+whole_or_none step (Err error) = inl refl
 
 module _ {D : Type 0} {g : sectors.Ghosts D} where
   -- nothing was done
@@ -126,3 +141,14 @@ module _ {D : Type 0} {g : sectors.Ghosts D} where
       (ap (λ (before : List StepData). before ++ part_done fault (step_data (get_or steps number none))) (sym (take-map step_data number steps))
       ∙ ap (λ (last : List StepData). take number (map step_data steps) ++ last) next)
       (durably_more (data_of old) (data_of now) new (to_durably old now to) part)
+
+  -- ---- as calls of a core that serves sessions
+
+  pub piece_goes : (k : ℕ) (piece : List ℕ) (old new : Core D g) (fault : FeedFault) → IsDurablyServed (data_of old) (data_of new) (part_done fault (a_piece k piece)) no_bytes → GoesBy core_model (a_piece k piece) old new
+  piece_goes k piece old new fault durably = (part_done fault (a_piece k piece), some_part (a_piece k piece) fault, durably)
+
+  pub end_goes : (k : ℕ) (old new : Core D g) (result : Result (Unit {0}) StoreError) → IsDurablyServed (data_of old) (data_of new) (whole_done (an_end k) result) no_bytes → GoesBy core_model (an_end k) old new
+  end_goes k old new result durably = (whole_done (an_end k) result, whole_or_none (an_end k) result, durably)
+
+  pub flush_goes : (old new : Core D g) (result : Result (Unit {0}) StoreError) → IsDurablyServed (data_of old) (data_of new) (whole_done a_flush result) no_bytes → GoesBy core_model a_flush old new
+  flush_goes old new result durably = (whole_done a_flush result, whole_or_none a_flush result, durably)
