@@ -5,4 +5,5 @@ pub mod Fronts
 pub mod Pieces
 pub mod Steps
 pub mod Durably
+pub mod Acknowledged
 pub mod Serving
