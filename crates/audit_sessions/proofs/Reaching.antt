@@ -49,7 +49,7 @@ ends_bring : (count : ℕ) (ended : ℕ → Bool) (steps : List StepData) → Ar
 ends_bring count ended steps h k = ap (bytes_of k) h.each ∙ ends_bring_nothing k (live_below count ended)
 
 -- a part of an end
-end_brings_nothing : (session : ℕ) (part : List StepData) → IsPartOf (an_end session) part → BringNothing part
+pub end_brings_nothing : (session : ℕ) (part : List StepData) → IsPartOf (an_end session) part → BringNothing part
 end_brings_nothing session part (inl none) k = ap (bytes_of k) none
 end_brings_nothing session part (inr whole) k = ap (bytes_of k) whole
 
@@ -57,7 +57,7 @@ end_about : (k : ℕ) (part : List StepData) → IsPartOf (an_end k) part → Ar
 end_about k part (inl none) = subst (AreAbout k) (sym none) tt
 end_about k part (inr whole) = subst (AreAbout k) (sym whole) (refl, tt)
 
-flush_brings_nothing : (part : List StepData) → IsPartOf a_flush part → BringNothing part
+pub flush_brings_nothing : (part : List StepData) → IsPartOf a_flush part → BringNothing part
 flush_brings_nothing part (inl none) k = ap (bytes_of k) none
 flush_brings_nothing part (inr whole) k = ap (bytes_of k) whole
 
@@ -195,18 +195,6 @@ module _ {C : Type 0} (M : CoreModel C) where
           (subst (λ (v : StreamView). IsReadOf other t.steps [] [] (view_at other views) v) (sym (there k other views after apart))
           (read_whole other t.steps [] (view_at other views) (view_at other views) (streamed_elsewhere other t.steps (view_at other views) (about_elsewhere k other t.steps apart t.about)))))
     ];
-  }
-
-  pub session_done_reached : (k : ℕ) {Shape : List StepData → Type 0} (old new : C) (before after : StreamView) → SessionTransition M k old new before after Shape → SessionReached M k old new before after
-  session_done_reached k old new before after t = record {
-    steps = t.steps;
-    sent = t.sent;
-    reaches = M.done_reaches old new t.steps (bytes_for k t.sent) t.did;
-    about = t.about;
-    lost = [];
-    most = omega arith;
-    calm = λ calm. (t.calm calm).0;
-    known = λ known calm. read_whole k t.steps t.sent before after (t.known known calm).1;
   }
 
   -- ---- turns

@@ -33,7 +33,3 @@ pub record CoreModel (C : Type 0) : Type 1 where
 -- by a call that asks for this step, and may be refused, the core went as far as a part of it
 abbrev pub GoesBy : {C : Type 0} → CoreModel C → StepData → C → C → Type 0
 GoesBy M step old new = (part : List StepData) × IsPartOf step part × M.Reaches old new part no_bytes
-
--- the core went by some steps, and some bytes were taken of the outputs
-abbrev pub ReachesBySome : {C : Type 0} → CoreModel C → C → C → Type 0
-ReachesBySome M old new = (steps : List StepData) × (taken : ℕ → List ℕ) × M.Reaches old new steps taken
