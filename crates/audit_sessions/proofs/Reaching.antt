@@ -1,5 +1,5 @@
 -- Calls of which the last may have been refused.
-use Rattle.std.proofs.Common.{◌≡◌, ℕ, ◌<◌, ◌≤◌, eqb, Bool, true, false, List, [], ◌∷◌, ◌++◌, length, map, set, take, Result, Ok, Err, IsOk, refl, sym, ap, subst, ◌∙◌, arith, inl, inr, true≢false}
+use Rattle.std.proofs.Common.{◌≡◌, ℕ, ◌<◌, ◌≤◌, eqb, Bool, true, List, [], ◌∷◌, ◌++◌, length, map, set, take, Result, Ok, Err, IsOk, refl, sym, ap, subst, ◌∙◌, arith, inl, inr, true≢false}
 use Rattle.std.proofs.lemmas.Bool.{cases_eq, eq-eqb, cond-true}
 use Rattle.std.proofs.lemmas.List.{append-nil, append_assoc, length-set, length-take-le, length-append}
 use Rattle.audit_sessions.specs.declared.limits.TheConstants.{MAX_PIECE}
@@ -8,9 +8,9 @@ use Rattle.audit_sessions.specs.Steps.{StepData, a_piece, an_end, a_flush, AreAb
 use Rattle.audit_sessions.specs.Rounds.{live_below}
 use Rattle.audit_sessions.specs.Streams.{StreamView, view_at, HasRead, IsStreamRead, IsStreamWrite, IsStreamed}
 use Rattle.audit_sessions.specs.Core.{CoreModel, GoesBy, no_bytes, bytes_for}
-use Rattle.audit_sessions.specs.Transition.{Transition, SessionTransition, CoreTransition, IsReadOf, Reached, SessionReached, CoreReached, BringNothing, AreEndsBelow}
+use Rattle.audit_sessions.specs.Transition.{Transition, CoreTransition, IsReadOf, Reached, SessionReached, CoreReached, BringNothing, AreEndsBelow}
 use Rattle.audit_sessions.proofs.StreamSteps.{bytes_of-append, about_elsewhere, streamed_elsewhere}
-use Rattle.audit_sessions.proofs.Transitions.{none_of_both, bytes_here, bytes_there, here, there}
+use Rattle.audit_sessions.proofs.Transitions.{none_of_both, bytes_here, bytes_there, here, there, known_here, fine_here, sound_all}
 use Rattle.audit_sessions.proofs.Turns.{none_for, no_bytes_for, bytes_then_none}
 use Rattle.audit_sessions.proofs.Runs.{flushed}
 
@@ -74,10 +74,10 @@ module _ {C : Type 0} (M : CoreModel C) where
     refused = 0;
     lost = [];
     most = omega arith;
-    calm = λ none. (t.calm none).0;
-    known = λ all none k within.
+    sound = t.sound;
+    known = λ k within known fine.
         subst (λ (lost : List ℕ). IsReadOf k t.steps lost (t.taken k) (view_at k before) (view_at k after)) (none_for 0 k)
-        (read_whole k t.steps (t.taken k) (view_at k before) (view_at k after) ((t.known all none).1 k within));
+        (read_whole k t.steps (t.taken k) (view_at k before) (view_at k after) (t.known k within known fine).1);
   }
 
   pub then_reached : {Shape : List StepData → Type 0} (old mid new : C) (before between after : List StreamView) → Transition M old mid before between Shape → Reached M mid new between after
@@ -91,11 +91,11 @@ module _ {C : Type 0} (M : CoreModel C) where
     refused = second.refused;
     lost = second.lost;
     most = second.most;
-    calm = λ none. (first.calm (second.calm none)).0;
-    known = λ all none k within.
-        let earlier = first.known all (second.calm none) in
+    sound = λ k fine. first.sound k (second.sound k fine);
+    known = λ k within known fine.
+        let earlier = first.known k within known (second.sound k fine) in
         read_on k first.steps second.steps (bytes_for second.refused second.lost k) (first.taken k) (second.taken k) (view_at k before) (view_at k between) (view_at k after)
-        (earlier.1 k within) (second.known earlier.0 none k (omega (arith, within, first.count)));
+        earlier.1 (second.known k (omega (arith, within, first.count)) earlier.0 fine);
   }
 
   -- steps that bring nothing, and no stream was used
@@ -109,8 +109,8 @@ module _ {C : Type 0} (M : CoreModel C) where
     refused = 0;
     lost = [];
     most = omega arith;
-    calm = λ none. none;
-    known = λ all none k within.
+    sound = λ k fine. fine;
+    known = λ k within known fine.
         subst (λ (lost : List ℕ). IsReadOf k h.steps lost (h.taken k) (view_at k views) (view_at k views)) (none_for 0 k)
         (subst (λ (sent : List ℕ). IsReadOf k h.steps [] sent (view_at k views) (view_at k views)) (sym (h.none k))
         (read_nothing k h.steps (view_at k views) (h.shape k)));
@@ -150,10 +150,10 @@ module _ {C : Type 0} (M : CoreModel C) where
     refused = second.refused;
     lost = second.lost;
     most = second.most;
-    calm = second.calm;
-    known = λ all none k within.
+    sound = second.sound;
+    known = λ k within known fine.
         read_after k first.steps second.steps (bytes_for second.refused second.lost k) (first.taken k) (second.taken k) (view_at k before) (view_at k after)
-        (ends_bring count ended first.steps first.shape k) (first.none k) (second.known all none k within);
+        (ends_bring count ended first.steps first.shape k) (first.none k) (second.known k within known fine);
   }
 
   -- ---- flushes
@@ -178,18 +178,14 @@ module _ {C : Type 0} (M : CoreModel C) where
     refused = k;
     lost = t.lost;
     most = t.most;
-    calm = λ none other. elim (cases_eq other k) [
-      | inl same ↦ subst (λ (j : ℕ). (view_at j views).failed ≡ false) (sym same)
-          (ap (λ (v : StreamView). v.failed) is ∙ t.calm (sym (ap (λ (v : StreamView). v.failed) (here k views after within)) ∙ none k))
-      | inr apart ↦ ap (λ (v : StreamView). v.failed) (sym (there k other views after apart)) ∙ none other
-    ];
-    known = λ all none other inside. elim (cases_eq other k) [
+    sound = sound_all k views view after within is t.calm;
+    known = λ other inside known fine. elim (cases_eq other k) [
       | inl same ↦ subst (λ (j : ℕ). IsReadOf j t.steps (bytes_for k t.lost j) (bytes_for k t.sent j) (view_at j views) (view_at j (set views k after))) (sym same)
           (subst (λ (lost : List ℕ). IsReadOf k t.steps lost (bytes_for k t.sent k) (view_at k views) (view_at k (set views k after))) (sym (bytes_here k t.lost))
           (subst (λ (sent : List ℕ). IsReadOf k t.steps t.lost sent (view_at k views) (view_at k (set views k after))) (sym (bytes_here k t.sent))
           (subst (λ (v : StreamView). IsReadOf k t.steps t.lost t.sent (view_at k views) v) (sym (here k views after within))
           (subst (λ (v : StreamView). IsReadOf k t.steps t.lost t.sent v after) (sym is)
-          (t.known (ap (λ (v : StreamView). v.known) (sym is) ∙ all k) (sym (ap (λ (v : StreamView). v.failed) (here k views after within)) ∙ none k))))))
+          (t.known (known_here k other views view is same known) (fine_here k other views after within same fine))))))
       | inr apart ↦ subst (λ (lost : List ℕ). IsReadOf other t.steps lost (bytes_for k t.sent other) (view_at other views) (view_at other (set views k after))) (sym (bytes_there k other t.lost apart))
           (subst (λ (sent : List ℕ). IsReadOf other t.steps [] sent (view_at other views) (view_at other (set views k after))) (sym (bytes_there k other t.sent apart))
           (subst (λ (v : StreamView). IsReadOf other t.steps [] [] (view_at other views) v) (sym (there k other views after apart))

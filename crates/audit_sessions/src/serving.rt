@@ -26,11 +26,11 @@ pub fn serve<C: SessionCore, S: SessionStream>(
 ) -> ServeEnd<C::Error>
     requires { length streams.old ≤ SESSIONS }
     ensures most { result.turns ≤ MAX_TURNS }
-    // Whatever happens, the core went by steps and `take_output` alone; and where the streams report their bytes, the
-    // steps bring what was read, but for what a refused call lost of its piece, and all that was taken was written.
+    // Whatever happens, the core went by steps and `take_output` alone. Of each stream that reports its bytes and didn't
+    // fail, the steps bring what was read, but for what a refused call lost; and what was taken was written to it.
     ensures reaches { Reached C.model core.old core.new (map S.view streams.old) (map S.view streams.new) }
-    // Without a fault it did whole rounds up to the end of the last session, and a flush; and where the streams report
-    // their bytes, it was fed what was read, and all that the steps said was written.
+    // Without a fault it did, where no stream failed, whole rounds up to the end of the last session, and a flush; and
+    // each stream that reports its bytes and didn't fail was read and written as the steps say.
     ensures served { result.fault ≡ None → Transition C.model core.old core.new
         (map S.view streams.old) (map S.view streams.new)
         (IsServed C.model (length streams.old) result.turns core.old core.new) }
