@@ -1,6 +1,9 @@
 pub mod Sound
+pub mod Replies
 pub mod Runs
 pub mod Fronts
 pub mod Pieces
 pub mod Steps
+pub mod Durably
+pub mod Acknowledged
 pub mod Serving

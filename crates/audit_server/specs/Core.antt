@@ -11,7 +11,7 @@ use Rattle.audit_server.specs.declared.server_core.Core.{Core}
 use Rattle.audit_server.specs.declared.feed_fault.FeedFault.{FeedFault}
 use Rattle.audit_run.specs.Sessions.{SessionData, session_at, sessions_run, arrivals_run, session_run}
 use Rattle.audit_run.specs.Serving.{CoreData}
-use Rattle.audit_server.specs.Running.{AdvancesBy}
+use Rattle.audit_server.specs.Running.{AddsReplies, AdvancesBy}
 use Rattle.audit_server.specs.Feeding.{IsFed}
 use Rattle.audit_server.specs.Ending.{IsEnd}
 
@@ -61,4 +61,5 @@ module _ {D : Type 0} {g : sectors.Ghosts D} where
   pub record HasDone (steps : List StepData) (old new : Core D g) : Type 0 where
     pub sessions : sessions_of new ≡ sessions_run steps (sessions_of old)
     pub sound : IsSound new
+    pub replies : AddsReplies (committer_of old) (committer_of new)
     pub advances : AdvancesBy (appends_among (arrivals_run steps (sessions_of old))) (λ origin. session_run origin steps (sessions_of old)) (committer_of old) (committer_of new)

@@ -8,9 +8,9 @@ use Rattle.audit_sessions.specs.Core.{CoreModel}
 use Rattle.audit_server.specs.declared.server_core.Core.{Core}
 use Rattle.audit_run.specs.Sessions.{SessionData, session_at, sessions_run}
 use Rattle.audit_server.specs.Core.{committer_of, sessions_of, data_of}
-use Rattle.audit_run.specs.Serving.{HasServed, KeepsOn}
+use Rattle.audit_run.specs.Serving.{HasServed, IsDurablyServed}
 use Rattle.audit_run.proofs.Steps.{sessions-append}
-use Rattle.audit_run.proofs.Serving.{served_none, served_more, served_keeps, keeps_then, stays}
+use Rattle.audit_run.proofs.Serving.{served_none, served_more, served_durably, durably_more, stays}
 
 module _ {D : Type 0} {g : sectors.Ghosts D} where
   -- whether a session has ended, once a core has done these steps
@@ -25,7 +25,7 @@ module _ {D : Type 0} {g : sectors.Ghosts D} where
     ended = ended_by;
     output = output_of;
     Did = λ old new. HasServed (data_of old) (data_of new);
-    Reaches = λ old new. KeepsOn (data_of old) (data_of new);
+    Reaches = λ old new. IsDurablyServed (data_of old) (data_of new);
     nothing_done = λ core. served_none (data_of core);
     more_done = λ old mid new steps later taken more first next. served_more (data_of old) (data_of mid) (data_of new) first next;
     ended_by_steps = λ old new steps later taken k did.
@@ -34,6 +34,6 @@ module _ {D : Type 0} {g : sectors.Ghosts D} where
     ended_alone = λ core steps step k not.
         ap (λ (sessions : List SessionData). (session_at k sessions).ended) (sessions-append steps (step ∷ []) (sessions_of core))
         ∙ ap (λ (session : SessionData). session.ended) (stays (sessions_run steps (sessions_of core)) step k not);
-    done_reaches = λ old new steps taken did. served_keeps (data_of old) (data_of new) steps taken did;
-    reaches_on = λ old mid new first next. keeps_then (data_of old) (data_of mid) (data_of new) first next;
+    done_reaches = λ old new steps taken did. served_durably (data_of old) (data_of new) did;
+    reaches_on = λ old mid new steps later taken more first next. durably_more (data_of old) (data_of mid) (data_of new) (served_durably (data_of old) (data_of mid) first) next;
   }

@@ -1,10 +1,12 @@
 -- Steps of a core, done in turn.
-use Rattle.std.specs.Prelude.{◌≡◌, ◌<◌, Err, List, ◌++◌, ◌∷◌, length, map}
+use Rattle.std.specs.Prelude.{◌≡◌, ◌<◌, Bool, true, false, if◌then◌else◌, Result, Ok, Err, List, [], ◌∷◌, ◌++◌, length, map, take, drop}
 use Rattle.audit_device.specs.declared.sectors.Sectors as sectors
 use Rattle.audit_chain.specs.Event.{EventData}
 use Rattle.audit_layout.specs.Origin.{Origin}
 use Rattle.audit_base.specs.declared.limits.TheConstants.{SESSIONS}
 use Rattle.audit_store.specs.Store.{Holds}
+use Rattle.audit_store.specs.declared.store_error.StoreError.{StoreError}
+use Rattle.audit_store.specs.declared.store_error.StoreError.TheVariants.{Broken}
 use Rattle.audit_commit.specs.Committer.{store_of}
 use Rattle.audit_commit.specs.Flush.{IsFlushEnd, IsFlush}
 use Rattle.audit_sessions.specs.Steps.{StepData, a_piece, an_end, a_flush}
@@ -26,6 +28,40 @@ abbrev pub IsOfSession : Step → Type 0
 IsOfSession (Feed session piece) = session < SESSIONS
 IsOfSession (End session) = session < SESSIONS
 IsOfSession Flush = Unit {0}
+
+-- ---- what was done of steps
+
+-- whether it is the refusal of a core that was broken before
+abbrev pub is_of_broken : StoreError → Bool
+is_of_broken Broken = true
+is_of_broken error = false
+
+-- Of a step that was refused: the bytes of its piece that were taken. A core that was broken before does nothing.
+abbrev pub part_done : FeedFault → StepData → List StepData
+part_done fault (a_piece session piece) = if is_of_broken fault.error then [] else a_piece session (take fault.taken piece) ∷ []
+part_done fault (an_end session) = []
+part_done fault a_flush = []
+
+-- of a step: all of it, or that part
+abbrev pub step_done : StepData → Result (Unit {0}) FeedFault → List StepData
+step_done step (Ok done) = step ∷ []
+step_done step (Err fault) = part_done fault step
+
+-- of a step that isn't taken in part
+abbrev pub whole_done : StepData → Result (Unit {0}) StoreError → List StepData
+whole_done step (Ok done) = step ∷ []
+whole_done step (Err error) = []
+
+-- of steps in turn: all of them, or those before the one that was refused, and that part of it
+abbrev pub next_done : FeedFault → List StepData → List StepData
+next_done fault [] = []
+next_done fault (step ∷ later) = part_done fault step
+
+abbrev pub steps_done : List StepData → Result (Unit {0}) DriveFault → List StepData
+steps_done steps (Ok done) = steps
+steps_done steps (Err fault) = take fault.step steps ++ next_done (record { taken = fault.taken; error = fault.error }) (drop fault.step steps)
+
+-- ---- what stands after them
 
 module _ {D : Type 0} {g : sectors.Ghosts D} where
   -- a flush that was refused

@@ -5,3 +5,4 @@ pub mod Ending
 pub mod Core
 pub mod Driving
 pub mod CoreModel
+pub mod Acknowledged

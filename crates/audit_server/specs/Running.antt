@@ -1,9 +1,10 @@
 -- What becomes of a store with its queue and its outputs while requests arrive.
-use Rattle.std.specs.Prelude.{◌≡◌, false, List, [], ◌∷◌}
+use Rattle.std.specs.Prelude.{◌≡◌, true, false, List, [], ◌∷◌}
 use Rattle.audit_device.specs.declared.sectors.Sectors as sectors
 use Rattle.audit_chain.specs.Event.{EventData}
 use Rattle.audit_layout.specs.Origin.{Origin}
-use Rattle.audit_queue.specs.Waiting.{Append}
+use Rattle.audit_queue.specs.Waiting.{Append, nothing_waits}
+use Rattle.audit_queue.specs.Replies.{Sent, all_delivered}
 use Rattle.audit_queue.specs.GroupCommit.{ServerState}
 use Rattle.audit_queue.specs.Arrivals.{Arrival, appends_among, all_entered}
 use Rattle.audit_store.specs.Store.{device, is_broken, Holds}
@@ -11,7 +12,7 @@ use Rattle.audit_store.specs.declared.store_error.StoreError.{StoreError}
 use Rattle.audit_store.specs.declared.store_error.StoreError.TheVariants.{Memory}
 use Rattle.audit_commit.specs.declared.committer.Committer.{Committer}
 use Rattle.audit_commit.specs.Faultless.{IsFaultless}
-use Rattle.audit_commit.specs.Committer.{store_of, state_of}
+use Rattle.audit_commit.specs.Committer.{store_of, waiting_of, outputs_of, state_of}
 use Rattle.audit_commit.specs.Durable.{IsDurable}
 use Rattle.audit_commit.specs.Entering.{HasEntered, IsLeftByFlush}
 
@@ -20,6 +21,16 @@ module _ {D : Type 0} {g : sectors.Ghosts D} where
   abbrev pub HaveEntered : List Arrival → Committer D g → Committer D g → Type 0
   HaveEntered [] old new = new ≡ old
   HaveEntered (arrival ∷ arrivals) old new = (mid : Committer D g) × HasEntered arrival old mid × HaveEntered arrivals mid new
+
+  -- whatever the device: the outputs are those before, and whole replies after them
+  abbrev pub AddsReplies : Committer D g → Committer D g → Type 0
+  AddsReplies old new = (sent : List Sent) × (outputs_of new ≡ all_delivered (outputs_of old) sent)
+
+  -- Whatever the device: a fault of it broke the store in a commit. What waited is dropped, and of the outputs nothing.
+  pub record IsBrokenByDevice (old new : Committer D g) : Type 0 where
+    pub broken : is_broken (store_of new) ≡ true
+    pub dropped : waiting_of new ≡ nothing_waits
+    pub outputs : AddsReplies old new
 
   -- From a store that holds the events, to one that holds those after: acknowledgements are durable, and where the
   -- device counted no failure the state is what this makes of it.

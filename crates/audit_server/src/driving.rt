@@ -1,9 +1,12 @@
 //! Steps done in turn.
 ghost use Rattle.std.specs.Prelude.{◌≡◌, ◌≢◌, [], ◌∷◌, Err, OnOk, IfErr, map};
 ghost use Rattle.std.specs.List.{AllByRecursion};
-ghost use Rattle.audit_store.specs.declared.store_error.StoreError.TheVariants.{Broken};
-ghost use Rattle.audit_server.specs.Core.{is_core_broken, IsSound, IsUntouched, HasDone};
-ghost use Rattle.audit_server.specs.Driving.{step_data, IsOfSession, IsStepRefused, IsDriveStopped};
+ghost use Rattle.audit_store.specs.declared.store_error.StoreError.TheVariants.{Broken, Device};
+ghost use Rattle.audit_sessions.specs.Core.{no_bytes};
+ghost use Rattle.audit_run.specs.Serving.{IsDurablyServed};
+ghost use Rattle.audit_server.specs.Running.{IsBrokenByDevice};
+ghost use Rattle.audit_server.specs.Core.{committer_of, data_of, is_core_broken, IsSound, IsUntouched, HasDone};
+ghost use Rattle.audit_server.specs.Driving.{step_data, step_done, steps_done, IsOfSession, IsStepRefused, IsDriveStopped};
 
 use crate::drive_fault::DriveFault;
 use crate::feed_fault::FeedFault;
@@ -20,6 +23,11 @@ pub fn drive<D: Sectors>(core: &mut Core<D>, steps: &[Step]) -> Result<(), Drive
     // Else all steps were done, or those before one that was refused.
     ensures done { IsSound core.old → OnOk result (HasDone (map step_data steps.now) core.old core.new) }
     ensures stopped { IsSound core.old → IfErr result (λ fault. IsDriveStopped steps.now fault core.old core.new) }
+    // Also where a step was refused acknowledgements are durable.
+    ensures durable { IsDurablyServed (data_of core.old) (data_of core.new)
+        (steps_done (map step_data steps.now) result) no_bytes }
+    ensures device { IfErr result (λ fault. fault.error ≡ Device
+        → IsBrokenByDevice (committer_of core.old) (committer_of core.new)) }
 {
     for number in 0..steps.len() {
         if let Err(fault) = do_step(core, &steps[number]) {
@@ -40,6 +48,10 @@ fn do_step<D: Sectors>(core: &mut Core<D>, step: &Step) -> Result<(), FeedFault>
     ensures done { IsSound core.old → OnOk result (HasDone (step_data step.now ∷ []) core.old core.new) }
     ensures refused { IsSound core.old
         → IfErr result (λ fault. IsStepRefused (step_data step.now) fault core.old core.new) }
+    ensures durable { IsDurablyServed (data_of core.old) (data_of core.new) (step_done (step_data step.now) result)
+        no_bytes }
+    ensures device { IfErr result (λ fault. fault.error ≡ Device
+        → IsBrokenByDevice (committer_of core.old) (committer_of core.new)) }
 {
     let done = match *step {
         Step::Feed { session, piece } => return core.feed(session, piece),

@@ -7,6 +7,7 @@ mod drive_fault;
 mod driving;
 mod entering;
 mod feed_fault;
+pub mod laws;
 mod server_core;
 mod session;
 mod session_core;

@@ -1,5 +1,5 @@
 -- Serving a store by a new core: what was done, and the store that is left.
-use Rattle.std.specs.Prelude.{◌≡◌, ℕ, Option, List, [], ◌∷◌, length, replicate}
+use Rattle.std.specs.Prelude.{◌≡◌, ◌⊎◌, ℕ, Option, List, [], ◌∷◌, length, replicate}
 use Rattle.audit_device.specs.declared.sectors.Sectors as sectors
 use Rattle.audit_store.specs.declared.store.Store.{Store}
 use Rattle.audit_base.specs.declared.limits.TheConstants.{SESSIONS}
@@ -7,12 +7,12 @@ use Rattle.audit_queue.specs.Waiting.{nothing_waits}
 use Rattle.audit_commit.specs.Committer.{store_of, waiting_of, outputs_of}
 use Rattle.audit_sessions.specs.Steps.{StepData}
 use Rattle.audit_sessions.specs.Streams.{StreamView}
-use Rattle.audit_sessions.specs.Transition.{Transition, IsServed}
+use Rattle.audit_sessions.specs.Transition.{Transition, Reached, IsServed}
 use Rattle.audit_run.specs.Sessions.{new_session}
 use Rattle.audit_server.specs.declared.server_core.Core.{Core}
 use Rattle.audit_server.specs.Core.{committer_of, sessions_of}
 use Rattle.audit_server.specs.CoreModel.{core_model}
-use Rattle.audit_socket.specs.Looping.{LoopTransition}
+use Rattle.audit_socket.specs.Looping.{BringsLines, LoopTransition, LoopReached}
 
 module _ {D : Type 0} {g : sectors.Ghosts D} where
   -- a core over the store, with nothing that waits and every session at the front of its stream
@@ -45,3 +45,30 @@ module _ {D : Type 0} {g : sectors.Ghosts D} where
   abbrev pub ServesRounds : ℕ → List ℕ → Store D g → Store D g → Type 0
   ServesRounds sessions [] old new = new ≡ old
   ServesRounds sessions (turns ∷ later) old new = (mid : Store D g) × ServesRound sessions turns old mid × ServesRounds sessions later mid new
+
+  -- ---- whatever stopped it
+
+  -- a session over lines, of which the reader held these, went by some steps
+  pub record LoopReachesOver (old new : Store D g) (known : Option (List ℕ)) : Type 0 where
+    pub core : Core D g
+    pub made : IsNewCore old core
+    pub last : Core D g
+    pub left : new ≡ store_of (committer_of last)
+    pub run : LoopReached core_model core last (BringsLines known)
+
+  -- a round of so many sessions, of whose streams nothing is known, went by some steps
+  pub record ReachesByRound (sessions : ℕ) (old new : Store D g) : Type 0 where
+    pub core : Core D g
+    pub made : IsNewCore old core
+    pub last : Core D g
+    pub left : new ≡ store_of (committer_of last)
+    pub streams : List StreamView
+    pub later : List StreamView
+    pub each : length streams ≡ sessions
+    pub run : Reached core_model core last streams later
+
+  -- rounds in turn, and then a part of one, or nothing
+  pub record ReachesByRounds (sessions : ℕ) (turns : List ℕ) (old new : Store D g) : Type 0 where
+    pub mid : Store D g
+    pub served : ServesRounds sessions turns old mid
+    pub last : (new ≡ mid) ⊎ ReachesByRound sessions mid new

@@ -1,10 +1,10 @@
 //! A session over lines, by a core over a store.
-ghost use Rattle.std.specs.Prelude.{◌≡◌, ◌+◌, List, ℕ, length, IfSome, OnOk, Err};
+ghost use Rattle.std.specs.Prelude.{◌≡◌, ◌⊎◌, ◌+◌, List, ℕ, length, IfSome, OnOk, Err};
 ghost use Rattle.audit_run.specs.Serving.{StoreKeepsOn};
 ghost use Rattle.audit_socket.specs.Input.{Spells, SpellsUpToBad};
 ghost use Rattle.audit_socket.specs.Looping.{AreLineTurns, IsWholeLoop};
 ghost use Rattle.audit_serving.specs.declared.fault.ServingFault.TheVariants.{BadFrameLine};
-ghost use Rattle.audit_serving.specs.Served.{LoopsOver};
+ghost use Rattle.audit_serving.specs.Served.{LoopsOver, LoopReachesOver};
 
 use crate::fault::{ServingFault, fault_of_loop, no_core};
 use audit_device::Sectors;
@@ -31,6 +31,8 @@ where
     W: Write,
     // Whatever happens, a stop at any moment leaves the events that the store held, and so does the end.
     ensures kept { StoreKeepsOn store result.0 }
+    // A new core over the store, where one was made, went by steps that bring the first of what the first lines spell.
+    ensures reached { (result.0 ≡ store) ⊎ LoopReachesOver store result.0 (R.remaining reader.old) }
     // Without a fault each line was fed to a new core over the store and flushed in turn, then the session was ended;
     // and the replies were written. Where the reader's bytes are known, these are what all their lines spell.
     ensures done { OnOk result.1 ((lines : List (List ℕ))

@@ -1,10 +1,10 @@
 //! Rounds of serving, each by a new core over the same store.
-ghost use Rattle.std.specs.Prelude.{◌≡◌, ◌≤◌, List, ℕ, length, map, IfOk, OnOk};
+ghost use Rattle.std.specs.Prelude.{◌≡◌, ◌⊎◌, ◌≤◌, List, ℕ, length, map, IfOk, OnOk, OnErr};
 ghost use Rattle.std.specs.Io.KnownBytes.{Appends};
 ghost use Rattle.audit_base.specs.declared.limits.TheConstants.{SESSIONS};
 ghost use Rattle.audit_run.specs.Serving.{StoreKeepsOn};
 ghost use Rattle.audit_serving.specs.Rounds.{round_lines};
-ghost use Rattle.audit_serving.specs.Served.{ServesRound, ServesRounds};
+ghost use Rattle.audit_serving.specs.Served.{ServesRound, ServesRounds, ReachesByRound, ReachesByRounds};
 
 use crate::fault::{ServingFault, fault_of_serving, no_core};
 use audit_device::Sectors;
@@ -34,6 +34,8 @@ pub fn serve_rounds<D: Sectors + Drop, W: Write>(
     ensures served { OnOk result.1 ((turns : List ℕ) × (length turns ≡ rounds)
         × ServesRounds sessions turns store result.0
         × Appends (W.contents writer.old) (W.contents writer.new) (round_lines 1 turns)) }
+    // With one some rounds were served, and of one more some steps were done.
+    ensures stopped { OnErr result.1 ((turns : List ℕ) × ReachesByRounds sessions turns store result.0) }
 {
     let mut store = store;
     for round in 0..rounds {
@@ -60,6 +62,7 @@ fn serve_round<D: Sectors + Drop>(
     requires { sessions ≤ SESSIONS }
     ensures kept { StoreKeepsOn store result.0 }
     ensures served { IfOk result.1 (λ turns. ServesRound sessions turns store result.0) }
+    ensures reached { (result.0 ≡ store) ⊎ ReachesByRound sessions store result.0 }
 {
     let mut streams = match socket.accept_streams(alloc, sessions) {
         Ok(streams) => streams,

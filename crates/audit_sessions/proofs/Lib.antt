@@ -2,3 +2,4 @@ pub mod StreamSteps
 pub mod Transitions
 pub mod Turns
 pub mod Runs
+pub mod Reaching

@@ -4,7 +4,7 @@ use Rattle.std.proofs.lemmas.Bool.{cases_eq, cases_lt}
 use Rattle.std.proofs.lemmas.List.{append-nil, map-append}
 use Rattle.audit_sessions.specs.declared.limits.TheConstants.{MAX_TURNS}
 use Rattle.audit_sessions.specs.Steps.{StepData, a_piece, an_end, a_flush, IsAbout}
-use Rattle.audit_sessions.specs.Streams.{StreamView, view_at}
+use Rattle.audit_sessions.specs.Streams.{StreamView, view_at, NoneFailed}
 use Rattle.audit_sessions.specs.Core.{CoreModel, no_bytes}
 use Rattle.audit_sessions.specs.Rounds.{live_below, IsTurnOf, AreTurnsOf, IsRound, AreRounds}
 use Rattle.audit_sessions.specs.Transition.{Transition, SessionTransition, CoreTransition, EndsAs, IsOneTurn, AreElsewhere, AreTurnsBelow, AreEndsBelow, IsTaken, AreTaken, IsFlushed, IsServed, IsCut}
@@ -108,8 +108,9 @@ module _ {C : Type 0} (M : CoreModel C) where
     did = first.did;
     others = first.others;
     calm = λ none.
-        let h = first.calm none in
-        (h.0, below_skipped k (M.ended old []) first.steps (sym (ended_still old mid first.steps first.taken k first.did (h.1.below k (omega arith))) ∙ over) h.1);
+        let turns = first.calm none in
+        below_skipped k (M.ended old []) first.steps (sym (ended_still old mid first.steps first.taken k first.did (turns.below k (omega arith))) ∙ over) turns;
+    sound = first.sound;
     known = first.known;
   }
 
@@ -161,15 +162,16 @@ module _ {C : Type 0} (M : CoreModel C) where
 
   -- ---- a flush, a round
 
-  flushed : (old new : C) (views : List StreamView) → M.Did old new (a_flush ∷ []) no_bytes → Transition M old new views views (λ steps. steps ≡ a_flush ∷ [])
+  pub flushed : (old new : C) (views : List StreamView) → M.Did old new (a_flush ∷ []) no_bytes → Transition M old new views views (λ steps. steps ≡ a_flush ∷ [])
   flushed old new views did = record {
     count = refl;
     steps = a_flush ∷ [];
     taken = no_bytes;
     did = did;
     others = λ k above. refl;
-    calm = λ none. (none, refl);
-    known = λ all none. (all, λ k within. streamed_elsewhere k (a_flush ∷ []) (view_at k views) ((λ about. about), tt));
+    calm = λ none. refl;
+    sound = λ k fine. fine;
+    known = λ k within known fine. (known, streamed_elsewhere k (a_flush ∷ []) (view_at k views) ((λ about. about), tt));
   }
 
   pub flush_then : (count : ℕ) (old mid new : C) (before after : List StreamView) → M.Did old mid (a_flush ∷ []) no_bytes → Transition M mid new before after (AreTaken M count new)
@@ -229,18 +231,18 @@ module _ {C : Type 0} (M : CoreModel C) where
         others = λ k above. none_of_both (first.taken k) (ends.taken k ++ second.taken k) (first.others k above)
             (none_of_both (ends.taken k) (second.taken k) (ends.none k) (second.others k (omega (arith, above, first.count))));
         calm = λ none.
-            let last = second.calm none in
-            let earlier = first.calm last.0 in (
-              earlier.0,
+            let before_it : NoneFailed between = λ k. second.sound k (none k) in
+            let last = second.calm none in (
+              (λ k. first.sound k (before_it k)),
               record {
                 run = record {
                   rounds = first.steps;
                   are = ap (λ (more : List StepData). first.steps ++ (more ++ second.steps)) (ends.shape.each ∙ ap (map an_end) same)
-                      ∙ ap (λ (more : List StepData). first.steps ++ (map an_end (live_below count (M.ended old first.steps)) ++ more)) last.1.one;
-                  each = earlier.1;
+                      ∙ ap (λ (more : List StepData). first.steps ++ (map an_end (live_below count (M.ended old first.steps)) ++ more)) last.one;
+                  each = first.calm before_it;
                   live = λ none. some (same ∙ none);
                 };
-                empty = last.1.empty;
+                empty = last.empty;
               },
             );
       }

@@ -3,7 +3,7 @@ use Rattle.std.proofs.Common.{◌≡◌, ℕ, ◌<◌, true, false, eqb, List, [
 use Rattle.std.proofs.lemmas.Bool.{cases_eq, ne_eqb, eq-eqb, cond-true, cond-false}
 use Rattle.std.proofs.lemmas.List.{append-nil, append_assoc, length-set, map-set, get_or-map, get_or-set_same, get_or-set_other}
 use Rattle.audit_sessions.specs.Steps.{StepData}
-use Rattle.audit_sessions.specs.Streams.{StreamView, no_stream, view_at, NoneFailed, AllKnown, IsStreamed}
+use Rattle.audit_sessions.specs.Streams.{StreamView, no_stream, view_at, IsStreamed}
 use Rattle.audit_sessions.specs.Core.{CoreModel, no_bytes, bytes_for}
 use Rattle.audit_sessions.specs.Transition.{Transition, SessionTransition, AreElsewhere}
 use Rattle.audit_sessions.proofs.StreamSteps.{about_elsewhere, streamed_elsewhere, streamed_on}
@@ -13,17 +13,32 @@ none_of_both bytes more none also = ap (λ (front : List ℕ). front ++ more) no
 
 -- ---- one session and its stream
 
-bytes_here : (k : ℕ) (sent : List ℕ) → bytes_for k sent k ≡ sent
+pub bytes_here : (k : ℕ) (sent : List ℕ) → bytes_for k sent k ≡ sent
 bytes_here k sent = cond-true (eqb k k) sent [] (eq-eqb k k refl)
 
-bytes_there : (k other : ℕ) (sent : List ℕ) → (other ≡ k → ⊥) → bytes_for k sent other ≡ []
+pub bytes_there : (k other : ℕ) (sent : List ℕ) → (other ≡ k → ⊥) → bytes_for k sent other ≡ []
 bytes_there k other sent apart = cond-false (eqb other k) sent [] (ne_eqb other k apart)
 
-here : (k : ℕ) (views : List StreamView) (view : StreamView) → k < length views → view_at k (set views k view) ≡ view
+pub here : (k : ℕ) (views : List StreamView) (view : StreamView) → k < length views → view_at k (set views k view) ≡ view
 here k views view within = get_or-set_same views k view no_stream within
 
-there : (k other : ℕ) (views : List StreamView) (view : StreamView) → (other ≡ k → ⊥) → view_at other (set views k view) ≡ view_at other views
+pub there : (k other : ℕ) (views : List StreamView) (view : StreamView) → (other ≡ k → ⊥) → view_at other (set views k view) ≡ view_at other views
 there k other views view apart = get_or-set_other views k other view no_stream apart
+
+-- the stream of the session itself was known, and has not failed
+pub known_here : (k other : ℕ) (views : List StreamView) (view : StreamView) → view_at k views ≡ view → other ≡ k → (view_at other views).known ≡ true → view.known ≡ true
+known_here k other views view is same known = ap (λ (v : StreamView). v.known) (sym is ∙ ap (λ (j : ℕ). view_at j views) (sym same)) ∙ known
+
+pub fine_here : (k other : ℕ) (views : List StreamView) (after : StreamView) → k < length views → other ≡ k → (view_at other (set views k after)).failed ≡ false → after.failed ≡ false
+fine_here k other views after within same fine = ap (λ (v : StreamView). v.failed) (sym (here k views after within) ∙ ap (λ (j : ℕ). view_at j (set views k after)) (sym same)) ∙ fine
+
+-- where that stream hadn't failed before, none of those that have not failed now had
+pub sound_all : (k : ℕ) (views : List StreamView) (view after : StreamView) → k < length views → view_at k views ≡ view → (after.failed ≡ false → view.failed ≡ false) → (other : ℕ)
+    → (view_at other (set views k after)).failed ≡ false → (view_at other views).failed ≡ false
+sound_all k views view after within is sound other fine = elim (cases_eq other k) [
+  | inl same ↦ ap (λ (v : StreamView). v.failed) (ap (λ (j : ℕ). view_at j views) same ∙ is) ∙ sound (fine_here k other views after within same fine)
+  | inr apart ↦ ap (λ (v : StreamView). v.failed) (sym (there k other views after apart)) ∙ fine
+]
 
 module _ {C : Type 0} {M : CoreModel C} where
   -- no step, and the same streams
@@ -34,8 +49,9 @@ module _ {C : Type 0} {M : CoreModel C} where
     taken = no_bytes;
     did = M.nothing_done core;
     others = λ k above. refl;
-    calm = λ none. (none, shape);
-    known = λ all none. (all, λ k within. streamed_elsewhere k [] (view_at k views) tt);
+    calm = λ none. shape;
+    sound = λ k fine. fine;
+    known = λ k within known fine. (known, streamed_elsewhere k [] (view_at k views) tt);
   }
 
   pub goes_on : {old mid new : C} {before between after : List StreamView} {First Second Both : List StepData → Type 0} → (first : Transition M old mid before between First)
@@ -46,17 +62,12 @@ module _ {C : Type 0} {M : CoreModel C} where
     taken = λ session. first.taken session ++ second.taken session;
     did = M.more_done old mid new first.steps second.steps first.taken second.taken first.did second.did;
     others = λ k above. none_of_both (first.taken k) (second.taken k) (first.others k above) (second.others k (omega (arith, above, first.count)));
-    calm = λ none.
-        let later = second.calm none in
-        let earlier = first.calm later.0 in
-        (earlier.0, both earlier.1 later.1);
-    known = λ all none.
-        let earlier = first.known all (second.calm none).0 in
-        let later = second.known earlier.0 none in (
-          later.0,
-          λ k within. streamed_on k first.steps second.steps (first.taken k) (second.taken k) (view_at k before) (view_at k between) (view_at k after)
-              (earlier.1 k within) (later.1 k (omega (arith, within, first.count))),
-        );
+    calm = λ none. both (first.calm (λ k. second.sound k (none k))) (second.calm none);
+    sound = λ k fine. first.sound k (second.sound k fine);
+    known = λ k within known fine.
+        let earlier = first.known k within known (second.sound k fine) in
+        let later = second.known k (omega (arith, within, first.count)) earlier.0 fine in
+        (later.0, streamed_on k first.steps second.steps (first.taken k) (second.taken k) (view_at k before) (view_at k between) (view_at k after) earlier.1 later.1);
   }
 
   -- ---- one session
@@ -64,37 +75,31 @@ module _ {C : Type 0} {M : CoreModel C} where
   -- what a session and its stream did is what all of them did
   pub session_goes : (k : ℕ) {old new : C} (views : List StreamView) (view after : StreamView) {Shape : List StepData → Type 0} → k < length views → view_at k views ≡ view
       → SessionTransition M k old new view after Shape → Transition M old new views (set views k after) Shape
-  session_goes k {old} {new} views view after {Shape} within is t =
-      let calm_here : NoneFailed (set views k after) → (view.failed ≡ false) × Shape t.steps = λ none. t.calm (sym (ap (λ (v : StreamView). v.failed) (here k views after within)) ∙ none k) in
-      let none_before : NoneFailed (set views k after) → NoneFailed views = λ none other. elim (cases_eq other k) [
-        | inl same ↦ subst (λ (j : ℕ). (view_at j views).failed ≡ false) (sym same) (ap (λ (v : StreamView). v.failed) is ∙ (calm_here none).0)
-        | inr apart ↦ ap (λ (v : StreamView). v.failed) (sym (there k other views after apart)) ∙ none other
-      ] in
-      let known_here : AllKnown views → NoneFailed (set views k after) → (after.known ≡ true) × IsStreamed k t.steps t.sent view after =
-      λ all none. t.known (ap (λ (v : StreamView). v.known) (sym is) ∙ all k) (sym (ap (λ (v : StreamView). v.failed) (here k views after within)) ∙ none k) in
-      record {
-        count = length-set views k after;
-        steps = t.steps;
-        taken = bytes_for k t.sent;
-        did = t.did;
-        others = λ other above. bytes_there k other t.sent (λ same. omega arith);
-        calm = λ none. (none_before none, (calm_here none).1);
-        known = λ all none. (
-          λ other. elim (cases_eq other k) [
-            | inl same ↦ subst (λ (j : ℕ). (view_at j (set views k after)).known ≡ true) (sym same) (ap (λ (v : StreamView). v.known) (here k views after within) ∙ (known_here all none).0)
-            | inr apart ↦ ap (λ (v : StreamView). v.known) (there k other views after apart) ∙ all other
-          ],
-          λ other inside. elim (cases_eq other k) [
-            | inl same ↦ subst (λ (j : ℕ). IsStreamed j t.steps (bytes_for k t.sent j) (view_at j views) (view_at j (set views k after))) (sym same)
-                (subst (λ (sent : List ℕ). IsStreamed k t.steps sent (view_at k views) (view_at k (set views k after))) (sym (bytes_here k t.sent))
+  session_goes k {old} {new} views view after {Shape} within is t = record {
+    count = length-set views k after;
+    steps = t.steps;
+    taken = bytes_for k t.sent;
+    did = t.did;
+    others = λ other above. bytes_there k other t.sent (λ same. omega arith);
+    calm = λ none. (t.calm (fine_here k k views after within refl (none k))).1;
+    sound = sound_all k views view after within is (λ fine. (t.calm fine).0);
+    known = λ other inside known fine. elim (cases_eq other k) [
+      | inl same ↦
+          let h = t.known (known_here k other views view is same known) (fine_here k other views after within same fine) in
+          subst (λ (j : ℕ). ((view_at j (set views k after)).known ≡ true) × IsStreamed j t.steps (bytes_for k t.sent j) (view_at j views) (view_at j (set views k after))) (sym same) (
+            ap (λ (v : StreamView). v.known) (here k views after within) ∙ h.0,
+            subst (λ (sent : List ℕ). IsStreamed k t.steps sent (view_at k views) (view_at k (set views k after))) (sym (bytes_here k t.sent))
                 (subst (λ (v : StreamView). IsStreamed k t.steps t.sent (view_at k views) v) (sym (here k views after within))
-                (subst (λ (v : StreamView). IsStreamed k t.steps t.sent v after) (sym is) (known_here all none).1)))
-            | inr apart ↦ subst (λ (sent : List ℕ). IsStreamed other t.steps sent (view_at other views) (view_at other (set views k after))) (sym (bytes_there k other t.sent apart))
-                (subst (λ (v : StreamView). IsStreamed other t.steps [] (view_at other views) v) (sym (there k other views after apart))
-                (streamed_elsewhere other t.steps (view_at other views) (about_elsewhere k other t.steps apart t.about)))
-          ],
-        );
-      }
+                (subst (λ (v : StreamView). IsStreamed k t.steps t.sent v after) (sym is) h.1)),
+          )
+      | inr apart ↦ (
+        ap (λ (v : StreamView). v.known) (there k other views after apart) ∙ known,
+        subst (λ (sent : List ℕ). IsStreamed other t.steps sent (view_at other views) (view_at other (set views k after))) (sym (bytes_there k other t.sent apart))
+            (subst (λ (v : StreamView). IsStreamed other t.steps [] (view_at other views) v) (sym (there k other views after apart))
+            (streamed_elsewhere other t.steps (view_at other views) (about_elsewhere k other t.steps apart t.about))),
+      )
+    ];
+  }
 
 -- the stream of a session among the others
 pub view_in : {S : Type 0} (view : S → StreamView) (streams : List S) (k : ℕ) (stream : S) → k < length streams → view_at k (map view streams) ≡ view (get_or streams k stream)

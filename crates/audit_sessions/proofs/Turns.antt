@@ -15,7 +15,7 @@ on_ok (Err error) f p = tt
 
 -- ---- no bytes of a session are no bytes, and bytes before none are the bytes
 
-none_for : (k session : ℕ) → [] ≡ bytes_for k [] session
+pub none_for : (k session : ℕ) → [] ≡ bytes_for k [] session
 none_for k session = elim (cases_Bool (eqb session k)) [
   | inl e ↦ sym (cond-true (eqb session k) [] [] e)
   | inr e ↦ sym (cond-false (eqb session k) [] [] e)
@@ -24,7 +24,7 @@ none_for k session = elim (cases_Bool (eqb session k)) [
 pub no_bytes_for : (k : ℕ) → no_bytes ≡ bytes_for k []
 no_bytes_for k = λ i session. none_for k session i
 
-bytes_then_none : (k : ℕ) (bytes : List ℕ) → (λ (session : ℕ). bytes_for k bytes session ++ no_bytes session) ≡ bytes_for k bytes
+pub bytes_then_none : (k : ℕ) (bytes : List ℕ) → (λ (session : ℕ). bytes_for k bytes session ++ no_bytes session) ≡ bytes_for k bytes
 bytes_then_none k bytes = λ i session. append-nil (bytes_for k bytes session) i
 
 -- ---- reads

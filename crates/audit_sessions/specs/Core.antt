@@ -1,6 +1,6 @@
 -- How contracts see a core that serves sessions.
 use Rattle.std.specs.Prelude.{◌≡◌, ℕ, ◌==◌, Bool, if◌then◌else◌, List, [], ◌∷◌, ◌++◌}
-use Rattle.audit_sessions.specs.Steps.{StepData, IsAbout}
+use Rattle.audit_sessions.specs.Steps.{StepData, IsAbout, IsPartOf}
 
 -- the bytes of each session: none, or those of one session
 abbrev pub no_bytes : ℕ → List ℕ
@@ -16,13 +16,20 @@ pub record CoreModel (C : Type 0) : Type 1 where
   pub output : C → ℕ → List ℕ
   -- a core came from one state to another by these steps, and these bytes were taken of the outputs of the sessions
   pub Did : C → C → List StepData → (ℕ → List ℕ) → Type 0
-  -- a core came from one state to another by calls of which some may have been refused
-  pub Reaches : C → C → Type 0
+  -- a core came from one state to another by these steps, of which the last may be a part of one that was refused, and
+  -- these bytes were taken of the outputs of the sessions
+  pub Reaches : C → C → List StepData → (ℕ → List ℕ) → Type 0
   pub nothing_done : (core : C) → Did core core [] no_bytes
   pub more_done : (old mid new : C) (steps later : List StepData) (taken more : ℕ → List ℕ) → Did old mid steps taken → Did mid new later more
       → Did old new (steps ++ later) (λ session. taken session ++ more session)
   -- whether a session has ended depends on the steps alone, and on those of that session alone
   pub ended_by_steps : (old new : C) (steps later : List StepData) (taken : ℕ → List ℕ) (k : ℕ) → Did old new steps taken → ended new later k ≡ ended old (steps ++ later) k
   pub ended_alone : (core : C) (steps : List StepData) (step : StepData) (k : ℕ) → (IsAbout k step → ⊥) → ended core (steps ++ step ∷ []) k ≡ ended core steps k
-  pub done_reaches : (old new : C) (steps : List StepData) (taken : ℕ → List ℕ) → Did old new steps taken → Reaches old new
-  pub reaches_on : (old mid new : C) → Reaches old mid → Reaches mid new → Reaches old new
+  pub done_reaches : (old new : C) (steps : List StepData) (taken : ℕ → List ℕ) → Did old new steps taken → Reaches old new steps taken
+  -- after a refusal nothing more is done
+  pub reaches_on : (old mid new : C) (steps later : List StepData) (taken more : ℕ → List ℕ) → Did old mid steps taken → Reaches mid new later more
+      → Reaches old new (steps ++ later) (λ session. taken session ++ more session)
+
+-- by a call that asks for this step, and may be refused, the core went as far as a part of it
+abbrev pub GoesBy : {C : Type 0} → CoreModel C → StepData → C → C → Type 0
+GoesBy M step old new = (part : List StepData) × IsPartOf step part × M.Reaches old new part no_bytes

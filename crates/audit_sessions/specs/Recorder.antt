@@ -1,5 +1,5 @@
 -- For the tests: a core whose sessions end by `end` alone.
-use Rattle.std.specs.Prelude.{◌≡◌, ℕ, Bool, true, false, ◌||◌, ◌==◌, List, [], ◌∷◌, ◌++◌, slice_index_or}
+use Rattle.std.specs.Prelude.{◌≡◌, ℕ, Bool, true, false, ◌||◌, List, [], ◌∷◌, ◌++◌, slice_index_or}
 use Rattle.std.proofs.Common.{refl, sym, ap, ◌∙◌}
 use Rattle.std.proofs.lemmas.Bool.{ne_eqb}
 use Rattle.audit_sessions.specs.Steps.{StepData, a_piece, an_end, a_flush, IsAbout, is_end, has_end}
@@ -46,7 +46,7 @@ recorder_model = record {
   ended = λ core steps k. has_ended core k || has_end k steps;
   output = output_of;
   Did = λ old new steps taken. EndedBy old new steps;
-  Reaches = λ old new. Unit {0};
+  Reaches = λ old new steps taken. Unit {0};
   nothing_done = λ core k. or_none (has_ended core k);
   more_done = λ old mid new steps later taken more first second k. second k ∙ ap (λ (had : Bool). had || has_end k later) (first k) ∙ ended_then (has_ended old k) k steps later;
   ended_by_steps = λ old new steps later taken k did. ap (λ (had : Bool). had || has_end k later) (did k) ∙ ended_then (has_ended old k) k steps later;
@@ -54,5 +54,5 @@ recorder_model = record {
       sym (ended_then (has_ended core k) k steps (step ∷ [])) ∙ ap (λ (last : Bool). (has_ended core k || has_end k steps) || (last || false)) (no_end k step other)
       ∙ sym (or_none (has_ended core k || has_end k steps));
   done_reaches = λ old new steps taken did. tt;
-  reaches_on = λ old mid new first second. tt;
+  reaches_on = λ old mid new steps later taken more first second. tt;
 }

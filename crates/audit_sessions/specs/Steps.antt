@@ -1,5 +1,5 @@
 -- The steps of a core that serves sessions, and what they bring of the stream of one session.
-use Rattle.std.specs.Prelude.{◌≡◌, ℕ, Bool, false, ◌||◌, ◌==◌, if◌then◌else◌, List, [], ◌∷◌, ◌++◌}
+use Rattle.std.specs.Prelude.{◌≡◌, ◌⊎◌, ℕ, Bool, false, ◌||◌, ◌==◌, if◌then◌else◌, List, [], ◌∷◌, ◌++◌}
 
 pub data StepData : Type 0 where
   -- the next bytes of a session
@@ -18,6 +18,12 @@ IsAbout k a_flush = ⊥
 abbrev pub AreAbout : ℕ → List StepData → Type 0
 AreAbout k [] = Unit {0}
 AreAbout k (step ∷ steps) = IsAbout k step × AreAbout k steps
+
+-- what is taken of a step that may be refused: all of it, of a piece its first bytes, or nothing
+abbrev pub IsPartOf : StepData → List StepData → Type 0
+IsPartOf (a_piece k piece) part = (part ≡ []) ⊎ ((front : List ℕ) × (rest : List ℕ) × (piece ≡ front ++ rest) × (part ≡ a_piece k front ∷ []))
+IsPartOf (an_end k) part = (part ≡ []) ⊎ (part ≡ an_end k ∷ [])
+IsPartOf a_flush part = (part ≡ []) ⊎ (part ≡ a_flush ∷ [])
 
 -- the bytes of a session that a step brings, and that steps bring in turn
 abbrev pub bytes_in : ℕ → StepData → List ℕ

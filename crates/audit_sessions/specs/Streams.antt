@@ -1,5 +1,5 @@
 -- What is known of the stream of a session, and what the calls of a stream do.
-use Rattle.std.specs.Prelude.{◌≡◌, ℕ, ◌<◌, ◌≤◌, Bool, true, false, List, [], ◌++◌, length, take, slice_index_or, Result, IsOk, IfOk, OnOk}
+use Rattle.std.specs.Prelude.{◌≡◌, ℕ, ◌≤◌, Bool, true, false, List, [], ◌++◌, length, take, slice_index_or, Result, IsOk, IfOk, OnOk}
 use Rattle.audit_sessions.specs.declared.stream_fault.StreamFault.{StreamFault}
 use Rattle.audit_sessions.specs.Steps.{StepData, bytes_of, has_end}
 
@@ -49,9 +49,6 @@ view_at k views = slice_index_or views k no_stream
 abbrev pub NoneFailed : List StreamView → Type 0
 NoneFailed views = (k : ℕ) → (view_at k views).failed ≡ false
 
-abbrev pub AllKnown : List StreamView → Type 0
-AllKnown views = (k : ℕ) → (view_at k views).known ≡ true
-
 -- ---- streams and steps
 
 -- Of the stream of a session the steps brought what was read, all of it where they have its end; and these bytes were
@@ -60,6 +57,3 @@ pub record IsStreamed (k : ℕ) (steps : List StepData) (sent : List ℕ) (befor
   pub read : before.unread ≡ bytes_of k steps ++ after.unread
   pub at_end : has_end k steps ≡ true → after.unread ≡ []
   pub written : after.written ≡ before.written ++ sent
-
-abbrev pub AreStreamed : List StepData → (ℕ → List ℕ) → List StreamView → List StreamView → Type 0
-AreStreamed steps sent before after = (k : ℕ) → k < length before → IsStreamed k steps (sent k) (view_at k before) (view_at k after)

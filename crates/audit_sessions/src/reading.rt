@@ -1,7 +1,7 @@
 ghost use Rattle.std.specs.Prelude.{◌≡◌, ◌<◌, ◌≤◌, [], length, map, OnOk};
 ghost use Rattle.audit_base.specs.declared.limits.TheConstants.{SESSIONS};
 ghost use Rattle.audit_sessions.specs.declared.limits.TheConstants.{MAX_PIECE};
-ghost use Rattle.audit_sessions.specs.Transition.{Transition, SessionTransition, IsOneTurn, AreTurnsBelow};
+ghost use Rattle.audit_sessions.specs.Transition.{Transition, SessionTransition, Reached, SessionReached, IsOneTurn, AreTurnsBelow};
 
 use crate::session_core::SessionCore;
 use crate::session_stream::SessionStream;
@@ -16,7 +16,7 @@ fn read_turn<C: SessionCore, S: SessionStream>(
     requires session { session < SESSIONS }
     requires room { 0 < length buffer.old }
     requires most { length buffer.old ≤ MAX_PIECE }
-    ensures reaches { C.model.Reaches core.old core.new }
+    ensures reaches { SessionReached C.model session core.old core.new (S.view stream.old) (S.view stream.new) }
     ensures done { OnOk result (SessionTransition C.model session core.old core.new
         (S.view stream.old) (S.view stream.new) (IsOneTurn session)) }
 {
@@ -35,7 +35,7 @@ pub fn read_turns<C: SessionCore, S: SessionStream>(
     requires count { length streams.old ≤ SESSIONS }
     requires room { 0 < length buffer.old }
     requires most { length buffer.old ≤ MAX_PIECE }
-    ensures reaches { C.model.Reaches core.old core.new }
+    ensures reaches { Reached C.model core.old core.new (map S.view streams.old) (map S.view streams.new) }
     ensures done { OnOk result (Transition C.model core.old core.new (map S.view streams.old) (map S.view streams.new)
         (AreTurnsBelow (length streams.old) (C.model.ended core.old []))) }
 {

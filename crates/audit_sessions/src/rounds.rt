@@ -2,7 +2,7 @@ ghost use Rattle.std.specs.Prelude.{◌≡◌, ◌≢◌, ◌<◌, ◌≤◌, �
 ghost use Rattle.audit_base.specs.declared.limits.TheConstants.{SESSIONS};
 ghost use Rattle.audit_sessions.specs.declared.limits.TheConstants.{MAX_PIECE, MAX_TURNS};
 ghost use Rattle.audit_sessions.specs.Rounds.{live_below, IsRound, AreRounds};
-ghost use Rattle.audit_sessions.specs.Transition.{Transition, CoreTransition, AreEndsBelow};
+ghost use Rattle.audit_sessions.specs.Transition.{Transition, CoreTransition, Reached, CoreReached, BringNothing, AreEndsBelow};
 
 use crate::limits::MAX_TURNS;
 use crate::reading::read_turns;
@@ -27,7 +27,7 @@ pub fn has_live<C: SessionCore>(core: &C, count: usize) -> bool
 /// Ends each live session below a number.
 pub fn end_live<C: SessionCore>(core: &mut C, count: usize) -> Result<(), C::Error>
     requires { count ≤ SESSIONS }
-    ensures reaches { C.model.Reaches core.old core.new }
+    ensures reaches { CoreReached C.model core.old core.new BringNothing }
     ensures done { OnOk result (CoreTransition C.model core.old core.new
         (AreEndsBelow count (C.model.ended core.old []))) }
 {
@@ -48,7 +48,7 @@ fn serve_round<C: SessionCore, S: SessionStream>(
     requires count { length streams.old ≤ SESSIONS }
     requires room { 0 < length buffer.old }
     requires most { length buffer.old ≤ MAX_PIECE }
-    ensures reaches { C.model.Reaches core.old core.new }
+    ensures reaches { Reached C.model core.old core.new (map S.view streams.old) (map S.view streams.new) }
     ensures done { OnOk result (Transition C.model core.old core.new (map S.view streams.old) (map S.view streams.new)
         (IsRound (length streams.old) (C.model.ended core.old []))) }
 {
@@ -67,7 +67,7 @@ pub fn serve_rounds<C: SessionCore, S: SessionStream>(
     requires room { 0 < length buffer.old }
     requires most { length buffer.old ≤ MAX_PIECE }
     ensures most { turns.new ≤ MAX_TURNS }
-    ensures reaches { C.model.Reaches core.old core.new }
+    ensures reaches { Reached C.model core.old core.new (map S.view streams.old) (map S.view streams.new) }
     ensures done { OnOk result (Transition C.model core.old core.new (map S.view streams.old) (map S.view streams.new)
         (AreRounds (length streams.old) (C.model.ended core.old) turns.new)) }
     // Only where there were as many rounds as may be are sessions left live.

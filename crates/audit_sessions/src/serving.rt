@@ -2,7 +2,7 @@ ghost use Rattle.std.specs.Prelude.{◌≡◌, ◌<◌, ◌≤◌, [], true, fal
 ghost use Rattle.audit_base.specs.declared.limits.TheConstants.{SESSIONS};
 ghost use Rattle.audit_sessions.specs.declared.limits.TheConstants.{MAX_PIECE, MAX_TURNS};
 ghost use Rattle.audit_sessions.specs.declared.serve_end.ServeFault.TheVariants as fault;
-ghost use Rattle.audit_sessions.specs.Transition.{Transition, EndsAs, IsServed, IsCut};
+ghost use Rattle.audit_sessions.specs.Transition.{Transition, EndsAs, Reached, IsServed, IsCut};
 
 use crate::limits::MAX_PIECE;
 use crate::rounds::{end_live, has_live, serve_rounds};
@@ -18,17 +18,19 @@ use crate::writing::flush_and_write;
 /// session. A fault of a write does too, and what was to be written to it is dropped, now and later. After the last
 /// session has ended there is one flush more, and what waits is written. Where sessions are live after
 /// [`MAX_TURNS`](crate::MAX_TURNS) rounds, each of them is ended, with one flush more, and the fault is `ReadFault`.
-/// A refusal of the core ends it at once.
+/// A refusal of the core ends it at once. Whatever happens, the core went by steps that bring the bytes read, of which
+/// a refused call may have lost some.
 pub fn serve<C: SessionCore, S: SessionStream>(
     core: &mut C,
     streams: &mut [S],
 ) -> ServeEnd<C::Error>
     requires { length streams.old ≤ SESSIONS }
     ensures most { result.turns ≤ MAX_TURNS }
-    // Whatever happens, the core was called by its steps and `take_output` alone.
-    ensures reaches { C.model.Reaches core.old core.new }
-    // Without a fault it did whole rounds up to the end of the last session, and a flush; and where the streams tell
-    // their bytes, it was fed what was read, and all that the steps said was written.
+    // Whatever happens, the core went by steps and `take_output` alone. Of each stream that reports its bytes and didn't
+    // fail, the steps bring what was read, but for what a refused call lost; and what was taken was written to it.
+    ensures reaches { Reached C.model core.old core.new (map S.view streams.old) (map S.view streams.new) }
+    // Without a fault it did, where no stream failed, whole rounds up to the end of the last session, and a flush; and
+    // each stream that reports its bytes and didn't fail was read and written as the steps say.
     ensures served { result.fault ≡ None → Transition C.model core.old core.new
         (map S.view streams.old) (map S.view streams.new)
         (IsServed C.model (length streams.old) result.turns core.old core.new) }
@@ -57,7 +59,7 @@ fn serve_all<C: SessionCore, S: SessionStream>(
     requires room { 0 < length buffer.old }
     requires most { length buffer.old ≤ MAX_PIECE }
     ensures most { turns.new ≤ MAX_TURNS }
-    ensures reaches { C.model.Reaches core.old core.new }
+    ensures reaches { Reached C.model core.old core.new (map S.view streams.old) (map S.view streams.new) }
     ensures served { IfOk result (λ cut. cut ≡ false → Transition C.model core.old core.new
         (map S.view streams.old) (map S.view streams.new)
         (IsServed C.model (length streams.old) turns.new core.old core.new)) }

@@ -1,13 +1,14 @@
 ghost use Rattle.std.specs.Prelude.{◌≡◌, ◌<◌, ℕ, [], ◌∷◌, OnOk};
 ghost use Rattle.audit_base.specs.declared.limits.TheConstants.{SESSIONS};
 ghost use Rattle.audit_sessions.specs.Steps.{a_piece, an_end, a_flush};
-ghost use Rattle.audit_sessions.specs.Core.{CoreModel, no_bytes, bytes_for};
+ghost use Rattle.audit_sessions.specs.Core.{CoreModel, GoesBy, no_bytes, bytes_for};
 
 /// What serves the requests of sessions: it takes their bytes in any pieces, and keeps the bytes of the replies until
 /// they are taken.
 ///
-/// Each of `feed`, `end` and `flush` that succeeds is one step. What steps do is the core's own; of the sessions it is
-/// known that whether one has ended depends on its steps alone.
+/// Each of `feed`, `end` and `flush` that succeeds is one step, and one that is refused is a part of its step: all of
+/// it, nothing, or the first bytes of its piece. What steps do is the core's own; of the sessions it is known that
+/// whether one has ended depends on its steps alone.
 pub trait SessionCore {
     /// Why a step is refused.
     type Error;
@@ -18,18 +19,18 @@ pub trait SessionCore {
     /// Takes the next bytes of a session. Those of a session that has ended are dropped.
     fn feed(&mut self, session: usize, piece: &[u8]) -> Result<(), Self::Error>
         requires { session < SESSIONS }
-        ensures reaches { model.Reaches self.old self.new }
+        ensures reaches { GoesBy model (a_piece session piece.now) self.old self.new }
         ensures did { OnOk result (model.Did self.old self.new (a_piece session piece.now ∷ []) no_bytes) };
 
     /// Ends a session, of which nothing more comes.
     fn end(&mut self, session: usize) -> Result<(), Self::Error>
         requires { session < SESSIONS }
-        ensures reaches { model.Reaches self.old self.new }
+        ensures reaches { GoesBy model (an_end session) self.old self.new }
         ensures did { OnOk result (model.Did self.old self.new (an_end session ∷ []) no_bytes) };
 
     /// Commits and answers what waits.
     fn flush(&mut self) -> Result<(), Self::Error>
-        ensures reaches { model.Reaches self.old self.new }
+        ensures reaches { GoesBy model a_flush self.old self.new }
         ensures did { OnOk result (model.Did self.old self.new (a_flush ∷ []) no_bytes) };
 
     /// The bytes that wait for a session, which then wait no more. Those of the other sessions stay.

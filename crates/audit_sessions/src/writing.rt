@@ -1,6 +1,6 @@
 ghost use Rattle.std.specs.Prelude.{◌≡◌, ◌<◌, ◌≤◌, [], length, map, OnOk};
 ghost use Rattle.audit_base.specs.declared.limits.TheConstants.{SESSIONS};
-ghost use Rattle.audit_sessions.specs.Transition.{Transition, SessionTransition, IsTaken, AreTaken, IsFlushed};
+ghost use Rattle.audit_sessions.specs.Transition.{Transition, SessionTransition, Reached, SessionReached, IsTaken, AreTaken, IsFlushed};
 
 use crate::session_core::SessionCore;
 use crate::session_stream::SessionStream;
@@ -13,7 +13,7 @@ fn write_turn<C: SessionCore, S: SessionStream>(
     stream: &mut S,
 ) -> Result<(), C::Error>
     requires { session < SESSIONS }
-    ensures reaches { C.model.Reaches core.old core.new }
+    ensures reaches { SessionReached C.model session core.old core.new (S.view stream.old) (S.view stream.new) }
     ensures done { OnOk result (SessionTransition C.model session core.old core.new
         (S.view stream.old) (S.view stream.new) (IsTaken C.model session core.old core.new)) }
 {
@@ -30,7 +30,7 @@ pub fn write_turns<C: SessionCore, S: SessionStream>(
     streams: &mut [S],
 ) -> Result<(), C::Error>
     requires { length streams.old ≤ SESSIONS }
-    ensures reaches { C.model.Reaches core.old core.new }
+    ensures reaches { Reached C.model core.old core.new (map S.view streams.old) (map S.view streams.new) }
     ensures done { OnOk result (Transition C.model core.old core.new (map S.view streams.old) (map S.view streams.new)
         (AreTaken C.model (length streams.old) core.new)) }
 {
@@ -46,7 +46,7 @@ pub fn flush_and_write<C: SessionCore, S: SessionStream>(
     streams: &mut [S],
 ) -> Result<(), C::Error>
     requires { length streams.old ≤ SESSIONS }
-    ensures reaches { C.model.Reaches core.old core.new }
+    ensures reaches { Reached C.model core.old core.new (map S.view streams.old) (map S.view streams.new) }
     ensures done { OnOk result (Transition C.model core.old core.new (map S.view streams.old) (map S.view streams.new)
         (IsFlushed C.model (length streams.old) core.new)) }
 {

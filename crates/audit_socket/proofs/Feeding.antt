@@ -17,7 +17,7 @@ pieces_of_both (a_piece session piece ∷ steps) more are also = (are.0, are.1, 
 pieces_of_both (an_end session ∷ steps) more are also = absurd are
 pieces_of_both (a_flush ∷ steps) more are also = absurd are
 
-brings_more : (bytes rest piece behind : List ℕ) (steps : List StepData) → Brings bytes rest steps → rest ≡ piece ++ behind → length piece ≤ MAX_PIECE → Brings bytes behind (steps ++ a_piece 0 piece ∷ [])
+pub brings_more : (bytes rest piece behind : List ℕ) (steps : List StepData) → Brings bytes rest steps → rest ≡ piece ++ behind → length piece ≤ MAX_PIECE → Brings bytes behind (steps ++ a_piece 0 piece ∷ [])
 brings_more bytes rest piece behind steps h split within = record {
   pieces = pieces_of_both steps (a_piece 0 piece ∷ []) h.pieces (refl, within, tt);
   all =
@@ -53,12 +53,6 @@ module _ {C : Type 0} {M : CoreModel C} where
 
   pub all_fed : (old new : C) (bytes rest : List ℕ) → CoreTransition M old new (Brings bytes rest) → rest ≡ [] → CoreTransition M old new (Brings bytes [])
   all_fed old new bytes rest h none = subst (λ (r : List ℕ). CoreTransition M old new (Brings bytes r)) none h
-
-  pub reaches_further : {Shape : List StepData → Type 0} (old mid new : C) → CoreTransition M old mid Shape → M.Reaches mid new → M.Reaches old new
-  reaches_further old mid new h further = M.reaches_on old mid new (M.done_reaches old mid h.steps h.taken h.did) further
-
-  pub loop_reaches : {before after : Option (List ℕ)} {Shape : List StepData → Type 0} (old mid new : C) → LoopTransition M old mid before after Shape → M.Reaches mid new → M.Reaches old new
-  loop_reaches old mid new h further = M.reaches_on old mid new (M.done_reaches old mid h.steps h.taken h.did) further
 
   -- nothing was taken, so nothing was written
   as_loop : {Shape : List StepData → Type 0} (old new : C) (known : Option (List ℕ)) → CoreTransition M old new Shape → LoopTransition M old new known known Shape

@@ -1,3 +1,4 @@
 pub mod Lines
+pub mod Reaching
 pub mod Feeding
 pub mod Inputs

@@ -24,7 +24,7 @@ frames_of_both : (frames more : List (List ℕ)) → AreFrames frames → AreFra
 frames_of_both [] more are also = also
 frames_of_both (frame ∷ frames) more are also = (are.0, frames_of_both frames more are.1 also)
 
-both_mapped : (f : List ℕ → List ℕ) (frames more : List (List ℕ)) → flat_map f (frames ++ more) ≡ flat_map f frames ++ flat_map f more
+pub both_mapped : (f : List ℕ → List ℕ) (frames more : List (List ℕ)) → flat_map f (frames ++ more) ≡ flat_map f frames ++ flat_map f more
 both_mapped f [] more = refl
 both_mapped f (frame ∷ frames) more = ap (λ l. f frame ++ l) (both_mapped f frames more) ∙ sym (append_assoc (f frame) (flat_map f frames) (flat_map f more))
 

@@ -12,6 +12,10 @@ spelled input = map bytes_of_line (lines_of input)
 abbrev pub Spells : List (List ℕ) → List ℕ → Type 0
 Spells lines input = spelled input ≡ map (λ bytes. Some bytes) lines
 
+-- the first lines of an input spell these bytes
+abbrev pub SpellsFirst : List (List ℕ) → List ℕ → Type 0
+SpellsFirst lines input = (later : List (Option (List ℕ))) × (spelled input ≡ map (λ bytes. Some bytes) lines ++ later)
+
 -- the first lines of an input spell these bytes, and the next one none
 abbrev pub SpellsUpToBad : List (List ℕ) → List ℕ → Type 0
 SpellsUpToBad lines input = (later : List (Option (List ℕ))) × (spelled input ≡ map (λ bytes. Some bytes) lines ++ None ∷ later)

@@ -1,10 +1,10 @@
 ghost use Rattle.std.specs.Prelude.{◌≡◌, ◌∷◌, [], ◌+◌, List, ℕ, length, IfOk, IfErr, IfSome, OnOk, Err};
 ghost use Rattle.audit_sessions.specs.declared.limits.TheConstants.{MAX_PIECE};
-ghost use Rattle.audit_sessions.specs.Steps.{a_flush};
+ghost use Rattle.audit_sessions.specs.Steps.{a_flush, IsPartOf};
 ghost use Rattle.audit_sessions.specs.Transition.{CoreTransition};
 ghost use Rattle.audit_socket.specs.declared.loop_fault.LoopFault.TheVariants as fault;
 ghost use Rattle.audit_socket.specs.Input.{Spells, SpellsUpToBad};
-ghost use Rattle.audit_socket.specs.Looping.{Brings, AreLineTurns, IsWholeLoop, LoopTransition};
+ghost use Rattle.audit_socket.specs.Looping.{Brings, BringsFront, BringsLines, AreLineTurns, IsWholeLoop, LoopTransition, LoopReached};
 ghost use Rattle.audit_socket.specs.LoopFaults.{IsNoLineFault};
 
 use crate::frame_line::bytes_of_line;
@@ -38,7 +38,8 @@ where
     B: Read + Write + Drop,
     R: BufRead,
     W: Write,
-    ensures reaches { C.model.Reaches core.old core.new }
+    // Whatever happens, the core went by steps that bring the first of what the first lines spell, in order.
+    ensures reaches { LoopReached C.model core.old core.new (BringsLines (R.remaining reader.old)) }
     // Without a fault each line was fed and flushed in turn, then the session was ended; and the replies were written.
     // Where the reader's bytes are known, these are what all their lines spell.
     ensures done { OnOk result ((lines : List (List ℕ)) × LoopTransition C.model core.old core.new
@@ -74,7 +75,7 @@ where
     R: BufRead,
     W: Write,
     requires room { length buffer.old ≡ MAX_PIECE }
-    ensures reaches { C.model.Reaches core.old core.new }
+    ensures reaches { LoopReached C.model core.old core.new (BringsLines (R.remaining reader.old)) }
     ensures done { OnOk result ((lines : List (List ℕ)) × LoopTransition C.model core.old core.new
         (W.contents writer.old) (W.contents writer.new) (AreLineTurns lines)
         × IfSome (R.remaining reader.old) (Spells lines)) }
@@ -109,7 +110,7 @@ where
     A: Read + Write + Drop,
     B: Read + Write + Drop,
     requires room { length buffer.old ≡ MAX_PIECE }
-    ensures reaches { C.model.Reaches core.old core.new }
+    ensures reaches { LoopReached C.model core.old core.new (BringsFront bytes.now) }
     ensures done { OnOk result (CoreTransition C.model core.old core.new (Brings bytes.now [])) }
     ensures fault { IfErr result IsNoLineFault }
 {
@@ -139,7 +140,7 @@ where
     B: Read + Write + Drop,
     W: Write,
     requires room { length buffer.old ≡ MAX_PIECE }
-    ensures reaches { C.model.Reaches core.old core.new }
+    ensures reaches { LoopReached C.model core.old core.new (IsPartOf a_flush) }
     ensures done { OnOk result (LoopTransition C.model core.old core.new (W.contents writer.old) (W.contents writer.new)
         (λ steps. steps ≡ a_flush ∷ [])) }
     ensures fault { IfErr result IsNoLineFault }

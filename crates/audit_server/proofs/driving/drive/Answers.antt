@@ -1,4 +1,5 @@
-use Rattle.audit_server.proofs.Steps.{drive_none, drive_more, drive_refused, drive_stopped}
+use Rattle.audit_server.proofs.Steps.{drive_none, drive_more, drive_refused, drive_stopped, drive_broken}
+use Rattle.audit_server.proofs.Durably.{all_durably, drive_durably}
 use Rattle.audit_server.proofs.driving.drive.Goals as goal
 
 pub loop-number-init : goal.loop-number-init
@@ -12,3 +13,12 @@ returns-in-Err-clause-broken g c = λ broken some. drive_refused c.in-Err.fault 
 
 pub returns-in-Err-clause-stopped : goal.returns-in-Err-clause-stopped
 returns-in-Err-clause-stopped g c = λ sound. drive_stopped _ c.in-Err.fault c.loop-number.invariant c.loop-number-test.true c.in-Err.ensures.refused sound
+
+pub returns-in-Err-clause-durable : goal.returns-in-Err-clause-durable
+returns-in-Err-clause-durable g c = drive_durably _ _ c.in-Err.fault c.loop-number.invariant c.loop-number-test.true c.in-Err.ensures.durable
+
+pub returns-in-Err-clause-device : goal.returns-in-Err-clause-device
+returns-in-Err-clause-device g c = drive_broken c.in-Err.fault c.loop-number.invariant c.in-Err.ensures.broken c.in-Err.ensures.device
+
+pub returns-clause-durable : goal.returns-clause-durable
+returns-clause-durable g c = all_durably c.args.core.now c.loop-number.core c.loop-number.invariant c.loop-number-test.false

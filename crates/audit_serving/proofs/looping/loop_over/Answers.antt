@@ -1,12 +1,17 @@
-use Rattle.std.proofs.Common.{◌≡◌, ◌∙◌, Err, sym, ap}
+use Rattle.std.proofs.Common.{◌≡◌, ◌∙◌, inr, Err, sym, ap}
 use Rattle.audit_serving.specs.declared.fault.ServingFault.TheVariants.{BadFrameLine}
 use Rattle.audit_serving.specs.Served.{IsNewCore}
-use Rattle.audit_serving.proofs.Served.{bad_of_loop, told_ok, told_err, kept_by, looped}
+use Rattle.audit_serving.proofs.Served.{bad_of_loop, told_ok, told_err, kept_by, looped, loop_reached}
 use Rattle.audit_serving.proofs.looping.loop_over.Goals.{in-Ok-run_lines, in-Err-run_lines}
 use Rattle.audit_serving.proofs.looping.loop_over.Goals as goal
 
 pub returns-clause-kept : goal.returns-clause-kept
-returns-clause-kept g c = kept_by c.args.store c.into_store.result c.in-Ok.core c.run_lines.new.core c.in-Ok.ensures.store c.into_store.ensures c.run_lines.ensures.reaches
+returns-clause-kept g c = kept_by c.args.store c.into_store.result c.in-Ok.core c.run_lines.new.core c.in-Ok.ensures.store c.into_store.ensures c.run_lines.ensures.reaches.reaches
+
+pub returns-clause-reached : goal.returns-clause-reached
+returns-clause-reached g c =
+    let made : IsNewCore c.args.store c.in-Ok.core = record { store_is = c.in-Ok.ensures.store; waiting = c.in-Ok.ensures.waiting; outputs = c.in-Ok.ensures.outputs; sessions = c.in-Ok.ensures.sessions } in
+    inr (loop_reached c.args.store c.into_store.result c.in-Ok.core c.run_lines.new.core made c.into_store.ensures c.run_lines.ensures.reaches)
 
 pub returns-clause-done : goal.returns-clause-done
 returns-clause-done g c =

@@ -1,13 +1,13 @@
-use Rattle.std.proofs.Common.{◌≡◌, Result, ℕ, length, sym, subst, rules}
+use Rattle.std.proofs.Common.{◌≡◌, inr, Result, ℕ, length, sym, subst, rules}
 use Rattle.std.specs.Prelude.{IfOk}
 use Rattle.audit_serving.specs.declared.fault.ServingFault.{ServingFault}
 use Rattle.audit_serving.specs.Served.{IsNewCore, ServesRound}
-use Rattle.audit_serving.proofs.Served.{kept_by, round_served}
+use Rattle.audit_serving.proofs.Served.{kept_by, round_served, round_reached}
 use Rattle.audit_serving.proofs.rounds.serve_round.Goals.{in-None, in-Some}
 use Rattle.audit_serving.proofs.rounds.serve_round.Goals as goal
 
 pub returns-clause-kept : goal.returns-clause-kept
-returns-clause-kept g c = kept_by c.args.store c.into_store.result c.in-Ok-new.core c.serve-end.new.core c.in-Ok-new.ensures.store c.into_store.ensures c.serve-end.ensures.reaches
+returns-clause-kept g c = kept_by c.args.store c.into_store.result c.in-Ok-new.core c.serve-end.new.core c.in-Ok-new.ensures.store c.into_store.ensures c.serve-end.ensures.reaches.reaches
 
 pub returns-clause-served : goal.returns-clause-served
 returns-clause-served g c =
@@ -19,3 +19,9 @@ returns-clause-served g c =
           (round_served c.args.store c.into_store.result c.in-Ok-new.core c.serve-end.new.core c.args.sessions c.serve-end.result.turns _ _ _ made c.into_store.ensures each (c.serve-end.ensures.served w.in-None.is))
       | in-Some w ↦ subst (λ (answer : Result ℕ ServingFault). IfOk answer (λ turns. ServesRound c.args.sessions turns c.args.store c.into_store.result)) (sym w.served-is) tt
     ]
+
+pub returns-clause-reached : goal.returns-clause-reached
+returns-clause-reached g c =
+    let made : IsNewCore c.args.store c.in-Ok-new.core = record { store_is = c.in-Ok-new.ensures.store; waiting = c.in-Ok-new.ensures.waiting; outputs = c.in-Ok-new.ensures.outputs; sessions = c.in-Ok-new.ensures.sessions } in
+    let each : length c.deref_mut.result.now ≡ c.args.sessions = search rules in
+    inr (round_reached c.args.store c.into_store.result c.in-Ok-new.core c.serve-end.new.core c.args.sessions _ _ _ made c.into_store.ensures each c.serve-end.ensures.reaches)

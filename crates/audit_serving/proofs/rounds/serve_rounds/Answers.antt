@@ -1,4 +1,4 @@
-use Rattle.std.proofs.Common.{[], ◌∷◌, ◌++◌, ◌+◌, Result, ℕ, arith, length-append, subst}
+use Rattle.std.proofs.Common.{inl, refl, [], ◌∷◌, ◌++◌, ◌+◌, Result, ℕ, arith, length-append, subst}
 use Rattle.std.specs.Prelude.{IfOk}
 use Rattle.audit_run.proofs.Serving.{kept_then}
 use Rattle.audit_serving.specs.declared.fault.ServingFault.{ServingFault}
@@ -12,6 +12,19 @@ returns-in-Err-clause-kept g c = kept_then c.args.store c.loop-round.store c.ser
 
 pub returns-in-Err-write_round-clause-kept : goal.returns-in-Err-write_round-clause-kept
 returns-in-Err-write_round-clause-kept g c = kept_then c.args.store c.loop-round.store c.serve_round-kept.result.0 c.loop-round.invariant.kept c.serve_round-kept.ensures.kept
+
+pub returns-in-Err-clause-stopped : goal.returns-in-Err-clause-stopped
+returns-in-Err-clause-stopped g c =
+    let before = c.loop-round.invariant.served in
+    (before.0, record { mid = c.loop-round.store; served = before.2; last = c.serve_round-kept.ensures.reached })
+
+pub returns-in-Err-write_round-clause-stopped : goal.returns-in-Err-write_round-clause-stopped
+returns-in-Err-write_round-clause-stopped g c =
+    let before = c.loop-round.invariant.served in
+    let left = c.serve_round-kept.result.0 in
+    let round : ServesRound c.args.sessions c.in-Ok.turns c.loop-round.store left =
+    subst (λ (answer : Result ℕ ServingFault). IfOk answer (λ turns. ServesRound c.args.sessions turns c.loop-round.store left)) c.in-Ok.is c.serve_round-kept.ensures.served in
+    (before.0 ++ c.in-Ok.turns ∷ [], record { mid = left; served = rounds_more c.args.sessions c.in-Ok.turns before.0 c.args.store c.loop-round.store left before.2 round; last = inl refl })
 
 pub loop-round-preserved : goal.loop-round-preserved
 loop-round-preserved g c =

@@ -1,6 +1,7 @@
 use Rattle.std.proofs.Common.{◌≡◌, ℕ, suc, [], true, false, sym, subst, rules, add-one}
 use Rattle.audit_sessions.specs.Transition.{CoreTransition, AreEndsBelow}
 use Rattle.audit_sessions.proofs.Runs.{no_ends, end_more, end_skipped}
+use Rattle.audit_sessions.proofs.Reaching.{end_refused, ends_reached}
 use Rattle.audit_sessions.proofs.rounds.end_live.Goals as goal
 use Rattle.audit_sessions.proofs.rounds.end_live.Goals.{then-not-ended+in_ok-end, else-not-ended}
 
@@ -22,3 +23,11 @@ loop-session-preserved g c =
           subst (λ core. CoreTransition M c.args.core.now core (AreEndsBelow (suc l.session) (M.ended c.args.core.now []))) (sym w.core-is)
           (end_skipped M l.session c.args.core.now l.core l.invariant over)
     ])
+
+pub returns-in_err-end-clause-reaches : goal.returns-in_err-end-clause-reaches
+returns-in_err-end-clause-reaches g c =
+    let l = c.loop-session in
+    end_refused g.C.SessionCore.model l.session c.args.core.now l.core c.end.new.self l.session _ l.invariant c.end.ensures.reaches
+
+pub returns-clause-reaches : goal.returns-clause-reaches
+returns-clause-reaches g c = ends_reached g.C.SessionCore.model c.args.core.now c.loop-session.core _ _ c.loop-session.invariant

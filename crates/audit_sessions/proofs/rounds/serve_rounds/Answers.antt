@@ -2,6 +2,7 @@ use Rattle.std.proofs.Common.{◌≡◌, ◌≢◌, ℕ, [], length, map, refl, 
 use Rattle.audit_sessions.specs.Rounds.{live_below, IsRound, AreRounds}
 use Rattle.audit_sessions.specs.Transition.{Transition}
 use Rattle.audit_sessions.proofs.Runs.{no_rounds, round_more}
+use Rattle.audit_sessions.proofs.Reaching.{done_reached, then_reached}
 use Rattle.audit_sessions.proofs.rounds.serve_rounds.Goals as goal
 
 pub loop-round-init : goal.loop-round-init
@@ -9,9 +10,19 @@ loop-round-init g c = (refl, no_rounds g.C.SessionCore.model (length c.args.stre
 
 pub returns-in_err-serve_round-clause-reaches : goal.returns-in_err-serve_round-clause-reaches
 returns-in_err-serve_round-clause-reaches g c =
-    let M = g.C.SessionCore.model in
-    let before = c.loop-round.invariant.1 in
-    M.reaches_on c.args.core.now c.loop-round.core c.serve_round.new.core (M.done_reaches c.args.core.now c.loop-round.core before.steps before.taken before.did) c.serve_round.ensures.reaches
+    let view = g.S.SessionStream.view in
+    let l = c.loop-round in
+    then_reached g.C.SessionCore.model c.args.core.now l.core c.serve_round.new.core (map view c.args.streams.now) (map view l.streams) (map view c.serve_round.new.streams) l.invariant.1 c.serve_round.ensures.reaches
+
+pub returns-then-not-has_live-clause-reaches : goal.returns-then-not-has_live-clause-reaches
+returns-then-not-has_live-clause-reaches g c =
+    let view = g.S.SessionStream.view in
+    done_reached g.C.SessionCore.model c.args.core.now c.loop-round.core (map view c.args.streams.now) (map view c.loop-round.streams) c.loop-round.invariant.1
+
+pub returns-clause-reaches : goal.returns-clause-reaches
+returns-clause-reaches g c =
+    let view = g.S.SessionStream.view in
+    done_reached g.C.SessionCore.model c.args.core.now c.loop-round.core (map view c.args.streams.now) (map view c.loop-round.streams) c.loop-round.invariant.1
 
 pub loop-round-preserved : goal.loop-round-preserved
 loop-round-preserved g c =

@@ -1,32 +1,52 @@
 use Rattle.std.proofs.Common.{◌≡◌, ◌≢◌, ℕ, [], true≢false, length, map, sym, subst, ◌∙◌, rules}
 use Rattle.audit_sessions.specs.declared.limits.TheConstants.{MAX_TURNS}
 use Rattle.audit_sessions.specs.Rounds.{live_below, AreRounds}
-use Rattle.audit_sessions.specs.Transition.{Transition, CoreTransition, AreEndsBelow, IsFlushed}
+use Rattle.audit_sessions.specs.Transition.{Transition, CoreTransition, Reached, AreEndsBelow, IsFlushed}
 use Rattle.audit_sessions.proofs.Runs.{whole_run, cut_run, all_rounds}
+use Rattle.audit_sessions.proofs.Reaching.{then_reached, core_reached, ends_then_reached}
 use Rattle.audit_sessions.proofs.serving.serve_all.Goals as goal
 use Rattle.audit_sessions.proofs.serving.serve_all.Goals.{then-cut+in_ok-end_live, else-cut}
+
+pub returns-in_err-end_live-clause-reaches : goal.returns-in_err-end_live-clause-reaches
+returns-in_err-end_live-clause-reaches g c =
+    let M = g.C.SessionCore.model in
+    let view = g.S.SessionStream.view in
+    let mid = c.serve_rounds.new.core in
+    let between = map view c.serve_rounds.new.streams in
+    then_reached M {Shape = AreRounds (length c.args.streams.now) (M.ended c.args.core.now) c.serve_rounds.new.turns} c.args.core.now mid c.end_live.new.core (map view c.args.streams.now) between between c.in_ok-serve_rounds.ensures.done
+    (core_reached M mid c.end_live.new.core between c.end_live.ensures.reaches)
 
 pub returns-in_err-flush_and_write-clause-reaches : goal.returns-in_err-flush_and_write-clause-reaches
 returns-in_err-flush_and_write-clause-reaches g c =
     let M = g.C.SessionCore.model in
-    M.reaches_on c.args.core.now c.if-cut.core c.flush_and_write.new.core
+    let view = g.S.SessionStream.view in
+    let mid = c.serve_rounds.new.core in
+    let new = c.flush_and_write.new.core in
+    let between = map view c.serve_rounds.new.streams in
+    let after = map view c.flush_and_write.new.streams in
+    then_reached M {Shape = AreRounds (length c.args.streams.now) (M.ended c.args.core.now) c.serve_rounds.new.turns} c.args.core.now mid new (map view c.args.streams.now) between after c.in_ok-serve_rounds.ensures.done
     (elim c.if-cut.branch [
-      | then-cut+in_ok-end_live w ↦ subst (λ core. M.Reaches c.args.core.now core) (sym w.core-is)
-          (M.reaches_on c.args.core.now c.serve_rounds.new.core w.end_live.new.core c.serve_rounds.ensures.reaches w.end_live.ensures.reaches)
-      | else-cut w ↦ subst (λ core. M.Reaches c.args.core.now core) (sym w.core-is) c.serve_rounds.ensures.reaches
+      | then-cut+in_ok-end_live w ↦
+          ends_then_reached M mid w.end_live.new.core new between after _ _ w.in_ok-end_live.ensures.done
+          (subst (λ core. Reached M core new between after) w.core-is c.flush_and_write.ensures.reaches)
+      | else-cut w ↦ subst (λ core. Reached M core new between after) w.core-is c.flush_and_write.ensures.reaches
     ])
-    c.flush_and_write.ensures.reaches
 
 pub returns-clause-reaches : goal.returns-clause-reaches
 returns-clause-reaches g c =
     let M = g.C.SessionCore.model in
-    M.reaches_on c.args.core.now c.if-cut.core c.flush_and_write.new.core
+    let view = g.S.SessionStream.view in
+    let mid = c.serve_rounds.new.core in
+    let new = c.flush_and_write.new.core in
+    let between = map view c.serve_rounds.new.streams in
+    let after = map view c.flush_and_write.new.streams in
+    then_reached M {Shape = AreRounds (length c.args.streams.now) (M.ended c.args.core.now) c.serve_rounds.new.turns} c.args.core.now mid new (map view c.args.streams.now) between after c.in_ok-serve_rounds.ensures.done
     (elim c.if-cut.branch [
-      | then-cut+in_ok-end_live w ↦ subst (λ core. M.Reaches c.args.core.now core) (sym w.core-is)
-          (M.reaches_on c.args.core.now c.serve_rounds.new.core w.end_live.new.core c.serve_rounds.ensures.reaches w.end_live.ensures.reaches)
-      | else-cut w ↦ subst (λ core. M.Reaches c.args.core.now core) (sym w.core-is) c.serve_rounds.ensures.reaches
+      | then-cut+in_ok-end_live w ↦
+          ends_then_reached M mid w.end_live.new.core new between after _ _ w.in_ok-end_live.ensures.done
+          (subst (λ core. Reached M core new between after) w.core-is c.flush_and_write.ensures.reaches)
+      | else-cut w ↦ subst (λ core. Reached M core new between after) w.core-is c.flush_and_write.ensures.reaches
     ])
-    c.flush_and_write.ensures.reaches
 
 pub returns-clause-served : goal.returns-clause-served
 returns-clause-served g c =

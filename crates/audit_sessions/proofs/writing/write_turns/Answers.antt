@@ -1,9 +1,10 @@
 use Rattle.std.proofs.Common.{◌<◌, ℕ, suc, List, length, map, set, sym, subst, rules, arith, add-one}
 use Rattle.std.proofs.lemmas.List.{length-map}
 use Rattle.audit_sessions.specs.Streams.{StreamView}
-use Rattle.audit_sessions.specs.Transition.{Transition, AreTaken}
+use Rattle.audit_sessions.specs.Transition.{Transition, Reached, AreTaken}
 use Rattle.audit_sessions.proofs.Transitions.{view_in, views_set}
 use Rattle.audit_sessions.proofs.Runs.{none_taken, take_more}
+use Rattle.audit_sessions.proofs.Reaching.{done_reached, then_reached, session_reached}
 use Rattle.audit_sessions.proofs.writing.write_turns.Goals as goal
 
 pub loop-session-init : goal.loop-session-init
@@ -12,9 +13,20 @@ loop-session-init g c = none_taken g.C.SessionCore.model c.args.core.now (map g.
 pub returns-in_err-write_turn-clause-reaches : goal.returns-in_err-write_turn-clause-reaches
 returns-in_err-write_turn-clause-reaches g c =
     let M = g.C.SessionCore.model in
-    M.reaches_on c.args.core.now c.loop-session.core c.write_turn.new.core
-    (M.done_reaches c.args.core.now c.loop-session.core c.loop-session.invariant.steps c.loop-session.invariant.taken c.loop-session.invariant.did)
-    c.write_turn.ensures.reaches
+    let view = g.S.SessionStream.view in
+    let l = c.loop-session in
+    let new = c.write_turn.new.core in
+    let begun = map view c.args.streams.now in
+    let within : l.session < length l.streams = search rules in
+    let inside : l.session < length (map view l.streams) = omega (arith, within, length-map l.streams view) in
+    subst (λ (views : List StreamView). Reached M c.args.core.now new begun views) (views_set view l.streams l.session c.write_turn.new.stream)
+    (then_reached M c.args.core.now l.core new begun (map view l.streams) (set (map view l.streams) l.session (view c.write_turn.new.stream)) l.invariant
+    (session_reached M l.session l.core new (map view l.streams) _ (view c.write_turn.new.stream) inside (view_in view l.streams l.session c.index-streams-session.result within) c.write_turn.ensures.reaches))
+
+pub returns-clause-reaches : goal.returns-clause-reaches
+returns-clause-reaches g c =
+    let view = g.S.SessionStream.view in
+    done_reached g.C.SessionCore.model c.args.core.now c.loop-session.core (map view c.args.streams.now) (map view c.loop-session.streams) c.loop-session.invariant
 
 pub loop-session-preserved : goal.loop-session-preserved
 loop-session-preserved g c =
