@@ -1,5 +1,6 @@
-ghost use Rattle.std.specs.Prelude.{◌≡◌, ◌≤◌, ◌+◌, true, false, vec_len, IfOk, Ok};
+ghost use Rattle.std.specs.Prelude.{◌≡◌, ◌⊎◌, ◌≤◌, ◌+◌, true, false, vec_len, IfOk, IfErr, Ok};
 ghost use Rattle.std.specs.Io.KnownBytes.{IsAtEnd};
+ghost use Rattle.audit_lines.specs.declared.fault.LinesFault.TheVariants as fault;
 ghost use Rattle.audit_socket.specs.declared.limits.TheConstants.{MAX_DIGITS};
 ghost use Rattle.audit_socket.specs.Input.{ReadsLine, TakesByte};
 
@@ -14,6 +15,7 @@ use std::io::{BufRead, Read};
 pub fn next_line<R: BufRead>(reader: &mut R, line: &mut Vec<u8>) -> Result<bool, LinesFault>
     // At any reader.
     ensures within { vec_len line.new ≤ MAX_DIGITS + 1 }
+    ensures fault { IfErr result (λ cause. (cause ≡ fault.Read) ⊎ (cause ≡ fault.Memory)) }
     // Where its bytes are known.
     ensures none { result ≡ Ok false → IsAtEnd (R.remaining reader.old) }
     ensures read { result ≡ Ok true → ReadsLine (R.remaining reader.old) (R.remaining reader.new) line.new.items }
@@ -31,7 +33,8 @@ pub fn next_line<R: BufRead>(reader: &mut R, line: &mut Vec<u8>) -> Result<bool,
 
 // The next byte, or none at the end.
 fn next_byte<R: BufRead>(reader: &mut R) -> Result<Option<u8>, LinesFault>
-    ensures { IfOk result (λ byte. TakesByte (R.remaining reader.old) (R.remaining reader.new) byte) }
+    ensures taken { IfOk result (λ byte. TakesByte (R.remaining reader.old) (R.remaining reader.new) byte) }
+    ensures fault { IfErr result (λ cause. cause ≡ fault.Read) }
 {
     let mut byte = [0];
     match reader.read(&mut byte) {

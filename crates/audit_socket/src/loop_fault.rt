@@ -73,18 +73,34 @@ pub enum ReplyFault {
 }
 
 impl From<ConnectionFault> for ReplyFault {
+    ghost use Rattle.std.specs.Prelude.{◌≡◌};
+    ghost use Rattle.audit_socket.specs.declared.loop_fault.ReplyFault.TheVariants.{Connection};
+
+    ghost from_gives = { λ _ fault. fault ≡ Connection };
+
     fn from(_: ConnectionFault) -> Self {
         ReplyFault::Connection
     }
 }
 
 impl From<LinesFault> for ReplyFault {
+    ghost use Rattle.std.specs.Prelude.{◌≡◌};
+    ghost use Rattle.audit_socket.specs.declared.loop_fault.ReplyFault.TheVariants.{Lines};
+
+    ghost from_gives = { λ cause fault. fault ≡ Lines cause };
+
     fn from(fault: LinesFault) -> Self {
         ReplyFault::Lines(fault)
     }
 }
 
 impl From<AllocError> for ReplyFault {
+    ghost use Rattle.std.specs.Prelude.{◌≡◌};
+    ghost use Rattle.audit_socket.specs.declared.loop_fault.ReplyFault.TheVariants.{Lines};
+    ghost use Rattle.audit_lines.specs.declared.fault.LinesFault.TheVariants.{Memory};
+
+    ghost from_gives = { λ _ fault. fault ≡ Lines Memory };
+
     fn from(_: AllocError) -> Self {
         ReplyFault::Lines(LinesFault::Memory)
     }

@@ -1,13 +1,14 @@
-ghost use Rattle.std.specs.Prelude.{◌≡◌, OnOk, OnErr, IfOk};
+ghost use Rattle.std.specs.Prelude.{◌≡◌, ◌⊎◌, OnOk, IfOk, IfErr};
 ghost use Rattle.std.specs.Io.KnownBytes.{Appends};
-ghost use Rattle.audit_lines.specs.Writing.{WritesInPart};
+ghost use Rattle.audit_lines.specs.declared.fault.LinesFault.TheVariants as fault;
 ghost use Rattle.audit_socket.specs.RoundLine.{round_line};
 
 use audit_lines::{LinesFault, push_number, write_whole};
 use std::alloc::{AllocError, Global};
 use std::io::Write;
 
-/// Writes the line of a round, which has a number and had so many turns, and flushes the writer.
+/// Writes the line of a round, which has a number and had so many turns, and flushes the writer. The faults are `Write` and
+/// `Memory`: a part of the line may then be written.
 pub fn write_round<W: Write>(
     alloc: Global,
     round: u64,
@@ -15,6 +16,7 @@ pub fn write_round<W: Write>(
     writer: &mut W,
 ) -> Result<(), LinesFault>
     ensures written { OnOk result (Appends (W.contents writer.old) (W.contents writer.new) (round_line round turns)) }
+    ensures fault { IfErr result (λ cause. (cause ≡ fault.Write) ⊎ (cause ≡ fault.Memory)) }
 {
     let line = line_of(alloc, round, turns)?;
     write_whole(writer, &line)?;

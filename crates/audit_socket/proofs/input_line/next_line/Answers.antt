@@ -9,13 +9,13 @@ returns-in-None-clause-read g c = λ is.
     let long : vec_len c.loop.line ≡ length c.loop.line.items = search rules in
     let some : 0 < vec_len c.loop.line = some_when c.is_empty.result (vec_len c.loop.line) c.is_empty.ensures (cc is) in
     end_of_line (g.R.Read.remaining c.args.reader.now) (g.R.Read.remaining c.loop.reader) (g.R.Read.remaining c.next_byte.new.reader) c.loop.line.items c.loop.invariant.taken
-    (subst (TakesByte (g.R.Read.remaining c.loop.reader) (g.R.Read.remaining c.next_byte.new.reader)) c.in-None.is c.in_ok-next_byte.ensures) (omega (arith, some, long))
+    (subst (TakesByte (g.R.Read.remaining c.loop.reader) (g.R.Read.remaining c.next_byte.new.reader)) c.in-None.is c.in_ok-next_byte.ensures.taken) (omega (arith, some, long))
 
 pub returns-in-Some-eq10-clause-read : goal.returns-in-Some-eq10-clause-read
 returns-in-Some-eq10-clause-read g c = λ is.
     let feed : c.in-Some-eq10.field-0 ≡ 10 = search rules in
     feed_taken (g.R.Read.remaining c.args.reader.now) (g.R.Read.remaining c.loop.reader) (g.R.Read.remaining c.next_byte.new.reader) c.loop.line.items c.loop.invariant.taken
-    (subst (TakesByte (g.R.Read.remaining c.loop.reader) (g.R.Read.remaining c.next_byte.new.reader)) (c.in-Some-eq10.is ∙ ap Some feed) c.in_ok-next_byte.ensures)
+    (subst (TakesByte (g.R.Read.remaining c.loop.reader) (g.R.Read.remaining c.next_byte.new.reader)) (c.in-Some-eq10.is ∙ ap Some feed) c.in_ok-next_byte.ensures.taken)
 
 pub loop-preserved : goal.loop-preserved
 loop-preserved g c =
@@ -25,7 +25,7 @@ loop-preserved g c =
     record {
       taken = subst (HasTaken old next) (sym c.in_ok-push-in-Some.ensures.items)
           (one_taken old (g.R.Read.remaining c.loop.reader) next c.loop.line.items c.in-Some.byte c.loop.invariant.taken
-          (subst (TakesByte (g.R.Read.remaining c.loop.reader) next) c.in-Some.is c.in_ok-next_byte.ensures) feed);
+          (subst (TakesByte (g.R.Read.remaining c.loop.reader) next) c.in-Some.is c.in_ok-next_byte.ensures.taken) feed);
       counted = search rules;
     }
 
