@@ -52,8 +52,10 @@ fn measure_file(rt: &HostRuntime, name: &str, file: &str, events: u32) -> anyhow
 }
 
 fn word_at(words: &[String], place: usize) -> anyhow::Result<&str> {
-    let word = words.get(place).context("a word is missing")?;
-    Ok(word.as_str())
+    match words.get(place) {
+        Some(word) => Ok(word.as_str()),
+        None => bail!("a word is missing"),
+    }
 }
 
 fn number_at(words: &[String], place: usize) -> anyhow::Result<u32> {

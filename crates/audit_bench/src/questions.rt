@@ -13,6 +13,10 @@ use std::time::Instant;
 // The questions of a batch.
 const QUESTIONS: u32 = 64;
 
+// How far the indices of one question and of the next one are from each other, before they are brought below the count: a
+// prime number.
+const STRIDE: u64 = 7_368_787;
+
 // The frame of a question for a membership proof.
 const QUESTION_LEN: usize = 23;
 
@@ -89,8 +93,7 @@ fn some_indices(alloc: Global, batch: u32, count: u64) -> anyhow::Result<Vec<u64
 
 // A number below the count, far from that of the next number.
 fn scattered(number: u64, count: u64) -> u64 {
-    let high = number.wrapping_mul(0x9e37_79b9_7f4a_7c15) >> 32;
-    high.checked_rem(count).unwrap_or(0)
+    number.wrapping_mul(STRIDE).checked_rem(count).unwrap_or(0)
 }
 
 // The frames of questions for membership proofs of these entries under a count.
