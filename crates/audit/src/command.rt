@@ -5,7 +5,7 @@ use std::alloc::{AllocError, Global};
 use std::convert::AsStr;
 
 /// What the words of a command line ask for.
-#[derive(Clone, Copy, Debug, PartialEq, Eq)]
+#[derive(Clone, Copy)]
 pub enum Asked<'a> {
     /// A command that serves no sessions.
     Plain(Request<'a>),
@@ -18,18 +18,25 @@ pub enum Asked<'a> {
 pub fn request_of<'a, S: AsStr>(alloc: Global, words: &'a [S]) -> Result<Asked<'a>, Error> {
     let matches = command(alloc)?.try_get_matches_from(words)?;
     match matches.subcommand() {
-        Some(("serve", given)) => Ok(Asked::Serving(Serving::Serve {
+        Some((name, given)) => Ok(asked_by(name, given)),
+        None => Ok(Asked::Plain(Request::Replay)),
+    }
+}
+
+// What a command asks for with the arguments that it was given.
+fn asked_by<'a>(name: &str, given: &ArgMatches<'a>) -> Asked<'a> {
+    match name {
+        "serve" => Asked::Serving(Serving::Serve {
             file: word(given, "FILE"),
             socket: word(given, "SOCKET"),
             rounds: word(given, "ROUNDS"),
             sessions: given.get_str("sessions"),
-        })),
-        Some(("loop", given)) => Ok(Asked::Serving(Serving::Loop {
+        }),
+        "loop" => Asked::Serving(Serving::Loop {
             file: word(given, "FILE"),
             socket: word(given, "SOCKET"),
-        })),
-        Some((name, given)) => Ok(Asked::Plain(plain_request(name, given))),
-        None => Ok(Asked::Plain(Request::Replay)),
+        }),
+        _ => Asked::Plain(plain_request(name, given)),
     }
 }
 
@@ -77,20 +84,39 @@ fn word<'a>(given: &ArgMatches<'a>, id: &str) -> &'a str {
 }
 
 fn command<'a>(alloc: Global) -> Result<Command<'a>, AllocError> {
-    Command::new(alloc, "audit")
-        .about("A tamper-evident audit store")
-        .subcommand(Command::new(alloc, "replay").about(
-            "Seals events from standard input, and prints their entries and the commitment",
-        ))?
+    let command = Command::new(alloc, "audit").about("A tamper-evident audit store");
+    with_serving(alloc, with_auditing(alloc, with_store(alloc, command)?)?)
+}
+
+// With the commands that write events.
+fn with_store<'a>(alloc: Global, command: Command<'a>) -> Result<Command<'a>, AllocError> {
+    command
+        .subcommand(replay_command(alloc))?
         .subcommand(format_command(alloc)?)?
         .subcommand(append_command(alloc)?)?
-        .subcommand(show_command(alloc)?)?
+        .subcommand(show_command(alloc)?)
+}
+
+// With the commands for an auditor.
+fn with_auditing<'a>(alloc: Global, command: Command<'a>) -> Result<Command<'a>, AllocError> {
+    command
         .subcommand(prove_command(alloc)?)?
         .subcommand(check_command(alloc)?)?
         .subcommand(export_command(alloc)?)?
-        .subcommand(verify_command(alloc)?)?
+        .subcommand(verify_command(alloc)?)
+}
+
+// With the commands that serve sessions.
+fn with_serving<'a>(alloc: Global, command: Command<'a>) -> Result<Command<'a>, AllocError> {
+    command
         .subcommand(serve_command(alloc)?)?
         .subcommand(loop_command(alloc)?)
+}
+
+fn replay_command<'a>(alloc: Global) -> Command<'a> {
+    Command::new(alloc, "replay").about(
+        "Seals events from standard input, and prints their entries and the commitment",
+    )
 }
 
 fn format_command<'a>(alloc: Global) -> Result<Command<'a>, AllocError> {

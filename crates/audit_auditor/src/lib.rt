@@ -5,8 +5,6 @@
 mod checking;
 mod commitment_word;
 mod fault;
-#[cfg(test)]
-mod tests;
 mod verifying;
 
 pub use checking::{Proof, judge_proof, read_proof, write_judgment};

@@ -1,13 +1,13 @@
 //! Group commit of small events that sessions append, beside the calls of the file and the SHA-256 messages that it can't
 //! do without.
-use crate::sessions::{ROUNDS, drop_replies, low_time, started, time_frames};
-use crate::stores::{Disk, hash_messages, write_bare};
-use audit_disk::FileDisk;
+use crate::sessions::{ROUNDS, started, time_frames};
+use crate::stores::{hash_messages, write_bare};
+use crate::times::{Rounds, Times, since};
+use audit_disk::Sectors;
 use audit_log::LOG_START;
+use audit_server::Core;
 use audit_store::Store;
 use std::alloc::Global;
-use std::fs::Files;
-use std::os::unix::fs::FileExt;
 use std::rt::Clock;
 use std::time::Instant;
 
@@ -31,40 +31,58 @@ const PAIR_LEN: usize = 65;
 
 /// Times flushes of so many appends, and before each the SHA-256 messages and the writes and syncs of the same sectors by
 /// a second handle of the file. The file has its sectors before.
-pub fn time_flushes<R: Files + AllocGlobal + Clock + Eprint>(
+pub fn time_flushes<R: AllocGlobal + Clock + Eprint, D: Sectors + Drop>(
     rt: &R,
-    store: Store<Disk<R::File>>,
-    file: &str,
+    store: Store<D>,
+    bare: &mut D,
     size: u32,
-) -> anyhow::Result<Store<Disk<R::File>>>
-where
-    R::File: FileExt,
-{
-    let mut bare = FileDisk::open(rt, rt.alloc(), file)?;
-    let mut count = store.commitment().count;
-    let batch = u64::from(size);
-    write_bare(
-        &mut bare,
-        LOG_START.saturating_add(count),
-        batch.saturating_mul(u64::from(ROUNDS)),
-    )?;
-    let frames = append_frames(rt.alloc(), size)?;
-    let mut outputs = Vec::new(rt.alloc());
+) -> anyhow::Result<Store<D>> {
+    let count = store.commitment().count;
+    let sectors = u64::from(size).saturating_mul(u64::from(ROUNDS));
+    write_bare(bare, LOG_START.saturating_add(count), sectors)?;
     let mut core = started(rt.alloc(), store)?;
-    let (mut flushes, mut bare_work) = (Vec::new(rt.alloc()), Vec::new(rt.alloc()));
-    let mut seen = 0;
-    for _ in 0..ROUNDS {
-        let start = Instant::now(rt)?;
-        seen ^= hash_batch(count, batch);
-        write_bare(&mut bare, LOG_START.saturating_add(count), batch)?;
-        bare_work.push(start.elapsed(rt)?.as_nanos())?;
-        flushes.push(time_frames(rt, &mut core, &frames, &mut outputs)?)?;
-        drop_replies(&mut outputs, ACKNOWLEDGEMENT, frames.len())?;
-        count = count.saturating_add(batch);
-    }
-    let (flush, alone) = (low_time(&mut flushes)?, low_time(&mut bare_work)?);
-    eprintln!(rt; "flushes {size} nanoseconds {flush} bare {alone} seen {seen}")?;
+    let times = time_rounds(rt, &mut core, bare, count, size)?;
+    eprintln!(rt;
+        "flushes {size} nanoseconds {} bare {} seen {}",
+        times.whole, times.bare, times.seen
+    )?;
     Ok(core.into_store())
+}
+
+// The times of flushes of so many appends to a store of so many events.
+fn time_rounds<R: AllocGlobal + Clock, D: Sectors>(
+    rt: &R,
+    core: &mut Core<D>,
+    bare: &mut D,
+    before: u64,
+    size: u32,
+) -> anyhow::Result<Times> {
+    let frames = append_frames(rt.alloc(), size)?;
+    let mut rounds = Rounds::new(rt.alloc());
+    let mut count = before;
+    for _ in 0..ROUNDS {
+        rounds.push(time_flush(rt, core, bare, count, &frames)?)?;
+        count = count.saturating_add(u64::from(size));
+    }
+    rounds.low()
+}
+
+fn time_flush<R: AllocGlobal + Clock, D: Sectors>(
+    rt: &R,
+    core: &mut Core<D>,
+    bare: &mut D,
+    count: u64,
+    frames: &[[u8; APPEND_LEN]],
+) -> anyhow::Result<Times> {
+    let start = Instant::now(rt)?;
+    let seen = hash_batch(count, frames.len() as u64);
+    write_bare(bare, LOG_START.saturating_add(count), frames.len() as u64)?;
+    let alone = since(rt, start)?;
+    Ok(Times {
+        whole: time_frames(rt, core, frames, ACKNOWLEDGEMENT)?,
+        bare: alone,
+        seen,
+    })
 }
 
 // The frames of so many appends of an event of the kind 1 with a payload of two bytes.

@@ -1,4 +1,6 @@
+use crate::times::since;
 use audit_wire::{Decoder, Fed, read_request};
+use std::alloc::{AllocError, Global};
 use std::rt::Clock;
 use std::time::Instant;
 
@@ -10,21 +12,33 @@ const BODY_LEN: usize = 109;
 
 /// The time of so many appends of 100 bytes through a decoder, in pieces.
 pub fn measure(rt: &(impl Clock + Eprint + AllocGlobal), frames: u32) -> anyhow::Result<()> {
-    let mut stream = Vec::new(rt.alloc());
+    let stream = stream_of(rt.alloc(), frames)?;
+    let start = Instant::now(rt)?;
+    let requests = decode(rt.alloc(), &stream)?;
+    let time = since(rt, start)?;
+    let bytes = stream.len();
+    eprintln!(rt; "frames {requests} bytes {bytes} nanoseconds {time}")?;
+    Ok(())
+}
+
+// So many appends.
+fn stream_of(alloc: Global, frames: u32) -> Result<Vec<u8>, AllocError> {
+    let mut stream = Vec::new(alloc);
     for _ in 0..frames {
         stream.extend_from_slice(&[0, BODY_LEN as u8])?;
         stream.extend_from_slice(&[1; BODY_LEN])?;
     }
-    let start = Instant::now(rt)?;
-    let mut decoder = Decoder::new(rt.alloc())?;
+    Ok(stream)
+}
+
+// The number of good requests in the stream.
+fn decode(alloc: Global, stream: &[u8]) -> Result<u64, AllocError> {
+    let mut decoder = Decoder::new(alloc)?;
     let mut requests = 0u64;
     for piece in stream.chunks(PIECE_LEN) {
         requests = requests.saturating_add(feed(&mut decoder, piece));
     }
-    let time = start.elapsed(rt)?.as_nanos();
-    let bytes = stream.len();
-    eprintln!(rt; "frames {requests} bytes {bytes} nanoseconds {time}")?;
-    Ok(())
+    Ok(requests)
 }
 
 // The number of good requests that end in the piece.

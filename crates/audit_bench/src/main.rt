@@ -14,33 +14,54 @@ mod leaves;
 mod questions;
 mod sessions;
 mod stores;
+mod times;
 
 use anyhow::{Context, bail};
 use std::env;
 
 fn main(rt: HostRuntime) -> anyhow::Result<()> {
-    let mut words = env::args(&rt)?.skip(1);
-    for name in ["blocks", "leaves", "frames"] {
-        let word = words.next().context("three numbers are wanted")?;
-        let size: u32 = word.parse().context("a decimal number is wanted")?;
-        match name {
-            "blocks" => blocks::measure(&rt, size)?,
-            "leaves" => leaves::measure(&rt, size)?,
-            _ => frames::measure(&rt, size)?,
-        }
-        println!(rt; "{name} measured")?;
+    let words: Vec<String> = env::args(&rt)?.skip(1).collect(rt.alloc())?;
+    for (place, name) in ["blocks", "leaves", "frames"].iter().enumerate() {
+        measure_layer(&rt, name, number_at(&words, place)?)?;
     }
-    if let Some(what) = words.next() {
-        let file = words.next().context("a file is wanted")?;
-        let events = words.next().context("a number of events is wanted")?;
-        let events: u32 = events.parse().context("a decimal number is wanted")?;
-        match what.as_str() {
-            "store" => stores::measure(&rt, &file, events)?,
-            "sessions" => sessions::measure(&rt, &file, events)?,
-            "export" => exports::measure(&rt, &file, events)?,
-            _ => bail!("a store, sessions or an export is wanted"),
-        }
-        println!(rt; "{what} measured")?;
+    match words.get(3) {
+        Some(name) => measure_file(&rt, name, word_at(&words, 4)?, number_at(&words, 5)?),
+        None => Ok(()),
     }
+}
+
+fn measure_layer(rt: &HostRuntime, name: &str, size: u32) -> anyhow::Result<()> {
+    match name {
+        "blocks" => blocks::measure(rt, size)?,
+        "leaves" => leaves::measure(rt, size)?,
+        _ => frames::measure(rt, size)?,
+    }
+    println!(rt; "{name} measured")?;
     Ok(())
+}
+
+fn measure_file(rt: &HostRuntime, name: &str, file: &str, events: u32) -> anyhow::Result<()> {
+    match name {
+        "store" => stores::measure(rt, file, events)?,
+        "sessions" => sessions::measure(rt, file, events)?,
+        "export" => exports::measure(rt, file, events)?,
+        _ => bail!("a store, sessions or an export is wanted"),
+    }
+    println!(rt; "{name} measured")?;
+    Ok(())
+}
+
+fn word_at(words: &[String], place: usize) -> anyhow::Result<&str> {
+    match words.get(place) {
+        Some(word) => Ok(word.as_str()),
+        None => bail!("a word is missing"),
+    }
+}
+
+fn number_at(words: &[String], place: usize) -> anyhow::Result<u32> {
+    Ok(
+        word_at(words, place)?
+            .parse()
+            .context("a decimal number is wanted")?,
+    )
 }

@@ -1,19 +1,21 @@
 //! Replies to questions for membership proofs, beside the proof, the reads of the entry's sectors and its leaf hash.
-use crate::sessions::{ROUNDS, drop_replies, low_time, started, time_frames};
-use crate::stores::Disk;
+use crate::sessions::{ROUNDS, started, time_frames};
+use crate::times::{Rounds, Times, since};
 use anyhow::bail;
-use audit_disk::{FileDisk, SECTOR_SIZE, Sectors};
+use audit_disk::{SECTOR_SIZE, Sectors};
 use audit_log::LOG_START;
 use audit_store::Store;
 use audit_tree::leaf_hash;
 use std::alloc::Global;
-use std::fs::Files;
-use std::os::unix::fs::FileExt;
 use std::rt::Clock;
 use std::time::Instant;
 
 // The questions of a batch.
 const QUESTIONS: u32 = 64;
+
+// How far the indices of one question and of the next one are from each other, before they are brought below the count: a
+// prime number.
+const STRIDE: u64 = 7_368_787;
 
 // The frame of a question for a membership proof.
 const QUESTION_LEN: usize = 23;
@@ -25,38 +27,58 @@ const MEMBERSHIP: u8 = 0x83;
 const ENTRY_LEN: usize = 74;
 
 /// Times replies to questions for membership proofs of entries all over the log, under the count of all, and as many
-/// proofs, reads and leaf hashes alone, of other entries.
-pub fn time_questions<R: Files + AllocGlobal + Clock + Eprint>(
+/// proofs, reads and leaf hashes alone, of other entries, by a second handle of the file.
+pub fn time_questions<R: AllocGlobal + Clock + Eprint, D: Sectors + Drop>(
     rt: &R,
-    store: Store<Disk<R::File>>,
-    file: &str,
-) -> anyhow::Result<()>
-where
-    R::File: FileExt,
-{
-    let mut bare = FileDisk::open(rt, rt.alloc(), file)?;
+    store: Store<D>,
+    bare: &mut D,
+) -> anyhow::Result<()> {
     let mut store = store;
-    let count = store.commitment().count;
-    let mut outputs = Vec::new(rt.alloc());
-    let (mut replies, mut bare_work) = (Vec::new(rt.alloc()), Vec::new(rt.alloc()));
-    let mut seen = 0;
+    let mut rounds = Rounds::new(rt.alloc());
     for round in 0..ROUNDS {
-        let indices = some_indices(rt.alloc(), round.saturating_mul(2), count)?;
-        let start = Instant::now(rt)?;
-        seen ^= bare_replies(&store, &mut bare, &indices)?;
-        bare_work.push(start.elapsed(rt)?.as_nanos())?;
-        let indices = some_indices(rt.alloc(), round.saturating_mul(2).saturating_add(1), count)?;
-        let frames = question_frames(rt.alloc(), &indices, count)?;
-        let mut core = started(rt.alloc(), store)?;
-        replies.push(time_frames(rt, &mut core, &frames, &mut outputs)?)?;
-        drop_replies(&mut outputs, MEMBERSHIP, frames.len())?;
-        store = core.into_store();
+        let timed = time_bare(rt, &store, bare, round.saturating_mul(2))?;
+        let (whole, after) = time_replies(rt, store, round.saturating_mul(2).saturating_add(1))?;
+        rounds.push(Times { whole, ..timed })?;
+        store = after;
     }
-    let (reply, alone) = (low_time(&mut replies)?, low_time(&mut bare_work)?);
+    let count = store.commitment().count;
+    let times = rounds.low()?;
     eprintln!(rt;
-        "replies {QUESTIONS} nanoseconds {reply} bare {alone} events {count} seen {seen}"
+        "replies {QUESTIONS} nanoseconds {} bare {} events {count} seen {}",
+        times.whole, times.bare, times.seen
     )?;
     Ok(())
+}
+
+// Times what replies to a batch of questions can't do without.
+fn time_bare<R: AllocGlobal + Clock, D: Sectors>(
+    rt: &R,
+    store: &Store<D>,
+    bare: &mut D,
+    batch: u32,
+) -> anyhow::Result<Times> {
+    let indices = some_indices(rt.alloc(), batch, store.commitment().count)?;
+    let start = Instant::now(rt)?;
+    let seen = bare_replies(store, bare, &indices)?;
+    Ok(Times {
+        whole: 0,
+        bare: since(rt, start)?,
+        seen,
+    })
+}
+
+// Times the replies to a batch of questions, and gives the store back.
+fn time_replies<R: AllocGlobal + Clock, D: Sectors + Drop>(
+    rt: &R,
+    store: Store<D>,
+    batch: u32,
+) -> anyhow::Result<(u128, Store<D>)> {
+    let count = store.commitment().count;
+    let indices = some_indices(rt.alloc(), batch, count)?;
+    let frames = question_frames(rt.alloc(), &indices, count)?;
+    let mut core = started(rt.alloc(), store)?;
+    let time = time_frames(rt, &mut core, &frames, MEMBERSHIP)?;
+    Ok((time, core.into_store()))
 }
 
 // Numbers below the count, all over it: others for each batch.
@@ -64,9 +86,14 @@ fn some_indices(alloc: Global, batch: u32, count: u64) -> anyhow::Result<Vec<u64
     let mut indices = Vec::new(alloc);
     for place in 0..QUESTIONS {
         let number = u64::from(batch.wrapping_mul(QUESTIONS).wrapping_add(place));
-        indices.push(number.wrapping_mul(0x9e37_79b9_7f4a_7c15).wrapping_shr(32) % count.max(1))?;
+        indices.push(scattered(number, count))?;
     }
     Ok(indices)
+}
+
+// A number below the count, far from that of the next number.
+fn scattered(number: u64, count: u64) -> u64 {
+    number.wrapping_mul(STRIDE).checked_rem(count).unwrap_or(0)
 }
 
 // The frames of questions for membership proofs of these entries under a count.

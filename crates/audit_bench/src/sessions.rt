@@ -1,10 +1,10 @@
 //! What sessions cost over a store in a file: group commit of small events, and replies to questions.
 use crate::flushes::time_flushes;
 use crate::questions::time_questions;
-use crate::stores::{LARGE_BATCH, made, small_events};
+use crate::stores::{LARGE_BATCH, append_large, new_store, small_events};
+use crate::times::since;
 use anyhow::{Context, bail};
 use audit_base::SESSIONS;
-use audit_chain::Key;
 use audit_disk::{FileDisk, Sectors};
 use audit_server::Core;
 use audit_store::Store;
@@ -36,22 +36,29 @@ where
     R::File: FileExt,
 {
     let events = u64::from(events);
-    let disk = FileDisk::create(rt, rt.alloc(), file, SPARE_SECTORS + events)?;
-    let mut store = made(Store::format(rt.alloc(), disk, Key::from_bytes([0; 32])))?;
-    for size in FLUSH_SIZES {
-        store = time_flushes(rt, store, file, size)?;
-    }
+    let store = new_store(rt, file, SPARE_SECTORS + events)?;
+    let mut bare = FileDisk::open(rt, rt.alloc(), file)?;
+    let mut store = time_sizes(rt, store, &mut bare)?;
     fill(rt.alloc(), &mut store, events)?;
-    time_questions(rt, store, file)
+    time_questions(rt, store, &mut bare)
+}
+
+fn time_sizes<R: AllocGlobal + Clock + Eprint, D: Sectors + Drop>(
+    rt: &R,
+    store: Store<D>,
+    bare: &mut D,
+) -> anyhow::Result<Store<D>> {
+    let mut store = store;
+    for size in FLUSH_SIZES {
+        store = time_flushes(rt, store, bare, size)?;
+    }
+    Ok(store)
 }
 
 // Appends small events until the store holds so many.
 fn fill<D: Sectors>(alloc: Global, store: &mut Store<D>, events: u64) -> anyhow::Result<()> {
     let missing = events.saturating_sub(store.commitment().count);
-    let batch = small_events(alloc, LARGE_BATCH)?;
-    for _ in 0..missing / u64::from(LARGE_BATCH) {
-        store.append(&batch)?;
-    }
+    append_large(alloc, store, missing / u64::from(LARGE_BATCH))?;
     let rest = missing % u64::from(LARGE_BATCH);
     store.append(&small_events(alloc, rest as u32)?)?;
     Ok(())
@@ -59,25 +66,33 @@ fn fill<D: Sectors>(alloc: Global, store: &mut Store<D>, events: u64) -> anyhow:
 
 /// A core over a store.
 pub fn started<D: Sectors + Drop>(alloc: Global, store: Store<D>) -> anyhow::Result<Core<D>> {
-    match Core::new(alloc, store) {
-        Ok(core) => Ok(core),
-        Err(_) => bail!("no memory for a core"),
-    }
+    Core::new(alloc, store).ok().context("no memory for a core")
 }
 
 /// The time of these frames: each is given to a session, in turns, then there is a flush, and each session's output is
-/// taken.
-pub fn time_frames<R: Clock, D: Sectors, const N: usize>(
+/// taken. The outputs have to have a reply for each frame that begins with this byte.
+pub fn time_frames<R: AllocGlobal + Clock, D: Sectors, const N: usize>(
     rt: &R,
     core: &mut Core<D>,
     frames: &[[u8; N]],
-    outputs: &mut Vec<Vec<u8>>,
+    first: u8,
 ) -> anyhow::Result<u128> {
+    let mut outputs = Vec::with_capacity(rt.alloc(), SESSIONS)?;
     let start = Instant::now(rt)?;
+    answer_frames(core, frames, &mut outputs)?;
+    let time = since(rt, start)?;
+    judge_replies(&outputs, first, frames.len())?;
+    Ok(time)
+}
+
+fn answer_frames<D: Sectors, const N: usize>(
+    core: &mut Core<D>,
+    frames: &[[u8; N]],
+    outputs: &mut Vec<Vec<u8>>,
+) -> anyhow::Result<()> {
     feed_frames(core, frames)?;
     core.flush()?;
-    take_outputs(core, outputs)?;
-    Ok(start.elapsed(rt)?.as_nanos())
+    take_outputs(core, outputs)
 }
 
 fn feed_frames<D: Sectors, const N: usize>(
@@ -99,13 +114,12 @@ fn take_outputs<D: Sectors>(core: &mut Core<D>, outputs: &mut Vec<Vec<u8>>) -> a
     Ok(())
 }
 
-/// Drops the outputs, which have to have so many replies that begin with this byte.
-pub fn drop_replies(outputs: &mut Vec<Vec<u8>>, first: u8, wanted: usize) -> anyhow::Result<()> {
+// The outputs have to have so many replies that begin with this byte.
+fn judge_replies(outputs: &[Vec<u8>], first: u8, wanted: usize) -> anyhow::Result<()> {
     let mut found = 0usize;
-    for output in outputs.iter() {
+    for output in outputs {
         found = found.saturating_add(count_replies(output, first));
     }
-    outputs.clear();
     if found != wanted {
         bail!("{found} replies in place of {wanted}");
     }
@@ -126,11 +140,4 @@ fn count_replies(output: &[u8], first: u8) -> usize {
         rest = behind;
     }
     count
-}
-
-/// The time that a tenth of these times are below.
-pub fn low_time(times: &mut Vec<u128>) -> anyhow::Result<u128> {
-    times.sort()?;
-    let place = times.len() / 10;
-    times.get(place).copied().context("nothing was timed")
 }

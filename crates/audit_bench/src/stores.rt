@@ -1,11 +1,12 @@
 //! What a store in a file costs, beside the calls of the file and the SHA-256 blocks that it can't do without.
+use crate::times::{Times, since};
 use anyhow::{Context, bail};
 use audit_chain::{Event, Key};
 use audit_disk::{FileDisk, OsFile, SECTOR_SIZE, Sectors};
 use audit_store::{Failed, Store};
 use sha2::{Digest, Sha256};
 use std::alloc::Global;
-use std::fs::{self, Files, OpenFile};
+use std::fs::{self, Files};
 use std::os::unix::fs::FileExt;
 use std::rt::Clock;
 use std::time::Instant;
@@ -36,7 +37,7 @@ const BATCH_LENS: [usize; 14] = [480, 480, 65, 65, 65, 65, 65, 65, 65, 65, 65, 6
 pub type Disk<F> = FileDisk<OsFile<F>>;
 
 /// Makes a store of so many small events in the file, in large batches, after batches that are timed; and opens it
-/// again.
+/// again. It shows the memory that the process has taken at most.
 pub fn measure<R: Files + AllocGlobal + Clock + Eprint>(
     rt: &R,
     file: &str,
@@ -45,25 +46,58 @@ pub fn measure<R: Files + AllocGlobal + Clock + Eprint>(
 where
     R::File: FileExt,
 {
-    let disk = FileDisk::create(rt, rt.alloc(), file, SPARE_SECTORS + u64::from(events))?;
-    let mut store = made(Store::format(rt.alloc(), disk, Key::from_bytes([0; 32])))?;
-    time_batches(rt, &mut store, file, 1)?;
-    time_batches(rt, &mut store, file, LARGE_BATCH)?;
-    for _ in 0..events / LARGE_BATCH {
-        store.append(&small_events(rt.alloc(), LARGE_BATCH)?)?;
-    }
-    drop(store);
-    time_opening(rt, file)
+    fill_store(rt, file, events)?;
+    time_openings(rt, file)?;
+    print_memory(rt)
 }
 
-/// The store, or why there is none.
-pub fn made<F: FileExt + OpenFile + Drop>(
-    opened: Result<Store<Disk<F>>, Failed<Disk<F>>>,
-) -> anyhow::Result<Store<Disk<F>>> {
+fn fill_store<R: Files + AllocGlobal + Clock + Eprint>(
+    rt: &R,
+    file: &str,
+    events: u32,
+) -> anyhow::Result<()>
+where
+    R::File: FileExt,
+{
+    let mut store = new_store(rt, file, SPARE_SECTORS + u64::from(events))?;
+    let mut bare = FileDisk::open(rt, rt.alloc(), file)?;
+    time_batches(rt, &mut store, &mut bare, 1)?;
+    time_batches(rt, &mut store, &mut bare, LARGE_BATCH)?;
+    append_large(rt.alloc(), &mut store, u64::from(events / LARGE_BATCH))
+}
+
+/// A new store of so many sectors in the file, which isn't there.
+pub fn new_store<R: Files + AllocGlobal>(
+    rt: &R,
+    file: &str,
+    sectors: u64,
+) -> anyhow::Result<Store<Disk<R::File>>>
+where
+    R::File: FileExt,
+{
+    let disk = FileDisk::create(rt, rt.alloc(), file, sectors)?;
+    made(Store::format(rt.alloc(), disk, Key::from_bytes([0; 32])))
+}
+
+// The store, or why there is none.
+fn made<D: Sectors + Drop>(opened: Result<Store<D>, Failed<D>>) -> anyhow::Result<Store<D>> {
     match opened {
         Ok(store) => Ok(store),
         Err(failed) => Err(failed.error.into()),
     }
+}
+
+/// Appends so many large batches of small events.
+pub fn append_large<D: Sectors>(
+    alloc: Global,
+    store: &mut Store<D>,
+    batches: u64,
+) -> anyhow::Result<()> {
+    let batch = small_events(alloc, LARGE_BATCH)?;
+    for _ in 0..batches {
+        store.append(&batch)?;
+    }
+    Ok(())
 }
 
 /// So many events of the kind 1 with a payload of two bytes.
@@ -75,32 +109,52 @@ pub fn small_events(alloc: Global, count: u32) -> anyhow::Result<Vec<Event>> {
     Ok(events)
 }
 
-// Times the appends of batches of so many events; and before each, what it can't do without: the SHA-256 blocks, and
-// the writes and syncs of the same sectors by a second handle of the file.
-fn time_batches<R: Files + AllocGlobal + Clock + Eprint>(
+// Times the appends of batches of so many events, beside what they can't do without.
+fn time_batches<R: AllocGlobal + Clock + Eprint, D: Sectors>(
     rt: &R,
-    store: &mut Store<Disk<R::File>>,
-    file: &str,
+    store: &mut Store<D>,
+    bare: &mut D,
     size: u32,
-) -> anyhow::Result<()>
-where
-    R::File: FileExt,
-{
-    let mut bare = FileDisk::open(rt, rt.alloc(), file)?;
+) -> anyhow::Result<()> {
     let batch = small_events(rt.alloc(), size)?;
-    let (mut append, mut bare_work) = (u128::MAX, u128::MAX);
-    let mut seen = 0;
-    for round in 0..ROUNDS {
-        let start = Instant::now(rt)?;
-        seen ^= hash_events(&SEALED_LENS, size) ^ hash_messages(&BATCH_LENS, u64::from(round));
-        write_bare(&mut bare, store.end(), u64::from(size))?;
-        bare_work = bare_work.min(start.elapsed(rt)?.as_nanos());
-        let start = Instant::now(rt)?;
-        store.append(&batch)?;
-        append = append.min(start.elapsed(rt)?.as_nanos());
+    let mut least = time_batch(rt, store, bare, &batch, 0)?;
+    for round in 1..ROUNDS {
+        least = least.least(time_batch(rt, store, bare, &batch, round)?);
     }
-    eprintln!(rt; "batches {size} nanoseconds {append} bare {bare_work} seen {seen}")?;
+    let Times {
+        whole,
+        bare: alone,
+        seen,
+    } = least;
+    eprintln!(rt; "batches {size} nanoseconds {whole} bare {alone} seen {seen}")?;
     Ok(())
+}
+
+// Times what the append of a batch can't do without: the SHA-256 blocks, and the writes and syncs of the same sectors by
+// a second handle of the file; and then the append.
+fn time_batch<R: Clock, D: Sectors>(
+    rt: &R,
+    store: &mut Store<D>,
+    bare: &mut D,
+    batch: &[Event],
+    round: u32,
+) -> anyhow::Result<Times> {
+    let start = Instant::now(rt)?;
+    let seen = hash_batch(batch.len() as u64, round);
+    write_bare(bare, store.end(), batch.len() as u64)?;
+    let alone = since(rt, start)?;
+    let start = Instant::now(rt)?;
+    store.append(batch)?;
+    Ok(Times {
+        whole: since(rt, start)?,
+        bare: alone,
+        seen,
+    })
+}
+
+// Hashes the messages of a batch of so many events.
+fn hash_batch(size: u64, round: u32) -> u8 {
+    hash_events(&SEALED_LENS, size) ^ hash_messages(&BATCH_LENS, u64::from(round))
 }
 
 /// What a batch writes, and its three syncs, of other bytes: so many sectors from that one on, and both headers'.
@@ -125,10 +179,10 @@ fn write_one<D: Sectors>(disk: &mut D, at: u64) -> anyhow::Result<()> {
 }
 
 // Hashes the messages of so many events.
-fn hash_events(lens: &[usize], events: u32) -> u8 {
+fn hash_events(lens: &[usize], events: u64) -> u8 {
     let mut seen = 0;
     for event in 0..events {
-        seen ^= hash_messages(lens, u64::from(event));
+        seen ^= hash_messages(lens, event);
     }
     seen
 }
@@ -144,19 +198,14 @@ pub fn hash_messages(lens: &[usize], number: u64) -> u8 {
     seen
 }
 
-// Times openings of the store in the file, beside the reading of as many sectors alone and the SHA-256 blocks, and shows
-// the memory that the process has taken at most.
-fn time_opening<R: Files + AllocGlobal + Clock + Eprint>(rt: &R, file: &str) -> anyhow::Result<()>
+// Times openings of the store in the file, beside the reading of as many sectors alone and the SHA-256 blocks.
+fn time_openings<R: Files + AllocGlobal + Clock + Eprint>(rt: &R, file: &str) -> anyhow::Result<()>
 where
     R::File: FileExt,
 {
-    let mut least = time_one_opening(rt, file)?;
+    let mut least = time_opening(rt, file)?;
     for _ in 1..OPENINGS {
-        let times = time_one_opening(rt, file)?;
-        least.opening = least.opening.min(times.opening);
-        least.calls = least.calls.min(times.calls);
-        least.blocks = least.blocks.min(times.blocks);
-        least.seen ^= times.seen;
+        least = least.least(time_opening(rt, file)?);
     }
     let OpeningTimes {
         count,
@@ -168,6 +217,11 @@ where
     eprintln!(rt;
         "opening {count} nanoseconds {opening} calls {calls} blocks {blocks} seen {seen}"
     )?;
+    Ok(())
+}
+
+// Shows the memory that the process has taken at most.
+fn print_memory<R: Files + AllocGlobal + Eprint>(rt: &R) -> anyhow::Result<()> {
     let status = fs::read_to_string(rt, "/proc/self/status").context("no memory figure")?;
     for line in status.lines() {
         if line.starts_with("VmHWM") {
@@ -187,33 +241,68 @@ struct OpeningTimes {
     seen: u8,
 }
 
+impl OpeningTimes {
+    // The least times of both.
+    fn least(self, other: OpeningTimes) -> OpeningTimes {
+        OpeningTimes {
+            count: self.count,
+            opening: self.opening.min(other.opening),
+            calls: self.calls.min(other.calls),
+            blocks: self.blocks.min(other.blocks),
+            seen: self.seen ^ other.seen,
+        }
+    }
+}
+
+// A store that was opened in so many nanoseconds: its events, and the end of its log.
+#[derive(Clone, Copy)]
+struct Opened {
+    nanoseconds: u128,
+    count: u64,
+    end: u64,
+}
+
 // Opens the store once, then reads its sectors, and then hashes what was hashed.
-fn time_one_opening<R: Files + AllocGlobal + Clock>(
-    rt: &R,
-    file: &str,
-) -> anyhow::Result<OpeningTimes>
+fn time_opening<R: Files + AllocGlobal + Clock>(rt: &R, file: &str) -> anyhow::Result<OpeningTimes>
+where
+    R::File: FileExt,
+{
+    let opened = open_once(rt, file)?;
+    let calls = time_reads(rt, file, opened.end)?;
+    let start = Instant::now(rt)?;
+    let seen = hash_events(&READ_LENS, opened.count);
+    Ok(OpeningTimes {
+        count: opened.count,
+        opening: opened.nanoseconds,
+        calls,
+        blocks: since(rt, start)?,
+        seen,
+    })
+}
+
+fn open_once<R: Files + AllocGlobal + Clock>(rt: &R, file: &str) -> anyhow::Result<Opened>
 where
     R::File: FileExt,
 {
     let disk = FileDisk::open(rt, rt.alloc(), file)?;
     let start = Instant::now(rt)?;
     let store = made(Store::open(rt.alloc(), disk))?;
-    let opening = start.elapsed(rt)?.as_nanos();
-    let count = store.commitment().count;
+    Ok(Opened {
+        nanoseconds: since(rt, start)?,
+        count: store.commitment().count,
+        end: store.end(),
+    })
+}
+
+// Times the reading of every sector below that one.
+fn time_reads<R: Files + AllocGlobal + Clock>(rt: &R, file: &str, end: u64) -> anyhow::Result<u128>
+where
+    R::File: FileExt,
+{
     let mut bare = FileDisk::open(rt, rt.alloc(), file)?;
     let start = Instant::now(rt)?;
-    read_bare(&mut bare, store.end())?;
-    let calls = start.elapsed(rt)?.as_nanos();
-    let start = Instant::now(rt)?;
-    let seen = hash_events(&READ_LENS, count as u32);
-    let blocks = start.elapsed(rt)?.as_nanos();
-    Ok(OpeningTimes {
-        count,
-        opening,
-        calls,
-        blocks,
-        seen,
-    })
+    read_bare(&mut bare, end)?;
+    Ok(since(rt, start)?)
 }
 
 // Reads every sector below that one.

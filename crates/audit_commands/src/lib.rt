@@ -34,10 +34,3 @@ pub use reporting::report;
 pub use request::{Request, run};
 pub use showing::show;
 pub use status::Status;
-
-#[cfg(test)]
-mod file_tests;
-#[cfg(test)]
-mod store_tests;
-#[cfg(test)]
-mod tests;

@@ -1,6 +1,6 @@
 //! What the program is asked to do, and doing it.
 use crate::appending::append_lines;
-use crate::arguments::{commitment_asked, proof_request, sectors_asked};
+use crate::arguments::{ProofRequest, commitment_asked, proof_request, sectors_asked};
 use crate::checking::check_proof;
 use crate::exporting::{write_entries, write_exported};
 use crate::fault::CommandFault;
@@ -14,7 +14,9 @@ use crate::showing::show;
 use crate::status::Status;
 use crate::text::write_number;
 use audit_auditor::verify_export;
-use audit_store::StoreError;
+use audit_chain::Key;
+use audit_device::Sectors;
+use audit_store::{Store, StoreError};
 use std::alloc::Global;
 use std::fs::{self, Files};
 use std::io::{BufWriter, Read, Write};
@@ -24,7 +26,7 @@ use std::os::unix::fs::FileExt;
 const EXPORT_ROOM: usize = 1 << 16;
 
 /// What the program is asked to do, with the words of the command line as they were given.
-#[derive(Clone, Copy, Debug, PartialEq, Eq)]
+#[derive(Clone, Copy, Debug)]
 pub enum Request<'a> {
     /// Seal the events of the input, and write the entries and their commitment.
     Replay,
@@ -126,11 +128,8 @@ where
             sectors,
             key_file,
         } => format_file(rt, alloc, file, sectors, key_file, output),
-        Request::Append { file } => {
-            let mut store = open_store(rt, alloc, file)?;
-            append_lines(alloc, &mut store, input, output)
-        }
-        Request::Show { file } => show(alloc, &open_store(rt, alloc, file)?, output),
+        Request::Append { file } => append_to(rt, alloc, file, input, output),
+        Request::Show { file } => show_file(rt, alloc, file, output),
         Request::Check {
             proof,
             older,
@@ -141,27 +140,17 @@ where
             export,
             key_file,
             commitment,
-        } => {
-            let first_key = read_key(alloc, &mut fs::open(rt, key_file)?)?;
-            let commitment = commitment_asked(commitment)?;
-            let mut export = fs::open(rt, export)?;
-            Ok(verify_export(alloc, &mut export, &first_key, &commitment, output)?)
-        }
+        } => verify_file(rt, alloc, export, key_file, commitment, output),
         Request::Prove {
             file,
             kind,
             first,
             second,
             out,
-        } => {
-            let Some(asked) = proof_request(kind, first, second) else {
-                return Err(CommandFault::BadArgument);
-            };
-            let mut store = open_store(rt, alloc, file)?;
-            let proof = proof_bytes(alloc, &mut store, asked)?;
-            replace_file(rt, file, out)?.write_all(&proof)?;
-            write_number(alloc, b"proof ", proof.len() as u64, output)
-        }
+        } => match proof_request(kind, first, second) {
+            Some(asked) => prove_file(rt, alloc, file, asked, out, output),
+            None => Err(CommandFault::BadArgument),
+        },
     }
 }
 
@@ -178,13 +167,46 @@ where
     F::File: FileExt,
 {
     let sectors = sectors_asked(sectors)?;
-    let first_key = read_key(alloc, &mut fs::open(rt, key_file)?)?;
+    let first_key = key_in(rt, alloc, key_file)?;
     let disk = make_device(rt, alloc, file, sectors)?;
     let formatted = format_device(alloc, disk, first_key, output);
     if matches!(formatted, Err(CommandFault::Refused(_))) {
         let _ = fs::remove_file(rt, file);
     }
     formatted
+}
+
+// The key that a key file holds.
+fn key_in<F: Files>(rt: &F, alloc: Global, key_file: &str) -> Result<Key, CommandFault> {
+    let mut file = fs::open(rt, key_file)?;
+    read_key(alloc, &mut file)
+}
+
+fn append_to<F: Files, R: Read, W: Write>(
+    rt: &F,
+    alloc: Global,
+    file: &str,
+    input: &mut R,
+    output: &mut W,
+) -> Result<(), CommandFault>
+where
+    F::File: FileExt,
+{
+    let mut store = open_store(rt, alloc, file)?;
+    append_lines(alloc, &mut store, input, output)
+}
+
+fn show_file<F: Files, W: Write>(
+    rt: &F,
+    alloc: Global,
+    file: &str,
+    output: &mut W,
+) -> Result<(), CommandFault>
+where
+    F::File: FileExt,
+{
+    let store = open_store(rt, alloc, file)?;
+    show(alloc, &store, output)
 }
 
 // The commitments are judged before the file is touched.
@@ -219,11 +241,66 @@ where
     F::File: FileExt,
 {
     let mut store = open_store(rt, alloc, file)?;
-    let export = replace_file(rt, file, out)?;
-    let Ok(mut export) = BufWriter::with_capacity(alloc, EXPORT_ROOM, export) else {
+    let size = write_export(alloc, &mut store, replace_file(rt, file, out)?)?;
+    write_exported(alloc, store.commitment().count, size, output)
+}
+
+// Writes the entries of a store to a file, and returns how many bytes they have.
+fn write_export<D: Sectors, W: Write + Drop>(
+    alloc: Global,
+    store: &mut Store<D>,
+    file: W,
+) -> Result<u64, CommandFault> {
+    let Ok(mut export) = BufWriter::with_capacity(alloc, EXPORT_ROOM, file) else {
         return Err(CommandFault::Refused(StoreError::Memory));
     };
-    let size = write_entries(&mut store, &mut export)?;
+    let size = write_entries(store, &mut export)?;
     export.flush()?;
-    write_exported(alloc, store.commitment().count, size, output)
+    Ok(size)
+}
+
+// The arguments are judged before the export is touched.
+fn verify_file<F: Files, W: Write>(
+    rt: &F,
+    alloc: Global,
+    export: &str,
+    key_file: &str,
+    commitment: &str,
+    output: &mut W,
+) -> Result<(), CommandFault> {
+    let first_key = key_in(rt, alloc, key_file)?;
+    let commitment = commitment_asked(commitment)?;
+    let mut export = fs::open(rt, export)?;
+    Ok(verify_export(alloc, &mut export, &first_key, &commitment, output)?)
+}
+
+// The store is opened before the file of the proof is made, which isn't that of the store.
+fn prove_file<F: Files, W: Write>(
+    rt: &F,
+    alloc: Global,
+    file: &str,
+    asked: ProofRequest,
+    out: &str,
+    output: &mut W,
+) -> Result<(), CommandFault>
+where
+    F::File: FileExt,
+{
+    let proof = proof_of(rt, alloc, file, asked)?;
+    replace_file(rt, file, out)?.write_all(&proof)?;
+    write_number(alloc, b"proof ", proof.len() as u64, output)
+}
+
+// The bytes of a proof of the store in a file.
+fn proof_of<F: Files>(
+    rt: &F,
+    alloc: Global,
+    file: &str,
+    asked: ProofRequest,
+) -> Result<Vec<u8>, CommandFault>
+where
+    F::File: FileExt,
+{
+    let mut store = open_store(rt, alloc, file)?;
+    proof_bytes(alloc, &mut store, asked)
 }

@@ -13,16 +13,22 @@ const APPEND: &[u8] = b"\x00\x0b\x01\x00\x00\x00\x07\x00\x00\x00\x01hi";
 pub fn try_cuts<R: AllocGlobal + Print>(rt: &R, stream: &[u8]) -> anyhow::Result<()> {
     let alloc = rt.alloc();
     let whole = answers(alloc, &[stream])?;
-    let mut ways = 0u64;
-    for first in 0..=stream.len() {
-        let (front, rest) = cut(stream, first);
-        ways = ways.saturating_add(cuts_behind(alloc, front, rest, &whole)?);
-    }
+    let ways = try_ways(alloc, stream, &whole)?;
     if answers_by_bytes(alloc, stream)?.as_slice() != whole.as_slice() {
         bail!("byte by byte it is answered otherwise");
     }
     println!(rt; "{ways} ways {}", text_of(alloc, &whole)?)?;
     Ok(())
+}
+
+// In how many ways the bytes are cut in two and three.
+fn try_ways(alloc: Global, stream: &[u8], whole: &[u8]) -> anyhow::Result<u64> {
+    let mut ways = 0u64;
+    for first in 0..=stream.len() {
+        let (front, rest) = cut(stream, first);
+        ways = ways.saturating_add(cuts_behind(alloc, front, rest, whole)?);
+    }
+    Ok(ways)
 }
 
 // The bytes before the place, and those from it on.

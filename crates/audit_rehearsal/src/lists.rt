@@ -32,20 +32,31 @@ fn play_list(alloc: Global, number: u64, hasher: &mut Sha256) -> anyhow::Result<
     let mut random = Random::new(number);
     let mut core = random_core(alloc, &mut random)?;
     let streams = random_streams(alloc, &mut random)?;
+    let mut outputs = no_outputs(alloc)?;
+    drive_groups(&mut core, random, &streams, &mut outputs)?;
+    core.flush()?;
+    add_sessions(&mut core, &mut outputs, hasher)?;
+    add_store(core.into_store(), hasher)
+}
+
+// Drives the groups of a list, and after each takes what waits for a session.
+fn drive_groups(
+    core: &mut Core<Device>,
+    mut random: Random,
+    streams: &[Vec<u8>],
+    outputs: &mut [Vec<u8>],
+) -> anyhow::Result<()> {
     let flushes = match random.below(3) {
         0 => 4,
         1 => 12,
         _ => 60,
     };
-    let mut plan = Plan::new(random, &streams, flushes);
-    let mut outputs = no_outputs(alloc)?;
+    let mut plan = Plan::new(random, streams, flushes);
     for group in 0..GROUPS {
-        drive_four(&mut core, &mut plan)?;
-        gather(&mut core, &mut outputs, group % SESSIONS)?;
+        drive_four(core, &mut plan)?;
+        gather(core, outputs, group % SESSIONS)?;
     }
-    core.flush()?;
-    add_sessions(&mut core, &mut outputs, hasher)?;
-    add_store(core.into_store(), hasher)
+    Ok(())
 }
 
 // One store in eight is worn, and one in eight after its first commit.

@@ -6,6 +6,7 @@ use crate::stores::{Device, TRIES, new_core, open_core, worn_core};
 use crate::texts::{bytes_of, number_of, text_of};
 use anyhow::{Context, bail};
 use audit_base::SESSIONS;
+use audit_disk::MemDisk;
 use audit_server::{Core, Step, drive};
 use audit_store::{Store, StoreError};
 
@@ -27,9 +28,7 @@ impl Scene {
             "#" => self.title(rt, line),
             "store" | "worn" => self.begin(rt, task, rest),
             "open" => self.open(rt),
-            "cuts" => try_cuts(rt, &bytes_of(rt.alloc(), rest)?),
-            "lists" => play_lists(rt, number_of(rest)?),
-            "serve" => serve_scene(rt, rest),
+            "cuts" | "lists" | "serve" => play_apart(rt, task, rest),
             _ => self.step(rt, task, rest),
         }
     }
@@ -45,27 +44,21 @@ impl Scene {
         task: &str,
         rest: &str,
     ) -> anyhow::Result<()> {
-        let (sectors, number) = rest.split_once(' ').context("two numbers are wanted")?;
-        let sectors = number_of(sectors)?;
-        let number = number_of(number)?;
+        let (sectors, number) = two_numbers(rest)?;
         println!(rt; "{task} {sectors} {number}")?;
         let core = if task == "store" {
-            new_core(rt.alloc(), sectors, number)?
+            new_core(rt.alloc(), sectors, number)
         } else {
-            worn_core(rt.alloc(), sectors, number)?
+            worn_core(rt.alloc(), sectors, number)
         };
-        self.core = Some(core);
+        self.core = Some(core?);
         Ok(())
     }
 
     fn open<R: AllocGlobal + Print>(&mut self, rt: &R) -> anyhow::Result<()> {
         let core = self.core.take().context("there is no store")?;
-        let store = core.into_store();
-        print_store(rt, "held", &store)?;
-        let core = open_core(rt.alloc(), store.into_disk().into_inner())?;
-        let store = core.into_store();
-        print_store(rt, "opened", &store)?;
-        self.core = Some(open_core(rt.alloc(), store.into_disk().into_inner())?);
+        let core = open_core(rt.alloc(), show_store(rt, "held", core)?)?;
+        self.core = Some(open_core(rt.alloc(), show_store(rt, "opened", core)?)?);
         Ok(())
     }
 
@@ -76,19 +69,47 @@ impl Scene {
         rest: &str,
     ) -> anyhow::Result<()> {
         let core = self.core.as_mut().context("there is no store")?;
-        let (session, digits) = rest.split_once(' ').unwrap_or((rest, ""));
         if task == "flush" {
             return flush(rt, core);
         }
-        let session: usize = session.parse().context("a session is wanted")?;
+        let (session, digits) = rest.split_once(' ').unwrap_or((rest, ""));
+        let session = session_of(session)?;
         let piece = bytes_of(rt.alloc(), digits)?;
-        match task {
-            "feed" => feed(rt, core, session, &piece),
-            "end" => end(rt, core, session),
-            "drive" => drive_steps(rt, core, session, &piece),
-            "show" => show(rt, core, session),
-            _ => bail!("there is no such step: {task}"),
-        }
+        step_session(rt, core, task, session, &piece)
+    }
+}
+
+// A task that has stores of its own.
+fn play_apart<R: AllocGlobal + Print>(rt: &R, task: &str, rest: &str) -> anyhow::Result<()> {
+    match task {
+        "cuts" => try_cuts(rt, &bytes_of(rt.alloc(), rest)?),
+        "lists" => play_lists(rt, number_of(rest)?),
+        _ => serve_scene(rt, rest),
+    }
+}
+
+fn two_numbers(words: &str) -> anyhow::Result<(u64, u64)> {
+    let (first, second) = words.split_once(' ').context("two numbers are wanted")?;
+    Ok((number_of(first)?, number_of(second)?))
+}
+
+fn session_of(word: &str) -> anyhow::Result<usize> {
+    Ok(word.parse().context("a session is wanted")?)
+}
+
+fn step_session<R: AllocGlobal + Print>(
+    rt: &R,
+    core: &mut Core<Device>,
+    task: &str,
+    session: usize,
+    piece: &[u8],
+) -> anyhow::Result<()> {
+    match task {
+        "feed" => feed(rt, core, session, piece),
+        "end" => end(rt, core, session),
+        "drive" => drive_steps(rt, core, session, piece),
+        "show" => show(rt, core, session),
+        _ => bail!("there is no such step: {task}"),
     }
 }
 
@@ -177,6 +198,17 @@ fn show<R: AllocGlobal + Print>(
     };
     println!(rt; "{session} {text}{end}")?;
     Ok(())
+}
+
+// Prints what the store of a core holds, and returns its device.
+fn show_store<R: AllocGlobal + Print>(
+    rt: &R,
+    name: &str,
+    core: Core<Device>,
+) -> anyhow::Result<MemDisk> {
+    let store = core.into_store();
+    print_store(rt, name, &store)?;
+    Ok(store.into_disk().into_inner())
 }
 
 fn print_store<R: AllocGlobal + Print>(

@@ -4,7 +4,7 @@ use crate::texts::{bytes_of, number_of, text_of};
 use anyhow::Context;
 use audit_sessions::{ServeEnd, ServeFault, StreamPair, serve};
 use audit_store::StoreError;
-use std::alloc::Global;
+use std::alloc::{AllocError, Global};
 use std::cell::Cell;
 use std::io::{self, ErrorKind, Read, Write};
 use std::rc::Rc;
@@ -76,19 +76,38 @@ struct Manner {
 
 /// Serves two streams as the words say, and prints how it ended and what was written to each.
 pub fn serve_scene<R: AllocGlobal + Print>(rt: &R, rest: &str) -> anyhow::Result<()> {
-    let mut words = Vec::new(rt.alloc());
-    for word in rest.split(' ') {
+    let words = words_of(rt.alloc(), rest)?;
+    let mut streams = streams_of(rt.alloc(), &words)?;
+    let served = serve_both(rt.alloc(), number_at(&words, 0)?, &mut streams)?;
+    println!(rt; "turns {} {}", served.turns, served.end)?;
+    print_written(rt, &streams)?;
+    println!(rt; "count {}", served.count)?;
+    Ok(())
+}
+
+fn words_of<'a>(alloc: Global, text: &'a str) -> Result<Vec<&'a str>, AllocError> {
+    let mut words = Vec::new(alloc);
+    for word in text.split(' ') {
         words.push(word)?;
     }
-    let manner = Manner {
-        most_read: number_at(&words, 1)? as usize,
-        reads: number_at(&words, 2)? as usize,
-        most_written: number_at(&words, 3)? as usize,
-        waits: number_at(&words, 4)? > 0,
-    };
-    let first = bytes_of(rt.alloc(), word_at(&words, 5)?)?;
-    let second = bytes_of(rt.alloc(), word_at(&words, 6)?)?;
-    serve_streams(rt, number_at(&words, 0)?, manner, first, second)
+    Ok(words)
+}
+
+// The streams that the words after the first describe.
+fn streams_of(alloc: Global, words: &[&str]) -> anyhow::Result<[Stream; 2]> {
+    let manner = manner_of(words)?;
+    let first = bytes_of(alloc, word_at(words, 5)?)?;
+    let second = bytes_of(alloc, word_at(words, 6)?)?;
+    Ok(two_streams(alloc, manner, first, second)?)
+}
+
+fn manner_of(words: &[&str]) -> anyhow::Result<Manner> {
+    Ok(Manner {
+        most_read: number_at(words, 1)? as usize,
+        reads: number_at(words, 2)? as usize,
+        most_written: number_at(words, 3)? as usize,
+        waits: number_at(words, 4)? > 0,
+    })
 }
 
 fn word_at<'a>(words: &[&'a str], place: usize) -> anyhow::Result<&'a str> {
@@ -99,26 +118,44 @@ fn number_at(words: &[&str], place: usize) -> anyhow::Result<u64> {
     number_of(word_at(words, place)?)
 }
 
-fn serve_streams<R: AllocGlobal + Print>(
-    rt: &R,
-    calls: u64,
+// Two streams of these bytes, of which each may wait for what is written to the other.
+fn two_streams(
+    alloc: Global,
     manner: Manner,
     first: Vec<u8>,
     second: Vec<u8>,
-) -> anyhow::Result<()> {
-    let mut core = new_core(rt.alloc(), 16, calls)?;
-    let front = Rc::new(rt.alloc(), Cell::new(false))?;
-    let back = Rc::new(rt.alloc(), Cell::new(false))?;
-    let mut streams = [
-        stream(rt.alloc(), manner, first, front.clone()?, back.clone()?),
-        stream(rt.alloc(), manner, second, back, front),
-    ];
-    let end = serve(&mut core, &mut streams);
-    println!(rt; "turns {} {}", end.turns, name_of(&end))?;
-    for stream in &streams {
+) -> Result<[Stream; 2], AllocError> {
+    let front = Rc::new(alloc, Cell::new(false))?;
+    let back = Rc::new(alloc, Cell::new(false))?;
+    Ok([
+        stream(alloc, manner, first, front.clone()?, back.clone()?),
+        stream(alloc, manner, second, back, front),
+    ])
+}
+
+// How the streams were served, and how many events there are then.
+#[derive(Clone, Copy)]
+struct Served {
+    turns: u64,
+    end: &'static str,
+    count: u64,
+}
+
+// Serves the streams over a device that fails once, after so many calls.
+fn serve_both(alloc: Global, calls: u64, streams: &mut [Stream; 2]) -> anyhow::Result<Served> {
+    let mut core = new_core(alloc, 16, calls)?;
+    let end = serve(&mut core, streams);
+    Ok(Served {
+        turns: end.turns,
+        end: name_of(&end),
+        count: core.into_store().commitment().count,
+    })
+}
+
+fn print_written<R: AllocGlobal + Print>(rt: &R, streams: &[Stream]) -> anyhow::Result<()> {
+    for stream in streams {
         println!(rt; "written {}", text_of(rt.alloc(), &stream.writer().bytes)?)?;
     }
-    println!(rt; "count {}", core.into_store().commitment().count)?;
     Ok(())
 }
 

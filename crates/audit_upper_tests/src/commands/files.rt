@@ -1,6 +1,5 @@
 // Whole command lines over files. What is printed is that of an independent model.
-use crate::request::{Request, run};
-use crate::status::Status;
+use audit_commands::{Request, Status, run};
 use std::fs::{self, OpenOptions};
 use std::path::PathBuf;
 use std::test::Fail;

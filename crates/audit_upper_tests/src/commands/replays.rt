@@ -1,6 +1,5 @@
 // What is printed is that of an independent model, which shares no code with the program.
-use crate::request::{Request, run};
-use crate::status::Status;
+use audit_commands::{Request, Status, run};
 use std::alloc::{AllocError, Global};
 use std::io::{self, ErrorKind, Read, Write};
 use std::str;

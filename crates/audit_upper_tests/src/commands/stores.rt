@@ -1,11 +1,6 @@
 // What is printed is that of an independent model, which shares no code with the program.
-use crate::appending::append_lines;
-use crate::arguments::ProofRequest;
-use crate::fault::CommandFault;
-use crate::formatting::format_device;
-use crate::proving::proof_bytes;
-use crate::showing::show;
 use audit_chain::Key;
+use audit_commands::{CommandFault, ProofRequest, append_lines, format_device, proof_bytes, show};
 use audit_disk::{FailOnce, MemDisk};
 use audit_lines::{LineFault, LinesFault};
 use audit_store::{Store, StoreError};

@@ -1,5 +1,5 @@
 // What is expected is what an independent model gives.
-use super::*;
+use audit_auditor::{commitment_of, verify_export};
 use audit_chain::Key;
 use audit_proof::Commitment;
 use hex::FromHex;

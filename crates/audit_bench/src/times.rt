@@ -1,0 +1,71 @@
+//! Times of work, beside those of what it can't do without.
+use anyhow::Context;
+use std::alloc::{AllocError, Global};
+use std::io;
+use std::rt::Clock;
+use std::time::Instant;
+
+/// Nanoseconds that work took, and that what it can't do without took alone, and what was seen of the latter.
+#[derive(Clone, Copy)]
+pub struct Times {
+    pub whole: u128,
+    pub bare: u128,
+    pub seen: u8,
+}
+
+impl Times {
+    /// The least times of both.
+    pub fn least(self, other: Times) -> Times {
+        Times {
+            whole: self.whole.min(other.whole),
+            bare: self.bare.min(other.bare),
+            seen: self.seen ^ other.seen,
+        }
+    }
+}
+
+/// The nanoseconds since a start.
+pub fn since<R: Clock>(rt: &R, start: Instant) -> io::Result<u128> {
+    Ok(start.elapsed(rt)?.as_nanos())
+}
+
+/// The times of some rounds.
+#[derive(Drop)]
+pub struct Rounds {
+    whole: Vec<u128>,
+    bare: Vec<u128>,
+    seen: u8,
+}
+
+impl Rounds {
+    pub fn new(alloc: Global) -> Rounds {
+        Rounds {
+            whole: Vec::new(alloc),
+            bare: Vec::new(alloc),
+            seen: 0,
+        }
+    }
+
+    pub fn push(&mut self, times: Times) -> Result<(), AllocError> {
+        self.whole.push(times.whole)?;
+        self.bare.push(times.bare)?;
+        self.seen ^= times.seen;
+        Ok(())
+    }
+
+    /// The times that a tenth of the rounds' are below.
+    pub fn low(mut self) -> anyhow::Result<Times> {
+        Ok(Times {
+            whole: low_time(&mut self.whole)?,
+            bare: low_time(&mut self.bare)?,
+            seen: self.seen,
+        })
+    }
+}
+
+// The time that a tenth of these times are below.
+fn low_time(times: &mut Vec<u128>) -> anyhow::Result<u128> {
+    times.sort()?;
+    let place = times.len() / 10;
+    times.get(place).copied().context("nothing was timed")
+}

@@ -1,0 +1,4 @@
+//! Commands over words, readers, writers, devices and files.
+mod files;
+mod replays;
+mod stores;
