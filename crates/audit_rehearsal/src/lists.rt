@@ -78,8 +78,8 @@ pub fn random_core(alloc: Global, random: &mut Random) -> anyhow::Result<Core<De
     }
 }
 
-// The streams of 1 to 16 sessions.
-fn random_streams(alloc: Global, random: &mut Random) -> Result<Vec<Vec<u8>>, AllocError> {
+/// The streams of 1 to 16 sessions.
+pub fn random_streams(alloc: Global, random: &mut Random) -> Result<Vec<Vec<u8>>, AllocError> {
     let sessions = random.up_to(16);
     let length = random.below(3);
     let appends = match random.below(4) {
@@ -130,6 +130,14 @@ fn gather(
     let output = core.take_output(session % SESSIONS);
     if let Some(gathered) = outputs.get_mut(session) {
         gathered.extend_from_slice(&output)?;
+    }
+    Ok(())
+}
+
+/// Takes what waits for each session.
+pub fn gather_each(core: &mut Core<Device>, outputs: &mut [Vec<u8>]) -> Result<(), AllocError> {
+    for session in 0..SESSIONS {
+        gather(core, outputs, session)?;
     }
     Ok(())
 }

@@ -2,9 +2,11 @@
 use crate::cuts::try_cuts;
 use crate::devices::play_devices;
 use crate::hostile::play_hostile;
+use crate::lengths::try_lengths;
 use crate::lists::play_lists;
 use crate::serving::serve_scene;
 use crate::stores::{Device, TRIES, new_core, open_core, worn_core};
+use crate::sweep::play_sweep;
 use crate::texts::{bytes_of, number_of, text_of, two_numbers};
 use anyhow::{Context, bail};
 use audit_base::SESSIONS;
@@ -30,7 +32,10 @@ impl Scene {
             "#" => self.title(rt, line),
             "store" | "worn" => self.begin(rt, task, rest),
             "open" => self.open(rt),
-            "cuts" | "lists" | "serve" | "hostile" | "devices" => play_apart(rt, task, rest),
+            "lengths" => try_lengths(rt),
+            "cuts" | "lists" | "serve" | "hostile" | "devices" | "sweep" => play_apart(
+                rt, task, rest,
+            ),
             _ => self.step(rt, task, rest),
         }
     }
@@ -88,6 +93,7 @@ fn play_apart<R: AllocGlobal + Print>(rt: &R, task: &str, rest: &str) -> anyhow:
         "lists" => play_lists(rt, number_of(rest)?),
         "hostile" => play_hostile(rt, rest),
         "devices" => play_devices(rt, rest),
+        "sweep" => play_sweep(rt, rest),
         _ => serve_scene(rt, rest),
     }
 }

@@ -82,8 +82,8 @@ fn core_over(alloc: Global, store: Store<Device>) -> anyhow::Result<Core<Device>
     bail!("there is no memory for a core")
 }
 
-// The store, or why there is none.
-fn made(opened: Result<Store<Device>, Failed<Device>>) -> anyhow::Result<Store<Device>> {
+/// The store, or why there is none.
+pub fn made(opened: Result<Store<Device>, Failed<Device>>) -> anyhow::Result<Store<Device>> {
     match opened {
         Ok(store) => Ok(store),
         Err(failed) => Err(failed.error.into()),
