@@ -77,7 +77,8 @@ fn core_of_one_event(alloc: Global) -> anyhow::Result<Core<Device>> {
     Ok(core)
 }
 
-fn feed(core: &mut Core<Device>, piece: &[u8]) -> anyhow::Result<()> {
+/// Feeds a piece to the first session.
+pub fn feed(core: &mut Core<Device>, piece: &[u8]) -> anyhow::Result<()> {
     match core.feed(0, piece) {
         Ok(()) => Ok(()),
         Err(fault) => Err(fault.error.into()),

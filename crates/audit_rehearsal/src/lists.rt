@@ -33,34 +33,39 @@ fn play_list(alloc: Global, number: u64, hasher: &mut Sha256) -> anyhow::Result<
     let mut core = random_core(alloc, &mut random)?;
     let streams = random_streams(alloc, &mut random)?;
     let mut outputs = no_outputs(alloc)?;
-    drive_groups(&mut core, random, &streams, &mut outputs)?;
+    let mut plan = random_plan(random, &streams);
+    drive_groups(&mut core, &mut plan, GROUPS, &mut outputs)?;
     core.flush()?;
     add_sessions(&mut core, &mut outputs, hasher)?;
     add_store(core.into_store(), hasher)
 }
 
-// Drives the groups of a list, and after each takes what waits for a session.
-fn drive_groups(
-    core: &mut Core<Device>,
-    mut random: Random,
-    streams: &[Vec<u8>],
-    outputs: &mut [Vec<u8>],
-) -> anyhow::Result<()> {
+/// The plan of a list: one step in 4, in 12 or in 60 is a flush.
+pub fn random_plan<'a>(mut random: Random, streams: &'a [Vec<u8>]) -> Plan<'a> {
     let flushes = match random.below(3) {
         0 => 4,
         1 => 12,
         _ => 60,
     };
-    let mut plan = Plan::new(random, streams, flushes);
-    for group in 0..GROUPS {
-        drive_four(core, &mut plan)?;
+    Plan::new(random, streams, flushes)
+}
+
+/// Drives so many groups of four steps, and after each takes what waits for a session.
+pub fn drive_groups(
+    core: &mut Core<Device>,
+    plan: &mut Plan,
+    groups: usize,
+    outputs: &mut [Vec<u8>],
+) -> anyhow::Result<()> {
+    for group in 0..groups {
+        drive_four(core, plan)?;
         gather(core, outputs, group % SESSIONS)?;
     }
     Ok(())
 }
 
-// One store in eight is worn, and one in eight after its first commit.
-fn random_core(alloc: Global, random: &mut Random) -> anyhow::Result<Core<Device>> {
+/// A core over a store of 3 to 119 sectors. One store in eight is worn, and one in eight after its first commit.
+pub fn random_core(alloc: Global, random: &mut Random) -> anyhow::Result<Core<Device>> {
     let sectors = match random.below(3) {
         0 => random.below(6).saturating_add(3),
         1 => random.below(30).saturating_add(10),
@@ -73,8 +78,8 @@ fn random_core(alloc: Global, random: &mut Random) -> anyhow::Result<Core<Device
     }
 }
 
-// The streams of 1 to 16 sessions.
-fn random_streams(alloc: Global, random: &mut Random) -> Result<Vec<Vec<u8>>, AllocError> {
+/// The streams of 1 to 16 sessions.
+pub fn random_streams(alloc: Global, random: &mut Random) -> Result<Vec<Vec<u8>>, AllocError> {
     let sessions = random.up_to(16);
     let length = random.below(3);
     let appends = match random.below(4) {
@@ -94,7 +99,8 @@ fn random_streams(alloc: Global, random: &mut Random) -> Result<Vec<Vec<u8>>, Al
     Ok(streams)
 }
 
-fn no_outputs(alloc: Global) -> Result<Vec<Vec<u8>>, AllocError> {
+/// No bytes yet for each session.
+pub fn no_outputs(alloc: Global) -> Result<Vec<Vec<u8>>, AllocError> {
     let mut outputs = Vec::new(alloc);
     for _ in 0..SESSIONS {
         outputs.push(Vec::new(alloc))?;
@@ -128,8 +134,16 @@ fn gather(
     Ok(())
 }
 
-// The length of each session's output and its bytes, and whether it has ended.
-fn add_sessions(
+/// Takes what waits for each session.
+pub fn gather_each(core: &mut Core<Device>, outputs: &mut [Vec<u8>]) -> Result<(), AllocError> {
+    for session in 0..SESSIONS {
+        gather(core, outputs, session)?;
+    }
+    Ok(())
+}
+
+/// Adds the length of each session's output and its bytes, and whether it has ended.
+pub fn add_sessions(
     core: &mut Core<Device>,
     outputs: &mut [Vec<u8>],
     hasher: &mut Sha256,
@@ -145,8 +159,8 @@ fn add_sessions(
     Ok(())
 }
 
-// Generation, count, end, root and the device.
-fn add_store(store: Store<Device>, hasher: &mut Sha256) -> anyhow::Result<()> {
+/// Adds generation, count, end, root and the device.
+pub fn add_store(store: Store<Device>, hasher: &mut Sha256) -> anyhow::Result<()> {
     let commitment = store.commitment();
     hasher.update(&store.generation().to_be_bytes());
     hasher.update(&commitment.count.to_be_bytes());
@@ -155,7 +169,8 @@ fn add_store(store: Store<Device>, hasher: &mut Sha256) -> anyhow::Result<()> {
     add_device(store.into_disk().into_inner(), hasher)
 }
 
-fn add_device(mut disk: MemDisk, hasher: &mut Sha256) -> anyhow::Result<()> {
+/// Adds the bytes of each sector.
+pub fn add_device(mut disk: MemDisk, hasher: &mut Sha256) -> anyhow::Result<()> {
     let mut sector = [0; SECTOR_SIZE];
     for at in 0..disk.size() {
         if at < disk.size() {

@@ -1,21 +1,47 @@
-/// Random numbers, the same for the same start everywhere: a linear congruence modulo 2^64, of whose states the upper 31
-/// bits are used.
+use rand_chacha::ChaCha20Rng;
+use rand_core::SeedableRng;
+use rand_core::utils::NextWord;
+
+/// Random numbers, the same for the same start everywhere.
 #[derive(Drop)]
 pub struct Random {
-    state: u64,
+    source: Source,
+}
+
+#[derive(Drop)]
+enum Source {
+    // A linear congruence modulo 2^64, of whose states the upper 31 bits are used.
+    Congruence(u64),
+    // The words of ChaCha20.
+    Cipher(ChaCha20Rng),
 }
 
 impl Random {
     pub fn new(start: u64) -> Random {
-        Random { state: start }
+        Random {
+            source: Source::Congruence(start),
+        }
+    }
+
+    /// The words of ChaCha20 under the number, its lowest byte first, and zeros.
+    pub fn of_cipher(number: u64) -> Random {
+        let mut seed = [0; 32];
+        seed[..8].copy_from_slice(&number.to_le_bytes());
+        Random {
+            source: Source::Cipher(ChaCha20Rng::from_seed(seed)),
+        }
     }
 
     pub fn next(&mut self) -> u64 {
-        self.state = self
-            .state
-            .wrapping_mul(6_364_136_223_846_793_005)
-            .wrapping_add(1_442_695_040_888_963_407);
-        self.state >> 33
+        match &mut self.source {
+            Source::Congruence(state) => {
+                *state = state
+                    .wrapping_mul(6_364_136_223_846_793_005)
+                    .wrapping_add(1_442_695_040_888_963_407);
+                *state >> 33
+            }
+            Source::Cipher(words) => u64::from(words.next_word()),
+        }
     }
 
     /// A number below the bound, or 0 where that is 0.

@@ -1,9 +1,13 @@
 //! Lines of a scene, and what they do.
 use crate::cuts::try_cuts;
+use crate::devices::play_devices;
+use crate::hostile::play_hostile;
+use crate::lengths::try_lengths;
 use crate::lists::play_lists;
 use crate::serving::serve_scene;
 use crate::stores::{Device, TRIES, new_core, open_core, worn_core};
-use crate::texts::{bytes_of, number_of, text_of};
+use crate::sweep::play_sweep;
+use crate::texts::{bytes_of, number_of, text_of, two_numbers};
 use anyhow::{Context, bail};
 use audit_base::SESSIONS;
 use audit_disk::MemDisk;
@@ -28,7 +32,10 @@ impl Scene {
             "#" => self.title(rt, line),
             "store" | "worn" => self.begin(rt, task, rest),
             "open" => self.open(rt),
-            "cuts" | "lists" | "serve" => play_apart(rt, task, rest),
+            "lengths" => try_lengths(rt),
+            "cuts" | "lists" | "serve" | "hostile" | "devices" | "sweep" => play_apart(
+                rt, task, rest,
+            ),
             _ => self.step(rt, task, rest),
         }
     }
@@ -84,13 +91,11 @@ fn play_apart<R: AllocGlobal + Print>(rt: &R, task: &str, rest: &str) -> anyhow:
     match task {
         "cuts" => try_cuts(rt, &bytes_of(rt.alloc(), rest)?),
         "lists" => play_lists(rt, number_of(rest)?),
+        "hostile" => play_hostile(rt, rest),
+        "devices" => play_devices(rt, rest),
+        "sweep" => play_sweep(rt, rest),
         _ => serve_scene(rt, rest),
     }
-}
-
-fn two_numbers(words: &str) -> anyhow::Result<(u64, u64)> {
-    let (first, second) = words.split_once(' ').context("two numbers are wanted")?;
-    Ok((number_of(first)?, number_of(second)?))
 }
 
 fn session_of(word: &str) -> anyhow::Result<usize> {

@@ -1,7 +1,7 @@
 //! Stores in memory, and cores over them.
 use anyhow::bail;
 use audit_chain::Key;
-use audit_disk::{FailOnce, MemDisk, SECTOR_SIZE};
+use audit_disk::{FailOnce, MemDisk, SECTOR_SIZE, Sectors};
 use audit_log::Header;
 use audit_server::Core;
 use audit_store::{Failed, Store};
@@ -58,6 +58,19 @@ pub fn open_core(alloc: Global, disk: MemDisk) -> anyhow::Result<Core<Device>> {
     core_over(alloc, made(Store::open(alloc, disk))?)
 }
 
+/// The sectors of a device.
+pub fn blocks_of(alloc: Global, disk: &mut MemDisk) -> anyhow::Result<Vec<[u8; SECTOR_SIZE]>> {
+    let mut blocks = Vec::new(alloc);
+    let mut sector = [0; SECTOR_SIZE];
+    for at in 0..disk.size() {
+        if at < disk.size() {
+            disk.read(at, &mut sector)?;
+            blocks.push(sector)?;
+        }
+    }
+    Ok(blocks)
+}
+
 fn core_over(alloc: Global, store: Store<Device>) -> anyhow::Result<Core<Device>> {
     let mut left = store;
     for _ in 0..TRIES {
@@ -69,8 +82,8 @@ fn core_over(alloc: Global, store: Store<Device>) -> anyhow::Result<Core<Device>
     bail!("there is no memory for a core")
 }
 
-// The store, or why there is none.
-fn made(opened: Result<Store<Device>, Failed<Device>>) -> anyhow::Result<Store<Device>> {
+/// The store, or why there is none.
+pub fn made(opened: Result<Store<Device>, Failed<Device>>) -> anyhow::Result<Store<Device>> {
     match opened {
         Ok(store) => Ok(store),
         Err(failed) => Err(failed.error.into()),

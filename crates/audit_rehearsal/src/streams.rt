@@ -13,11 +13,16 @@ pub fn stream_of(
     for _ in 0..frames {
         add_frame(random, appends, &mut stream)?;
     }
+    cut_off(random, &mut stream);
+    Ok(stream)
+}
+
+/// Cuts off the end of a stream, one time in four.
+pub fn cut_off(random: &mut Random, stream: &mut Vec<u8>) {
     if random.below(4) == 0 {
         let kept = stream.len().saturating_sub(random.up_to(6) as usize);
         stream.truncate(kept);
     }
-    Ok(stream)
 }
 
 fn add_frame(random: &mut Random, appends: u64, stream: &mut Vec<u8>) -> Result<(), AllocError> {
@@ -44,8 +49,8 @@ fn add_frame(random: &mut Random, appends: u64, stream: &mut Vec<u8>) -> Result<
     }
 }
 
-// The length of a body, its first byte and its tag.
-fn add_head(stream: &mut Vec<u8>, length: u64, kind: u8, tag: u64) -> Result<(), AllocError> {
+/// Adds the length of a body, its first byte and its tag.
+pub fn add_head(stream: &mut Vec<u8>, length: u64, kind: u8, tag: u64) -> Result<(), AllocError> {
     let length = (length & 0xffff) as u16;
     let tag = (tag & 0xffff_ffff) as u32;
     stream.extend_from_slice(&length.to_be_bytes())?;
@@ -58,7 +63,8 @@ fn add_numbers(random: &mut Random, stream: &mut Vec<u8>) -> Result<(), AllocErr
     stream.extend_from_slice(&random.below(24).to_be_bytes())
 }
 
-fn add_append(random: &mut Random, tag: u64, stream: &mut Vec<u8>) -> Result<(), AllocError> {
+/// Adds an append, most often of a short payload.
+pub fn add_append(random: &mut Random, tag: u64, stream: &mut Vec<u8>) -> Result<(), AllocError> {
     let kind = random.below(5);
     let length = match random.below(4) {
         0..=1 => random.below(40),

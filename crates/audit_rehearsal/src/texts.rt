@@ -11,6 +11,11 @@ pub fn number_of(word: &str) -> anyhow::Result<u64> {
     Ok(word.parse().context("a decimal number is wanted")?)
 }
 
+pub fn two_numbers(words: &str) -> anyhow::Result<(u64, u64)> {
+    let (first, second) = words.split_once(' ').context("two numbers are wanted")?;
+    Ok((number_of(first)?, number_of(second)?))
+}
+
 pub fn bytes_of(alloc: Global, word: &str) -> anyhow::Result<Vec<u8>> {
     Ok(hex::decode(alloc, word).context("hex digits are wanted")?)
 }

@@ -1,0 +1,294 @@
+//! Devices hurt at random, which are opened then.
+use crate::cuts::feed;
+use crate::lists::{add_device, random_core};
+use crate::random::Random;
+use crate::stores::{Device, blocks_of, open_core};
+use crate::streams::stream_of;
+use crate::texts::{text_of, two_numbers};
+use audit_base::u64_at;
+use audit_disk::{FailOnce, MemDisk, SECTOR_SIZE};
+use audit_server::Core;
+use audit_store::{Store, StoreError};
+use sha2::{Digest, Sha256};
+use std::alloc::{AllocError, Global};
+
+type Block = [u8; SECTOR_SIZE];
+
+// The bytes of a header that its digest is of.
+const DIGESTED: usize = 480;
+
+/// How many devices were opened, how many refused by each number, and the digest of all outcomes.
+#[derive(Drop)]
+struct Outcomes {
+    opened: u64,
+    refused: [u64; 16],
+    hasher: Sha256,
+}
+
+/// Hurts so many devices from a number on and opens them, and prints the outcomes.
+pub fn play_devices<R: AllocGlobal + Print>(rt: &R, rest: &str) -> anyhow::Result<()> {
+    let (first, count) = two_numbers(rest)?;
+    let mut outcomes = Outcomes {
+        opened: 0,
+        refused: [0; 16],
+        hasher: Sha256::new(),
+    };
+    for place in 0..count {
+        play_device(rt.alloc(), first.saturating_add(place), &mut outcomes)?;
+    }
+    print_outcomes(rt, first, outcomes)
+}
+
+fn print_outcomes<R: AllocGlobal + Print>(
+    rt: &R,
+    first: u64,
+    outcomes: Outcomes,
+) -> anyhow::Result<()> {
+    println!(rt; "devices from {first} opened {}", outcomes.opened)?;
+    for number in 0..16 {
+        let refused = outcomes.refused[number];
+        if refused > 0 {
+            println!(rt; "refused {number} {refused}")?;
+        }
+    }
+    let digest: [u8; 32] = outcomes.hasher.finalize();
+    println!(rt; "outcomes {}", text_of(rt.alloc(), &digest)?)?;
+    Ok(())
+}
+
+fn play_device(alloc: Global, number: u64, outcomes: &mut Outcomes) -> anyhow::Result<()> {
+    let mut random = Random::new(number);
+    let core = random_core(alloc, &mut random)?;
+    let mut disk = with_events(alloc, core, &mut random)?;
+    let older = blocks_of(alloc, &mut disk)?;
+    let core = open_core(alloc, disk)?;
+    let mut disk = with_events(alloc, core, &mut random)?;
+    let mut content = blocks_of(alloc, &mut disk)?;
+    let hurts = random.up_to(2);
+    for _ in 0..hurts {
+        hurt(&mut random, &older, &mut content)?;
+    }
+    open_hurt(alloc, &content, outcomes)
+}
+
+// The device of a core to which up to four more events were appended.
+fn with_events(alloc: Global, core: Core<Device>, random: &mut Random) -> anyhow::Result<MemDisk> {
+    let mut core = core;
+    let events = random.below(5);
+    let stream = stream_of(alloc, random, events, 20)?;
+    feed(&mut core, &stream)?;
+    core.flush()?;
+    Ok(core.into_store().into_disk().into_inner())
+}
+
+// Hurts a device in one of several ways.
+fn hurt(random: &mut Random, older: &[Block], content: &mut Vec<Block>) -> Result<(), AllocError> {
+    match random.below(16) {
+        0..=4 => change_numbers(random, content),
+        5..=7 => change_parts(random, content),
+        8 => bring_older(random, older, content),
+        9 => bring_older_contents(random, older, content),
+        10 => exchange_headers(content),
+        11..=12 => turn_byte(random, content),
+        13 => clear_sector(random, content),
+        14 => add_noise(random, content),
+        _ => return resize(random, content),
+    }
+    Ok(())
+}
+
+// Changes generation, sectors, count or end in one header or in both, and makes its digest right.
+fn change_numbers(random: &mut Random, content: &mut [Block]) {
+    let at = random.below(4).saturating_mul(8).saturating_add(16) as usize;
+    let change = match random.below(4) {
+        0 => Change::Becomes(limit(random)),
+        _ => Change::Grows(random.below(5).wrapping_sub(2)),
+    };
+    let slots = random.below(6);
+    for slot in 0..2 {
+        if slots != slot {
+            change_number(content, slot as usize, at, change);
+        }
+    }
+}
+
+/// What a number becomes, or what is added to it.
+#[derive(Clone, Copy)]
+enum Change {
+    Becomes(u64),
+    Grows(u64),
+}
+
+// Numbers at the limits of a header's rules and past them.
+fn limit(random: &mut Random) -> u64 {
+    let least = match random.below(5) {
+        0 => 0,
+        1 => (1 << 24) - 1,
+        2 => (1 << 62) - 2,
+        3 => u64::MAX - 3,
+        _ => random.next() << 20,
+    };
+    random.below(4).wrapping_add(least)
+}
+
+fn change_number(content: &mut [Block], slot: usize, at: usize, change: Change) {
+    let at = at.min(DIGESTED);
+    if let Some(sector) = content.get_mut(slot) {
+        let number = match change {
+            Change::Becomes(number) => number,
+            Change::Grows(number) => u64_at(sector, at).wrapping_add(number),
+        };
+        sector[at..at + 8].copy_from_slice(&number.to_be_bytes());
+        make_digest_right(sector);
+    }
+}
+
+fn make_digest_right(sector: &mut Block) {
+    let digest: [u8; 32] = Sha256::digest(&sector[..DIGESTED]);
+    sector[DIGESTED..].copy_from_slice(&digest);
+}
+
+// Turns a byte of the magic, the version, a zero part, the root, the last link or the key in one header or in both, and
+// makes its digest right.
+fn change_parts(random: &mut Random, content: &mut [Block]) {
+    let (start, size) = match random.below(6) {
+        0 => (0, 10),
+        1 => (10, 6),
+        2 => (48, 32),
+        3 => (80, 32),
+        4 => (112, 32),
+        _ => (144, 336),
+    };
+    let at = random.below(size).saturating_add(start) as usize;
+    let turned = random.up_to(255);
+    let slots = random.below(6);
+    for slot in 0..2 {
+        if slots != slot {
+            turn(content, slot as usize, at, turned);
+            if let Some(sector) = content.get_mut(slot as usize) {
+                make_digest_right(sector);
+            }
+        }
+    }
+}
+
+// Turns the bits of a byte.
+fn turn(content: &mut [Block], at: usize, place: usize, turned: u64) {
+    if let Some(sector) = content.get_mut(at) {
+        sector[place % SECTOR_SIZE] ^= (turned & 0xff) as u8;
+    }
+}
+
+// A header of the device as it was before.
+fn bring_older(random: &mut Random, older: &[Block], content: &mut [Block]) {
+    let slot = random.below(2) as usize;
+    if let (Some(sector), Some(before)) = (content.get_mut(slot), older.get(slot)) {
+        *sector = *before;
+    }
+}
+
+// What a header held before, under the generation that it has.
+fn bring_older_contents(random: &mut Random, older: &[Block], content: &mut [Block]) {
+    let slot = random.below(2) as usize;
+    if let (Some(sector), Some(before)) = (content.get_mut(slot), older.get(slot)) {
+        let mut mixed = *before;
+        mixed[16..24].copy_from_slice(&sector[16..24]);
+        make_digest_right(&mut mixed);
+        *sector = mixed;
+    }
+}
+
+fn exchange_headers(content: &mut [Block]) {
+    if content.len() >= 2 {
+        content.swap(0, 1);
+    }
+}
+
+// A sector of the log or a header.
+fn any_sector(random: &mut Random, content: &[Block]) -> usize {
+    let most = match random.below(4) {
+        0 => 2,
+        1..=2 => 12,
+        _ => content.len() as u64,
+    };
+    random.below(most) as usize
+}
+
+fn turn_byte(random: &mut Random, content: &mut [Block]) {
+    let at = any_sector(random, content);
+    let place = match random.below(2) {
+        0 => random.below(8),
+        _ => random.below(512),
+    };
+    let turned = random.up_to(255);
+    turn(content, at, place as usize, turned);
+}
+
+fn clear_sector(random: &mut Random, content: &mut [Block]) {
+    let at = any_sector(random, content);
+    if let Some(sector) = content.get_mut(at) {
+        *sector = [0; SECTOR_SIZE];
+    }
+}
+
+fn add_noise(random: &mut Random, content: &mut [Block]) {
+    let at = any_sector(random, content);
+    for place in 0..SECTOR_SIZE {
+        let turned = random.below(256);
+        turn(content, at, place, turned);
+    }
+}
+
+// Cuts the device short, or lengthens it by zero sectors.
+fn resize(random: &mut Random, content: &mut Vec<Block>) -> Result<(), AllocError> {
+    if random.below(2) == 0 {
+        let kept = random.below(content.len() as u64);
+        content.truncate(kept as usize);
+        return Ok(());
+    }
+    let added = random.up_to(3);
+    for _ in 0..added {
+        content.push([0; SECTOR_SIZE])?;
+    }
+    Ok(())
+}
+
+// Opens the device, and adds the outcome and what the device has then.
+fn open_hurt(alloc: Global, content: &[Block], outcomes: &mut Outcomes) -> anyhow::Result<()> {
+    let disk = FailOnce::new(MemDisk::from_sectors(alloc, content)?, u64::MAX);
+    let disk = match Store::open(alloc, disk) {
+        Ok(store) => {
+            outcomes.add_opened(&store);
+            store.into_disk()
+        }
+        Err(failed) => {
+            outcomes.add_refused(failed.error);
+            failed.disk
+        }
+    };
+    add_device(disk.into_inner(), &mut outcomes.hasher)
+}
+
+impl Outcomes {
+    fn add_opened(&mut self, store: &Store<Device>) {
+        let commitment = store.commitment();
+        self.opened = self.opened.saturating_add(1);
+        self.hasher.update(&[0]);
+        self.hasher.update(&commitment.count.to_be_bytes());
+        self.hasher.update(&commitment.root);
+        self.hasher.update(&store.end().to_be_bytes());
+        self.hasher.update(&store.generation().to_be_bytes());
+    }
+
+    fn add_refused(&mut self, error: StoreError) {
+        let number = error.number();
+        let index = match error {
+            StoreError::DamagedLog { index } => index,
+            _ => 0,
+        };
+        let refused = &mut self.refused[usize::from(number) % 16];
+        *refused = refused.saturating_add(1);
+        self.hasher.update(&[number]);
+        self.hasher.update(&index.to_be_bytes());
+    }
+}

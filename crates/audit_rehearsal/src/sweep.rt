@@ -1,0 +1,179 @@
+//! The ample sweep: lists of steps drawn by a cipher, whose stores are opened, exported and verified.
+use crate::lists::{drive_groups, gather_each, no_outputs, random_plan, random_streams};
+use crate::random::Random;
+use crate::stores::{Device, made, new_core};
+use crate::texts::{text_of, two_numbers};
+use anyhow::{Context, bail};
+use audit_chain::{Event, Key};
+use audit_proof::Commitment;
+use audit_store::Store;
+use audit_verify::verify;
+use sha2::{Digest, Sha256};
+use std::alloc::Global;
+
+// Each list has so many groups of four steps.
+const GROUPS: usize = 50;
+
+// The first byte of an append, and of its acknowledgement.
+const APPEND: u8 = 1;
+
+const ACKNOWLEDGED: u8 = 0x81;
+
+/// How many events were held, and how many acknowledged, and the digest of the roots.
+#[derive(Drop)]
+struct Sums {
+    events: u64,
+    acknowledged: u64,
+    hasher: Sha256,
+}
+
+/// Sweeps so many lists from a number on, and prints the sums. It is an error if a call is refused, or if what `verify`
+/// returns aren't the acknowledged events in their order.
+pub fn play_sweep<R: AllocGlobal + Print>(rt: &R, rest: &str) -> anyhow::Result<()> {
+    let (first, count) = two_numbers(rest)?;
+    let mut sums = Sums {
+        events: 0,
+        acknowledged: 0,
+        hasher: Sha256::new(),
+    };
+    for place in 0..count {
+        sweep_list(rt.alloc(), first.saturating_add(place), &mut sums)?;
+    }
+    let (events, acknowledged) = (sums.events, sums.acknowledged);
+    let digest: [u8; 32] = sums.hasher.finalize();
+    let text = text_of(rt.alloc(), &digest)?;
+    println!(rt; "sweep from {first} events {events} acknowledged {acknowledged} roots {text}")?;
+    Ok(())
+}
+
+fn sweep_list(alloc: Global, number: u64, sums: &mut Sums) -> anyhow::Result<()> {
+    let mut random = Random::of_cipher(number);
+    let sectors = random.below(298).saturating_add(3);
+    let mut core = new_core(alloc, sectors, u64::MAX)?;
+    let streams = random_streams(alloc, &mut random)?;
+    let mut outputs = no_outputs(alloc)?;
+    let mut plan = random_plan(random, &streams);
+    drive_groups(&mut core, &mut plan, GROUPS, &mut outputs)?;
+    core.flush()?;
+    gather_each(&mut core, &mut outputs)?;
+    let store = core.into_store();
+    let commitment = store.commitment();
+    let appended = acknowledged_appends(alloc, commitment.count, &streams, &outputs, sums)?;
+    let events = verified_events(alloc, store, commitment)?;
+    check_events(&events, &appended)?;
+    sums.events = sums.events.saturating_add(events.len() as u64);
+    sums.hasher.update(&commitment.root);
+    Ok(())
+}
+
+// The events of a store that is opened again, exported, and verified.
+fn verified_events(
+    alloc: Global,
+    store: Store<Device>,
+    commitment: Commitment,
+) -> anyhow::Result<Vec<Event>> {
+    let mut store = made(Store::open(alloc, store.into_disk()))?;
+    let mut export = Vec::new(alloc);
+    for index in 0..commitment.count {
+        export.extend_from_slice(&store.entry(index)?)?;
+    }
+    let mut reader = export.as_slice();
+    match verify(alloc, &mut reader, &Key::from_bytes([0; 32]), &commitment) {
+        Ok(report) => Ok(report.events),
+        Err(fault) => bail!("entry {}: {}", fault.index, fault.cause.name()),
+    }
+}
+
+// Of each index the kind and payload of the append that was acknowledged with it.
+fn acknowledged_appends<'a>(
+    alloc: Global,
+    count: u64,
+    streams: &'a [Vec<u8>],
+    outputs: &[Vec<u8>],
+    sums: &mut Sums,
+) -> anyhow::Result<Vec<Option<&'a [u8]>>> {
+    let mut appended = Vec::new(alloc);
+    for _ in 0..count {
+        appended.push(None)?;
+    }
+    for (stream, output) in streams.iter().zip(outputs) {
+        add_session(stream, output, &mut appended, sums)?;
+    }
+    Ok(appended)
+}
+
+// The appends of a session. Their replies come in their order.
+fn add_session<'a>(
+    stream: &'a [u8],
+    output: &[u8],
+    appended: &mut [Option<&'a [u8]>],
+    sums: &mut Sums,
+) -> anyhow::Result<()> {
+    let mut requests = stream;
+    let mut replies = output;
+    for _ in 0..output.len() {
+        let Some((reply, after)) = first_frame(replies) else {
+            return Ok(());
+        };
+        replies = after;
+        if reply.first() == Some(&ACKNOWLEDGED) {
+            let (append, after) = next_append(requests, reply)?;
+            requests = after;
+            note(appended, reply, append)?;
+            sums.acknowledged = sums.acknowledged.saturating_add(1);
+        }
+    }
+    Ok(())
+}
+
+// The body of the first frame, and what stands after it.
+fn first_frame(bytes: &[u8]) -> Option<(&[u8], &[u8])> {
+    let length = bytes.first_chunk::<2>()?;
+    let end = usize::from(u16::from_be_bytes(*length)).saturating_add(2);
+    Some((bytes.get(2..end)?, bytes.get(end..)?))
+}
+
+// The kind and payload of the next append with the tag of the reply, and what stands after it.
+fn next_append<'a>(requests: &'a [u8], reply: &[u8]) -> anyhow::Result<(&'a [u8], &'a [u8])> {
+    let mut left = requests;
+    for _ in 0..requests.len() {
+        let (body, after) = first_frame(left).context("an append is missing")?;
+        left = after;
+        if body.first() == Some(&APPEND) && body.get(1..5) == reply.get(1..5) {
+            return Ok((body.get(5..).unwrap_or(&[]), after));
+        }
+    }
+    bail!("an append is missing")
+}
+
+// Notes the append of an acknowledgement at its index.
+fn note<'a>(
+    appended: &mut [Option<&'a [u8]>],
+    reply: &[u8],
+    append: &'a [u8],
+) -> anyhow::Result<()> {
+    let index = reply.get(5..13).and_then(|bytes| bytes.first_chunk::<8>());
+    let index = u64::from_be_bytes(*index.context("an index is missing")?);
+    match appended.get_mut(index as usize) {
+        Some(place) if place.is_none() => {
+            *place = Some(append);
+            Ok(())
+        }
+        _ => bail!("index {index} was acknowledged twice, or of no event"),
+    }
+}
+
+// Each event has to be that of the append which was acknowledged with its index.
+fn check_events(events: &[Event], appended: &[Option<&[u8]>]) -> anyhow::Result<()> {
+    if events.len() != appended.len() {
+        bail!("there are other events");
+    }
+    for (event, append) in events.iter().zip(appended) {
+        let append = append.context("an event wasn't acknowledged")?;
+        let kind = event.kind().to_be_bytes();
+        if append.get(..4) != Some(kind.as_slice()) || append.get(4..) != Some(event.payload()) {
+            bail!("an event isn't the one that was appended");
+        }
+    }
+    Ok(())
+}
