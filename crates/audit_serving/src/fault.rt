@@ -54,18 +54,35 @@ impl ServingFault {
 }
 
 impl From<CommandFault> for ServingFault {
+    ghost use Rattle.std.specs.Prelude.{◌≡◌};
+    ghost use Rattle.audit_serving.specs.declared.fault.ServingFault.TheVariants.{Command};
+
+    ghost from_gives = { λ cause fault. fault ≡ Command cause };
+
     fn from(fault: CommandFault) -> Self {
         ServingFault::Command(fault)
     }
 }
 
 impl From<LinesFault> for ServingFault {
+    ghost use Rattle.std.specs.Prelude.{◌≡◌};
+    ghost use Rattle.audit_serving.specs.declared.fault.ServingFault.TheVariants.{Command};
+    ghost use Rattle.audit_commands.specs.declared.fault.CommandFault.TheVariants.{Lines};
+
+    ghost from_gives = { λ cause fault. fault ≡ Command (Lines cause) };
+
     fn from(fault: LinesFault) -> Self {
         ServingFault::Command(CommandFault::Lines(fault))
     }
 }
 
 impl From<io::Error> for ServingFault {
+    ghost use Rattle.std.specs.Prelude.{◌≡◌};
+    ghost use Rattle.audit_serving.specs.declared.fault.ServingFault.TheVariants.{Command};
+    ghost use Rattle.audit_commands.specs.declared.fault.CommandFault.TheVariants.{File};
+
+    ghost from_gives = { λ _ fault. fault ≡ Command File };
+
     fn from(_: io::Error) -> Self {
         ServingFault::Command(CommandFault::File)
     }
