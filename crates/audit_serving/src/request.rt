@@ -4,6 +4,7 @@ use crate::fault::ServingFault;
 use crate::looping::loop_over;
 use crate::rounds::serve_rounds;
 use audit_commands::{CommandFault, Status, open_store};
+use audit_lines::LinesFault;
 use audit_socket::{Link, SocketFile};
 use std::alloc::Global;
 use std::fs::Files;
@@ -91,13 +92,13 @@ where
         }
         Request::Loop { file, socket } => {
             let store = open_store(rt, alloc, file)?;
+            // Room for the input is taken first: whatever is refused later, the socket's file is removed.
+            let Ok(mut reader) = BufReader::new(alloc, input) else {
+                return Err(LinesFault::Memory.into());
+            };
             let bound = SocketFile::bind(rt, socket)?;
             let served = match connect(rt, &bound, socket) {
-                Ok(mut link) => {
-                    let mut reader = BufReader::new(alloc, input)?;
-                    let (_, served) = loop_over(alloc, store, &mut link, &mut reader, output);
-                    served
-                }
+                Ok(mut link) => loop_over(alloc, store, &mut link, &mut reader, output).1,
                 Err(fault) => Err(fault),
             };
             let removed = bound.remove(rt, socket);
