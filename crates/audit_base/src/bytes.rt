@@ -1,7 +1,15 @@
 //! Bytes at their places. Numbers have their highest byte first.
 ghost use Rattle.std.specs.Prelude.{◌≡◌, ◌+◌, ◌≤◌, ◌↔◌, length, take, drop, IsTrue, EachIndex, slice_index};
-ghost use Rattle.std.specs.Int.{w32, w64};
+ghost use Rattle.std.specs.Int.{w16, w32, w64};
 ghost use Rattle.audit_base.specs.Bytes.{number_at, zeros};
+
+/// The number in the two bytes from a place on.
+pub fn u16_at(bytes: &[u8], place: usize) -> u16
+    requires { place + 2 ≤ length bytes.now }
+    ensures { result ≡ number_at w16 place bytes.now }
+{
+    u16::from_be_bytes(*array_at(bytes, place))
+}
 
 /// The number in the four bytes from a place on.
 pub fn u32_at(bytes: &[u8], place: usize) -> u32

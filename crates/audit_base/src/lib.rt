@@ -8,11 +8,11 @@ mod hashes;
 pub mod laws;
 mod limits;
 
-pub use bytes::{are_equal, are_zero, array_at, u32_at, u64_at};
+pub use bytes::{are_equal, are_zero, array_at, u16_at, u32_at, u64_at};
 pub use hash::{Hash, is_same_hash};
 pub use hashes::read_hashes;
 pub use limits::{
-    ENTRY_HEAD_LEN, ENTRY_OVERHEAD, HASH_LEN, LAYERS, MAX_COUNT, MAX_DEPTH, MAX_ENTRY,
+    ENTRY_HEAD_LEN, ENTRY_OVERHEAD, FIRST_MAX_ENTRY, FIRST_MAX_ENTRY_SECTORS, FIRST_MAX_PAYLOAD, HASH_LEN, LAYERS, MAX_COUNT, MAX_DEPTH, MAX_ENTRY,
     MAX_ENTRY_SECTORS, MAX_INCREMENT_HASHES, MAX_MEMBER_HASHES, MAX_PAYLOAD, RESERVED_KIND,
     SECTOR_SIZE, SESSIONS,
 };

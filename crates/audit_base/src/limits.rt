@@ -7,8 +7,11 @@ pub const HASH_LEN: usize = 32;
 /// A sector of a device, in bytes.
 pub const SECTOR_SIZE: usize = 512;
 
-/// The longest payload of an event, in bytes: with the rest of its entry it fills 8 sectors.
-pub const MAX_PAYLOAD: usize = 4024;
+/// The longest payload of an event, in bytes: with the rest of its entry it fills 64 sectors, which are a whole batch.
+pub const MAX_PAYLOAD: usize = 32_696;
+
+/// The longest payload in a store of the format's first version, in bytes: with the rest of its entry it fills 8 sectors.
+pub const FIRST_MAX_PAYLOAD: usize = 4_024;
 
 /// The kind of the event that closes a log, which no other event may have.
 pub const RESERVED_KIND: u32 = 0xffff_ffff;
@@ -22,8 +25,14 @@ pub const ENTRY_OVERHEAD: usize = ENTRY_HEAD_LEN + 2 * HASH_LEN;
 /// The longest entry, in bytes.
 pub const MAX_ENTRY: usize = ENTRY_OVERHEAD + MAX_PAYLOAD;
 
+/// The longest entry in a store of the format's first version, in bytes.
+pub const FIRST_MAX_ENTRY: usize = ENTRY_OVERHEAD + FIRST_MAX_PAYLOAD;
+
 /// The most sectors that an entry takes.
 pub const MAX_ENTRY_SECTORS: u64 = ((MAX_ENTRY + SECTOR_SIZE - 1) / SECTOR_SIZE) as u64;
+
+/// The most sectors that an entry takes in a store of the format's first version.
+pub const FIRST_MAX_ENTRY_SECTORS: u64 = ((FIRST_MAX_ENTRY + SECTOR_SIZE - 1) / SECTOR_SIZE) as u64;
 
 /// The depth of the largest history tree: the layers from its leaves up to its root, without the leaves' own.
 pub const MAX_DEPTH: usize = 24;
