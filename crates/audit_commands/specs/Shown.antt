@@ -4,9 +4,9 @@ use Rattle.std.specs.Fmt.{decimal}
 use Rattle.audit_log.specs.declared.header.Header.{Header}
 use Rattle.audit_lines.specs.NumberedLine.{numbered_line}
 
--- the commitment; then the sectors of the device, the end of the log and the generation
+-- the commitment; then the sectors of the device, the end of the log, the generation and the version of the format
 unfoldable pub shown_lines : Header → List ℕ
 shown_lines header =
     numbered_line (codes "commit ") header.count header.root
     ++ codes "sectors " ++ decimal header.sectors ++ codes " end " ++ decimal header.end
-    ++ codes " generation " ++ decimal header.generation ++ codes "\n"
+    ++ codes " generation " ++ decimal header.generation ++ codes " version " ++ decimal header.version ++ codes "\n"

@@ -12,7 +12,8 @@ use audit_store::Store;
 use std::alloc::{AllocError, Global};
 use std::io::Write;
 
-/// Writes the line of the commitment, and that of the device's sectors, the end of the log and the generation.
+/// Writes the line of the commitment, and that of the device's sectors, the end of the log, the generation and the
+/// version of the format.
 pub fn show<D: Sectors, W: Write>(
     alloc: Global,
     store: &Store<D>,
@@ -38,6 +39,7 @@ fn lines_of<D: Sectors>(alloc: Global, store: &Store<D>) -> Result<Vec<u8>, Allo
     push_number(&mut lines, b"sectors ", store.sectors())?;
     push_number(&mut lines, b" end ", store.end())?;
     push_number(&mut lines, b" generation ", store.generation())?;
+    push_number(&mut lines, b" version ", store.version() as u64)?;
     lines.extend_from_slice(b"\n")?;
     Ok(lines)
 }
