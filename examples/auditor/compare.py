@@ -106,6 +106,10 @@ def compare_damaged_proofs(comparison, older, newer):
         for size in [0, 16, 17, 18, len(proof) - 33, len(proof) - 1]:
             comparison.check_bytes(proof[:size], *commitments)
         comparison.check_bytes(proof + b"x", *commitments)
+        # A hash too many, and one too few.
+        end = 18 + 32 * proof[17]
+        comparison.check_bytes(proof[:17] + bytes([proof[17] + 1]) + proof[18:end] + bytes(32) + proof[end:], *commitments)
+        comparison.check_bytes(proof[:17] + bytes([proof[17] - 1]) + proof[18:end - 32] + proof[end:], *commitments)
         comparison.check(name, *commitments[::-1])
         comparison.check(name, *[older for _ in commitments])
         comparison.check(name, *([newer] if len(commitments) == 2 else [older, newer]))
@@ -115,6 +119,21 @@ def compare_damaged_proofs(comparison, older, newer):
         for hashes in [0, 24, 25, 26]:
             for entry in [0, 1, 32768, 32769]:
                 comparison.check_bytes(kind + numbers + bytes([hashes]) + bytes(32 * hashes + entry), *commitments)
+
+
+def compare_largest_trees(comparison):
+    """The last entry of a log of the most entries, and of one of more: its proof climbs from the left alone, or has one hash."""
+    value = history.leaf_hash(b"entry")
+    for _ in range(24):
+        value = history.inner_node(bytes(32), value)
+    head = b"\1" + ((1 << 24) - 1).to_bytes(8, "big") + (1 << 24).to_bytes(8, "big") + bytes([24])
+    comparison.check_bytes(head + bytes(24 * 32) + b"entry", "%d:%s" % (1 << 24, value.hex()))
+    value = history.leaf_hash(b"entry")
+    for _ in range(24):
+        value = history.inner_node(value)
+    value = history.inner_node(bytes(32), value)
+    head = b"\1" + (1 << 24).to_bytes(8, "big") + ((1 << 24) + 1).to_bytes(8, "big") + bytes([1])
+    comparison.check_bytes(head + bytes(32) + b"entry", "%d:%s" % ((1 << 24) + 1, value.hex()))
 
 
 def compare_exports(comparison, entries, newer):
@@ -157,6 +176,7 @@ def main():
     comparison = Comparison(program)
     compare_proofs(comparison, entries)
     compare_damaged_proofs(comparison, older, newer)
+    compare_largest_trees(comparison)
     compare_exports(comparison, entries, newer)
     compare_words(comparison, newer)
     for answer in ANSWERS:
