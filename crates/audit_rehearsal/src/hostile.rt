@@ -5,14 +5,17 @@ use crate::random::Random;
 use crate::stores::new_core;
 use crate::streams::{add_append, add_head, cut_off};
 use crate::texts::{text_of, two_numbers};
+use audit_wire::MAX_BODY;
 use sha2::{Digest, Sha256};
 use std::alloc::{AllocError, Global};
 
 // Each batch has so many groups of four steps.
 const GROUPS: usize = 16;
 
-// The most bytes that a request may have.
-const MOST_BYTES: u64 = 4_033;
+// The most bytes that a body may have, and how many lengths are over it.
+const MOST_BYTES: u64 = MAX_BODY as u64;
+
+const LONGER: u64 = u16::MAX as u64 - MOST_BYTES;
 
 /// The frames that were drawn, and how many of them are malformed.
 #[derive(Drop)]
@@ -151,7 +154,7 @@ fn add_malformed(
 fn add_too_long(random: &mut Random, stream: &mut Vec<u8>) -> Result<(), AllocError> {
     let length = match random.below(2) {
         0 => MOST_BYTES.saturating_add(1),
-        _ => random.below(61_502).saturating_add(MOST_BYTES + 1),
+        _ => random.below(LONGER).saturating_add(MOST_BYTES + 1),
     };
     let length = (length & 0xffff) as u16;
     stream.extend_from_slice(&length.to_be_bytes())?;

@@ -2,20 +2,17 @@
 use crate::streams::add_head;
 use crate::texts::text_of;
 use anyhow::bail;
-use audit_base::{MAX_ENTRY, MAX_MEMBER_HASHES};
+use audit_base::{MAX_ENTRY, MAX_MEMBER_HASHES, MAX_PAYLOAD};
 use audit_proof::{MemberProof, read_member, write_member};
 use audit_wire::{Request, read_request};
 use sha2::{Digest, Sha256};
 use std::alloc::{AllocError, Global};
 
-// The bytes that a payload may have.
-const MOST_PAYLOAD: u64 = 4_024;
-
 /// Reads an append and a membership proof for each length of a payload, and prints a digest of what was read. It is an error
 /// if one isn't read as it was written.
 pub fn try_lengths<R: AllocGlobal + Print>(rt: &R) -> anyhow::Result<()> {
     let mut hasher = Sha256::new();
-    for length in 0..=MOST_PAYLOAD {
+    for length in 0..=MAX_PAYLOAD as u64 {
         add_owned(rt.alloc(), length, &mut hasher)?;
         add_member(rt.alloc(), length, &mut hasher)?;
     }
