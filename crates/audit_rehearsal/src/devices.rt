@@ -6,7 +6,9 @@ use crate::stores::{Device, blocks_of, open_core};
 use crate::streams::stream_of;
 use crate::texts::{text_of, two_numbers};
 use audit_base::u64_at;
+use audit_chain::Event;
 use audit_disk::{FailOnce, MemDisk, SECTOR_SIZE};
+use audit_log::{FIRST_VERSION, VERSION};
 use audit_server::Core;
 use audit_store::{Store, StoreError};
 use sha2::{Digest, Sha256};
@@ -83,7 +85,7 @@ fn with_events(alloc: Global, core: Core<Device>, random: &mut Random) -> anyhow
 
 // Hurts a device in one of several ways.
 fn hurt(random: &mut Random, older: &[Block], content: &mut Vec<Block>) -> Result<(), AllocError> {
-    match random.below(16) {
+    match random.below(18) {
         0..=4 => change_numbers(random, content),
         5..=7 => change_parts(random, content),
         8 => bring_older(random, older, content),
@@ -92,7 +94,8 @@ fn hurt(random: &mut Random, older: &[Block], content: &mut Vec<Block>) -> Resul
         11..=12 => turn_byte(random, content),
         13 => clear_sector(random, content),
         14 => add_noise(random, content),
-        _ => return resize(random, content),
+        15 => return resize(random, content),
+        _ => change_versions(random, content),
     }
     Ok(())
 }
@@ -169,6 +172,29 @@ fn change_parts(random: &mut Random, content: &mut [Block]) {
                 make_digest_right(sector);
             }
         }
+    }
+}
+
+// Another version in one header or in both: the first, the newest, or one that is none.
+fn change_versions(random: &mut Random, content: &mut [Block]) {
+    let version = match random.below(6) {
+        0..=2 => FIRST_VERSION,
+        3 => VERSION,
+        4 => FIRST_VERSION - 1,
+        _ => VERSION + 1,
+    };
+    let slots = random.below(4);
+    for slot in 0..2 {
+        if slots != slot {
+            change_version(content, slot as usize, version);
+        }
+    }
+}
+
+fn change_version(content: &mut [Block], slot: usize, version: u16) {
+    if let Some(sector) = content.get_mut(slot) {
+        sector[8..10].copy_from_slice(&version.to_be_bytes());
+        make_digest_right(sector);
     }
 }
 
@@ -253,13 +279,13 @@ fn resize(random: &mut Random, content: &mut Vec<Block>) -> Result<(), AllocErro
     Ok(())
 }
 
-// Opens the device, and adds the outcome and what the device has then.
+// Opens the device and appends an event of the payload `hi` to its store, and adds the outcomes and what the device has then.
 fn open_hurt(alloc: Global, content: &[Block], outcomes: &mut Outcomes) -> anyhow::Result<()> {
     let disk = FailOnce::new(MemDisk::from_sectors(alloc, content)?, u64::MAX);
     let disk = match Store::open(alloc, disk) {
         Ok(store) => {
             outcomes.add_opened(&store);
-            store.into_disk()
+            outcomes.add_append(alloc, store)?
         }
         Err(failed) => {
             outcomes.add_refused(failed.error);
@@ -278,6 +304,19 @@ impl Outcomes {
         self.hasher.update(&commitment.root);
         self.hasher.update(&store.end().to_be_bytes());
         self.hasher.update(&store.generation().to_be_bytes());
+    }
+
+    // Appends an event, and returns the device.
+    fn add_append(&mut self, alloc: Global, store: Store<Device>) -> anyhow::Result<Device> {
+        let mut store = store;
+        let events = vec![in alloc; Event::new(alloc, 1, b"hi")?]?;
+        self.hasher.update(&store.version().to_be_bytes());
+        let number = match store.append(&events) {
+            Ok(_) => 0,
+            Err(error) => error.number(),
+        };
+        self.hasher.update(&[number]);
+        Ok(store.into_disk())
     }
 
     fn add_refused(&mut self, error: StoreError) {

@@ -2,9 +2,10 @@
 use crate::lists::{add_sessions, add_store, drive_groups, no_outputs};
 use crate::plan::Plan;
 use crate::random::Random;
-use crate::stores::new_core;
+use crate::stores::{Device, first_core, new_core};
 use crate::streams::{add_append, add_head, cut_off};
 use crate::texts::{text_of, two_numbers};
+use audit_server::Core;
 use audit_wire::MAX_BODY;
 use sha2::{Digest, Sha256};
 use std::alloc::{AllocError, Global};
@@ -54,8 +55,7 @@ fn play_batch(
     hasher: &mut Sha256,
 ) -> anyhow::Result<()> {
     let mut random = Random::new(number);
-    let sectors = random.below(30).saturating_add(3);
-    let mut core = new_core(alloc, sectors, u64::MAX)?;
+    let mut core = small_core(alloc, &mut random)?;
     let streams = hostile_streams(alloc, &mut random, tally)?;
     let mut outputs = no_outputs(alloc)?;
     let mut plan = Plan::new(random, &streams, 12);
@@ -63,6 +63,15 @@ fn play_batch(
     core.flush()?;
     add_sessions(&mut core, &mut outputs, hasher)?;
     add_store(core.into_store(), hasher)
+}
+
+// A core over a store of 3 to 32 sectors. One store in four is of the first version of the format.
+fn small_core(alloc: Global, random: &mut Random) -> anyhow::Result<Core<Device>> {
+    let sectors = random.below(30).saturating_add(3);
+    match random.below(4) {
+        0 => first_core(alloc, sectors),
+        _ => new_core(alloc, sectors, u64::MAX),
+    }
 }
 
 // The streams of 1 to 16 sessions.

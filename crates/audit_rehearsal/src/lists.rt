@@ -1,7 +1,7 @@
 //! Random lists of steps, and a digest of all that they make.
 use crate::plan::Plan;
 use crate::random::Random;
-use crate::stores::{Device, new_core, worn_core};
+use crate::stores::{Device, first_core, new_core, worn_core};
 use crate::streams::stream_of;
 use crate::texts::text_of;
 use anyhow::bail;
@@ -64,7 +64,8 @@ pub fn drive_groups(
     Ok(())
 }
 
-/// A core over a store of 3 to 119 sectors. One store in eight is worn, and one in eight after its first commit.
+/// A core over a store of 3 to 119 sectors. One store in eight is worn, one after its first commit, and one is of the first
+/// version of the format.
 pub fn random_core(alloc: Global, random: &mut Random) -> anyhow::Result<Core<Device>> {
     let sectors = match random.below(3) {
         0 => random.below(6).saturating_add(3),
@@ -74,6 +75,7 @@ pub fn random_core(alloc: Global, random: &mut Random) -> anyhow::Result<Core<De
     match random.below(8) {
         0 => worn_core(alloc, sectors, 0),
         1 => worn_core(alloc, sectors, 1),
+        2 => first_core(alloc, sectors),
         _ => new_core(alloc, sectors, u64::MAX),
     }
 }

@@ -51,7 +51,8 @@ impl<'a> Plan<'a> {
         let most = match self.random.below(4) {
             0 => 8,
             1 => 100,
-            _ => 3_000,
+            2 => 3_000,
+            _ => 40_000,
         };
         self.random.up_to(most) as usize
     }

@@ -5,7 +5,7 @@ use crate::hostile::play_hostile;
 use crate::lengths::try_lengths;
 use crate::lists::play_lists;
 use crate::serving::serve_scene;
-use crate::stores::{Device, TRIES, new_core, open_core, worn_core};
+use crate::stores::{Device, TRIES, first_core, new_core, open_core, worn_core};
 use crate::sweep::play_sweep;
 use crate::texts::{bytes_of, number_of, text_of, two_numbers};
 use anyhow::{Context, bail};
@@ -32,7 +32,8 @@ impl Scene {
             "#" => self.title(rt, line),
             "store" | "worn" => self.begin(rt, task, rest),
             "open" => self.open(rt),
-            "lengths" => try_lengths(rt),
+            "first" => self.begin_first(rt, rest),
+            "lengths" => try_lengths(rt, number_of(rest)?),
             "cuts" | "lists" | "serve" | "hostile" | "devices" | "sweep" => play_apart(
                 rt, task, rest,
             ),
@@ -59,6 +60,12 @@ impl Scene {
             worn_core(rt.alloc(), sectors, number)
         };
         self.core = Some(core?);
+        Ok(())
+    }
+
+    fn begin_first<R: AllocGlobal + Print>(&mut self, rt: &R, rest: &str) -> anyhow::Result<()> {
+        println!(rt; "first {rest}")?;
+        self.core = Some(first_core(rt.alloc(), number_of(rest)?)?);
         Ok(())
     }
 
@@ -223,9 +230,9 @@ fn print_store<R: AllocGlobal + Print>(
 ) -> anyhow::Result<()> {
     let commitment = store.commitment();
     let root = text_of(rt.alloc(), &commitment.root)?;
-    let (end, generation) = (store.end(), store.generation());
+    let (end, generation, version) = (store.end(), store.generation(), store.version());
     println!(rt;
-        "{name} {} {root} end {end} generation {generation}",
+        "{name} {} {root} end {end} generation {generation} version {version}",
         commitment.count
     )?;
     Ok(())

@@ -2,7 +2,7 @@
 use anyhow::bail;
 use audit_chain::Key;
 use audit_disk::{FailOnce, MemDisk, SECTOR_SIZE, Sectors};
-use audit_log::Header;
+use audit_log::{FIRST_VERSION, Header, VERSION};
 use audit_server::Core;
 use audit_store::{Failed, Store};
 use std::alloc::Global;
@@ -26,18 +26,34 @@ pub fn new_core(alloc: Global, sectors: u64, calls: u64) -> anyhow::Result<Core<
 /// A core over a store of no events with generations for so many commits.
 pub fn worn_core(alloc: Global, sectors: u64, commits: u64) -> anyhow::Result<Core<Device>> {
     let last = LAST_GENERATION.saturating_sub(commits.saturating_mul(2));
-    let mut content = Vec::new(alloc);
-    content.push(header_of(sectors, last.saturating_sub(1))?)?;
-    content.push(header_of(sectors, last)?)?;
-    for _ in 2..sectors {
-        content.push([0; SECTOR_SIZE])?;
+    core_of_no_events(alloc, sectors, VERSION, [last.saturating_sub(1), last])
+}
+
+/// A core over a new store of the first version of the format.
+pub fn first_core(alloc: Global, sectors: u64) -> anyhow::Result<Core<Device>> {
+    core_of_no_events(alloc, sectors, FIRST_VERSION, [2, 1])
+}
+
+// A core over a store of no events whose two headers have these generations.
+fn core_of_no_events(
+    alloc: Global,
+    sectors: u64,
+    version: u16,
+    generations: [u64; 2],
+) -> anyhow::Result<Core<Device>> {
+    let mut content = vec![in alloc; [0; SECTOR_SIZE]; sectors as usize]?;
+    for (slot, generation) in generations.into_iter().enumerate() {
+        if let Some(sector) = content.get_mut(slot) {
+            *sector = header_of(sectors, version, generation)?;
+        }
     }
     open_core(alloc, MemDisk::from_sectors(alloc, &content)?)
 }
 
 // The header of no events.
-fn header_of(sectors: u64, generation: u64) -> anyhow::Result<[u8; SECTOR_SIZE]> {
+fn header_of(sectors: u64, version: u16, generation: u64) -> anyhow::Result<[u8; SECTOR_SIZE]> {
     let header = Header {
+        version,
         generation,
         sectors,
         count: 0,

@@ -1,5 +1,7 @@
 //! Random streams of sessions: frames of each kind of request, some malformed, the last one cut off now and then.
 use crate::random::Random;
+use audit_base::{FIRST_MAX_PAYLOAD, MAX_PAYLOAD};
+use audit_wire::MAX_BODY;
 use std::alloc::{AllocError, Global};
 
 /// A stream of so many frames, which are appends as often in twenty as it says.
@@ -66,11 +68,7 @@ fn add_numbers(random: &mut Random, stream: &mut Vec<u8>) -> Result<(), AllocErr
 /// Adds an append, most often of a short payload.
 pub fn add_append(random: &mut Random, tag: u64, stream: &mut Vec<u8>) -> Result<(), AllocError> {
     let kind = random.below(5);
-    let length = match random.below(4) {
-        0..=1 => random.below(40),
-        2 => random.below(20).saturating_add(430),
-        _ => random.below(4_025),
-    };
+    let length = payload_length(random);
     let first = random.below(256);
     add_head(stream, length.saturating_add(9), 1, tag)?;
     let kind = (kind & 0xffff_ffff) as u32;
@@ -81,11 +79,25 @@ pub fn add_append(random: &mut Random, tag: u64, stream: &mut Vec<u8>) -> Result
     Ok(())
 }
 
+// Half of them are short, a quarter has about the bytes that fill a sector, and the others have any length of the first version of
+// the format, or of the newest.
+fn payload_length(random: &mut Random) -> u64 {
+    match random.below(8) {
+        0..=3 => random.below(40),
+        4..=5 => random.below(20).saturating_add(430),
+        6 => random.below(FIRST_MAX_PAYLOAD as u64 + 1),
+        _ => random.below(MAX_PAYLOAD as u64 + 1),
+    }
+}
+
+// A length of a body that is over the limit.
+const TOO_LONG: u16 = MAX_BODY as u16 + 1;
+
 // One malformed frame in four, of each kind, and else a question.
 fn add_odd_frame(random: &mut Random, tag: u64, stream: &mut Vec<u8>) -> Result<(), AllocError> {
     match random.below(24) {
         0 => stream.extend_from_slice(&[0, 0]),
-        1 => stream.extend_from_slice(&[0x0f, 0xc2]),
+        1 => stream.extend_from_slice(&TOO_LONG.to_be_bytes()),
         2 => add_head(stream, 5, 9, tag),
         3 => {
             add_head(stream, 6, 2, tag)?;

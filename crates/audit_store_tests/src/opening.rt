@@ -2,7 +2,7 @@
 use audit_chain::{Event, FIRST_LINK, Key, Sealed, seal};
 use audit_disk::{FailOnce, MemDisk, Sectors};
 use audit_index::LogIndex;
-use audit_log::{Chosen, GENERATION_LIMIT, Header, LogError, write_header};
+use audit_log::{Chosen, GENERATION_LIMIT, Header, LogError, VERSION, write_header};
 use audit_opening::{HeaderRefusal, find_header, scan};
 use audit_tree::leaf_hash;
 use std::alloc::Global;
@@ -12,6 +12,7 @@ use std::test::Fail;
 // A header of that generation on a device of so many sectors, over one entry or none.
 fn header(generation: u64, sectors: u64, some: bool) -> Header {
     Header {
+        version: VERSION,
         generation,
         sectors,
         count: if some { 1 } else { 0 },
@@ -154,6 +155,7 @@ fn with_entry(rt: &impl Abort, alloc: Global, bytes: &[u8]) -> Result<MemDisk, F
 // The header of a log of one entry.
 fn header_after(sealed: &Sealed) -> Header {
     Header {
+        version: VERSION,
         generation: 4,
         sectors: 16,
         count: 1,

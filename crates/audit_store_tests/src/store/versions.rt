@@ -1,0 +1,170 @@
+//! Stores of the first version of the format, which are read, and written in the newest one.
+use super::damage::{outcome, sectors_of};
+use super::*;
+use audit_base::{FIRST_MAX_PAYLOAD, MAX_PAYLOAD};
+use audit_chain::ChainError;
+use audit_log::{FIRST_VERSION, Header, VERSION};
+
+// The header sector as one of another version and generation.
+fn rewritten(
+    rt: &impl Abort,
+    sector: &[u8; 512],
+    version: u16,
+    generation: u64,
+) -> Result<[u8; 512], Fail> {
+    let Ok(mut header) = Header::decode(generation % 2, sector) else {
+        return Err(Fail::new("no header"));
+    };
+    header.version = version;
+    header.generation = generation;
+    assert!(rt; header.meets_rules(header.generation % 2));
+    Ok(header.encode())
+}
+
+// The sectors of a store of one batch, with the headers of these versions: that of generation 4, and that of
+// generation 3.
+fn as_versions(
+    rt: &impl Abort,
+    alloc: Global,
+    store: Store<MemDisk>,
+    versions: [u16; 2],
+) -> Result<Vec<[u8; 512]>, Fail> {
+    let mut sectors = sectors_of(rt, alloc, store.into_disk())?;
+    assert!(rt; sectors.len() > 2);
+    sectors[0] = rewritten(rt, &sectors[0], versions[0], 4)?;
+    sectors[1] = rewritten(rt, &sectors[1], versions[1], 3)?;
+    Ok(sectors)
+}
+
+// The device of one event with the payload `hi` under the first version.
+fn first_of_hi(rt: &impl Abort, alloc: Global) -> Result<MemDisk, Fail> {
+    let store = of_hi(alloc, MemDisk::new(alloc, 16)?)?;
+    let sectors = as_versions(rt, alloc, store, [FIRST_VERSION, FIRST_VERSION])?;
+    Ok(MemDisk::from_sectors(alloc, &sectors)?)
+}
+
+// The image of that device, the state of its store, and that after an event of no bytes was appended.
+const FIRST_IMAGE: &str = "f8dccd9bf9d0886fa8fa8171cddf2670f682efdde3298c39fa8b07af559a4bfc";
+
+const FIRST: &str = "378c9e74d3f25d7035860ab7496d00415139759749547296c0b0c65b7f5dfed0";
+
+const UPGRADED: &str = "d9454682b9de101395e4b139ddaa7d863ef81867bc02f8e251a7b3a5b945d25d";
+
+// An event of no bytes.
+fn more(alloc: Global) -> Result<Vec<Event>, Fail> {
+    Ok(vec![in alloc; Event::new(alloc, 2, &[])?]?)
+}
+
+// An opening keeps the first version, and so does an append of no event; an append of an event writes the newest one.
+#[test]
+fn a_store_of_the_first_version(rt: HostRuntime) -> Result<(), Fail> {
+    let alloc = rt.alloc();
+    assert!(rt; image_of(&rt, first_of_hi(&rt, alloc)?)? == hash(FIRST_IMAGE)?);
+    let mut store = opened(alloc, first_of_hi(&rt, alloc)?)?;
+    store.append(&[])?;
+    assert!(rt; store.version() == 1 && store.generation() == 4 && store.calls() == 15);
+    assert!(rt; state_of(&rt, opened(alloc, first_of_hi(&rt, alloc)?)?)? == hash(FIRST)?);
+    store.append(&more(alloc)?)?;
+    assert!(rt; store.version() == 2 && store.generation() == 6 && store.calls() == 15 + 6);
+    assert!(rt; store.end() == 4 && state_of(&rt, store)? == hash(UPGRADED)?);
+    Ok(())
+}
+
+// The device of the append that is stopped after so many calls, when a crash left none or all of what was pending.
+fn stopped(rt: &impl Abort, alloc: Global, calls: u64, pick: u64) -> Result<MemDisk, Fail> {
+    let fuse = Fuse::new(first_of_hi(rt, alloc)?, calls.saturating_add(15));
+    let mut store = opened(alloc, fuse)?;
+    let refusal = store.append(&more(alloc)?).err();
+    assert!(rt; refusal.is_none() == (calls == 6));
+    assert!(rt; store.version() == if calls == 6 { VERSION } else { FIRST_VERSION });
+    let picks = vec![in alloc; pick; 16]?;
+    Ok(store.into_disk().into_inner().crash(alloc, &picks)?)
+}
+
+// Of an append that is stopped after so many calls, when a crash left none and when it left all of what was pending:
+// the version of the store that is opened then, and the calls of the opening. At most one sector is pending.
+const STOPPED: [[(u16, u64); 2]; 7] = [
+    [(1, 15), (1, 15)],
+    [(1, 15), (1, 15)],
+    [(1, 15), (1, 15)],
+    [(1, 15), (2, 16)],
+    [(2, 16), (2, 16)],
+    [(2, 16), (2, 14)],
+    [(2, 14), (2, 14)],
+];
+
+fn expect_opened(
+    rt: &impl Abort,
+    alloc: Global,
+    disk: MemDisk,
+    (version, calls): (u16, u64),
+) -> Result<(), Fail> {
+    let store = opened(alloc, disk)?;
+    assert!(rt; store.version() == version && store.calls() == calls);
+    assert!(rt; store.commitment().count == u64::from(version));
+    let state = hash(if version == FIRST_VERSION {
+        FIRST
+    } else {
+        UPGRADED
+    })?;
+    assert!(rt; state_of(rt, store)? == state);
+    Ok(())
+}
+
+#[test]
+fn an_upgrade_stopped_at_each_call(rt: HostRuntime) -> Result<(), Fail> {
+    let alloc = rt.alloc();
+    for (calls, [lost, kept]) in (0..7).zip(STOPPED) {
+        expect_opened(&rt, alloc, stopped(&rt, alloc, calls, 0)?, lost)?;
+        expect_opened(&rt, alloc, stopped(&rt, alloc, calls, 1)?, kept)?;
+    }
+    Ok(())
+}
+
+// What an opening answers for two events with payloads of these lengths, under a version.
+fn outcome_of(rt: &impl Abort, alloc: Global, lengths: &[u64], version: u16) -> Result<u8, Fail> {
+    let store = store_of(alloc, 16, lengths)?;
+    let sectors = as_versions(rt, alloc, store, [version, version])?;
+    Ok(outcome(alloc, MemDisk::from_sectors(alloc, &sectors)?))
+}
+
+// The longest payload of the first version.
+const MOST: u64 = FIRST_MAX_PAYLOAD as u64;
+
+// A payload that only the newest version takes is damage under the first one, though the log ends where it may.
+#[test]
+fn payloads_under_each_version(rt: HostRuntime) -> Result<(), Fail> {
+    let alloc = rt.alloc();
+    assert!(rt; outcome_of(&rt, alloc, &[MOST + 1, 0], FIRST_VERSION)? == 0x40);
+    assert!(rt; outcome_of(&rt, alloc, &[MOST, 0], FIRST_VERSION)? == 0);
+    assert!(rt; outcome_of(&rt, alloc, &[MOST + 1, 0], VERSION)? == 0);
+    let longer = vec![in alloc; 0; MAX_PAYLOAD + 1]?;
+    assert!(rt; Event::new(alloc, 1, &longer).err() == Some(ChainError::TooLong));
+    Ok(())
+}
+
+// The headers of generation 4 over one event and of generation 3 over none, of these versions.
+fn over_one_and_none(rt: &impl Abort, alloc: Global, versions: [u16; 2]) -> Result<MemDisk, Fail> {
+    let store = of_hi(alloc, MemDisk::new(alloc, 16)?)?;
+    let mut sectors = as_versions(rt, alloc, store, versions)?;
+    let none = sectors_of(
+        rt,
+        alloc,
+        formatted(alloc, MemDisk::new(alloc, 16)?)?.into_disk(),
+    )?;
+    assert!(rt; sectors.len() > 2 && none.len() > 2);
+    sectors[1] = rewritten(rt, &none[1], versions[1], 3)?;
+    Ok(MemDisk::from_sectors(alloc, &sectors)?)
+}
+
+// A lower generation isn't of a higher version.
+#[test]
+fn headers_of_two_versions(rt: HostRuntime) -> Result<(), Fail> {
+    let alloc = rt.alloc();
+    let refused = over_one_and_none(&rt, alloc, [FIRST_VERSION, VERSION])?;
+    assert!(rt; outcome(alloc, refused) == 0x30);
+    let upgraded = over_one_and_none(&rt, alloc, [VERSION, FIRST_VERSION])?;
+    let state = hash("bd5e271e0fa1f3e791a6655e2cb311abdd284727ca9bc12d294bc54687c15ed8")?;
+    assert!(rt; state_of(&rt, opened(alloc, upgraded)?)? == state);
+    Ok(())
+}
