@@ -1,6 +1,7 @@
-//! The ample sweep: lists of steps drawn by a cipher, whose stores are opened, exported and verified.
+//! The ample sweep: lists of steps drawn by a cipher, whose stores are opened, exported, verified and replayed.
 use crate::lists::{drive_groups, gather_each, no_outputs, random_plan, random_streams};
 use crate::random::Random;
+use crate::replays::is_replayed;
 use crate::stores::{Device, made, new_core};
 use crate::texts::{text_of, two_numbers};
 use anyhow::{Context, bail};
@@ -19,30 +20,41 @@ const APPEND: u8 = 1;
 
 const ACKNOWLEDGED: u8 = 0x81;
 
-/// How many events were held, and how many acknowledged, and the digest of the roots.
+/// How many events were held, and how many acknowledged, the digest of the roots, and how many lists were replayed, or were
+/// too long for it.
 #[derive(Drop)]
 struct Sums {
     events: u64,
     acknowledged: u64,
     hasher: Sha256,
+    replayed: u64,
+    too_long: u64,
 }
 
-/// Sweeps so many lists from a number on, and prints the sums. It is an error if a call is refused, or if what `verify`
-/// returns aren't the acknowledged events in their order.
+/// Sweeps so many lists from a number on, and prints the sums. It is an error if a call is refused, if what `verify`
+/// returns aren't the acknowledged events in their order, or if `replay` writes other lines of them than the store's.
 pub fn play_sweep<R: AllocGlobal + Print>(rt: &R, rest: &str) -> anyhow::Result<()> {
     let (first, count) = two_numbers(rest)?;
     let mut sums = Sums {
         events: 0,
         acknowledged: 0,
         hasher: Sha256::new(),
+        replayed: 0,
+        too_long: 0,
     };
     for place in 0..count {
         sweep_list(rt.alloc(), first.saturating_add(place), &mut sums)?;
     }
+    print_sums(rt, first, sums)
+}
+
+fn print_sums<R: AllocGlobal + Print>(rt: &R, first: u64, sums: Sums) -> anyhow::Result<()> {
     let (events, acknowledged) = (sums.events, sums.acknowledged);
+    let (replayed, too_long) = (sums.replayed, sums.too_long);
     let digest: [u8; 32] = sums.hasher.finalize();
     let text = text_of(rt.alloc(), &digest)?;
     println!(rt; "sweep from {first} events {events} acknowledged {acknowledged} roots {text}")?;
+    println!(rt; "replayed {replayed} lists, {too_long} were too long")?;
     Ok(())
 }
 
@@ -57,28 +69,54 @@ fn sweep_list(alloc: Global, number: u64, sums: &mut Sums) -> anyhow::Result<()>
     core.flush()?;
     gather_each(&mut core, &mut outputs)?;
     let store = core.into_store();
+    let count = store.commitment().count;
+    let appended = acknowledged_appends(alloc, count, &streams, &outputs, sums)?;
+    add_reopened(alloc, store, &appended, sums)
+}
+
+// Adds a store, which is opened again, and whose events have to be those that were appended.
+fn add_reopened(
+    alloc: Global,
+    store: Store<Device>,
+    appended: &[Option<&[u8]>],
+    sums: &mut Sums,
+) -> anyhow::Result<()> {
     let commitment = store.commitment();
-    let appended = acknowledged_appends(alloc, commitment.count, &streams, &outputs, sums)?;
-    let events = verified_events(alloc, store, commitment)?;
-    check_events(&events, &appended)?;
+    let entries = entries_of(alloc, store)?;
+    let events = verified_events(alloc, &entries, &commitment)?;
+    check_events(&events, appended)?;
+    if is_replayed(alloc, &events, &entries, &commitment)? {
+        sums.replayed = sums.replayed.saturating_add(1);
+    } else {
+        sums.too_long = sums.too_long.saturating_add(1);
+    }
     sums.events = sums.events.saturating_add(events.len() as u64);
     sums.hasher.update(&commitment.root);
     Ok(())
 }
 
-// The events of a store that is opened again, exported, and verified.
+// The entries of a store that is opened again.
+fn entries_of(alloc: Global, store: Store<Device>) -> anyhow::Result<Vec<Vec<u8>>> {
+    let mut store = made(Store::open(alloc, store.into_disk()))?;
+    let mut entries = Vec::new(alloc);
+    for index in 0..store.commitment().count {
+        entries.push(store.entry(index)?)?;
+    }
+    Ok(entries)
+}
+
+// The events that an export of these entries has by the verifier.
 fn verified_events(
     alloc: Global,
-    store: Store<Device>,
-    commitment: Commitment,
+    entries: &[Vec<u8>],
+    commitment: &Commitment,
 ) -> anyhow::Result<Vec<Event>> {
-    let mut store = made(Store::open(alloc, store.into_disk()))?;
     let mut export = Vec::new(alloc);
-    for index in 0..commitment.count {
-        export.extend_from_slice(&store.entry(index)?)?;
+    for entry in entries {
+        export.extend_from_slice(entry)?;
     }
     let mut reader = export.as_slice();
-    match verify(alloc, &mut reader, &Key::from_bytes([0; 32]), &commitment) {
+    match verify(alloc, &mut reader, &Key::from_bytes([0; 32]), commitment) {
         Ok(report) => Ok(report.events),
         Err(fault) => bail!("entry {}: {}", fault.index, fault.cause.name()),
     }

@@ -98,8 +98,8 @@ pub fn fault_of_serving(fault: ServeFault<StoreError>) -> ServingFault
     }
 }
 
-/// The fault of a command whose core couldn't be made, since memory was refused.
-pub fn no_core() -> ServingFault
+/// The fault of a command that memory was refused for: for a core, or for its streams.
+pub fn no_memory() -> ServingFault
     ensures { result ≡ Command (Refused Memory) }
 {
     ServingFault::Command(CommandFault::Refused(StoreError::Memory))

@@ -6,7 +6,7 @@ ghost use Rattle.audit_socket.specs.Looping.{AreLineTurns, IsWholeLoop};
 ghost use Rattle.audit_serving.specs.declared.fault.ServingFault.TheVariants.{BadFrameLine};
 ghost use Rattle.audit_serving.specs.Served.{LoopsOver, LoopReachesOver};
 
-use crate::fault::{ServingFault, fault_of_loop, no_core};
+use crate::fault::{ServingFault, fault_of_loop, no_memory};
 use audit_device::Sectors;
 use audit_server::Core;
 use audit_socket::{Link, run_lines};
@@ -46,7 +46,7 @@ where
 {
     let mut core = match Core::new(alloc, store) {
         Ok(core) => core,
-        Err(failed) => return (failed.store, Err(no_core())),
+        Err(failed) => return (failed.store, Err(no_memory())),
     };
     let done = match run_lines(alloc, &mut core, link, reader, writer) {
         Ok(()) => Ok(()),

@@ -1,19 +1,20 @@
 //! Rounds of serving, each by a new core over the same store.
-ghost use Rattle.std.specs.Prelude.{◌≡◌, ◌⊎◌, ◌≤◌, List, ℕ, length, map, IfOk, OnOk, OnErr};
+ghost use Rattle.std.specs.Prelude.{◌≡◌, ◌⊎◌, ◌≤◌, List, ℕ, length, map, vec_len, IfOk, OnOk, OnErr};
 ghost use Rattle.std.specs.Io.KnownBytes.{Appends};
 ghost use Rattle.audit_base.specs.declared.limits.TheConstants.{SESSIONS};
 ghost use Rattle.audit_run.specs.Serving.{StoreKeepsOn};
 ghost use Rattle.audit_serving.specs.Rounds.{round_lines};
 ghost use Rattle.audit_serving.specs.Served.{ServesRound, ServesRounds, ReachesByRound, ReachesByRounds};
 
-use crate::fault::{ServingFault, fault_of_serving, no_core};
+use crate::fault::{ServingFault, fault_of_serving, no_memory};
 use audit_device::Sectors;
 use audit_server::Core;
-use audit_sessions::serve;
+use audit_sessions::{DuplexStream, serve};
 use audit_socket::{SocketFile, write_round};
 use audit_store::Store;
 use std::alloc::Global;
 use std::io::Write;
+use std::os::unix::net::UnixStream;
 
 /// Serves so many rounds: in each, so many connections are accepted, and a new core over the store serves them up to the
 /// end of the last one. After each round its line is written, with its number from 1 on and the number of its turns.
@@ -52,6 +53,24 @@ pub fn serve_rounds<D: Sectors + Drop, W: Write>(
     (store, Ok(()))
 }
 
+// Waits for so many connections, in their order. Room for all of them is taken first: memory that is refused isn't reported
+// as a fault of the socket.
+fn accept_streams(
+    alloc: Global,
+    socket: &SocketFile,
+    count: usize,
+) -> Result<Vec<DuplexStream<UnixStream>>, ServingFault>
+    ensures { IfOk result (λ streams. vec_len streams ≡ count) }
+{
+    let Ok(mut streams) = Vec::with_capacity(alloc, count) else {
+        return Err(no_memory());
+    };
+    for _ in 0..count {
+        streams.push_reserved(DuplexStream::new(socket.accept()?));
+    }
+    Ok(streams)
+}
+
 // Serves one round, and returns the store, and how many turns it had.
 fn serve_round<D: Sectors + Drop>(
     alloc: Global,
@@ -64,13 +83,13 @@ fn serve_round<D: Sectors + Drop>(
     ensures served { IfOk result.1 (λ turns. ServesRound sessions turns store result.0) }
     ensures reached { (result.0 ≡ store) ⊎ ReachesByRound sessions store result.0 }
 {
-    let mut streams = match socket.accept_streams(alloc, sessions) {
+    let mut streams = match accept_streams(alloc, socket, sessions) {
         Ok(streams) => streams,
-        Err(error) => return (store, Err(error.into())),
+        Err(fault) => return (store, Err(fault)),
     };
     let mut core = match Core::new(alloc, store) {
         Ok(core) => core,
-        Err(failed) => return (failed.store, Err(no_core())),
+        Err(failed) => return (failed.store, Err(no_memory())),
     };
     let end = serve(&mut core, &mut streams);
     let served = match end.fault {

@@ -16,6 +16,12 @@ with_read_fault health.Sound = health.ReadFailed
 with_read_fault health.ReadFailed = health.ReadFailed
 with_read_fault health.Closed = health.Closed
 
+-- a write has failed
+abbrev pub has_closed : Health → Bool
+has_closed health.Sound = false
+has_closed health.ReadFailed = false
+has_closed health.Closed = true
+
 -- nothing but whether a call has failed
 abbrev pub unknown_stream : Health → StreamView
 unknown_stream state = record { unread = []; written = []; known = false; failed = has_failed state }
@@ -32,5 +38,14 @@ writer_of pair = pair.writer
 abbrev pub pair_view : {R W : Type 0} → (R → Option (List ℕ)) → (W → Option (List ℕ)) → StreamPair R W → StreamView
 pair_view remaining contents pair = view_of (remaining pair.reader) (contents pair.writer) pair.health
 
+abbrev pub is_pair_closed : {R W : Type 0} → StreamPair R W → Bool
+is_pair_closed pair = has_closed pair.health
+
 abbrev pub duplex_view : {T : Type 0} → DuplexStream T → StreamView
 duplex_view duplex = unknown_stream duplex.health
+
+abbrev pub inner_of : {T : Type 0} → DuplexStream T → T
+inner_of duplex = duplex.inner
+
+abbrev pub is_duplex_closed : {T : Type 0} → DuplexStream T → Bool
+is_duplex_closed duplex = has_closed duplex.health

@@ -1,7 +1,8 @@
-ghost use Rattle.std.specs.Prelude.{◌≡◌, ◌<◌, IsTrue, true, length};
+ghost use Rattle.std.specs.Prelude.{◌≡◌, ◌<◌, IsTrue, true, length, OnOk, OnErr};
+ghost use Rattle.std.specs.Io.KnownBytes.{Appends, ReadConsumes};
 ghost use Rattle.audit_sessions.specs.Streams.{StreamView, IsStreamRead, IsStreamWrite};
 ghost use Rattle.audit_sessions.specs.declared.health.Health.TheVariants as health;
-ghost use Rattle.audit_sessions.specs.Pairs.{unknown_stream, duplex_view};
+ghost use Rattle.audit_sessions.specs.Pairs.{unknown_stream, duplex_view, inner_of, is_duplex_closed};
 
 use crate::health::Health;
 use crate::session_stream::SessionStream;
@@ -30,7 +31,14 @@ impl<T: Read + Write> DuplexStream<T> {
 impl<T: Read + Write> SessionStream for DuplexStream<T> {
     ghost view = { λ duplex. duplex_view duplex };
 
-    fn read(&mut self, buffer: &mut [u8]) -> Result<usize, StreamFault> {
+    fn read(&mut self, buffer: &mut [u8]) -> Result<usize, StreamFault>
+        ensures stream { IsStreamRead (duplex_view self.old) (duplex_view self.new) buffer.new result }
+        // It gave what the value gave, in this direction alone: that a read of the value keeps what was written isn't
+        // known.
+        ensures given { ReadConsumes (T.remaining (inner_of self.old)) (T.remaining (inner_of self.new))
+            result buffer.new }
+        ensures closed { is_duplex_closed self.new ≡ is_duplex_closed self.old }
+    {
         match self.inner.read(buffer) {
             Ok(count) => Ok(count),
             Err(_) => {
@@ -40,7 +48,13 @@ impl<T: Read + Write> SessionStream for DuplexStream<T> {
         }
     }
 
-    fn write_all(&mut self, bytes: &[u8]) -> Result<(), StreamFault> {
+    fn write_all(&mut self, bytes: &[u8]) -> Result<(), StreamFault>
+        ensures stream { IsStreamWrite (duplex_view self.old) (duplex_view self.new) bytes.now result }
+        ensures taken { OnOk result (Appends (T.contents (inner_of self.old)) (T.contents (inner_of self.new))
+            bytes.now) }
+        ensures closed { OnErr result (is_duplex_closed self.new ≡ true) }
+        ensures open { OnOk result (is_duplex_closed self.new ≡ is_duplex_closed self.old) }
+    {
         if self.inner.write_all(bytes).is_err() || self.inner.flush().is_err() {
             self.health = Health::Closed;
             return Err(StreamFault);
@@ -48,7 +62,10 @@ impl<T: Read + Write> SessionStream for DuplexStream<T> {
         Ok(())
     }
 
-    fn is_closed(&self) -> bool {
+    fn is_closed(&self) -> bool
+        ensures failed { IsTrue result → (duplex_view self.now).failed ≡ true }
+        ensures closed { result ≡ is_duplex_closed self.now }
+    {
         self.health == Health::Closed
     }
 }

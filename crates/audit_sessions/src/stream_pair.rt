@@ -1,7 +1,7 @@
-ghost use Rattle.std.specs.Prelude.{◌≡◌, ◌<◌, IsTrue, true, length};
+ghost use Rattle.std.specs.Prelude.{◌≡◌, ◌<◌, IsTrue, true, length, OnOk, OnErr};
 ghost use Rattle.audit_sessions.specs.Streams.{StreamView, IsStreamRead, IsStreamWrite};
 ghost use Rattle.audit_sessions.specs.declared.health.Health.TheVariants as health;
-ghost use Rattle.audit_sessions.specs.Pairs.{view_of, pair_view, writer_of};
+ghost use Rattle.audit_sessions.specs.Pairs.{view_of, pair_view, writer_of, is_pair_closed};
 
 use crate::health::Health;
 use crate::session_stream::SessionStream;
@@ -51,7 +51,12 @@ impl<R: Read, W: Write> SessionStream for StreamPair<R, W> {
         }
     }
 
-    fn write_all(&mut self, bytes: &[u8]) -> Result<(), StreamFault> {
+    fn write_all(&mut self, bytes: &[u8]) -> Result<(), StreamFault>
+        ensures stream { IsStreamWrite (pair_view R.remaining W.contents self.old)
+            (pair_view R.remaining W.contents self.new) bytes.now result }
+        ensures closed { OnErr result (is_pair_closed self.new ≡ true) }
+        ensures open { OnOk result (is_pair_closed self.new ≡ is_pair_closed self.old) }
+    {
         if self.writer.write_all(bytes).is_err() || self.writer.flush().is_err() {
             self.health = Health::Closed;
             return Err(StreamFault);
@@ -59,7 +64,10 @@ impl<R: Read, W: Write> SessionStream for StreamPair<R, W> {
         Ok(())
     }
 
-    fn is_closed(&self) -> bool {
+    fn is_closed(&self) -> bool
+        ensures failed { IsTrue result → (pair_view R.remaining W.contents self.now).failed ≡ true }
+        ensures closed { result ≡ is_pair_closed self.now }
+    {
         self.health == Health::Closed
     }
 }

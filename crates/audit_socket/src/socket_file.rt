@@ -1,7 +1,3 @@
-ghost use Rattle.std.specs.Prelude.{◌≡◌, vec_len, IfOk};
-
-use audit_sessions::DuplexStream;
-use std::alloc::Global;
 use std::fs::{self, Files};
 use std::io;
 use std::net::Net;
@@ -24,21 +20,6 @@ impl SocketFile {
     pub fn accept(&self) -> io::Result<UnixStream> {
         let (stream, _) = self.listener.accept()?;
         Ok(stream)
-    }
-
-    /// Waits for so many connections, in their order.
-    pub fn accept_streams(
-        &self,
-        alloc: Global,
-        count: usize,
-    ) -> io::Result<Vec<DuplexStream<UnixStream>>>
-        ensures { IfOk result (λ streams. vec_len streams ≡ count) }
-    {
-        let mut streams = Vec::with_capacity(alloc, count)?;
-        for _ in 0..count {
-            streams.push_reserved(DuplexStream::new(self.accept()?));
-        }
-        Ok(streams)
     }
 
     /// Removes the socket's file.

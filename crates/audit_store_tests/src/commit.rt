@@ -165,15 +165,28 @@ fn the_257th_item_forces_a_flush(rt: HostRuntime) -> Result<(), Fail> {
     Ok(())
 }
 
-// A device that fails in the commit: what waited is dropped, and nothing is answered or called any more.
+// The device after a flush of a question and an append in which it failed from that call on: what waited is dropped, and
+// nothing is answered or called any more.
+fn after_a_fault(rt: &impl Abort, alloc: Global, calls: u64) -> Result<MemDisk, Fail> {
+    let mut committer = committer_on(alloc, Fuse::new(MemDisk::new(alloc, 16)?, calls))?;
+    ask(&mut committer, Query::Commitment { tag: 9 })?;
+    append(alloc, &mut committer, 7, b"hi")?;
+    assert!(rt; committer.flush() == Err(StoreError::Device));
+    assert!(rt; committer.flush() == Err(StoreError::Broken));
+    assert!(rt; committer.flush() == Err(StoreError::Broken));
+    assert!(rt; says(alloc, &mut committer, 1, "")? && says(alloc, &mut committer, 2, "")?);
+    Ok(committer.into_store().into_disk().into_inner())
+}
+
+// The header isn't written, or it is written and the sync after it fails.
 #[test]
 fn a_fault_in_the_commit_drops_what_waits(rt: HostRuntime) -> Result<(), Fail> {
     let alloc = rt.alloc();
-    let mut committer = committer_on(alloc, Fuse::new(MemDisk::new(alloc, 16)?, 24))?;
-    append(alloc, &mut committer, 7, b"hi")?;
-    ask(&mut committer, Query::Commitment { tag: 9 })?;
-    assert!(rt; committer.flush() == Err(StoreError::Device));
-    assert!(rt; committer.flush() == Err(StoreError::Broken));
-    assert!(rt; says(alloc, &mut committer, 1, "")? && says(alloc, &mut committer, 2, "")?);
+    for (calls, count) in [(23, 0), (24, 1)] {
+        let Ok(store) = Store::open(alloc, after_a_fault(&rt, alloc, calls)?) else {
+            return Err(Fail::new("not opened"));
+        };
+        assert!(rt; store.commitment().count == count, "{calls} calls");
+    }
     Ok(())
 }

@@ -8,7 +8,8 @@ use Rattle.std.proofs.lemmas.Nat.{pow_pos}
 use Rattle.sha2.specs.Sha256.{sha256}
 use Rattle.sha2.proofs.Facts256.{length-sha256}
 use Rattle.audit_base.specs.declared.limits.TheConstants.{HASH_LEN}
-use Rattle.audit_tree.specs.Subtree.{HaveHashLength, leaf_hash_of, subtree_hash, node_at, root_of, depth}
+use Rattle.audit_base.specs.Hashes.{AreHashes}
+use Rattle.audit_tree.specs.Subtree.{leaf_hash_of, subtree_hash, node_at, root_of, depth}
 use Rattle.audit_tree.specs.Paths.{path, increment_path}
 use Rattle.audit_tree.proofs.SubtreeLemmas.{subtree_hash-leaf, subtree_hash-lone, subtree_hash-pair, node_at-subtree_hash, root_of-none, root_of-some}
 use Rattle.audit_tree.proofs.PathLemmas.{path-none, path-lone, path-left, path-right}
@@ -17,21 +18,21 @@ abbrev IsHash : List ℕ → Type 0
 IsHash hash = length hash ≡ HASH_LEN
 
 -- none, and one
-no_hash : HaveHashLength []
+no_hash : AreHashes []
 no_hash k d h = absurd (omega (arith, h))
 
-one_hash : (hash : List ℕ) → length hash ≡ HASH_LEN → HaveHashLength (hash ∷ [])
+one_hash : (hash : List ℕ) → length hash ≡ HASH_LEN → AreHashes (hash ∷ [])
 one_hash hash e zero d h = e
 one_hash hash e (suc k) d h = absurd (omega (arith, h))
 
 -- those from a place on
-later_hashes : (n : ℕ) (xs : List (List ℕ)) → HaveHashLength xs → HaveHashLength (drop n xs)
+later_hashes : (n : ℕ) (xs : List (List ℕ)) → AreHashes xs → AreHashes (drop n xs)
 later_hashes n xs h k d l = rw (get_or-drop n xs k d) (h (n + k) d (omega (arith, l, length-drop n xs)))
 
-first_hashes : (n : ℕ) (xs : List (List ℕ)) → HaveHashLength xs → HaveHashLength (take n xs)
+first_hashes : (n : ℕ) (xs : List (List ℕ)) → AreHashes xs → AreHashes (take n xs)
 first_hashes n xs h k d l = rw (get_or-take n xs k d (omega (arith, l, length-take n xs))) (h k d (omega (arith, l, length-take n xs)))
 
-pub length-subtree_hash : (layer : ℕ) (xs : List (List ℕ)) → HaveHashLength xs → 0 < length xs →
+pub length-subtree_hash : (layer : ℕ) (xs : List (List ℕ)) → AreHashes xs → 0 < length xs →
     length (subtree_hash sha256 layer xs) ≡ HASH_LEN
 length-subtree_hash zero xs h some = ap length (subtree_hash-leaf sha256 xs) ∙ h 0 [] some
 length-subtree_hash (suc layer) xs h some = elim (cases_lt (2 ^ layer) (length xs)) [
@@ -40,20 +41,20 @@ length-subtree_hash (suc layer) xs h some = elim (cases_lt (2 ^ layer) (length x
   | inr few ↦ ap length (subtree_hash-lone sha256 layer xs few) ∙ length-sha256 (1 ∷ (subtree_hash sha256 layer xs ++ []))
 ]
 
-pub length-node_at : (leaves : List (List ℕ)) (count start layer : ℕ) → HaveHashLength leaves → start < count → count ≤ length leaves →
+pub length-node_at : (leaves : List (List ℕ)) (count start layer : ℕ) → AreHashes leaves → start < count → count ≤ length leaves →
     length (node_at sha256 leaves count start layer) ≡ HASH_LEN
 length-node_at leaves count start layer h begun known =
     ap length (node_at-subtree_hash sha256 layer start count leaves begun known)
     ∙ length-subtree_hash layer (drop start (take count leaves)) (later_hashes start (take count leaves) (first_hashes count leaves h))
     (omega (arith, length-drop start (take count leaves), length-take count leaves))
 
-pub length-root_of : (xs : List (List ℕ)) → HaveHashLength xs → length (root_of sha256 xs) ≡ HASH_LEN
+pub length-root_of : (xs : List (List ℕ)) → AreHashes xs → length (root_of sha256 xs) ≡ HASH_LEN
 length-root_of [] h = ap length (root_of-none sha256 [] refl)
 length-root_of (x ∷ xs) h =
     ap length (root_of-some sha256 (x ∷ xs) (omega arith)) ∙ length-subtree_hash (depth (length (x ∷ xs))) (x ∷ xs) h (omega arith)
 
-pub path-hashes : (from height place : ℕ) (xs : List (List ℕ)) → HaveHashLength xs → place < length xs →
-    HaveHashLength (path sha256 from height place xs)
+pub path-hashes : (from height place : ℕ) (xs : List (List ℕ)) → AreHashes xs → place < length xs →
+    AreHashes (path sha256 from height place xs)
 path-hashes from zero place xs h l = rw (path-none sha256 from place xs) no_hash
 path-hashes from (suc height) place xs h l =
     let half = 2 ^ (from + height) in
@@ -71,8 +72,8 @@ path-hashes from (suc height) place xs h l =
           (one_hash _ (length-subtree_hash (from + height) xs h (omega arith))))
     ]
 
-pub increment-hashes : (older : ℕ) (xs : List (List ℕ)) → HaveHashLength xs → 1 ≤ older → older ≤ length xs →
-    HaveHashLength (increment_path sha256 xs older)
+pub increment-hashes : (older : ℕ) (xs : List (List ℕ)) → AreHashes xs → 1 ≤ older → older ≤ length xs →
+    AreHashes (increment_path sha256 xs older)
 increment-hashes older xs h some order =
     let layer = trailing_zeros w64 older in
     let last = drop (older - 2 ^ layer) xs in
@@ -82,7 +83,7 @@ increment-hashes older xs h some order =
     (omega (arith, length-drop (older - 2 ^ layer) xs, pow_pos layer))))
     (path-hashes layer (depth (length xs) - layer) (older - 1) xs h (omega arith))
 
-pub leaf-hashes : (texts : List (List ℕ)) → HaveHashLength (map leaf_hash_of texts)
+pub leaf-hashes : (texts : List (List ℕ)) → AreHashes (map leaf_hash_of texts)
 leaf-hashes [] k d h = absurd (omega (arith, h))
 leaf-hashes (text ∷ texts) zero d h = length-sha256 (0 ∷ text)
 leaf-hashes (text ∷ texts) (suc k) d h = leaf-hashes texts k d (omega (arith, h))

@@ -2,24 +2,25 @@
 
 ghost use Rattle.std.specs.Prelude.{◌≡◌, ℕ, ◌<◌, ◌≤◌, List, length, take, drop, map};
 ghost use Rattle.sha2.specs.Sha256.{sha256};
-ghost use Rattle.audit_tree.specs.Subtree.{HaveHashLength, leaf_hash_of, root_of, node_at, subtree_hash, depth};
+ghost use Rattle.audit_base.specs.Hashes.{AreHashes};
+ghost use Rattle.audit_tree.specs.Subtree.{leaf_hash_of, root_of, node_at, subtree_hash, depth};
 ghost use Rattle.audit_tree.specs.Paths.{membership_path, membership_at, increment_path, increment_at};
 
 use audit_base::{HASH_LEN, MAX_COUNT};
 
 /// Where all leaf hashes have 32 bytes, so have a root, each node, and each hash of both proofs.
 pub fn hashes_keep_their_length()
-    ensures root { (leaves : List (List ℕ)) → HaveHashLength leaves → length (root_of sha256 leaves) ≡ HASH_LEN }
+    ensures root { (leaves : List (List ℕ)) → AreHashes leaves → length (root_of sha256 leaves) ≡ HASH_LEN }
     ensures node { (leaves : List (List ℕ)) (count start layer : ℕ)
-        → HaveHashLength leaves → start < count → count ≤ length leaves
+        → AreHashes leaves → start < count → count ≤ length leaves
         → length (node_at sha256 leaves count start layer) ≡ HASH_LEN }
-    ensures membership { (leaves : List (List ℕ)) (place : ℕ) → HaveHashLength leaves → place < length leaves
-        → HaveHashLength (membership_path sha256 leaves place) }
-    ensures increment { (leaves : List (List ℕ)) (older : ℕ) → HaveHashLength leaves → 1 ≤ older → older ≤ length leaves
-        → HaveHashLength (increment_path sha256 leaves older) }
+    ensures membership { (leaves : List (List ℕ)) (place : ℕ) → AreHashes leaves → place < length leaves
+        → AreHashes (membership_path sha256 leaves place) }
+    ensures increment { (leaves : List (List ℕ)) (older : ℕ) → AreHashes leaves → 1 ≤ older → older ≤ length leaves
+        → AreHashes (increment_path sha256 leaves older) }
 
     // The leaf hashes of texts have.
-    ensures texts { (texts : List (List ℕ)) → HaveHashLength (map leaf_hash_of texts) }
+    ensures texts { (texts : List (List ℕ)) → AreHashes (map leaf_hash_of texts) }
 {}
 
 /// A node, a root and both proofs by the places of their nodes are those by the leaf hashes from a start on, over

@@ -1,7 +1,7 @@
 use Rattle.std.proofs.Common.{◌≡◌, ◌∙◌, inr, Err, sym, ap}
 use Rattle.audit_serving.specs.declared.fault.ServingFault.TheVariants.{BadFrameLine}
 use Rattle.audit_serving.specs.Served.{IsNewCore}
-use Rattle.audit_serving.proofs.Served.{bad_of_loop, told_ok, told_err, kept_by, looped, loop_reached}
+use Rattle.audit_serving.proofs.Served.{bad_of_loop, told_ok, told_err, kept_as, kept_by, looped, loop_reached}
 use Rattle.audit_serving.proofs.looping.loop_over.Goals.{in-Ok-run_lines, in-Err-run_lines}
 use Rattle.audit_serving.proofs.looping.loop_over.Goals as goal
 
@@ -33,3 +33,7 @@ returns-clause-bad g c = λ number is.
           let ran = c.run_lines.ensures.bad number (w.in-Err-run_lines.is ∙ ap Err (bad_of_loop w.in-Err-run_lines.fault number (sym w.fault_of_loop.ensures ∙ told))) in
           (ran.0, ran.1, looped c.args.store c.into_store.result c.in-Ok.core c.run_lines.new.core made c.into_store.ensures ran.2, ran.3)
     ]
+
+-- no core was made, and the store is handed back as it was
+pub returns-in-Err-clause-kept : goal.returns-in-Err-clause-kept
+returns-in-Err-clause-kept g c = kept_as c.args.store c.in-Err.failed.store c.in-Err.ensures.store

@@ -2,7 +2,7 @@ use Rattle.std.proofs.Common.{◌≡◌, inr, Result, ℕ, length, sym, subst, r
 use Rattle.std.specs.Prelude.{IfOk}
 use Rattle.audit_serving.specs.declared.fault.ServingFault.{ServingFault}
 use Rattle.audit_serving.specs.Served.{IsNewCore, ServesRound}
-use Rattle.audit_serving.proofs.Served.{kept_by, round_served, round_reached}
+use Rattle.audit_serving.proofs.Served.{kept_as, kept_by, round_served, round_reached}
 use Rattle.audit_serving.proofs.rounds.serve_round.Goals.{in-None, in-Some}
 use Rattle.audit_serving.proofs.rounds.serve_round.Goals as goal
 
@@ -25,3 +25,7 @@ returns-clause-reached g c =
     let made : IsNewCore c.args.store c.in-Ok-new.core = record { store_is = c.in-Ok-new.ensures.store; waiting = c.in-Ok-new.ensures.waiting; outputs = c.in-Ok-new.ensures.outputs; sessions = c.in-Ok-new.ensures.sessions } in
     let each : length c.deref_mut.result.now ≡ c.args.sessions = search rules in
     inr (round_reached c.args.store c.into_store.result c.in-Ok-new.core c.serve-end.new.core c.args.sessions _ _ _ made c.into_store.ensures each c.serve-end.ensures.reaches)
+
+-- no core was made, and the store is handed back as it was
+pub returns-in-Err-new-clause-kept : goal.returns-in-Err-new-clause-kept
+returns-in-Err-new-clause-kept g c = kept_as c.args.store c.in-Err-new.failed.store c.in-Err-new.ensures.store

@@ -1,5 +1,5 @@
 use Rattle.std.proofs.Common.{◌≡◌, vec_len, vec_capacity}
-use Rattle.audit_socket.proofs.socket_file.SocketFile.accept_streams.Given as goal
+use Rattle.audit_serving.proofs.rounds.accept_streams.Given as goal
 
 -- one for each connection, with room for all
 abbrev pub invariant-loop : goal.invariant-loop
