@@ -9,6 +9,8 @@ mod chain;
 #[cfg(test)]
 mod disk;
 #[cfg(test)]
+mod lengths;
+#[cfg(test)]
 mod log;
 #[cfg(test)]
 mod mac;

@@ -1,5 +1,6 @@
 ghost use Rattle.audit_wire.specs.Reply.{IsReply};
 
+use audit_base::MAX_ENTRY;
 use audit_wire::*;
 use std::alloc::{AllocError, Global};
 use std::process::Abort;
@@ -131,12 +132,13 @@ fn a_list_is_the_vector_that_it_was_made_of(rt: HostRuntime) -> Result<(), Fail>
 }
 
 // Lengths, and whether a frame may have them.
-const LENGTHS: [([u8; 2], bool); 6] = [
+const LENGTHS: [([u8; 2], bool); 7] = [
     ([0x00, 0x00], false),
     ([0x00, 0x01], true),
-    ([0x0f, 0xc1], true),
-    ([0x0f, 0xc2], false),
-    ([0x10, 0x00], false),
+    ([0x0f, 0xc2], true),
+    ([0x7f, 0xc1], true),
+    ([0x7f, 0xc2], false),
+    ([0x80, 0x00], false),
     ([0xff, 0xff], false),
 ];
 
@@ -173,7 +175,7 @@ fn a_length_is_judged_at_its_second_byte(rt: HostRuntime) -> Result<(), Fail> {
 
 // An append's frame of so many bytes, whose length says that it is the longest one.
 fn frame_of(alloc: Global, size: usize) -> Result<Vec<u8>, AllocError> {
-    let mut frame = Vec::from_slice(alloc, &[0x0f, 0xc1])?;
+    let mut frame = Vec::from_slice(alloc, &[0x7f, 0xc1])?;
     frame.extend_from_slice(&APPEND[2..11])?;
     frame.resize(size, 0xab)?;
     Ok(frame)
@@ -190,8 +192,8 @@ fn is_append_of(body: &[u8], len: usize) -> bool {
 fn the_longest_frame_is_read(rt: HostRuntime) -> Result<(), Fail> {
     let frame = frame_of(rt.alloc(), MAX_FRAME)?;
     let mut decoder = Decoder::new(rt.alloc())?;
-    assert!(rt; decoder.feed(&frame) == Fed::Body { taken: 4035 });
-    assert!(rt; is_append_of(decoder.body(), 4024));
+    assert!(rt; decoder.feed(&frame) == Fed::Body { taken: 32_707 });
+    assert!(rt; is_append_of(decoder.body(), 32_696));
     Ok(())
 }
 
@@ -269,7 +271,7 @@ fn a_byte_that_is_put_back_comes_again(rt: HostRuntime) -> Result<(), Fail> {
 
 // Whether a malformed length is judged, and its last byte is put back.
 fn puts_back_length(decoder: &mut Decoder) -> bool {
-    match decoder.feed(b"\x0f\xc2\x01") {
+    match decoder.feed(b"\x7f\xc2\x01") {
         Fed::Malformed { taken } => {
             decoder.put_back();
             taken == 2 && decoder.pending()
@@ -422,10 +424,10 @@ fn the_longest_membership(rt: HostRuntime) -> Result<(), Fail> {
     let membership = Reply::Membership {
         tag: 5,
         hashes: HashList::from_vec(vec![in rt.alloc(); [7; 32]; 24]?),
-        entry: ByteList::from_vec(vec![in rt.alloc(); 7; 4096]?),
+        entry: ByteList::from_vec(vec![in rt.alloc(); 7; MAX_ENTRY]?),
     };
-    let begins = [0x13, 0x06, 0x83, 0x00, 0x00, 0x00, 0x05, 24];
-    check_longest(&rt, rt.alloc(), &membership, 4872, &begins)?;
+    let begins = [0x83, 0x06, 0x83, 0x00, 0x00, 0x00, 0x05, 24];
+    check_longest(&rt, rt.alloc(), &membership, 33_544, &begins)?;
     Ok(())
 }
 
@@ -433,10 +435,10 @@ fn the_longest_membership(rt: HostRuntime) -> Result<(), Fail> {
 fn the_longest_entry(rt: HostRuntime) -> Result<(), Fail> {
     let entry = Reply::Entry {
         tag: 4,
-        entry: ByteList::from_vec(vec![in rt.alloc(); 7; 4096]?),
+        entry: ByteList::from_vec(vec![in rt.alloc(); 7; MAX_ENTRY]?),
     };
-    let begins = [0x10, 0x05, 0x85, 0x00, 0x00, 0x00, 0x04, 7];
-    check_longest(&rt, rt.alloc(), &entry, 4103, &begins)?;
+    let begins = [0x80, 0x05, 0x85, 0x00, 0x00, 0x00, 0x04, 7];
+    check_longest(&rt, rt.alloc(), &entry, 32_775, &begins)?;
     Ok(())
 }
 

@@ -85,7 +85,7 @@ fn serve_round<D: Sectors + Drop>(
 {
     let mut streams = match accept_streams(alloc, socket, sessions) {
         Ok(streams) => streams,
-        Err(fault) => return (store, Err(fault)),
+        Err(refusal) => return (store, Err(refusal)),
     };
     let mut core = match Core::new(alloc, store) {
         Ok(core) => core,

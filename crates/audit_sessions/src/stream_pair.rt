@@ -41,7 +41,12 @@ impl<R: Read, W: Write> StreamPair<R, W> {
 impl<R: Read, W: Write> SessionStream for StreamPair<R, W> {
     ghost view = { λ pair. pair_view R.remaining W.contents pair };
 
-    fn read(&mut self, buffer: &mut [u8]) -> Result<usize, StreamFault> {
+    fn read(&mut self, buffer: &mut [u8]) -> Result<usize, StreamFault>
+        requires { 0 < length buffer.old }
+        ensures stream { IsStreamRead (pair_view R.remaining W.contents self.old)
+            (pair_view R.remaining W.contents self.new) buffer.new result }
+        ensures closed { is_pair_closed self.new ≡ is_pair_closed self.old }
+    {
         match self.reader.read(buffer) {
             Ok(count) => Ok(count),
             Err(_) => {

@@ -135,7 +135,7 @@ fn longest_membership(alloc: Global) -> Result<MemberProof, Fail> {
         index: u64::MAX,
         count: 0,
         hashes,
-        entry: vec![in alloc; 7; 4096]?,
+        entry: vec![in alloc; 7; MAX_ENTRY]?,
     })
 }
 

@@ -8,7 +8,7 @@ use std::test::Fail;
 
 /// The digest of all readings, as a model of the formats in another language gives it for these
 /// streams.
-const EXPECTED: u64 = 0x8210_f49d_69d7_7597;
+const EXPECTED: u64 = 0x604e_ad26_f5ae_c273;
 
 const STREAMS: u64 = 10_000;
 
@@ -210,7 +210,7 @@ fn number_at_front(bytes: &[u8], size: usize) -> Option<(u64, &[u8])> {
 fn plain_request(body: &[u8], reading: &mut Reading) -> Option<()> {
     let (kind, mut rest) = number_at_front(body, 1)?;
     let widths: &[usize] = match (kind, body.len()) {
-        (1, 9..=4033) => &[4, 4],
+        (1, 9..=32_705) => &[4, 4],
         (2, 5) => &[4],
         (3 | 4, 21) => &[4, 8, 8],
         (5, 13) => &[4, 8],
@@ -247,7 +247,7 @@ fn plain(stream: &[u8]) -> Reading {
     let mut rest = stream;
     for _ in 0..=stream.len() {
         match number_at_front(rest, 2) {
-            Some((1..=4033, _)) => {}
+            Some((1..=32_705, _)) => {}
             Some(_) => {
                 reading.malformed = true;
                 return reading;

@@ -152,11 +152,16 @@ fn line_of(alloc: Global, kind: &str, digits: usize, rest: &str) -> Result<Strin
 // The kind, the digits and what stands behind them, and what is printed.
 const FAULTS: [(&str, usize, &str, &str); 7] = [
     ("4294967295", 0, "-", "audit: line 2: reserved kind\n"),
-    ("4294967295", 8050, "", "audit: line 2: reserved kind\n"),
-    ("4294967295", 8051, "", "audit: line 2: bad event line\n"),
-    ("1", 8050, "", "audit: line 2: payload too long\n"),
-    ("1", 8050, "g", "audit: line 2: bad event line\n"),
-    ("1", 8048, "\nevent 2 zz", "audit: line 3: bad event line\n"),
+    ("4294967295", 65_394, "", "audit: line 2: reserved kind\n"),
+    ("4294967295", 65_395, "", "audit: line 2: bad event line\n"),
+    ("1", 65_394, "", "audit: line 2: payload too long\n"),
+    ("1", 65_394, "g", "audit: line 2: bad event line\n"),
+    (
+        "1",
+        65_392,
+        "\nevent 2 zz",
+        "audit: line 3: bad event line\n",
+    ),
     (
         "1",
         0,
@@ -187,13 +192,13 @@ fn an_input_of_the_limit_and_one_byte_more(rt: HostRuntime) {
     }
 }
 
-// 2,082 events of zeros with payloads of the limit, and one that fills an input up to its limit.
+// 256 events of zeros with payloads of the limit, and one that fills an input up to its limit.
 fn longest_input(alloc: Global) -> Result<Vec<u8>, AllocError> {
     let mut input = Vec::from_slice(alloc, KEY_LINE.as_bytes())?;
-    for _ in 0..2082 {
-        push_event(alloc, &mut input, 8048)?;
+    for _ in 0..256 {
+        push_event(alloc, &mut input, 65_392)?;
     }
-    push_event(alloc, &mut input, 2464)?;
+    push_event(alloc, &mut input, 34_482)?;
     Ok(input)
 }
 
@@ -208,7 +213,7 @@ fn a_log_of_the_longest_input(rt: HostRuntime) -> Result<(), Fail> {
 }
 
 const LAST_COMMIT: &[u8] =
-    b"\ncommit 2083 39c237e4f860bd7153046ab2b236064f7d85158077aa61f75fa5e0423c9bad0c\n";
+    b"\ncommit 257 d8cd69f7c899bfe6ba6f211167b9d893209c8daedc41e0cdfcbc85e2ddf93097\n";
 
 // A line of an event of kind 1 whose payload is zeros, spelled in so many digits.
 fn push_event(alloc: Global, input: &mut Vec<u8>, digits: usize) -> Result<(), AllocError> {

@@ -47,7 +47,7 @@ fn push_lines(
 }
 
 // The sectors of a device and the lines, and what is printed for them.
-const RUNS: [(u64, Rows, &str); 4] = [
+const RUNS: [(u64, Rows, &str); 6] = [
     (10, [(0, 0), (0, 0), (0, 0)], ""),
     (
         70,
@@ -66,6 +66,19 @@ ack 8 9 c42b338d70585ebd5103532fca6e925fc541f63a83cfe96196c5c65908ee88ae\n",
         [(7, 8048), (7, 0), (1, 8048)],
         "ack 0 14 2219d788e047e8dc6a8899797fa472206575196d2886bdd50742c4feb38029e1\n\
 ack 14 15 4f31e5941ec6309ab975657a62a2bf85b9ac9d9984fe8249d446067d07e3e718\n",
+    ),
+    (
+        200,
+        [(1, 65_392), (1, 0), (1, 65_392)],
+        "ack 0 1 e81559087dd12378f4ba472d6a973da2d1f0fc70f4b6c73bba8031a829e7e221\n\
+ack 1 2 ad833e0554dabe63ac1de1413ea5fe98b70b0f70859cccf759f69a62df2aeb1f\n\
+ack 2 3 dc010a46503a45547bd96cf56749cd4b16149bd3a8b8ce478fddf32113bc5167\n",
+    ),
+    (
+        200,
+        [(1, 0), (1, 64_368), (1, 0)],
+        "ack 0 2 200a37761515ff00ab32816ea9931730f8aaee1f575526c3b3c3a2bea4ceb9d6\n\
+ack 2 3 26ac92625465d3f5576712c88cfacee43ce807767b5e3d341559a8643817d2d3\n",
     ),
 ];
 
@@ -97,7 +110,7 @@ fn a_device_that_gets_full(rt: HostRuntime) -> Result<(), Fail> {
 const FULL: &[u8] = b"\
 ack 0 64 a83418fd433e7f04e15aa90e18627e4ef5c2345ea331ea929a36f93bf3b55e06\n\
 commit 64 a83418fd433e7f04e15aa90e18627e4ef5c2345ea331ea929a36f93bf3b55e06\n\
-sectors 66 end 66 generation 4\n";
+sectors 66 end 66 generation 4 version 2\n";
 
 // The last line is bad, so that nothing is appended.
 #[test]

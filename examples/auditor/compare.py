@@ -1,0 +1,190 @@
+#!/usr/bin/env python3
+"""Compares check_proof.py and read_export.py with the program, on what a tour left and on damaged copies of it.
+
+usage: compare.py PROGRAM FOLDER
+
+FOLDER is one that `examples/tour -d FOLDER` made. Each question goes to both: statuses and outputs have to be the same, and so
+have messages but for the name before them. Each answer that there is has to come at least once. Prints what differs, and in
+the end how many questions were asked.
+"""
+import collections
+import contextlib
+import io
+import os
+import subprocess
+import sys
+
+import check_proof
+import history
+import read_export
+
+ANSWERS = ["accepted", "not accepted", "32 BadProof", "verified", "40 Short", "41 BadLength", "42 BadLink", "43 BadMac",
+           "44 WrongCommitment", "bad argument", "file fault"]
+
+
+class Comparison:
+    def __init__(self, program):
+        self.program = program
+        self.asked = 0
+        self.differ = 0
+        self.answers = collections.Counter()
+
+    def ask(self, module, command, *words):
+        """One question to both."""
+        run = subprocess.run([self.program, command, *words], stdin=subprocess.DEVNULL, capture_output=True, text=True)
+        theirs = run.returncode, run.stdout, run.stderr.replace("audit: ", "", 1)
+        output, messages = io.StringIO(), io.StringIO()
+        with contextlib.redirect_stdout(output), contextlib.redirect_stderr(messages):
+            status = module.main(list(words))
+        ours = status, output.getvalue(), messages.getvalue().replace(module.__name__ + ": ", "", 1)
+        self.asked += 1
+        last_line = (theirs[1] + theirs[2]).splitlines()[-1]
+        self.answers[last_line.split(": ")[-1].rstrip(" 0123456789")] += 1
+        if ours != theirs:
+            self.differ += 1
+            print("%s %s: the program answers %r, the other %r" % (command, " ".join(words), theirs, ours))
+
+    def check(self, proof, *commitments):
+        self.ask(check_proof, "check", proof, *commitments)
+
+    def verify(self, data, *words):
+        with open("damaged", "wb") as file:
+            file.write(data)
+        self.ask(read_export, "verify", "damaged", *words)
+
+    def check_bytes(self, data, *commitments):
+        with open("damaged", "wb") as file:
+            file.write(data)
+        self.check("damaged", *commitments)
+
+
+def read(name):
+    with open(name, "rb") as file:
+        return file.read()
+
+
+def turned(data, step):
+    """Copies of which every so many bytes one is turned."""
+    for at in range(0, len(data), step):
+        yield data[:at] + bytes([data[at] ^ 1 << at % 8]) + data[at + 1:]
+
+
+def entries_of(export):
+    entries, at = [], 0
+    while at < len(export):
+        end = read_export.read_entry(export, at, len(entries))[-1]
+        entries.append(export[at:end])
+        at = end
+    return entries
+
+
+def compare_proofs(comparison, entries):
+    """Proofs of many counts, under commitments that are computed from the export."""
+    leaves = [history.leaf_hash(entry) for entry in entries]
+    commitments = ["%d:%s" % (count, history.root(leaves[:count]).hex()) for count in range(len(leaves) + 1)]
+
+    def prove(*words):
+        subprocess.run([comparison.program, "prove", "events.store", *words, "made"], check=True, capture_output=True)
+
+    last = len(leaves)
+    for count in {1, 2, 3, 5, 8, 13, last - 1, last}:
+        for index in {0, count // 3, count // 2, count - 1}:
+            prove("member", str(index), str(count))
+            comparison.check("made", commitments[count])
+            comparison.check("made", commitments[count - 1])
+            prove("increment", str(index + 1), str(count))
+            comparison.check("made", commitments[index + 1], commitments[count])
+            comparison.check("made", commitments[index], commitments[count])
+
+
+def compare_damaged_proofs(comparison, older, newer):
+    for name, commitments in [("member.proof", [newer]), ("increment.proof", [older, newer]), ("other.proof", [newer])]:
+        proof = read(name)
+        comparison.check(name, *commitments)
+        for data in turned(proof, 7):
+            comparison.check_bytes(data, *commitments)
+        for size in [0, 16, 17, 18, len(proof) - 33, len(proof) - 1]:
+            comparison.check_bytes(proof[:size], *commitments)
+        comparison.check_bytes(proof + b"x", *commitments)
+        # A hash too many, and one too few.
+        end = 18 + 32 * proof[17]
+        comparison.check_bytes(proof[:17] + bytes([proof[17] + 1]) + proof[18:end] + bytes(32) + proof[end:], *commitments)
+        comparison.check_bytes(proof[:17] + bytes([proof[17] - 1]) + proof[18:end - 32] + proof[end:], *commitments)
+        comparison.check(name, *commitments[::-1])
+        comparison.check(name, *[older for _ in commitments])
+        comparison.check(name, *([newer] if len(commitments) == 2 else [older, newer]))
+    # At the limits of the hashes and of the entry, and one past them.
+    for kind, commitments in [(b"\1", [newer]), (b"\2", [older, newer])]:
+        numbers = b"".join(int(word.split(":")[0]).to_bytes(8, "big") for word in (older, newer))
+        for hashes in [0, 24, 25, 26]:
+            for entry in [0, 1, 32768, 32769]:
+                comparison.check_bytes(kind + numbers + bytes([hashes]) + bytes(32 * hashes + entry), *commitments)
+
+
+def compare_largest_trees(comparison):
+    """The last entry of a log of the most entries, and of one of more: its proof climbs from the left alone, or has one hash."""
+    value = history.leaf_hash(b"entry")
+    for _ in range(24):
+        value = history.inner_node(bytes(32), value)
+    head = b"\1" + ((1 << 24) - 1).to_bytes(8, "big") + (1 << 24).to_bytes(8, "big") + bytes([24])
+    comparison.check_bytes(head + bytes(24 * 32) + b"entry", "%d:%s" % (1 << 24, value.hex()))
+    value = history.leaf_hash(b"entry")
+    for _ in range(24):
+        value = history.inner_node(value)
+    value = history.inner_node(bytes(32), value)
+    head = b"\1" + (1 << 24).to_bytes(8, "big") + ((1 << 24) + 1).to_bytes(8, "big") + bytes([1])
+    comparison.check_bytes(head + bytes(32) + b"entry", "%d:%s" % ((1 << 24) + 1, value.hex()))
+
+
+def compare_exports(comparison, entries, newer):
+    export = b"".join(entries)
+    for data in [export, b"", export + b"\0"]:
+        comparison.verify(data, "first.key", newer)
+    comparison.verify(b"", "first.key", "0:" + "0" * 64)
+    for data in turned(export, 41):
+        comparison.verify(data, "first.key", newer)
+    for length in [4024, 4025, 32696, 32697, 1 << 31]:
+        comparison.verify(export[:4] + length.to_bytes(4, "big") + export[8:], "first.key", newer)
+        comparison.verify(export + bytes(4) + length.to_bytes(4, "big") + bytes(32760), "first.key", newer)
+    for size in range(0, len(export), 101):
+        comparison.verify(export[:size], "first.key", newer)
+    for at in range(0, len(entries) - 1, 4):
+        comparison.verify(b"".join(entries[:at] + entries[at + 1:]), "first.key", newer)
+        comparison.verify(b"".join(entries[:at] + [entries[at + 1], entries[at]] + entries[at + 2:]), "first.key", newer)
+        comparison.verify(b"".join(entries[:at] + 2 * [entries[at]] + entries[at + 1:]), "first.key", newer)
+
+
+def compare_words(comparison, newer):
+    for word in ["", "24", ":", newer + "0", newer[:-1], "x" + newer, " " + newer, "1" * 21 + newer[2:], newer.upper(),
+                 "18446744073709551616" + newer[2:], "0" + newer]:
+        comparison.check("member.proof", word)
+        comparison.verify(read("events.export"), "first.key", word)
+    comparison.check("missing", newer)
+    comparison.ask(read_export, "verify", "missing", "first.key", newer)
+    for key in [b"", b"0" * 63, b"0" * 64, b"0" * 64 + b"\n\n", b"0" * 63 + b"g", read("first.key") + b"\n"]:
+        with open("other.key", "wb") as file:
+            file.write(key)
+        comparison.verify(read("events.export"), "other.key", newer)
+
+
+def main():
+    program, folder = sys.argv[1:]
+    program = os.path.abspath(program)
+    os.chdir(folder)
+    older, newer = read("older.commitment").decode().strip(), read("newer.commitment").decode().strip()
+    entries = entries_of(read("events.export"))
+    comparison = Comparison(program)
+    compare_proofs(comparison, entries)
+    compare_damaged_proofs(comparison, older, newer)
+    compare_largest_trees(comparison)
+    compare_exports(comparison, entries, newer)
+    compare_words(comparison, newer)
+    for answer in ANSWERS:
+        if comparison.answers[answer] == 0:
+            comparison.differ += 1
+            print("no question was answered with %s" % answer)
+    print("%d questions, %d answered differently" % (comparison.asked, comparison.differ))
+    return 1 if comparison.differ else 0
+
+
+sys.exit(main())
