@@ -19,6 +19,9 @@ use std::os::unix::fs::FileExt;
 use std::rt::Clock;
 use std::time::Instant;
 
+// How often the verifying is timed, in turns with what it can't do without: the least times count.
+const ROUNDS: u32 = 7;
+
 // The lengths of the long messages that are hashed for an event: its link, and its leaf.
 const LONG_LENS: [usize; 2] = [36 + MAX_PAYLOAD, 1 + MAX_ENTRY];
 
@@ -26,7 +29,7 @@ const LONG_LENS: [usize; 2] = [36 + MAX_PAYLOAD, 1 + MAX_ENTRY];
 const SHORT_LENS: [usize; 5] = [50, 96, 96, 46, 65];
 
 /// Seals and appends so many events of the longest payload to a store in the file, one at a time, and verifies their
-/// export in memory. It prints the times of both, and those of what they can't do without.
+/// export in memory, seven times. It prints the times of both, and those of what they can't do without.
 pub fn measure<R: Files + AllocGlobal + Clock + Eprint>(
     rt: &R,
     file: &str,
@@ -126,18 +129,31 @@ fn stream_of(number: u64) -> u8 {
     (seen & 0xff) as u8
 }
 
-// Times what the verifying of all entries can't do without, and then the verifying.
+// The least times of verifying all entries, and of what it can't do without.
 fn time_verifying<R: AllocGlobal + Clock, D: Sectors>(
     rt: &R,
     store: &mut Store<D>,
 ) -> anyhow::Result<Times> {
     let commitment = store.commitment();
     let export = export_of(rt.alloc(), store)?;
+    let mut least = time_export(rt, &export, &commitment)?;
+    for _ in 1..ROUNDS {
+        least = least.least(time_export(rt, &export, &commitment)?);
+    }
+    Ok(least)
+}
+
+// Times what the verifying of an export can't do without, and then the verifying.
+fn time_export<R: AllocGlobal + Clock>(
+    rt: &R,
+    export: &[u8],
+    commitment: &Commitment,
+) -> anyhow::Result<Times> {
     let start = Instant::now(rt)?;
     let seen = work_of_events(rt.alloc(), commitment.count)?;
     let bare = since(rt, start)?;
     let start = Instant::now(rt)?;
-    check_export(rt.alloc(), &export, &commitment)?;
+    check_export(rt.alloc(), export, commitment)?;
     Ok(Times {
         whole: since(rt, start)?,
         bare,
