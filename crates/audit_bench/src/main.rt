@@ -1,15 +1,16 @@
 //! Measures what the store's layers cost. Figures go to standard error, since they differ from run to run;
 //! standard output is fixed.
 //!
-//! Arguments: the number of small events, of leaves, and of frames, each a decimal number; then `store`, `sessions` or
-//! `export`, the name of a file that isn't there, and a number of events, for what a store of so many in a file costs, or
-//! sessions over one, or verifying an export of so many.
+//! Arguments: the number of small events, of leaves, and of frames, each a decimal number; then `store`, `sessions`, `export`
+//! or `large`, the name of a file that isn't there, and a number of events, for what a store of so many in a file costs, or
+//! sessions over one, or verifying an export of so many; or appending so many of the longest payload, and verifying them.
 #![tactic(auto)]
 
 mod blocks;
 mod exports;
 mod flushes;
 mod frames;
+mod large;
 mod leaves;
 mod questions;
 mod sessions;
@@ -45,7 +46,8 @@ fn measure_file(rt: &HostRuntime, name: &str, file: &str, events: u32) -> anyhow
         "store" => stores::measure(rt, file, events)?,
         "sessions" => sessions::measure(rt, file, events)?,
         "export" => exports::measure(rt, file, events)?,
-        _ => bail!("a store, sessions or an export is wanted"),
+        "large" => large::measure(rt, file, events)?,
+        _ => bail!("a store, sessions, an export or large events are wanted"),
     }
     println!(rt; "{name} measured")?;
     Ok(())

@@ -30,8 +30,8 @@ const SEALED_LENS: [usize; 7] = [50, 38, 96, 96, 46, 75, 65];
 // Where the same event is read at an opening: link, leaf, and an inner node. They have 5 blocks.
 const READ_LENS: [usize; 3] = [38, 75, 65];
 
-// For a batch: the digests of two headers, and two roots of some thousand entries.
-const BATCH_LENS: [usize; 14] = [480, 480, 65, 65, 65, 65, 65, 65, 65, 65, 65, 65, 65, 65];
+/// For a batch: the digests of two headers, and two roots of some thousand entries.
+pub const BATCH_LENS: [usize; 14] = [480, 480, 65, 65, 65, 65, 65, 65, 65, 65, 65, 65, 65, 65];
 
 /// A device in a file of the operating system.
 pub type Disk<F> = FileDisk<OsFile<F>>;

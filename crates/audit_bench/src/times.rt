@@ -14,6 +14,22 @@ pub struct Times {
 }
 
 impl Times {
+    /// No time at all.
+    pub const ZERO: Times = Times {
+        whole: 0,
+        bare: 0,
+        seen: 0,
+    };
+
+    /// The sums of both.
+    pub fn plus(self, other: Times) -> Times {
+        Times {
+            whole: self.whole.saturating_add(other.whole),
+            bare: self.bare.saturating_add(other.bare),
+            seen: self.seen ^ other.seen,
+        }
+    }
+
     /// The least times of both.
     pub fn least(self, other: Times) -> Times {
         Times {

@@ -279,7 +279,7 @@ fn resize(random: &mut Random, content: &mut Vec<Block>) -> Result<(), AllocErro
     Ok(())
 }
 
-// Opens the device and appends an event of the payload `hi` to its store, and adds the outcomes and what the device has then.
+// Opens the device and appends an event to its store, and adds the outcomes and what the device has then.
 fn open_hurt(alloc: Global, content: &[Block], outcomes: &mut Outcomes) -> anyhow::Result<()> {
     let disk = FailOnce::new(MemDisk::from_sectors(alloc, content)?, u64::MAX);
     let disk = match Store::open(alloc, disk) {
@@ -306,7 +306,7 @@ impl Outcomes {
         self.hasher.update(&store.generation().to_be_bytes());
     }
 
-    // Appends an event, and returns the device.
+    // Appends an event with the payload `hi`, and returns the device.
     fn add_append(&mut self, alloc: Global, store: Store<Device>) -> anyhow::Result<Device> {
         let mut store = store;
         let events = vec![in alloc; Event::new(alloc, 1, b"hi")?]?;

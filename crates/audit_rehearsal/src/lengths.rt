@@ -28,10 +28,10 @@ pub fn try_lengths<R: AllocGlobal + Print>(rt: &R, step: u64) -> anyhow::Result<
 
 // Past the first lengths it is a multiple of the step, or one whose entry ends within two bytes of a sector's end.
 fn is_tried(length: u64, step: u64) -> bool {
-    let entry = ENTRY_OVERHEAD as u64 + length;
+    let entry = length.saturating_add(ENTRY_OVERHEAD as u64);
     length <= FIRST_LENGTHS
         || length.checked_rem(step) == Some(0)
-        || (entry + 2) % SECTOR_SIZE as u64 <= 4
+        || entry.saturating_add(2) % SECTOR_SIZE as u64 <= 4
 }
 
 // So many bytes, each one more than the one before it.

@@ -1,0 +1,187 @@
+//! What events of the longest payload cost, beside the SHA-256, the ChaCha20 and the calls of the file that they can't do
+//! without.
+use crate::stores::{BATCH_LENS, hash_messages, new_store, write_bare};
+use crate::times::{Times, since};
+use anyhow::bail;
+use audit_base::{MAX_ENTRY, MAX_ENTRY_SECTORS, MAX_PAYLOAD};
+use audit_chain::{Event, Key};
+use audit_disk::{FileDisk, Sectors};
+use audit_proof::Commitment;
+use audit_store::Store;
+use audit_verify::verify;
+use rand_chacha::ChaCha20Rng;
+use rand_core::SeedableRng;
+use rand_core::utils::NextWord;
+use sha2::{Digest, Sha256};
+use std::alloc::{AllocError, Global};
+use std::fs::Files;
+use std::os::unix::fs::FileExt;
+use std::rt::Clock;
+use std::time::Instant;
+
+// How often the verifying is timed, in turns with what it can't do without: the least times count.
+const ROUNDS: u32 = 7;
+
+// The lengths of the long messages that are hashed for an event: its link, and its leaf.
+const LONG_LENS: [usize; 2] = [36 + MAX_PAYLOAD, 1 + MAX_ENTRY];
+
+// And of the short ones: key of the keystream, the two halves of the MAC, next key, and an inner node.
+const SHORT_LENS: [usize; 5] = [50, 96, 96, 46, 65];
+
+/// Seals and appends so many events of the longest payload to a store in the file, one at a time, and verifies their
+/// export in memory, seven times. It prints the times of both, and those of what they can't do without.
+pub fn measure<R: Files + AllocGlobal + Clock + Eprint>(
+    rt: &R,
+    file: &str,
+    events: u32,
+) -> anyhow::Result<()>
+where
+    R::File: FileExt,
+{
+    let mut store = new_store(rt, file, MAX_ENTRY_SECTORS * u64::from(events) + 2)?;
+    let mut bare = FileDisk::open(rt, rt.alloc(), file)?;
+    print_times(
+        rt,
+        "appending",
+        events,
+        time_appends(rt, &mut store, &mut bare, events)?,
+    )?;
+    print_times(rt, "verifying", events, time_verifying(rt, &mut store)?)
+}
+
+fn print_times<R: Eprint>(rt: &R, name: &str, events: u32, times: Times) -> anyhow::Result<()> {
+    let Times { whole, bare, seen } = times;
+    eprintln!(rt; "{name} {events} nanoseconds {whole} bare {bare} seen {seen}")?;
+    Ok(())
+}
+
+// The sum of the times of so many appends.
+fn time_appends<R: AllocGlobal + Clock, D: Sectors>(
+    rt: &R,
+    store: &mut Store<D>,
+    bare: &mut D,
+    events: u32,
+) -> anyhow::Result<Times> {
+    let mut text = vec![in rt.alloc(); 0x5a; MAX_ENTRY + 1]?;
+    let mut sum = Times::ZERO;
+    for number in 0..events {
+        sum = sum.plus(time_append(rt, store, bare, &mut text, u64::from(number))?);
+    }
+    Ok(sum)
+}
+
+// Times what the append of an event can't do without, with the calls by a second handle of the file; and then the append.
+fn time_append<R: AllocGlobal + Clock, D: Sectors>(
+    rt: &R,
+    store: &mut Store<D>,
+    bare: &mut D,
+    text: &mut [u8],
+    number: u64,
+) -> anyhow::Result<Times> {
+    let batch = large_event(rt.alloc(), number)?;
+    let start = Instant::now(rt)?;
+    let seen = work_of_event(text, number) ^ hash_messages(&BATCH_LENS, number);
+    write_bare(bare, store.end(), MAX_ENTRY_SECTORS)?;
+    let alone = since(rt, start)?;
+    let start = Instant::now(rt)?;
+    store.append(&batch)?;
+    Ok(Times {
+        whole: since(rt, start)?,
+        bare: alone,
+        seen,
+    })
+}
+
+// An event with the longest payload, which begins with the number.
+fn large_event(alloc: Global, number: u64) -> anyhow::Result<Vec<Event>> {
+    let mut payload = vec![in alloc; 0x5a; MAX_PAYLOAD]?;
+    payload[..8].copy_from_slice(&number.to_be_bytes());
+    Ok(vec![in alloc; Event::new(alloc, 1, &payload)?]?)
+}
+
+// The messages of an event with the longest payload, and its keystream.
+fn work_of_event(text: &mut [u8], number: u64) -> u8 {
+    let long = hash_long(text, number);
+    long ^ hash_messages(&SHORT_LENS, number) ^ stream_of(number)
+}
+
+// Hashes the long messages. They begin with the number, so that none is hashed once for all.
+fn hash_long(text: &mut [u8], number: u64) -> u8 {
+    if let Some(front) = text.first_chunk_mut::<8>() {
+        *front = number.to_be_bytes();
+    }
+    let mut seen = 0;
+    for len in LONG_LENS {
+        seen ^= Sha256::digest(text.get(..len).unwrap_or(&[]))[0];
+    }
+    seen
+}
+
+// Makes the words of a keystream of the longest payload, under a key of the number.
+fn stream_of(number: u64) -> u8 {
+    let mut key = [0; 32];
+    key[..8].copy_from_slice(&number.to_be_bytes());
+    let mut words = ChaCha20Rng::from_seed(key);
+    let mut seen = 0;
+    for _ in 0..MAX_PAYLOAD / 4 {
+        seen ^= words.next_word();
+    }
+    (seen & 0xff) as u8
+}
+
+// The least times of verifying all entries, and of what it can't do without.
+fn time_verifying<R: AllocGlobal + Clock, D: Sectors>(
+    rt: &R,
+    store: &mut Store<D>,
+) -> anyhow::Result<Times> {
+    let commitment = store.commitment();
+    let export = export_of(rt.alloc(), store)?;
+    let mut least = time_export(rt, &export, &commitment)?;
+    for _ in 1..ROUNDS {
+        least = least.least(time_export(rt, &export, &commitment)?);
+    }
+    Ok(least)
+}
+
+// Times what the verifying of an export can't do without, and then the verifying.
+fn time_export<R: AllocGlobal + Clock>(
+    rt: &R,
+    export: &[u8],
+    commitment: &Commitment,
+) -> anyhow::Result<Times> {
+    let start = Instant::now(rt)?;
+    let seen = work_of_events(rt.alloc(), commitment.count)?;
+    let bare = since(rt, start)?;
+    let start = Instant::now(rt)?;
+    check_export(rt.alloc(), export, commitment)?;
+    Ok(Times {
+        whole: since(rt, start)?,
+        bare,
+        seen,
+    })
+}
+
+fn export_of<D: Sectors>(alloc: Global, store: &mut Store<D>) -> anyhow::Result<Vec<u8>> {
+    let mut export = Vec::new(alloc);
+    for index in 0..store.commitment().count {
+        export.extend_from_slice(&store.entry(index)?)?;
+    }
+    Ok(export)
+}
+
+fn work_of_events(alloc: Global, count: u64) -> Result<u8, AllocError> {
+    let mut text = vec![in alloc; 0x5a; MAX_ENTRY + 1]?;
+    let mut seen = 0;
+    for number in 0..count {
+        seen ^= work_of_event(&mut text, number);
+    }
+    Ok(seen)
+}
+
+fn check_export(alloc: Global, export: &[u8], commitment: &Commitment) -> anyhow::Result<()> {
+    let mut reader = export;
+    match verify(alloc, &mut reader, &Key::from_bytes([0; 32]), commitment) {
+        Ok(_) => Ok(()),
+        Err(fault) => bail!("the export is not verified: {fault:?}"),
+    }
+}
