@@ -7,8 +7,6 @@ mod base;
 #[cfg(test)]
 mod chain;
 #[cfg(test)]
-mod lengths;
-#[cfg(test)]
 mod mac;
 #[cfg(test)]
 mod proof;
