@@ -4,6 +4,13 @@ use clap::{Arg, ArgAction, ArgMatches, Command, Error};
 use std::alloc::{AllocError, Global};
 use std::convert::AsStr;
 
+/// What `--version` prints: the version of the format that is written.
+const VERSION: &str = "2";
+
+/// What the help of the commands that read events says of their input.
+const LIMITS: &str =
+    "An event has a payload of at most 32696 bytes, and the input has at most 16777216 bytes.";
+
 /// What the words of a command line ask for.
 #[derive(Clone, Copy)]
 pub enum Asked<'a> {
@@ -84,7 +91,9 @@ fn word<'a>(given: &ArgMatches<'a>, id: &str) -> &'a str {
 }
 
 fn command<'a>(alloc: Global) -> Result<Command<'a>, AllocError> {
-    let command = Command::new(alloc, "audit").about("A tamper-evident audit store");
+    let command = Command::new(alloc, "audit")
+        .about("A tamper-evident audit store")
+        .version(VERSION);
     with_serving(alloc, with_auditing(alloc, with_store(alloc, command)?)?)
 }
 
@@ -114,9 +123,9 @@ fn with_serving<'a>(alloc: Global, command: Command<'a>) -> Result<Command<'a>, 
 }
 
 fn replay_command<'a>(alloc: Global) -> Command<'a> {
-    Command::new(alloc, "replay").about(
-        "Seals events from standard input, and prints their entries and the commitment",
-    )
+    Command::new(alloc, "replay")
+        .about("Seals events from standard input, and prints their entries and the commitment")
+        .after_help(LIMITS)
 }
 
 fn format_command<'a>(alloc: Global) -> Result<Command<'a>, AllocError> {
@@ -138,6 +147,7 @@ fn format_command<'a>(alloc: Global) -> Result<Command<'a>, AllocError> {
 fn append_command<'a>(alloc: Global) -> Result<Command<'a>, AllocError> {
     Command::new(alloc, "append")
         .about("Appends events from standard input, and prints a line for each batch")
+        .after_help(LIMITS)
         .arg(required(alloc, "FILE", "The file of the store"))
 }
 

@@ -1,4 +1,4 @@
-use Rattle.audit_lower_tests.proofs.tree.plain.+node.Given as goal
+use Rattle.audit_chain_tests.proofs.tree.plain.+node.Given as goal
 
 abbrev pub decreases-node : goal.decreases-node
 decreases-node l = l.width
