@@ -1,37 +1,24 @@
-//! A request and a membership proof of each length that they may have, or of fewer.
+//! A request and a membership proof of each length that they may have.
 use crate::streams::add_head;
 use crate::texts::text_of;
 use anyhow::bail;
-use audit_base::{ENTRY_OVERHEAD, MAX_ENTRY, MAX_MEMBER_HASHES, MAX_PAYLOAD, SECTOR_SIZE};
+use audit_base::{MAX_ENTRY, MAX_MEMBER_HASHES, MAX_PAYLOAD};
 use audit_proof::{MemberProof, read_member, write_member};
 use audit_wire::{Request, read_request};
 use sha2::{Digest, Sha256};
 use std::alloc::{AllocError, Global};
 
-// Each length of a payload up to this one is tried.
-const FIRST_LENGTHS: u64 = 4_200;
-
-/// Reads an append and a membership proof for the lengths of a payload up to 4,200, those about the ends of sectors, and the
-/// multiples of the step, and prints a digest of what was read. It is an error if one isn't read as it was written.
-pub fn try_lengths<R: AllocGlobal + Print>(rt: &R, step: u64) -> anyhow::Result<()> {
+/// Reads an append and a membership proof for each length of a payload, and prints a digest of what was read. It is an error
+/// if one isn't read as it was written.
+pub fn try_lengths<R: AllocGlobal + Print>(rt: &R) -> anyhow::Result<()> {
     let mut hasher = Sha256::new();
     for length in 0..=MAX_PAYLOAD as u64 {
-        if is_tried(length, step) {
-            add_owned(rt.alloc(), length, &mut hasher)?;
-            add_member(rt.alloc(), length, &mut hasher)?;
-        }
+        add_owned(rt.alloc(), length, &mut hasher)?;
+        add_member(rt.alloc(), length, &mut hasher)?;
     }
     let digest: [u8; 32] = hasher.finalize();
     println!(rt; "lengths {}", text_of(rt.alloc(), &digest)?)?;
     Ok(())
-}
-
-// Past the first lengths it is a multiple of the step, or one whose entry ends within two bytes of a sector's end.
-fn is_tried(length: u64, step: u64) -> bool {
-    let entry = length.saturating_add(ENTRY_OVERHEAD as u64);
-    length <= FIRST_LENGTHS
-        || length.checked_rem(step) == Some(0)
-        || entry.saturating_add(2) % SECTOR_SIZE as u64 <= 4
 }
 
 // So many bytes, each one more than the one before it.

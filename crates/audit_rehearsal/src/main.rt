@@ -15,7 +15,7 @@
 //! | `hostile FIRST COUNT` | so many batches of streams from that number on, most of whose frames are malformed or ask for what is not there: prints how many frames, how many of them malformed, and a digest of all that they made |
 //! | `devices FIRST COUNT` | hurts so many devices from that number on, opens them, and appends an event to each that was opened: prints how many were opened, how many refused by each number, and a digest of the outcomes and the devices |
 //! | `sweep FIRST COUNT` | so many lists of steps drawn by a cipher, from that number on, whose stores are opened, exported, verified and replayed: prints how many events they hold, how many were acknowledged, and a digest of the roots; and how many lists were replayed, and how many have more bytes than `replay` reads |
-//! | `lengths STEP` | reads an append and a membership proof for each length of a payload up to 4,200, about the ends of sectors, and at each multiple of the step: prints a digest of what was read |
+//! | `lengths` | reads an append and a membership proof for each length of a payload: prints a digest of what was read |
 //! | `serve CALLS READ READS WRITE WAITS HEX HEX` | serves two streams over a device that fails once, after so many calls: so many bytes a read, reads before one fails, bytes a write; where WAITS is 1, a second read fails before the other stream was written to |
 #![tactic(auto)]
 

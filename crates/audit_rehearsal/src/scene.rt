@@ -33,7 +33,7 @@ impl Scene {
             "store" | "worn" => self.begin(rt, task, rest),
             "open" => self.open(rt),
             "first" => self.begin_first(rt, rest),
-            "lengths" => try_lengths(rt, number_of(rest)?),
+            "lengths" => try_lengths(rt),
             "cuts" | "lists" | "serve" | "hostile" | "devices" | "sweep" => play_apart(
                 rt, task, rest,
             ),
