@@ -87,7 +87,7 @@ def compare_proofs(comparison, entries):
         subprocess.run([comparison.program, "prove", "events.store", *words, "made"], check=True, capture_output=True)
 
     last = len(leaves)
-    for count in {1, 2, 3, 5, 8, 13, last - 1, last}:
+    for count in sorted({1, 2, 3, 5, 8, min(13, last), last - 1, last}):
         for index in {0, count // 3, count // 2, count - 1}:
             prove("member", str(index), str(count))
             comparison.check("made", commitments[count])
