@@ -20,8 +20,8 @@ pub enum Asked<'a> {
     Serving(Serving<'a>),
 }
 
-/// What the words of a command line ask for; the first word is the program's name. Without a command it is `Replay`.
-/// The error prints help or usage, or says that memory ran out.
+/// Parses the words of a command line, the first of which is the program's name, into what they ask for. Without a
+/// command it is `Replay`. The error prints help or usage, or says that memory ran out.
 pub fn request_of<'a, S: AsStr>(alloc: Global, words: &'a [S]) -> Result<Asked<'a>, Error> {
     let matches = command(alloc)?.try_get_matches_from(words)?;
     match matches.subcommand() {

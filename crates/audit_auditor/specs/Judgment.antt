@@ -12,7 +12,8 @@ abbrev pub Spells : List ℕ → Proof → Type 0
 Spells bytes (Member proof) = member_of bytes ≡ Some (member_in proof)
 Spells bytes (Increment proof) = increment_of bytes ≡ Some (increment_in proof)
 
--- A membership proof is judged under one commitment and an incremental proof under two, and each has to have their counts.
+-- A membership proof is judged under one commitment and an incremental proof under two, and each has to have their
+-- counts.
 abbrev pub IsAcceptable : Proof → Commitment → Option Commitment → Type 0
 IsAcceptable (Member proof) older None = (proof.count ≡ older.count) × AcceptsMembership sha256 older proof.index proof.entry.items proof.hashes.items
 IsAcceptable (Member proof) older (Some newer) = ⊥

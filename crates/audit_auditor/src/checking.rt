@@ -13,16 +13,16 @@ use audit_proof::{
 use std::alloc::Global;
 use std::io::Write;
 
-/// A proof of a log's history.
+/// A proof about a log's history.
 #[derive(Drop)]
 pub enum Proof {
-    /// That an entry is one of a log's.
+    /// A membership proof, elsewhere called an inclusion proof: an entry is one of a log's.
     Member(MemberProof),
-    /// That a log goes on from an older one.
+    /// An incremental proof, elsewhere called a consistency proof: a log only added to an older one.
     Increment(IncrementProof),
 }
 
-/// The proof that bytes spell; `BadProof` where they spell none.
+/// Decodes the proof that bytes spell; `BadProof` where they spell none.
 pub fn read_proof(alloc: Global, bytes: &[u8]) -> Result<Proof, ReadFault>
     ensures read { IfOk result (Spells bytes.now) }
     ensures bad { (result ≡ Err ReadFault.BadProof) ↔ ((member_of bytes.now ≡ None) × (increment_of bytes.now ≡ None)) }
@@ -37,8 +37,8 @@ pub fn read_proof(alloc: Global, bytes: &[u8]) -> Result<Proof, ReadFault>
     }
 }
 
-/// Whether a proof is accepted: a membership proof under one commitment, an incremental proof under two. Nothing where it
-/// is another number of commitments. It takes no memory.
+/// Whether a proof is accepted: a membership proof under one commitment, an incremental proof under two. `None` where
+/// there is another number of commitments. It takes no memory.
 pub fn judge_proof(proof: &Proof, older: &Commitment, newer: Option<Commitment>) -> Option<bool>
     ensures { IsJudgment proof.now older.now newer result }
 {

@@ -9,8 +9,8 @@ use audit_lines::{number_of, split_at_first};
 use audit_proof::Commitment;
 use hex::FromHex;
 
-/// The commitment that a word spells: its count in 1 to 20 decimal digits and below 2^64, a colon, and its root in 64 hex
-/// digits of either case.
+/// Decodes the commitment that a word spells: its count in 1 to 20 decimal digits and below 2^64, a colon, and its
+/// root in 64 hex digits of either case.
 pub fn commitment_of(word: &[u8]) -> Option<Commitment>
     ensures { result ≡ commitment_of word.now }
 {

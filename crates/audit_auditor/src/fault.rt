@@ -2,7 +2,7 @@ use audit_lines::LinesFault;
 use audit_verify::VerifyFault;
 use thiserror::Error;
 
-/// Why an export wasn't verified, or its lines weren't written.
+/// Why an export wasn't verified, or the lines of its report weren't written.
 #[derive(Clone, Copy, Debug, Drop, Error, PartialEq, Eq)]
 pub enum AuditorFault {
     /// The export is wrong at an entry, or couldn't be read.

@@ -18,8 +18,8 @@ const ROUNDS: u32 = 7;
 // Room for entries that weren't written yet, in bytes.
 const ROOM: usize = 1 << 16;
 
-/// Writes the export of so many small events to the file, and prints the shortest time of verifying it, and that of the
-/// events' SHA-256 blocks alone.
+/// Writes the export of so many small events to the file, and prints the shortest time of verifying it, and that of
+/// the events' SHA-256 blocks alone.
 pub fn measure<R: Files + AllocGlobal + Clock + Eprint>(
     rt: &R,
     file: &str,

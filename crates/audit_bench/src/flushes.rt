@@ -1,5 +1,5 @@
-//! Group commit of small events that sessions append, beside the calls of the file and the SHA-256 messages that it can't
-//! do without.
+//! Group commit of small events that sessions append, beside the calls of the file and the SHA-256 messages that it
+//! can't do without.
 use crate::sessions::{ROUNDS, started, time_frames};
 use crate::stores::{hash_messages, write_bare};
 use crate::times::{Rounds, Times, since};
@@ -17,8 +17,8 @@ const APPEND_LEN: usize = 13;
 // The first byte of an acknowledgement.
 const ACKNOWLEDGEMENT: u8 = 0x81;
 
-// The lengths of the messages that are hashed for such an event: key of the keystream, link, the two halves of the MAC,
-// next key, and leaf. They have 9 blocks.
+// The lengths of the messages that are hashed for such an event: key of the keystream, link, the two halves of the
+// MAC, next key, and leaf. They have 9 blocks.
 const EVENT_LENS: [usize; 6] = [50, 38, 96, 96, 46, 75];
 
 // What is hashed of the two headers that a batch writes.
@@ -29,8 +29,8 @@ const LONE_LEN: usize = 33;
 
 const PAIR_LEN: usize = 65;
 
-/// Times flushes of so many appends, and before each the SHA-256 messages and the writes and syncs of the same sectors by
-/// a second handle of the file. The file has its sectors before.
+/// Times flushes of so many appends, and before each the SHA-256 messages and the writes and syncs of the same sectors
+/// by a second handle of the file. The file has its sectors before.
 pub fn time_flushes<R: AllocGlobal + Clock + Eprint, D: Sectors + Drop>(
     rt: &R,
     store: Store<D>,
@@ -96,8 +96,8 @@ fn append_frames(alloc: Global, size: u32) -> anyhow::Result<Vec<[u8; APPEND_LEN
     Ok(frames)
 }
 
-// Hashes what a batch of so many small events after so many others has to have hashed: what each event has, and the inner
-// nodes that it completes; the root after them, and two headers.
+// Hashes what a batch of so many small events after so many others has to have hashed: what each event has, and the
+// inner nodes that it completes; the root after them, and two headers.
 fn hash_batch(count: u64, size: u64) -> u8 {
     let after = count.saturating_add(size);
     let mut seen = hash_messages(&HEADER_LENS, after) ^ hash_root(after);

@@ -1,5 +1,5 @@
-//! What events of the longest payload cost, beside the SHA-256, the ChaCha20 and the calls of the file that they can't do
-//! without.
+//! What events of the longest payload cost, beside the SHA-256, the ChaCha20 and the calls of the file that they can't
+//! do without.
 use crate::stores::{BATCH_LENS, hash_messages, new_store, write_bare};
 use crate::times::{Times, since};
 use anyhow::bail;
@@ -70,7 +70,8 @@ fn time_appends<R: AllocGlobal + Clock, D: Sectors>(
     Ok(sum)
 }
 
-// Times what the append of an event can't do without, with the calls by a second handle of the file; and then the append.
+// Times what the append of an event can't do without, with the calls by a second handle of the file; and then the
+// append.
 fn time_append<R: AllocGlobal + Clock, D: Sectors>(
     rt: &R,
     store: &mut Store<D>,

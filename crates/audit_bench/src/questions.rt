@@ -13,8 +13,8 @@ use std::time::Instant;
 // The questions of a batch.
 const QUESTIONS: u32 = 64;
 
-// How far the indices of one question and of the next one are from each other, before they are brought below the count: a
-// prime number.
+// How far the indices of one question and of the next one are from each other, before they are brought below the
+// count: a prime number.
 const STRIDE: u64 = 7_368_787;
 
 // The frame of a question for a membership proof.

@@ -21,12 +21,12 @@ pub const ROUNDS: u32 = 300;
 // After how many appends there is a flush.
 const FLUSH_SIZES: [u32; 4] = [1, 4, 16, 64];
 
-// The sectors that a store has besides those of the events that are wanted of it: the headers', those of the events of all
-// flushes, and as many as a batch may take.
+// The sectors that a store has besides those of the events that are wanted of it: the headers', those of the events of
+// all flushes, and as many as a batch may take.
 const SPARE_SECTORS: u64 = 2 + (1 + 4 + 16 + 64) * ROUNDS as u64 + LARGE_BATCH as u64;
 
-/// Makes a store in the file, appends small events by sessions with flushes of several sizes, then more until it holds so
-/// many, and asks for membership proofs of them.
+/// Makes a store in the file, appends small events by sessions with flushes of several sizes, then more until it holds
+/// so many, and asks for membership proofs of them.
 pub fn measure<R: Files + AllocGlobal + Clock + Eprint>(
     rt: &R,
     file: &str,

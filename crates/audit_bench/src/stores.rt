@@ -130,8 +130,8 @@ fn time_batches<R: AllocGlobal + Clock + Eprint, D: Sectors>(
     Ok(())
 }
 
-// Times what the append of a batch can't do without: the SHA-256 blocks, and the writes and syncs of the same sectors by
-// a second handle of the file; and then the append.
+// Times what the append of a batch can't do without: the SHA-256 blocks, and the writes and syncs of the same sectors
+// by a second handle of the file; and then the append.
 fn time_batch<R: Clock, D: Sectors>(
     rt: &R,
     store: &mut Store<D>,

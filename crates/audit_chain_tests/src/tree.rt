@@ -442,7 +442,7 @@ fn assert_increments(rt: &impl Abort, tree: &Tree) -> Result<(), TreeError> {
     Ok(())
 }
 
-// It is full, and tells so.
+// It is full, and says so.
 fn is_full(tree: &mut Tree) -> bool {
     tree.count() == MAX_COUNT
         && tree.push([0; 32]).err() == Some(TreeError::Full)

@@ -1,4 +1,4 @@
-//! Arguments that are judged by hand.
+//! Arguments that are judged here, not by the parser of the command line.
 ghost use Rattle.std.specs.Prelude.{◌≡◌};
 ghost use Rattle.audit_commands.specs.Arguments.{sectors_asked, proof_asked, commitment_asked};
 
@@ -12,14 +12,14 @@ use audit_store::StoreError;
 /// The proof that is asked for.
 #[derive(Clone, Copy, Debug, PartialEq, Eq)]
 pub enum ProofRequest {
-    /// That the event of this index is one of the first `count` events.
+    /// A membership (inclusion) proof: the event of this index is one of the first `count` events.
     Member {
         /// The event's number, from 0 on.
         index: u64,
         /// How many events.
         count: u64,
     },
-    /// That the first `newer` events begin with the first `older` events.
+    /// An incremental (consistency) proof: the first `newer` events begin with the first `older` events.
     Increment {
         /// The count of the older commitment.
         older: u64,

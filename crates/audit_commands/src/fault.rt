@@ -18,7 +18,7 @@ pub enum CommandFault {
     /// An argument, or what a key file holds, isn't of its form.
     #[error("bad argument")]
     BadArgument,
-    /// The file that was to be made is there.
+    /// The file that was to be made already exists.
     #[error("the file exists")]
     FileExists,
     /// A file couldn't be opened, read, written or made.
@@ -33,7 +33,7 @@ pub enum CommandFault {
     /// An export isn't verified.
     #[error("the export is not verified")]
     Export(VerifyFault),
-    /// A file holds no proof.
+    /// The bytes of a file aren't a proof.
     #[error("the file holds no proof")]
     BadProof,
     /// A proof isn't accepted.
@@ -45,7 +45,7 @@ impl CommandFault {
     ghost use Rattle.std.specs.Prelude.{◌≡◌};
     ghost use Rattle.audit_commands.specs.Faults.{status_of};
 
-    /// How the program ends with it.
+    /// The status with which the program ends after it.
     pub fn status(self) -> Status
         ensures { result ≡ status_of self }
     {

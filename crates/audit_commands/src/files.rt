@@ -10,7 +10,7 @@ use std::os::unix::fs::{FileExt, MetadataExt};
 /// A store in an open file.
 pub type FileStore<F> = Store<FileDisk<OsFile<F>>>;
 
-/// Opens the store that a file holds. The opening may write the device, as a recovery does.
+/// Opens the store that a file holds. The opening may write to the file: it repairs what a crash left half done.
 pub fn open_store<F: Files>(
     rt: &F,
     alloc: Global,
@@ -26,7 +26,7 @@ where
     }
 }
 
-/// Makes a file of so many zero sectors as a device. A file that is there is `FileExists`.
+/// Makes a file of so many zero sectors as a device. A file that is already there is `FileExists`, and stays.
 pub fn make_device<F: Files>(
     rt: &F,
     alloc: Global,
@@ -42,8 +42,8 @@ where
     Ok(FileDisk::create(rt, alloc, file, sectors)?)
 }
 
-/// Makes the file for what a command takes of the store in a file, in place of what is there. The file of the store itself
-/// is left as it is, by whatever path or link it is named: it is `FileExists`.
+/// Makes the file for what a command takes of the store in a file, in place of what is there. The file of the store
+/// itself is left as it is, by whatever path or link it is named: it is `FileExists`.
 pub fn replace_file<F: Files>(rt: &F, store: &str, out: &str) -> Result<F::File, CommandFault> {
     if is_same_file(rt, store, out)? {
         return Err(CommandFault::FileExists);

@@ -10,7 +10,7 @@ use hex::FromHex;
 use std::alloc::Global;
 use std::io::Read;
 
-/// The key that a key file holds: 64 hex digits of either case, with or without a line feed after them.
+/// Decodes the key that a key file holds: 64 hex digits of either case, with or without a line feed after them.
 pub fn key_of_file(text: &[u8]) -> Option<Key>
     ensures { result ≡ key_of_file text.now }
 {

@@ -6,9 +6,9 @@ use audit_verify::VerifyFault;
 use std::io;
 use std::io::Write;
 
-/// Prints why a command wasn't done, in one line, and returns the status with which the program ends. Where it
-/// can't be printed, the status alone reports it; that a proof isn't accepted is printed by its command. It takes no
-/// memory.
+/// Prints why a command wasn't done, in one line, and returns the status with which the program ends. Where the line
+/// can't be printed, the status alone reports the fault. For a proof that isn't accepted it prints nothing: the
+/// command has printed that itself. It takes no memory.
 pub fn report<M: Write>(fault: CommandFault, messages: &mut M) -> Status {
     let _ = match fault {
         CommandFault::BadArgument => writeln!(messages, "audit: bad argument"),

@@ -1,4 +1,4 @@
-/// How the program ends.
+/// The status with which the program ends.
 #[derive(Clone, Copy, Debug, PartialEq, Eq)]
 pub enum Status {
     /// All was done.

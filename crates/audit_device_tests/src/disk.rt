@@ -12,7 +12,7 @@ use std::test::Fail;
 
 mod reading_ahead;
 
-/// Writes a sector of equal bytes, and tells whether that succeeded.
+/// Writes a sector of equal bytes, and reports whether that succeeded.
 fn put<D: Sectors>(rt: &impl Abort, disk: &mut D, at: u64, byte: u8) -> bool {
     assert!(rt; at < disk.size());
     disk.write(at, &[byte; SECTOR_SIZE]).is_ok()
@@ -40,7 +40,7 @@ enum Step {
     SyncFails,
 }
 
-/// Takes a step, and tells whether it gave what it says.
+/// Takes a step, and reports whether it gave what it says.
 fn takes<D: Sectors>(rt: &impl Abort, disk: &mut D, step: Step) -> bool {
     match step {
         Step::Size(sectors) => disk.size() == sectors,
@@ -372,7 +372,7 @@ fn window(alloc: Global) -> Result<Vec<[u8; SECTOR_SIZE]>, AllocError> {
     Ok(sectors)
 }
 
-/// Publishes the window from sector 2 on, by a mark of 9 in sector 0, and tells whether that succeeded.
+/// Publishes the window from sector 2 on, by a mark of 9 in sector 0, and reports whether that succeeded.
 fn publishes<D: Sectors>(rt: &impl Abort, disk: &mut D, window: &[[u8; SECTOR_SIZE]]) -> bool {
     assert!(rt; disk.size() == 4 && window.len() == 2);
     publish(disk, 2, window, 0, &[9; SECTOR_SIZE]).is_ok()

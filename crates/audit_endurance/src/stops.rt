@@ -91,8 +91,8 @@ fn stop_opening(alloc: Global, disk: &MemDisk, held: u64) -> anyhow::Result<u64>
     bail!("no opening came to its end");
 }
 
-// In how many ways the writes that are pending after so many calls of an opening may be kept or lost. The first call is
-// a sync; then come the zeros, a sync, and a header.
+// In how many ways the writes that are pending after so many calls of an opening may be kept or lost. The first call
+// is a sync; then come the zeros, a sync, and a header.
 fn masks(calls: u64, zeros: u64) -> u64 {
     let pending = if calls <= zeros.saturating_add(1) {
         calls.saturating_sub(1)
@@ -115,8 +115,8 @@ fn open_to(alloc: Global, disk: &MemDisk, calls: u64) -> anyhow::Result<(MemDisk
     }
 }
 
-// Which pending writes are kept, by the bits of a mask: the first one for a header, and one for each of so many sectors
-// in a row from the first on.
+// Which pending writes are kept, by the bits of a mask: the first one for a header, and one for each of so many
+// sectors in a row from the first on.
 fn picks(alloc: Global, mask: u64, first: u64, width: u64) -> anyhow::Result<Vec<u64>> {
     let mut picks = Vec::new(alloc);
     for sector in 0..SECTORS {

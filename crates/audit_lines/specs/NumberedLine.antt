@@ -1,4 +1,4 @@
--- A line that tells a number and bytes.
+-- A line with a number and bytes.
 use Rattle.std.specs.Prelude.{ℕ, List, ◌++◌, codes}
 use Rattle.std.specs.Fmt.{decimal}
 use Rattle.hex.specs.Hex.{encode_lower}

@@ -12,7 +12,7 @@ pub const INPUT_LIMIT: usize = 1 << 24;
 // The most that is read at a time, in bytes.
 const PIECE_LEN: usize = 1 << 16;
 
-/// Reads all there is, up to one byte more than `INPUT_LIMIT`: an input that goes so far is too long.
+/// Reads the whole input, but at most one byte more than `INPUT_LIMIT`: an input that has that byte is too long.
 pub fn read_input<R: Read>(alloc: Global, reader: &mut R) -> Result<Vec<u8>, LinesFault>
     ensures within { IfOk result (λ input. length input.items ≤ INPUT_LIMIT) }
     ensures whole { IfOk result (λ input. IfSome (R.remaining reader.old) (λ bytes. bytes ≡ input.items)) }

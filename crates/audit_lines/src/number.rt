@@ -7,7 +7,7 @@ ghost use Rattle.audit_lines.specs.Number.{number_of};
 // The most decimal digits that a number is spelled in.
 const NUMBER_DIGITS: usize = 20;
 
-/// The number that 1 to 20 decimal digits spell, where it is below 2^64.
+/// Decodes the number that 1 to 20 decimal digits spell, where it is below 2^64.
 pub fn number_of(text: &[u8]) -> Option<u64>
     ensures { result ≡ number_of text.now }
 {

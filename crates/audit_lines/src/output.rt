@@ -61,7 +61,7 @@ fn put_hex(digits: &mut [u8], bytes: &[u8])
     let _ = hex::encode_to_slice(bytes, digits);
 }
 
-/// Writes a text whole. After a fault a part of it from its front on went out.
+/// Writes a whole text. After a fault a front part of it was written.
 pub fn write_whole<W: Write>(writer: &mut W, text: &[u8]) -> Result<(), LinesFault>
     ensures written { OnOk result (Appends (W.contents writer.old) (W.contents writer.new) text.now) }
     ensures part { OnErr result (WritesInPart (W.contents writer.old) (W.contents writer.new) text.now) }

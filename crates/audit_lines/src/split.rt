@@ -1,7 +1,7 @@
 ghost use Rattle.std.specs.Prelude.{◌≡◌, ◌==◌, position};
 ghost use Rattle.std.specs.List.{before_first, after_first};
 
-/// The bytes before the first place of a byte, and those after it: all of them and none, where the byte
+/// Splits bytes at the first `byte`, which is in neither part: all of them come before it, and none after, where it
 /// isn't there.
 pub fn split_at_first(bytes: &[u8], byte: u8) -> (&[u8], &[u8])
     ensures before { result.0.now ≡ before_first (λ b. b == byte) bytes.now }

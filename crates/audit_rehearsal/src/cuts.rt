@@ -8,8 +8,8 @@ use std::alloc::Global;
 // An append of `hi` under kind 1 with tag 7.
 const APPEND: &[u8] = b"\x00\x0b\x01\x00\x00\x00\x07\x00\x00\x00\x01hi";
 
-/// Feeds the bytes in every two and three pieces, empty ones too, and byte by byte, and prints in how many ways, and what they
-/// were answered. It is an error if two ways differ.
+/// Feeds the bytes in every two and three pieces, empty ones too, and byte by byte, and prints in how many ways, and
+/// what they were answered. It is an error if two ways differ.
 pub fn try_cuts<R: AllocGlobal + Print>(rt: &R, stream: &[u8]) -> anyhow::Result<()> {
     let alloc = rt.alloc();
     let whole = answers(alloc, &[stream])?;
@@ -52,7 +52,8 @@ fn cuts_after(alloc: Global, front: &[u8], rest: &[u8], whole: &[u8]) -> anyhow:
     Ok(ways)
 }
 
-// What is answered to the pieces, by a store of one event; whether the session has ended, and how many events there are then.
+// What is answered to the pieces, by a store of one event; whether the session has ended, and how many events there
+// are then.
 fn answers(alloc: Global, pieces: &[&[u8]]) -> anyhow::Result<Vec<u8>> {
     let mut core = core_of_one_event(alloc)?;
     for piece in pieces {

@@ -151,8 +151,8 @@ fn make_digest_right(sector: &mut Block) {
     sector[DIGESTED..].copy_from_slice(&digest);
 }
 
-// Turns a byte of the magic, the version, a zero part, the root, the last link or the key in one header or in both, and
-// makes its digest right.
+// Turns a byte of the magic, the version, a zero part, the root, the last link or the key in one header or in both,
+// and makes its digest right.
 fn change_parts(random: &mut Random, content: &mut [Block]) {
     let (start, size) = match random.below(6) {
         0 => (0, 10),

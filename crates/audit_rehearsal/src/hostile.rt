@@ -25,7 +25,8 @@ struct Tally {
     malformed: u64,
 }
 
-/// Plays so many batches from a number on, and prints how many frames they had, how many of them malformed, and the digest.
+/// Plays so many batches from a number on, and prints how many frames they had, how many of them malformed, and the
+/// digest.
 pub fn play_hostile<R: AllocGlobal + Print>(rt: &R, rest: &str) -> anyhow::Result<()> {
     let (first, count) = two_numbers(rest)?;
     let mut hasher = Sha256::new();

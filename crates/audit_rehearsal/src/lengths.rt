@@ -8,8 +8,8 @@ use audit_wire::{Request, read_request};
 use sha2::{Digest, Sha256};
 use std::alloc::{AllocError, Global};
 
-/// Reads an append and a membership proof for each length of a payload, and prints a digest of what was read. It is an error
-/// if one isn't read as it was written.
+/// Reads an append and a membership proof for each length of a payload, and prints a digest of what was read. It is an
+/// error if one isn't read as it was written.
 pub fn try_lengths<R: AllocGlobal + Print>(rt: &R) -> anyhow::Result<()> {
     let mut hasher = Sha256::new();
     for length in 0..=MAX_PAYLOAD as u64 {

@@ -64,8 +64,8 @@ pub fn drive_groups(
     Ok(())
 }
 
-/// A core over a store of 3 to 119 sectors. One store in eight is worn, one after its first commit, and one is of the first
-/// version of the format.
+/// A core over a store of 3 to 119 sectors. One store in eight is worn, one after its first commit, and one is of the
+/// first version of the format.
 pub fn random_core(alloc: Global, random: &mut Random) -> anyhow::Result<Core<Device>> {
     let sectors = match random.below(3) {
         0 => random.below(6).saturating_add(3),

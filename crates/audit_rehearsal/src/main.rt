@@ -1,5 +1,5 @@
-//! A rehearsal of sessions over stores in memory. Each line of standard input is a step of a scene, and what the sessions
-//! are answered is printed.
+//! A rehearsal of sessions over stores in memory. Each line of standard input is a step of a scene, and what the
+//! sessions are answered is printed.
 //!
 //! | Line | What it does |
 //! |---|---|

@@ -7,8 +7,8 @@ use audit_proof::Commitment;
 use hex::ToHex;
 use std::alloc::Global;
 
-/// Whether the events were replayed: it is false where their lines have more bytes than `replay` reads. It is an error if
-/// they are refused otherwise, or if other lines come of them than those of these entries and this commitment.
+/// Whether the events were replayed: it is false where their lines have more bytes than `replay` reads. It is an error
+/// if they are refused otherwise, or if other lines come of them than those of these entries and this commitment.
 pub fn is_replayed(
     alloc: Global,
     events: &[Event],

@@ -9,8 +9,8 @@ use std::cell::Cell;
 use std::io::{self, ErrorKind, Read, Write};
 use std::rc::Rc;
 
-/// A reader of some bytes a read, which fails after so many reads; and where it waits for something, it fails after its
-/// first read as long as that has not come.
+/// A reader of some bytes a read, which fails after so many reads; and where it waits for something, it fails after
+/// its first read as long as that has not come.
 #[derive(Drop)]
 struct Source {
     bytes: Vec<u8>,

@@ -79,8 +79,8 @@ pub fn add_append(random: &mut Random, tag: u64, stream: &mut Vec<u8>) -> Result
     Ok(())
 }
 
-// Half of them are short, a quarter has about the bytes that fill a sector, and the others have any length that the first
-// version of the format allows, or any that the newest does.
+// Half of them are short, a quarter has about the bytes that fill a sector, and the others have any length that the
+// first version of the format allows, or any that the newest does.
 fn payload_length(random: &mut Random) -> u64 {
     match random.below(8) {
         0..=3 => random.below(40),

@@ -20,8 +20,8 @@ const APPEND: u8 = 1;
 
 const ACKNOWLEDGED: u8 = 0x81;
 
-/// How many events were held, and how many acknowledged, the digest of the roots, and how many lists were replayed, or were
-/// too long for it.
+/// How many events were held, and how many acknowledged, the digest of the roots, and how many lists were replayed, or
+/// were too long for it.
 #[derive(Drop)]
 struct Sums {
     events: u64,

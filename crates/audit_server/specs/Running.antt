@@ -26,7 +26,8 @@ module _ {D : Type 0} {g : sectors.Ghosts D} where
   abbrev pub AddsReplies : Committer D g → Committer D g → Type 0
   AddsReplies old new = (sent : List Sent) × (outputs_of new ≡ all_delivered (outputs_of old) sent)
 
-  -- Whatever the device: a fault of it broke the store in a commit. What waited is dropped, and of the outputs nothing.
+  -- Whatever the device: a fault of it broke the store in a commit. What waited is dropped, and of the outputs
+  -- nothing.
   pub record IsBrokenByDevice (old new : Committer D g) : Type 0 where
     pub broken : is_broken (store_of new) ≡ true
     pub dropped : waiting_of new ≡ nothing_waits
@@ -39,7 +40,8 @@ module _ {D : Type 0} {g : sectors.Ghosts D} where
     pub unbroken : is_broken (store_of new) ≡ false
     pub done : IsFaultless (device (store_of old)) (device (store_of new)) → state_of new after ≡ made (state_of old events)
 
-  -- The same where it was refused after these arrivals: for memory the state is as they leave it, or a flush after them.
+  -- The same where it was refused after these arrivals: for memory the state is as they leave it, or a flush after
+  -- them.
   pub record IsRefused (origin : Origin) (arrivals : List Arrival) (error : StoreError) (old new : Committer D g) (events after : List EventData) : Type 0 where
     pub durable : IsDurable origin (store_of old) (store_of new) (state_of old events) (state_of new after) (appends_among arrivals)
     pub refused : IsFaultless (device (store_of old)) (device (store_of new)) → error ≡ Memory → IsLeftByFlush origin (all_entered origin arrivals (state_of old events)) (state_of new after)

@@ -1,6 +1,6 @@
 use audit_store::StoreError;
 
-/// A list of steps that wasn't done whole.
+/// Where a list of steps stopped, and why.
 #[derive(Clone, Copy, Debug, Drop, PartialEq, Eq)]
 pub struct DriveFault {
     /// How many steps were done: the next one was refused.

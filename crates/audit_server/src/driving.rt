@@ -14,7 +14,7 @@ use crate::server_core::Core;
 use crate::step::Step;
 use audit_device::Sectors;
 
-/// Does these steps in turn, up to the first one that is refused.
+/// Does these steps in turn, and stops at the first one that is refused.
 pub fn drive<D: Sectors>(core: &mut Core<D>, steps: &[Step]) -> Result<(), DriveFault>
     requires { AllByRecursion IsOfSession steps.now }
     // A core that met a fault of the device before does none.

@@ -1,6 +1,6 @@
 use audit_store::StoreError;
 
-/// A piece that wasn't taken whole.
+/// Where the feeding of a piece stopped, and why.
 #[derive(Clone, Copy, Debug, Drop, PartialEq, Eq)]
 pub struct FeedFault {
     /// How many bytes of the piece were taken: the rest may be given again.

@@ -11,7 +11,7 @@ use audit_wire::{Decoder, Fed};
 use std::alloc::{AllocError, Global};
 use std::marker::Model;
 
-/// What the front of a piece was.
+/// What was found at the front of a piece.
 #[derive(Clone, Copy, Debug, Drop, PartialEq, Eq)]
 pub(crate) enum Front {
     /// No whole frame: all of the piece was taken.

@@ -5,6 +5,6 @@ pub enum Step<'a> {
     Feed { session: usize, piece: &'a [u8] },
     /// The end of a session.
     End { session: usize },
-    /// What waits is committed and answered.
+    /// A flush: what waits is committed and answered.
     Flush,
 }

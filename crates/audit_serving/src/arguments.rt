@@ -1,4 +1,4 @@
-//! Arguments that are judged by hand.
+//! Arguments that are judged here, not by the parser of the command line.
 ghost use Rattle.std.specs.Prelude.{◌≡◌, ◌≤◌, IfOk};
 ghost use Rattle.audit_base.specs.declared.limits.TheConstants.{SESSIONS};
 ghost use Rattle.audit_serving.specs.Arguments.{rounds_asked, sessions_asked};

@@ -17,14 +17,14 @@ use std::io::Write;
 pub enum ServingFault {
     /// As other commands: an argument, a file, the socket, the store or memory.
     Command(CommandFault),
-    /// The line of this number, counted from 1, spells no bytes.
+    /// The line of this number, counted from 1, doesn't spell bytes.
     BadFrameLine(u64),
-    /// Sessions were still live after as many turns as may be: refusal number 45.
+    /// Sessions were still live when the limit of turns was reached: refusal number 45.
     TooManyTurns,
 }
 
 impl ServingFault {
-    /// How the program ends with it.
+    /// The status with which the program ends after it.
     pub fn status(self) -> Status
         ensures { result ≡ status_of self }
     {
@@ -98,7 +98,7 @@ pub fn fault_of_serving(fault: ServeFault<StoreError>) -> ServingFault
     }
 }
 
-/// The fault of a command that memory was refused for: for a core, or for its streams.
+/// The fault of a command for which memory was refused: for a core, or for its streams.
 pub fn no_memory() -> ServingFault
     ensures { result ≡ Command (Refused Memory) }
 {

@@ -14,8 +14,8 @@ use audit_store::Store;
 use std::alloc::Global;
 use std::io::{BufRead, Read, Write};
 
-/// Serves a session whose bytes come as lines of hex digits, through a connection, by a core over the store, and writes
-/// each frame of its replies as a line. The store is handed back, as the session left it.
+/// Serves a session whose bytes come as lines of hex digits, through a connection, by a core over the store, and
+/// writes each frame of its replies as a line. The store is handed back, as the session left it.
 pub fn loop_over<D, A, B, R, W>(
     alloc: Global,
     store: Store<D>,

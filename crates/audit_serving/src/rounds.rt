@@ -16,8 +16,9 @@ use std::alloc::Global;
 use std::io::Write;
 use std::os::unix::net::UnixStream;
 
-/// Serves so many rounds: in each, so many connections are accepted, and a new core over the store serves them up to the
-/// end of the last one. After each round its line is written, with its number from 1 on and the number of its turns.
+/// Serves so many rounds: in each, so many connections are accepted, and a new core over the store serves them up to
+/// the end of the last one. After each round its line is written, with its number from 1 on and the number of its
+/// turns.
 ///
 /// The store is handed back, as the rounds left it. A fault of a round ends them, and that round has no line.
 pub fn serve_rounds<D: Sectors + Drop, W: Write>(
@@ -53,8 +54,8 @@ pub fn serve_rounds<D: Sectors + Drop, W: Write>(
     (store, Ok(()))
 }
 
-// Waits for so many connections, in their order. Room for all of them is taken first: memory that is refused isn't reported
-// as a fault of the socket.
+// Waits for so many connections, in their order. Room for all of them is taken first: memory that is refused isn't
+// reported as a fault of the socket.
 fn accept_streams(
     alloc: Global,
     socket: &SocketFile,

@@ -6,8 +6,8 @@ use Rattle.audit_sessions.specs.Rounds.{live_below, IsTurnOf, AreTurnsOf, IsWhol
 use Rattle.audit_sessions.specs.Streams.{StreamView, view_at, NoneFailed, IsStreamed}
 use Rattle.audit_sessions.specs.Core.{CoreModel, bytes_for}
 
--- The core did some steps, of a shape where no stream failed. Of each stream that was known and didn't fail, they brought
--- what was read, and what was taken of the session's output was written to it.
+-- The core did some steps, of a shape where no stream failed. Of each stream that was known and didn't fail, they
+-- brought what was read, and what was taken of the session's output was written to it.
 pub record Transition {C : Type 0} (M : CoreModel C) (old new : C) (before after : List StreamView) (Shape : List StepData → Type 0) : Type 0 where
   pub count : length after ≡ length before
   pub steps : List StepData

@@ -13,7 +13,7 @@ pub enum Health {
 }
 
 impl Health {
-    /// What it is once a read has failed.
+    /// The health after a read has failed.
     pub fn after_read_fault(self) -> Health
         ensures { result ≡ with_read_fault self }
     {

@@ -10,7 +10,7 @@ use crate::session_core::SessionCore;
 use crate::session_stream::SessionStream;
 use crate::writing::flush_and_write;
 
-/// Whether a session below a number has not ended.
+/// Whether one of the first `count` sessions is still live.
 pub fn has_live<C: SessionCore>(core: &C, count: usize) -> bool
     requires { count ≤ SESSIONS }
     ensures live { result ≡ true → live_below count (C.model.ended core.now []) ≢ [] }
@@ -24,7 +24,7 @@ pub fn has_live<C: SessionCore>(core: &C, count: usize) -> bool
     false
 }
 
-/// Ends each live session below a number.
+/// Ends each of the first `count` sessions that is still live.
 pub fn end_live<C: SessionCore>(core: &mut C, count: usize) -> Result<(), C::Error>
     requires { count ≤ SESSIONS }
     ensures reaches { CoreReached C.model core.old core.new BringNothing }
@@ -56,7 +56,7 @@ fn serve_round<C: SessionCore, S: SessionStream>(
     flush_and_write(core, streams)
 }
 
-/// Serves rounds as long as sessions are live, but not more than may be.
+/// Serves rounds as long as sessions are live, up to the limit of rounds.
 pub fn serve_rounds<C: SessionCore, S: SessionStream>(
     core: &mut C,
     streams: &mut [S],

@@ -3,7 +3,7 @@
 pub struct ServeEnd<E> {
     /// How many rounds were begun.
     pub turns: u64,
-    /// Why it stopped before the last session had ended and the last output was written, if it did.
+    /// Why serving stopped before the last session had ended and the last output was written; none if it didn't.
     pub fault: Option<ServeFault<E>>,
 }
 
@@ -12,6 +12,6 @@ pub struct ServeEnd<E> {
 pub enum ServeFault<E> {
     /// The core refused a step.
     Core(E),
-    /// There were as many rounds as may be, and sessions were still live: refusal number 45.
+    /// The limit of rounds was reached, and sessions were still live: refusal number 45.
     ReadFault,
 }

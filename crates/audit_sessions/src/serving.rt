@@ -26,8 +26,9 @@ pub fn serve<C: SessionCore, S: SessionStream>(
 ) -> ServeEnd<C::Error>
     requires { length streams.old ≤ SESSIONS }
     ensures most { result.turns ≤ MAX_TURNS }
-    // Whatever happens, the core went by steps and `take_output` alone. Of each stream that reports its bytes and didn't
-    // fail, the steps bring what was read, but for what a refused call lost; and what was taken was written to it.
+    // Whatever happens, the core went by steps and `take_output` alone. Of each stream that reports its bytes and
+    // didn't fail, the steps bring what was read, but for what a refused call lost; and what was taken was written to
+    // it.
     ensures reaches { Reached C.model core.old core.new (map S.view streams.old) (map S.view streams.new) }
     // Without a fault it did, where no stream failed, whole rounds up to the end of the last session, and a flush; and
     // each stream that reports its bytes and didn't fail was read and written as the steps say.
@@ -48,7 +49,7 @@ pub fn serve<C: SessionCore, S: SessionStream>(
     ServeEnd { turns, fault }
 }
 
-/// Serves up to the end, and reports whether sessions were still live after as many rounds as may be.
+/// Serves up to the end, and reports whether sessions were still live when the limit of rounds was reached.
 fn serve_all<C: SessionCore, S: SessionStream>(
     core: &mut C,
     streams: &mut [S],

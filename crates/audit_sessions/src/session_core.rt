@@ -16,7 +16,7 @@ pub trait SessionCore {
     /// How contracts see the core.
     ghost model: { CoreModel Self };
 
-    /// Takes the next bytes of a session. Those of a session that has ended are dropped.
+    /// Takes the next bytes of a session. Bytes of a session that has ended are dropped.
     fn feed(&mut self, session: usize, piece: &[u8]) -> Result<(), Self::Error>
         requires { session < SESSIONS }
         ensures reaches { GoesBy model (a_piece session piece.now) self.old self.new }
@@ -33,7 +33,7 @@ pub trait SessionCore {
         ensures reaches { GoesBy model a_flush self.old self.new }
         ensures did { OnOk result (model.Did self.old self.new (a_flush ∷ []) no_bytes) };
 
-    /// The bytes that wait for a session, which then wait no more. Those of the other sessions stay.
+    /// Takes the bytes that wait for a session. Those of the other sessions stay.
     fn take_output(&mut self, session: usize) -> Vec<u8>
         requires { session < SESSIONS }
         ensures taken { result.items ≡ model.output self.old session }
@@ -42,7 +42,7 @@ pub trait SessionCore {
         ensures others { (other : ℕ) → (other ≡ session → ⊥)
             → model.output self.new other ≡ model.output self.old other };
 
-    /// Whether a session has ended: by `end`, or by bytes that are no request.
+    /// Whether a session has ended: by `end`, or by bytes that aren't a request.
     fn ended(&self, session: usize) -> bool
         requires { session < SESSIONS }
         ensures { result ≡ model.ended self.now [] session };

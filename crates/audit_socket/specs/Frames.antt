@@ -1,4 +1,4 @@
--- Frames, and the lines that tell them.
+-- Frames, and the lines that spell them.
 use Rattle.std.specs.Prelude.{◌≡◌, ℕ, ◌+◌, ◌≤◌, Option, List, [], ◌∷◌, ◌++◌, length, codes}
 use Rattle.std.specs.List.{flat_map}
 use Rattle.std.specs.Int.{w16}
@@ -6,7 +6,7 @@ use Rattle.audit_base.specs.Bytes.{number_at}
 use Rattle.std.specs.Io.KnownBytes.{Appends}
 use Rattle.hex.specs.Hex.{encode_lower}
 
--- two bytes tell the number of those after them
+-- two bytes state the number of those after them
 pub record IsFrame (bytes : List ℕ) : Type 0 where
   pub length_is_there : 2 ≤ length bytes
   pub size : length bytes ≡ 2 + number_at w16 0 bytes

@@ -50,7 +50,8 @@ pub record BringsLines (known : Option (List ℕ)) (steps : List StepData) : Typ
   pub spells : IfSome known (SpellsFirst lines)
   pub elsewhere : (k : ℕ) → (k ≡ 0 → ⊥) → AreElsewhere k steps
 
--- The core did steps of a shape. Of its outputs that of session 0 alone was taken, and its frames were written as lines.
+-- The core did steps of a shape. Of its outputs that of session 0 alone was taken, and its frames were written as
+-- lines.
 pub record LoopTransition {C : Type 0} (M : CoreModel C) (old new : C) (before after : Option (List ℕ)) (Shape : List StepData → Type 0) : Type 0 where
   pub steps : List StepData
   pub taken : ℕ → List ℕ

@@ -2,7 +2,7 @@ ghost use Rattle.std.specs.Prelude.{◌≡◌, ◌≤◌, length, IfOk};
 
 use std::io::{Read, Write};
 
-/// A connection failed, or gave other bytes than it was given.
+/// A connection failed, or delivered other bytes than were sent.
 #[derive(Clone, Copy, Debug, PartialEq, Eq)]
 pub struct ConnectionFault;
 

@@ -8,8 +8,8 @@ use crate::limits::MAX_DIGITS;
 use audit_lines::LinesFault;
 use std::io::{BufRead, Read};
 
-/// Reads the next line into the buffer, in place of what it holds, without its line feed, and reports whether there was
-/// one. Of a line that is longer than [`MAX_DIGITS`] only the front is read, which is one byte longer than that.
+/// Reads the next line into the buffer, in place of what it holds, without its line feed, and reports whether there
+/// was one. Of a line that is longer than [`MAX_DIGITS`] only the front is read, which is one byte longer than that.
 ///
 /// The faults are `Read` and `Memory`: the buffer then holds what was read of the line.
 pub fn next_line<R: BufRead>(reader: &mut R, line: &mut Vec<u8>) -> Result<bool, LinesFault>

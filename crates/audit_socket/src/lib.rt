@@ -1,5 +1,5 @@
-//! Sockets that sessions come in by, and a session whose client is in the same process: lines of hex digits go to it, and
-//! its replies come back as lines.
+//! Sockets on which sessions arrive, and a session whose client is in the same process: lines of hex digits go to it,
+//! and its replies come back as lines.
 #![tactic(auto)]
 
 mod carrying;

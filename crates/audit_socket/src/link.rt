@@ -3,8 +3,8 @@ ghost use Rattle.std.specs.Prelude.{◌≡◌, ◌≤◌, length, IfOk};
 use crate::carrying::{ConnectionFault, carry};
 use std::io::{Read, Write};
 
-/// A connection both ends of which are here. A piece is written to one end, and then read at the other, so that neither
-/// waits for the other where pieces are short.
+/// A connection of which both ends are in this process. A piece is written to one end, and then read at the other, so
+/// that neither waits for the other where pieces are short.
 #[derive(Drop)]
 pub struct Link<A, B> {
     client: A,
@@ -17,8 +17,8 @@ impl<A: Read + Write, B: Read + Write> Link<A, B> {
         Link { client, server }
     }
 
-    /// Sends a piece from the client's end, and hands out what arrived at the server's, which is the same. It takes the
-    /// front of the buffer.
+    /// Sends a piece from the client's end, and hands out what arrived at the server's, which is the same. It takes
+    /// the front of the buffer.
     pub fn to_server<'a>(
         &mut self,
         piece: &[u8],
@@ -30,8 +30,8 @@ impl<A: Read + Write, B: Read + Write> Link<A, B> {
         carry(&mut self.client, &mut self.server, piece, buffer)
     }
 
-    /// Sends a piece from the server's end, and hands out what arrived at the client's, which is the same. It takes the
-    /// front of the buffer.
+    /// Sends a piece from the server's end, and hands out what arrived at the client's, which is the same. It takes
+    /// the front of the buffer.
     pub fn to_client<'a>(
         &mut self,
         piece: &[u8],

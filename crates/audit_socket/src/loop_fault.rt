@@ -5,7 +5,7 @@ use std::alloc::AllocError;
 /// Why a session over lines stopped.
 #[derive(Clone, Copy, Debug, PartialEq, Eq)]
 pub enum LoopFault<E> {
-    /// The connection failed, or gave other bytes than it was given, or none that are frames.
+    /// The connection failed, or delivered bytes that weren't sent, or that aren't frames.
     Connection,
     /// The lines couldn't be read, the replies couldn't be written, or memory was refused.
     Lines(LinesFault),
@@ -66,7 +66,7 @@ impl<E> From<ReplyFault> for LoopFault<E> {
 /// Why replies weren't written as lines.
 #[derive(Clone, Copy, Debug, PartialEq, Eq)]
 pub enum ReplyFault {
-    /// The connection failed, or gave other bytes than it was given, or none that are frames.
+    /// The connection failed, or delivered bytes that weren't sent, or that aren't frames.
     Connection,
     /// A line couldn't be written, or memory was refused.
     Lines(LinesFault),

@@ -20,9 +20,9 @@ use std::io::{BufRead, Read, Write};
 // The session that lines are for.
 const SESSION: usize = 0;
 
-/// Serves a session whose bytes come as lines of hex digits, through a connection. The bytes of each line are sent from
-/// the client's end, and what arrives at the server's is fed; then the core flushes, its replies go back, and each frame
-/// that arrives is written as a line. After the last line the session is ended, with one flush more.
+/// Serves a session whose bytes come as lines of hex digits, through a connection. The bytes of each line are sent
+/// from the client's end, and what arrives at the server's is fed; then the core flushes, its replies go back, and
+/// each frame that arrives is written as a line. After the last line the session is ended, with one flush more.
 ///
 /// A line that isn't hex digits is `BadLine`, after the replies to those before it.
 pub fn run_lines<C, A, B, R, W>(

@@ -8,7 +8,7 @@ use audit_lines::{push_hex, write_whole};
 use std::alloc::{AllocError, Global};
 use std::io::Write;
 
-// Bytes that tell the length of what comes after them.
+// The bytes that state the length of what comes after them.
 const LENGTH_SIZE: usize = 2;
 
 /// Writes a line of hex digits for each of the frames that bytes consist of. Bytes after the last whole frame are a

@@ -3,14 +3,15 @@ use std::io;
 use std::net::Net;
 use std::os::unix::net::{UnixListener, UnixStream};
 
-/// A Unix socket at a path, that connections come in by.
+/// A Unix socket at a path, on which connections arrive.
 #[derive(Drop)]
 pub struct SocketFile {
     listener: UnixListener,
 }
 
 impl SocketFile {
-    /// Makes the socket's file. A file that is there, also one of a socket that nobody serves, is an error, and stays.
+    /// Makes the socket's file. A file that is already there is an error and stays, also that of a socket nobody
+    /// serves.
     pub fn bind<F: Files + Net>(rt: &F, path: &str) -> io::Result<SocketFile> {
         let listener = UnixListener::bind(rt, path)?;
         Ok(SocketFile { listener })

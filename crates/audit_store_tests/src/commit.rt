@@ -165,8 +165,8 @@ fn the_257th_item_forces_a_flush(rt: HostRuntime) -> Result<(), Fail> {
     Ok(())
 }
 
-// The device after a flush of a question and an append in which it failed from that call on: what waited is dropped, and
-// nothing is answered or called any more.
+// The device after a flush of a question and an append in which it failed from that call on: what waited is dropped,
+// and nothing is answered or called any more.
 fn after_a_fault(rt: &impl Abort, alloc: Global, calls: u64) -> Result<MemDisk, Fail> {
     let mut committer = committer_on(alloc, Fuse::new(MemDisk::new(alloc, 16)?, calls))?;
     ask(&mut committer, Query::Commitment { tag: 9 })?;

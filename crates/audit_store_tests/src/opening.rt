@@ -189,7 +189,7 @@ fn log_scanned(rt: HostRuntime) -> Result<(), Fail> {
     Ok(())
 }
 
-// The header tells another last link, and then one more entry too.
+// The header states another last link, and then one more entry too.
 #[test]
 fn log_refused(rt: HostRuntime) -> Result<(), Fail> {
     let sealed = seal_hi(rt.alloc())?;

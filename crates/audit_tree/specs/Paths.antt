@@ -29,7 +29,7 @@ increment_path H leaves older =
     subtree_hash H layer (drop (older - 2 ^ layer) leaves)
     ∷ path H layer (depth (length leaves) - layer) (older - 1) leaves
 
--- The same siblings by places, as the profile is told: of the node of a layer that holds the leaf at
+-- The same siblings by places, as the profile has them: of the node of a layer that holds the leaf at
 -- a place, under the first `count` leaves. A left sibling is there, and a right one where it has leaves.
 abbrev pub sibling_at : (List ℕ → List ℕ) → List (List ℕ) → ℕ → ℕ → ℕ → List (List ℕ)
 sibling_at H leaves count place layer =

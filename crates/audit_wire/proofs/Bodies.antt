@@ -150,7 +150,7 @@ entry_found fields read fits e =
       same = ap (λ (after : List ℕ). 5 ∷ after) (sym whole);
     })
 
--- the kind by five tests, the first of which that holds tells it
+-- the kind by five tests, the first of which that holds decides it
 abbrev kind_by : (a b c d e : Bool) → Option RequestKind
 kind_by a b c d e = cond a (Some kind.Append) (cond b (Some kind.Commitment) (cond c (Some kind.Membership) (cond d (Some kind.Incremental) (cond e (Some kind.Entry) None))))
 

@@ -71,7 +71,8 @@ continued framed more = if framed.malformed then framed else all_in_front framed
 abbrev pub request_frame : Request → List ℕ
 request_frame request = frame (request_body request)
 
--- a place where no request's frame is or can come to be: a length that no request has, or a whole body that is no request's
+-- a place where no request's frame is or can come to be: a length that no request has, or a whole body that is no
+-- request's
 abbrev pub IsMalformedPlace : List ℕ → Type 0
 IsMalformedPlace [] = ⊥
 IsMalformedPlace (high ∷ []) = ⊥

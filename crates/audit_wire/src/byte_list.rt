@@ -24,7 +24,7 @@ impl ByteList {
         Self { bytes }
     }
 
-    /// The vector back. Takes no memory.
+    /// Hands the vector back. Takes no memory.
     pub fn into_vec(self) -> Vec<u8>
         ensures { result.items ≡ self }
     {

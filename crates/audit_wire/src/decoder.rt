@@ -10,7 +10,7 @@ use crate::room::put;
 use std::alloc::{AllocError, Global};
 use std::marker::Model;
 
-/// What a decoder is about.
+/// Where a decoder stands in its stream.
 #[derive(Clone, Copy, Debug, PartialEq, Eq)]
 enum State {
     /// A frame is begun, or will be with the next byte.
@@ -172,8 +172,8 @@ fn take_up(frame: &mut Vec<u8>, piece: &[u8]) -> Fed
     }
 }
 
-/// Takes from the front of a piece until the frame has `size` bytes or the piece ends, and answers
-/// how many bytes that were.
+/// Takes from the front of a piece until the frame has `size` bytes or the piece ends, and returns
+/// how many bytes it took.
 fn fill(frame: &mut Vec<u8>, piece: &[u8], size: usize) -> usize
     requires has { vec_len frame.old ≤ vec_capacity frame.old }
     requires room { size ≤ vec_capacity frame.old }

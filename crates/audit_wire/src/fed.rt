@@ -1,4 +1,4 @@
-/// What a decoder says to a piece of the stream.
+/// What a decoder found in a piece of the stream.
 #[derive(Clone, Copy, Debug, PartialEq, Eq)]
 pub enum Fed {
     /// All of the piece was taken, and no body is whole.

@@ -27,7 +27,7 @@ impl HashList {
         Self { hashes }
     }
 
-    /// The vector back. Takes no memory.
+    /// Hands the vector back. Takes no memory.
     pub fn into_vec(self) -> Vec<Hash>
         ensures { result.items ≡ self }
     {

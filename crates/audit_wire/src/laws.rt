@@ -53,7 +53,7 @@ pub fn every_cut_gives_one_reading()
         } }
 {}
 
-/// Every reply has a body that is read back as it, so that replies are told apart by their bytes; and the length
+/// Every reply has a body that is read back as it, so that different replies have different bytes; and the length
 /// field of its frame holds the body's length, which is the same for every acknowledgement and for every refusal.
 pub fn every_reply_is_read_back()
     ensures body { (given : Reply) → IsWholeReply given → reply_in (reply_body given) ≡ Some given }
@@ -80,8 +80,8 @@ pub fn one_reading_of_replies()
 {}
 
 /// A piece of which the last byte is given back is the piece without that byte: where feeding took all of it up to
-/// the end of a body or of a malformed length, the decoder is then where feeding the rest of it leaves it. Of any piece
-/// it is where feeding the bytes that were taken but for the last one leaves it, and so the stream has the same
+/// the end of a body or of a malformed length, the decoder is then where feeding the rest of it leaves it. Of any
+/// piece it is where feeding the bytes that were taken but for the last one leaves it, and so the stream has the same
 /// requests ahead.
 pub fn a_byte_given_back_never_came()
     ensures whole { (old taken new : Progress) (piece : List ℕ) (byte : ℕ) (answer : Fed)

@@ -7,7 +7,7 @@ pub enum Refusal {
     DamagedLog = 4,
     /// The event doesn't fit on the device.
     Full = 7,
-    /// No such index or count.
+    /// The log has no such index or count.
     NoSuchVersion = 8,
     /// The generations of the device are used up.
     Worn = 9,

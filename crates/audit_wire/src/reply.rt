@@ -19,13 +19,13 @@ pub enum Reply {
         count: u64,
         root: Hash,
     },
-    /// A membership proof and the entry that it is of.
+    /// A membership proof, elsewhere called an inclusion proof, and the entry that it is for.
     Membership {
         tag: u32,
         hashes: HashList,
         entry: ByteList,
     },
-    /// An incremental proof.
+    /// An incremental proof, elsewhere called a consistency proof.
     Incremental {
         tag: u32,
         hashes: HashList,

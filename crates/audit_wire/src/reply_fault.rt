@@ -3,7 +3,7 @@ use thiserror::Error;
 /// Why bytes weren't read as a reply.
 #[derive(Clone, Copy, Debug, Drop, Error, PartialEq, Eq)]
 pub enum ReplyFault {
-    /// The bytes are no reply's.
+    /// The bytes aren't a reply.
     #[error("malformed reply")]
     Malformed,
     /// Memory was refused for the reply's parts.

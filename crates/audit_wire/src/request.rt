@@ -13,13 +13,13 @@ pub enum Request {
     Commitment {
         tag: u32,
     },
-    /// A membership proof of the entry `index` under `count`.
+    /// A membership (inclusion) proof of the entry `index` under `count`.
     Membership {
         tag: u32,
         index: u64,
         count: u64,
     },
-    /// An incremental proof from count `older` to count `newer`.
+    /// An incremental (consistency) proof from count `older` to count `newer`.
     Incremental {
         tag: u32,
         older: u64,

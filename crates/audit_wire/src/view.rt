@@ -4,7 +4,7 @@ use crate::byte_list::ByteList;
 use crate::request::Request;
 use std::alloc::{AllocError, Global};
 
-/// A request as it stands in a frame's body, whose payload it borrows. See [`Request`].
+/// A request as it stands in a frame's body, from which it borrows its payload. See [`Request`].
 #[derive(Clone, Copy, Debug, PartialEq, Eq)]
 pub enum RequestView<'a> {
     Append {

@@ -37,7 +37,7 @@ pub fn write_reply(_alloc: Global, reply: &Reply, out: &mut Vec<u8>) -> Result<(
     Ok(())
 }
 
-/// How many bytes the body of a reply has.
+/// Returns how many bytes the body of a reply has.
 fn body_size(reply: &Reply) -> usize
     requires { IsReply reply.now }
     ensures size { result ≡ length (reply_body reply.now) }
