@@ -1,15 +1,25 @@
+use audit_base::{MAX_PAYLOAD, SESSIONS};
 use audit_commands::Request;
+use audit_lines::INPUT_LIMIT;
+use audit_log::{MAX_SECTORS, MIN_SECTORS, VERSION as FORMAT_VERSION};
 use audit_serving::Request as Serving;
 use clap::{Arg, ArgAction, ArgMatches, Command, Error};
 use std::alloc::{AllocError, Global};
 use std::convert::AsStr;
 
-/// What `--version` prints: the version of the format that is written.
+/// What `--version` prints after the name: the newest version of the format.
 const VERSION: &str = "2";
 
 /// What the help of the commands that read events says of their input.
 const LIMITS: &str =
     "An event has a payload of at most 32696 bytes, and the input has at most 16777216 bytes.";
+
+// The numbers in what this file prints are those of the code.
+const _: () = prove!(FORMAT_VERSION == 2);
+
+const _: () = prove!(MAX_PAYLOAD == 32_696 && INPUT_LIMIT == 16_777_216);
+
+const _: () = prove!(MIN_SECTORS == 3 && MAX_SECTORS == 16_777_216 && SESSIONS == 16);
 
 /// What the words of a command line ask for.
 #[derive(Clone, Copy)]

@@ -3,7 +3,7 @@ ghost use Rattle.std.specs.Prelude.{◌≡◌, ◌+◌, ◌≤◌, ◌↔◌, le
 ghost use Rattle.std.specs.Int.{w16, w32, w64};
 ghost use Rattle.audit_base.specs.Bytes.{number_at, zeros};
 
-/// The number in the two bytes from a place on.
+/// Returns the number in the two bytes at a place.
 pub fn u16_at(bytes: &[u8], place: usize) -> u16
     requires { place + 2 ≤ length bytes.now }
     ensures { result ≡ number_at w16 place bytes.now }
@@ -11,7 +11,7 @@ pub fn u16_at(bytes: &[u8], place: usize) -> u16
     u16::from_be_bytes(*array_at(bytes, place))
 }
 
-/// The number in the four bytes from a place on.
+/// Returns the number in the four bytes at a place.
 pub fn u32_at(bytes: &[u8], place: usize) -> u32
     requires { place + 4 ≤ length bytes.now }
     ensures { result ≡ number_at w32 place bytes.now }
@@ -19,7 +19,7 @@ pub fn u32_at(bytes: &[u8], place: usize) -> u32
     u32::from_be_bytes(*array_at(bytes, place))
 }
 
-/// The number in the eight bytes from a place on.
+/// Returns the number in the eight bytes at a place.
 pub fn u64_at(bytes: &[u8], place: usize) -> u64
     requires { place + 8 ≤ length bytes.now }
     ensures { result ≡ number_at w64 place bytes.now }
@@ -27,7 +27,7 @@ pub fn u64_at(bytes: &[u8], place: usize) -> u64
     u64::from_be_bytes(*array_at(bytes, place))
 }
 
-/// The N bytes from a place on.
+/// Returns the N bytes at a place.
 pub fn array_at<const N: usize>(bytes: &[u8], place: usize) -> &[u8; N]
     requires { place + N ≤ length bytes.now }
     ensures { result.now ≡ take N (drop place bytes.now) }
@@ -35,14 +35,14 @@ pub fn array_at<const N: usize>(bytes: &[u8], place: usize) -> &[u8; N]
     bytes[place..].first_chunk().unwrap()
 }
 
-/// Whether two texts are the same.
+/// Returns whether two texts are equal. It may stop at the first difference: digests and MACs are for `is_same_hash`.
 pub fn are_equal(left: &[u8], right: &[u8]) -> bool
     ensures { IsTrue result ↔ (left.now ≡ right.now) }
 {
     left == right
 }
 
-/// Whether the bytes are zeros alone.
+/// Returns whether all bytes are zero.
 pub fn are_zero(bytes: &[u8]) -> bool
     ensures { IsTrue result ↔ (bytes.now ≡ zeros (length bytes.now)) }
 {

@@ -1,10 +1,10 @@
 //! The limits of the formats and of sessions. Where one follows from others it is their sum or product, so that raising one is a
 //! change of one line here and of the law that fixes its number.
 
-/// A SHA-256 digest (FIPS 180-4), in bytes: so long are hashes, keys, links and MACs.
+/// The length of a SHA-256 digest (FIPS 180-4) in bytes, which is that of hashes, keys, links and MACs.
 pub const HASH_LEN: usize = 32;
 
-/// A sector of a device, in bytes.
+/// The size of a sector of a device, in bytes.
 pub const SECTOR_SIZE: usize = 512;
 
 /// The longest payload of an event, in bytes: with the rest of its entry it fills 64 sectors, which are a whole batch.
@@ -16,7 +16,7 @@ pub const FIRST_MAX_PAYLOAD: usize = 4_024;
 /// The kind of the event that closes a log, which no other event may have.
 pub const RESERVED_KIND: u32 = 0xffff_ffff;
 
-/// What stands before the cipher of an entry, in bytes: its kind and its length, of 4 bytes each.
+/// The length of what comes before the cipher of an entry: its kind and its length, of 4 bytes each.
 pub const ENTRY_HEAD_LEN: usize = 8;
 
 /// How much longer an entry is than its payload, in bytes: by its head, its link and its MAC.

@@ -19,11 +19,11 @@ pub trait Sectors {
     /// Everything that is known of the device.
     ghost view: { Self → View };
 
-    /// How many sectors the device has.
+    /// Returns how many sectors the device has.
     fn size(&self) -> u64
         ensures { result ≡ (view self.now).size };
 
-    /// The clock: how many writes and syncs were asked of the device, failed ones too, up to 2^64 - 1.
+    /// Returns the clock: how many writes and syncs were asked of the device, failed ones too, up to 2^64 - 1.
     fn calls(&self) -> u64
         ensures { result ≡ (view self.now).clock };
 
@@ -37,7 +37,7 @@ pub trait Sectors {
         requires { at < (view self.old).size }
         ensures { IsWrite (view self.old) (view self.new) at bytes.now result };
 
-    /// At Ok everything that was written is on the medium. After a fault as much as before may be pending.
+    /// Puts on the medium what was written: at Ok all of it is there. After a fault as much as before may be pending.
     fn sync(&mut self) -> Result<(), DeviceFault>
         ensures { IsSync (view self.old) (view self.new) result };
 }

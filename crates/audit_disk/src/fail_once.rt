@@ -20,7 +20,7 @@ pub struct FailOnce<D: Sectors> {
 impl<D: Sectors> FailOnce<D> {
     ghost use Rattle.audit_disk.specs.FailOnce.{fail_once_inner, fail_once_view, calls_before};
 
-    /// Lets so many calls pass before the one that fails.
+    /// Wraps a device of which `calls` calls pass, and the next one fails.
     pub fn new(inner: D, calls: u64) -> Self
         ensures inner { fail_once_inner result ≡ inner }
         ensures unused { IsUnused (D.view inner) (fail_once_view result) }
@@ -32,7 +32,7 @@ impl<D: Sectors> FailOnce<D> {
         }
     }
 
-    /// The device, as it is.
+    /// Returns the device, as it is.
     pub fn into_inner(self) -> D
         ensures inner { result ≡ fail_once_inner self }
         ensures alike { LooksLike (fail_once_view self) (D.view result) }

@@ -32,7 +32,7 @@ impl<F: SectorFile> FileDisk<F> {
     ghost use Rattle.std.specs.Prelude.{IsTrue, IsFalse, IfOk};
     ghost use Rattle.audit_disk.specs.FileDisk.{inner_of, IsOverFile, Reaches, IsShut};
 
-    /// A device over a file of so many whole sectors. It reads ahead; the memory for that, 64 KiB, is taken here.
+    /// Makes a device over a file of `sectors` whole sectors. The memory for reading ahead, 64 KiB, is taken here.
     pub fn over(alloc: Global, file: F, sectors: u64) -> Result<Self, AllocError>
     where
         F: Drop,
@@ -58,7 +58,7 @@ impl<F: SectorFile> FileDisk<F> {
         }
     }
 
-    /// The file, as the calls so far left it.
+    /// Returns the file, as the calls so far left it.
     pub fn into_file(self) -> F
         ensures { result ≡ inner_of self }
     {

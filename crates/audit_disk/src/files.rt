@@ -14,7 +14,7 @@ use std::os::unix::fs::FileExt;
 use std::path::Path;
 
 impl<F: FileExt + OpenFile + Drop> FileDisk<OsFile<F>> {
-    /// Makes a file of so many zero sectors. A file that is there is not overwritten: that is a fault. A file
+    /// Makes a file of `sectors` zero sectors. A file that is there isn't overwritten: that is a fault. A file
     /// that can't be given its length or synced is removed again, where the system lets it be. Where memory is
     /// refused, no file is made.
     pub fn create<R: Files<File = F>>(
@@ -59,7 +59,7 @@ impl<F: FileExt + OpenFile + Drop> FileDisk<OsFile<F>> {
 }
 
 impl FileDisk<MemFile> {
-    /// A device in a file in memory, of so many zero sectors, for tests. It is honest.
+    /// Makes a device in a file in memory, of `sectors` zero sectors, for tests. It is honest.
     pub fn in_memory(alloc: Global, sectors: u64) -> Result<FileDisk<MemFile>, AllocError>
         requires { SECTOR_SIZE * sectors < 2 ^ 64 }
 

@@ -20,7 +20,7 @@ pub struct Fuse<D: Sectors> {
 impl<D: Sectors> Fuse<D> {
     ghost use Rattle.audit_disk.specs.Fuse.{fuse_inner, fuse_view, calls_left};
 
-    /// Lets so many writes and syncs pass.
+    /// Wraps a device that `calls` writes and syncs reach, and no call after them.
     pub fn new(inner: D, calls: u64) -> Self
         ensures inner { fuse_inner result ≡ inner }
         ensures unused { IsUnused (D.view inner) (fuse_view result) }
@@ -32,7 +32,7 @@ impl<D: Sectors> Fuse<D> {
         }
     }
 
-    /// The device, as it is.
+    /// Returns the device, as it is.
     pub fn into_inner(self) -> D
         ensures inner { result ≡ fuse_inner self }
         ensures alike { LooksLike (fuse_view self) (D.view result) }

@@ -75,7 +75,7 @@ impl MemDisk {
     ghost use Rattle.audit_disk.specs.Held.{crashed};
     ghost use Rattle.audit_disk.specs.MemDisk.{disk_view, disk_held, IsFresh, HoldsOnly, IsEachPicked};
 
-    /// A device of so many zero sectors, all of them synced.
+    /// Makes a device of `sectors` zero sectors, all of them synced.
     pub fn new(alloc: Global, sectors: u64) -> Result<MemDisk, AllocError>
         ensures fresh { IfOk result (λ disk. IsFresh (disk_view disk) (replicate sectors (replicate SECTOR_SIZE 0))) }
         ensures held { IfOk result (λ disk. HoldsOnly (disk_held disk) (replicate sectors (replicate SECTOR_SIZE 0))) }
@@ -83,7 +83,7 @@ impl MemDisk {
         MemDisk::with_content(alloc, zero_blocks(alloc, sectors)?)
     }
 
-    /// A device with this content, all of it synced.
+    /// Makes a device with this content, all of it synced.
     pub fn from_sectors(alloc: Global, sectors: &[[u8; SECTOR_SIZE]]) -> Result<MemDisk, AllocError>
         ensures fresh { IfOk result (λ disk. IsFresh (disk_view disk) sectors.now) }
         ensures held { IfOk result (λ disk. HoldsOnly (disk_held disk) sectors.now) }
@@ -91,7 +91,7 @@ impl MemDisk {
         MemDisk::with_content(alloc, blocks_of(alloc, sectors)?)
     }
 
-    /// What a crash now may leave, as a device: in sector k its last synced content where `pick[k]` is 0 or
+    /// Returns what a crash now may leave, as a device: in sector k its last synced content where `pick[k]` is 0 or
     /// missing or nothing was written to it since, the p-th content written since where it is p, and the last
     /// one where p is too large. Every image that a crash may leave is that of some picks.
     pub fn crash(&self, alloc: Global, pick: &[u64]) -> Result<MemDisk, AllocError>

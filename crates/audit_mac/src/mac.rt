@@ -28,7 +28,7 @@ pub struct Mac {
 impl Mac {
     ghost use Rattle.audit_mac.specs.Taking.{HasTaken};
 
-    /// Begins the HMAC of the empty text under `key`.
+    /// Begins an HMAC under `key`, with no text so far.
     pub fn new(key: &[u8]) -> Self
         ensures { HasTaken result key.now [] }
     {
@@ -46,7 +46,7 @@ impl Mac {
         self.inner.update(piece);
     }
 
-    /// The HMAC-SHA-256 of the text, in 32 bytes.
+    /// Returns the HMAC-SHA-256 of all text so far, in 32 bytes.
     pub fn finish(self) -> [u8; MAC_LEN]
         ensures { (key text : List ℕ) → HasTaken self key text → result ≡ hmac key text }
     {
@@ -57,7 +57,7 @@ impl Mac {
     }
 }
 
-/// The HMAC-SHA-256 (RFC 2104) of a text under a key of any length, in 32 bytes. It never fails and
+/// Returns the HMAC-SHA-256 (RFC 2104) of a text under a key of any length, in 32 bytes. It never fails and
 /// takes no memory.
 #[tactic(auto, unfolding(crate::specs::Hmac::hmac))]
 pub fn hmac_sha256(key: &[u8], text: &[u8]) -> [u8; MAC_LEN]

@@ -20,10 +20,6 @@ abbrev pub root_from_leaf : (List ℕ → List ℕ) → ℕ → ℕ → List ℕ
 root_from_leaf H place count leaf hashes =
     whole (climb (one_value H) 0 (depth count) place count leaf hashes)
 
--- the root that a membership proof of a text gives
-abbrev pub root_from_membership : (List ℕ → List ℕ) → ℕ → ℕ → List ℕ → List (List ℕ) → Option (List ℕ)
-root_from_membership H place count text hashes = root_from_leaf H place count (leaf_of H text) hashes
-
 -- the way of an incremental proof, from the largest full node that ends the older tree up to the newer root
 abbrev pub way_between : ℕ → ℕ → Way
 way_between older newer = record {

@@ -36,7 +36,7 @@ pub fn accepts_leaf<T: TextHash>(
     }
 }
 
-/// Whether a membership proof shows that the entry at an index is this one, under a commitment:
+/// Returns whether a membership proof shows that the entry at an index is this one, under a commitment:
 /// false where the index isn't below the count or the count is over `MAX_COUNT`, and where a hash
 /// is missing or left over. It takes no memory.
 pub fn accepts_member(commitment: &Commitment, index: u64, entry: &[u8], hashes: &[Hash]) -> bool
@@ -104,7 +104,7 @@ pub fn accepts_versions<T: TextHash>(
     }
 }
 
-/// Whether an incremental proof shows that the newer tree goes on from the older one: false where
+/// Returns whether an incremental proof shows that the newer tree extends the older one: false where
 /// not `1 <= older.count <= newer.count <= MAX_COUNT`, and where a hash is missing or left over. It
 /// takes no memory.
 pub fn accepts_increment(older: &Commitment, newer: &Commitment, hashes: &[Hash]) -> bool

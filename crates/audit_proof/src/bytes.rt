@@ -15,7 +15,7 @@ pub const INCREMENT_MARK: u8 = 2;
 /// The length of what stands before the hashes: the mark, two numbers, and the number of hashes in one byte.
 pub const HEAD_LEN: usize = 18;
 
-/// What stands before the hashes, after the mark.
+/// What stands between the mark and the hashes.
 #[derive(Clone, Copy)]
 pub struct Head {
     pub first: u64,

@@ -30,8 +30,8 @@ impl From<AllocError> for ReadFault {
     }
 }
 
-/// The bytes of a membership proof of at most `MAX_MEMBER_HASHES` hashes and an entry of at most `MAX_ENTRY`
-/// bytes. The only error is that memory is refused.
+/// Encodes a membership proof of at most `MAX_MEMBER_HASHES` hashes and an entry of at most `MAX_ENTRY` bytes. The
+/// only error is that memory is refused.
 pub fn write_member(alloc: Global, proof: &MemberProof) -> Result<Vec<u8>, AllocError>
     requires few { vec_len proof.now.hashes ≤ MAX_MEMBER_HASHES }
     requires short { vec_len proof.now.entry ≤ MAX_ENTRY }
@@ -50,8 +50,8 @@ pub fn write_member(alloc: Global, proof: &MemberProof) -> Result<Vec<u8>, Alloc
     )
 }
 
-/// A membership proof read from its bytes. The index and the count aren't judged. Bytes that are those of no
-/// proof are refused as `BadProof`, before memory is asked for.
+/// Decodes a membership proof. The index and the count aren't judged, since acceptance does it. Bytes that are no
+/// proof's are refused as `BadProof`, before memory is asked for.
 pub fn read_member(alloc: Global, bytes: &[u8]) -> Result<MemberProof, ReadFault>
     ensures bad { (result ≡ Err ReadFault.BadProof) ↔ (member_of bytes.now ≡ None) }
     ensures ok { IfOk result (λ proof. member_of bytes.now ≡ Some (member_in proof)) }
@@ -80,8 +80,7 @@ pub fn read_member(alloc: Global, bytes: &[u8]) -> Result<MemberProof, ReadFault
     })
 }
 
-/// The bytes of an incremental proof of at most `MAX_INCREMENT_HASHES` hashes. The only error is that memory
-/// is refused.
+/// Encodes an incremental proof of at most `MAX_INCREMENT_HASHES` hashes. The only error is that memory is refused.
 pub fn write_increment(alloc: Global, proof: &IncrementProof) -> Result<Vec<u8>, AllocError>
     requires { vec_len proof.now.hashes ≤ MAX_INCREMENT_HASHES }
     ensures ok { IfOk result (λ bytes. bytes.items ≡ increment_bytes (increment_in proof.now)) }
@@ -99,7 +98,7 @@ pub fn write_increment(alloc: Global, proof: &IncrementProof) -> Result<Vec<u8>,
     )
 }
 
-/// An incremental proof read from its bytes. The counts aren't judged. Bytes that are those of no proof are
+/// Decodes an incremental proof. The counts aren't judged, since acceptance does it. Bytes that are no proof's are
 /// refused as `BadProof`, before memory is asked for.
 pub fn read_increment(alloc: Global, bytes: &[u8]) -> Result<IncrementProof, ReadFault>
     ensures bad { (result ≡ Err ReadFault.BadProof) ↔ (increment_of bytes.now ≡ None) }

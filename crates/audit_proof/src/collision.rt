@@ -140,7 +140,7 @@ pub fn collide<T: TextHash>(
     Ok(collision)
 }
 
-/// Two different texts of one SHA-256 digest, from two accepted membership proofs of one index under
+/// Finds two different texts of one SHA-256 digest, from two accepted membership proofs of one index under
 /// one commitment with different entries. It is refused as `NotAccepted` where one of them isn't accepted,
 /// then as `NoDisagreement` where the entries are equal, then as `Memory`.
 pub fn collide_two(

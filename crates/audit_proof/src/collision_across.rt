@@ -189,7 +189,7 @@ pub fn collide_across<T: TextHash>(
     Ok(collision)
 }
 
-/// Two different texts of one SHA-256 digest, from two accepted membership proofs of one index with different
+/// Finds two different texts of one SHA-256 digest, from two accepted membership proofs of one index with different
 /// entries, the first under an older commitment and the second under a newer one, and the accepted increment
 /// between the two. It is refused as `NotAccepted` where one of the three proofs isn't accepted, then as
 /// `NoDisagreement` where the entries are equal, then as `Memory`.

@@ -20,7 +20,7 @@ pub trait TextHash: Drop {
     // The value of a text.
     ghost value_of: { List ℕ → List ℕ };
 
-    /// The value of a text.
+    /// Returns the value of a text.
     fn hash(&self, text: &[u8]) -> Hash
         ensures { result ≡ value_of text.now };
 }
@@ -37,7 +37,7 @@ impl TextHash for Sha256Texts {
     }
 }
 
-/// Two different texts with one value of a hash function, from two membership proofs of one index
+/// Finds two different texts with one value of a hash function, from two membership proofs of one index
 /// under one commitment that are accepted over it, with different entries.
 ///
 /// A leaf's text is made before its proof is judged, so memory may be refused where
@@ -76,8 +76,8 @@ pub fn collide_two_with<T: TextHash>(
     collide(alloc, hash, commitment, index, &first, &second)
 }
 
-/// Two different texts with one value of a hash function, from an incremental proof between two commitments and two
-/// membership proofs of one index that are accepted over it, the first under the older commitment and the second
+/// Finds two different texts with one value of a hash function, from an incremental proof between two commitments and
+/// two membership proofs of one index that are accepted over it, the first under the older commitment and the second
 /// under the newer one, with different entries.
 ///
 /// A leaf's text is made before its proof is judged, so memory may be refused where

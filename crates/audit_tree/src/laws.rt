@@ -19,7 +19,7 @@ pub fn hashes_keep_their_length()
     ensures increment { (leaves : List (List ℕ)) (older : ℕ) → AreHashes leaves → 1 ≤ older → older ≤ length leaves
         → AreHashes (increment_path sha256 leaves older) }
 
-    // The leaf hashes of texts have.
+    // The leaf hashes of texts have 32 bytes.
     ensures texts { (texts : List (List ℕ)) → AreHashes (map leaf_hash_of texts) }
 {}
 

@@ -1,5 +1,5 @@
 -- Pieces in a row: what was handed out and what is held back are what the bytes so far hold.
-use Rattle.std.proofs.Common.{◌≡◌, ℕ, true, false, List, [], ◌∷◌, ◌++◌, length, take, drop, refl, sym, ap, subst, ◌∙◌, append_assoc}
+use Rattle.std.proofs.Common.{◌≡◌, ℕ, true, false, if◌then◌else◌, List, [], ◌∷◌, ◌++◌, length, take, drop, refl, sym, ap, subst, ◌∙◌, append_assoc}
 use Rattle.std.proofs.lemmas.List.{append-nil, take-append-drop}
 use Rattle.audit_wire.specs.declared.fed.Fed.{Fed}
 use Rattle.audit_wire.specs.declared.fed.Fed.TheVariants as fed
@@ -7,8 +7,12 @@ use Rattle.audit_wire.specs.declared.request.Request.{Request}
 use Rattle.audit_wire.specs.Frame.{frame, IsPartial, IsBadLength}
 use Rattle.audit_wire.specs.Request.{request_in}
 use Rattle.audit_wire.specs.Stream.{Framed, spoiled, all_in_front, framed_bodies, read_first, requests_of, requests_in, framed_requests}
-use Rattle.audit_wire.specs.Progress.{Progress, reading, whole, malformed, closed, rest_of, taken_of, is_spoiled, HasJustTaken, IsProgress, IsAnswer, Spoils, taken_by, left_by, handed_out, bodies_ahead, requests_ahead, IsTaken, IsFed, Feeding, IsRun, bytes_taken, bodies_given, progress_after}
+use Rattle.audit_wire.specs.Progress.{Progress, reading, whole, malformed, closed, rest_of, taken_of, is_spoiled, HasJustTaken, IsProgress, IsAnswer, Spoils, taken_by, left_by, handed_out, requests_ahead, IsTaken, IsFed, Feeding, IsRun, bytes_taken, bodies_given, progress_after}
 use Rattle.audit_wire.proofs.Framing.{bodies_partial, bodies_bad, bodies_frame, requests_bad, requests_frame}
+
+-- the bodies that the stream holds from here on, when these bytes come
+abbrev pub bodies_ahead : Progress → List ℕ → Framed (List ℕ)
+bodies_ahead progress bytes = if is_spoiled progress then spoiled else framed_bodies (rest_of progress ++ bytes)
 
 bad-append : (bytes more : List ℕ) → IsBadLength bytes → framed_bodies (bytes ++ more) ≡ spoiled
 bad-append [] more h = absurd h

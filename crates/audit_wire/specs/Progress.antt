@@ -4,7 +4,7 @@ use Rattle.audit_wire.specs.declared.fed.Fed.{Fed}
 use Rattle.audit_wire.specs.declared.fed.Fed.TheVariants as fed
 use Rattle.audit_wire.specs.Frame.{frame, IsBodySize, IsPartial, IsBadLength}
 use Rattle.audit_wire.specs.declared.request.Request.{Request}
-use Rattle.audit_wire.specs.Stream.{Framed, spoiled, framed_bodies, framed_requests}
+use Rattle.audit_wire.specs.Stream.{Framed, spoiled, framed_requests}
 
 pub data Progress : Type 0 where
   -- these bytes of a frame have come: none, or less than all
@@ -111,10 +111,7 @@ handed_out (whole body) = body ∷ []
 handed_out (malformed bytes) = []
 handed_out closed = []
 
--- what the stream holds from here on, when these bytes come: bodies, or requests
-abbrev pub bodies_ahead : Progress → List ℕ → Framed (List ℕ)
-bodies_ahead progress bytes = if is_spoiled progress then spoiled else framed_bodies (rest_of progress ++ bytes)
-
+-- the requests that the stream holds from here on, when these bytes come
 abbrev pub requests_ahead : Progress → List ℕ → Framed Request
 requests_ahead progress bytes = if is_spoiled progress then spoiled else framed_requests (rest_of progress ++ bytes)
 
