@@ -15,25 +15,25 @@ pub flat_map-concat : (hashes : List (List ℕ)) → flat_map (λ (hash : List �
 flat_map-concat [] = refl
 flat_map-concat (hash ∷ hashes) = ap (λ rest. hash ++ rest) (flat_map-concat hashes)
 
-pub first_hashes-concat : (hashes : List (List ℕ)) (behind : List ℕ) → AreHashes hashes →
-    first_hashes (length hashes) (concat hashes ++ behind) ≡ hashes
+pub first_hashes-concat : (hashes : List (List ℕ)) (after : List ℕ) → AreHashes hashes →
+    first_hashes (length hashes) (concat hashes ++ after) ≡ hashes
 unfolding first_hashes
-first_hashes-concat [] behind h = refl
-first_hashes-concat (hash ∷ hashes) behind h =
+first_hashes-concat [] after h = refl
+first_hashes-concat (hash ∷ hashes) after h =
     let long : length hash ≡ HASH_LEN = h 0 [] (omega arith) in
-    let front = append_assoc hash (concat hashes) behind in
+    let front = append_assoc hash (concat hashes) after in
     ap (λ bs. take HASH_LEN bs ∷ first_hashes (length hashes) (drop HASH_LEN bs)) front
-    ∙ ap (λ bs. bs ∷ first_hashes (length hashes) (drop HASH_LEN (hash ++ (concat hashes ++ behind)))) (take_at hash (concat hashes ++ behind) HASH_LEN long)
-    ∙ ap (λ bs. hash ∷ first_hashes (length hashes) bs) (drop_at hash (concat hashes ++ behind) HASH_LEN long)
-    ∙ ap (λ hs. hash ∷ hs) (first_hashes-concat hashes behind (λ k d l. h (suc k) d (omega arith)))
+    ∙ ap (λ bs. bs ∷ first_hashes (length hashes) (drop HASH_LEN (hash ++ (concat hashes ++ after)))) (take_at hash (concat hashes ++ after) HASH_LEN long)
+    ∙ ap (λ bs. hash ∷ first_hashes (length hashes) bs) (drop_at hash (concat hashes ++ after) HASH_LEN long)
+    ∙ ap (λ hs. hash ∷ hs) (first_hashes-concat hashes after (λ k d l. h (suc k) d (omega arith)))
 
-pub drop-concat : (hashes : List (List ℕ)) (behind : List ℕ) → AreHashes hashes →
-    drop (HASH_LEN * length hashes) (concat hashes ++ behind) ≡ behind
-drop-concat hashes behind h = drop_at (concat hashes) behind (HASH_LEN * length hashes) (length-concat hashes h)
+pub drop-concat : (hashes : List (List ℕ)) (after : List ℕ) → AreHashes hashes →
+    drop (HASH_LEN * length hashes) (concat hashes ++ after) ≡ after
+drop-concat hashes after h = drop_at (concat hashes) after (HASH_LEN * length hashes) (length-concat hashes h)
 
-pub length-joined : (hashes : List (List ℕ)) (behind : List ℕ) → AreHashes hashes →
-    length (concat hashes ++ behind) ≡ HASH_LEN * length hashes + length behind
-length-joined hashes behind h = omega (arith, length-append (concat hashes) behind, length-concat hashes h)
+pub length-joined : (hashes : List (List ℕ)) (after : List ℕ) → AreHashes hashes →
+    length (concat hashes ++ after) ≡ HASH_LEN * length hashes + length after
+length-joined hashes after h = omega (arith, length-append (concat hashes) after, length-concat hashes h)
 
 pub length-first_hashes : (n : ℕ) (bytes : List ℕ) → length (first_hashes n bytes) ≡ n
 unfolding first_hashes

@@ -131,13 +131,13 @@ fn count_replies(output: &[u8], first: u8) -> usize {
     let mut count = 0usize;
     let mut rest = output;
     for _ in 0..output.len() {
-        let Some((body, behind)) = first_reply(rest) else {
+        let Some((body, after)) = first_reply(rest) else {
             return count;
         };
         if body.first() == Some(&first) {
             count = count.saturating_add(1);
         }
-        rest = behind;
+        rest = after;
     }
     count
 }

@@ -21,15 +21,15 @@ use Rattle.audit_auditor.specs.Judgment.{Spells, IsAcceptable, IsAsked}
 use Rattle.audit_commands.specs.Checks.{IsAcceptedMember, IsAcceptedIncrement, IsOfOtherKind, IsNoProof, IsJudged}
 
 -- bytes that are too long for an input are no proof
-few_behind : (number size : ℕ) → 65536 ≤ size → (leb number MAX_MEMBER_HASHES && leb (HASH_LEN * number) size && leb size (HASH_LEN * number + MAX_ENTRY)) ≡ false
-few_behind number size long = grind (arith, nat_tests)
+few_after : (number size : ℕ) → 65536 ≤ size → (leb number MAX_MEMBER_HASHES && leb (HASH_LEN * number) size && leb size (HASH_LEN * number + MAX_ENTRY)) ≡ false
+few_after number size long = grind (arith, nat_tests)
 
 few_hashes : (number size : ℕ) → 65536 ≤ size → (leb number MAX_INCREMENT_HASHES && (size == HASH_LEN * number)) ≡ false
 few_hashes number size long = grind (arith, nat_tests)
 
 no_member : (body : List ℕ) (head : Option Head) → 65536 ≤ length body → member_from body head ≡ None
 no_member body None long = refl
-no_member body (Some head) long = rw (few_behind head.number (length body) long) refl
+no_member body (Some head) long = rw (few_after head.number (length body) long) refl
 
 no_increment : (body : List ℕ) (head : Option Head) → 65536 ≤ length body → increment_from body head ≡ None
 no_increment body None long = refl
@@ -37,8 +37,8 @@ no_increment body (Some head) long = rw (few_hashes head.number (length body) lo
 
 pub too_long : (bytes : List ℕ) → INPUT_LIMIT < length bytes → IsNoProof bytes
 too_long bytes long =
-    let behind : 65536 ≤ length (drop HEAD_LEN bytes) = omega (arith, long, length-drop HEAD_LEN bytes) in
-    record { member = no_member (drop HEAD_LEN bytes) (head_of MEMBER_MARK bytes) behind; increment = no_increment (drop HEAD_LEN bytes) (head_of INCREMENT_MARK bytes) behind }
+    let after : 65536 ≤ length (drop HEAD_LEN bytes) = omega (arith, long, length-drop HEAD_LEN bytes) in
+    record { member = no_member (drop HEAD_LEN bytes) (head_of MEMBER_MARK bytes) after; increment = no_increment (drop HEAD_LEN bytes) (head_of INCREMENT_MARK bytes) after }
 
 -- a proof that the bytes spell is accepted where they are a proof that is
 accepted_member : (bytes : List ℕ) (p : MemberProof) (older : Commitment) → member_of bytes ≡ Some (member_in p) → IsAcceptedMember bytes older → IsAcceptable (proofs.Member p) older None

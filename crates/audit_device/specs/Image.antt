@@ -31,4 +31,4 @@ pub record IsWhole (size : ℕ) (image : Image) : Type 0 where
 pub record DiffersOnlyIn (at count : ℕ) (old new : Image) : Type 0 where
   pub sectors : length new ≡ length old
   pub before : (other : ℕ) → other < at → sector_at new other ≡ sector_at old other
-  pub behind : (other : ℕ) → at + count ≤ other → sector_at new other ≡ sector_at old other
+  pub after : (other : ℕ) → at + count ≤ other → sector_at new other ≡ sector_at old other

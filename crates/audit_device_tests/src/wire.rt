@@ -144,13 +144,13 @@ const LENGTHS: [([u8; 2], bool); 7] = [
 
 // Whether a decoder judges a length so at its second byte.
 fn judges(decoder: &mut Decoder, first: u8, second: u8, allowed: bool) -> bool {
-    let told = if allowed {
+    let expected = if allowed {
         Fed::More
     } else {
         Fed::Malformed { taken: 1 }
     };
     decoder.feed(&[first]) == Fed::More
-        && decoder.feed(&[second]) == told
+        && decoder.feed(&[second]) == expected
         && decoder.pending() == allowed
 }
 
@@ -310,13 +310,13 @@ fn check_reply(
 {
     let room = frame.len().saturating_add(1);
     let after = written(alloc, reply, &[0xaa], room)?;
-    assert!(rt; after.capacity() == room && is_behind_a_byte(&after, frame));
+    assert!(rt; after.capacity() == room && is_after_a_byte(&after, frame));
     let out = written(alloc, reply, &[], 0)?;
     assert!(rt; out.as_slice() == frame && is_read_back(alloc, &out));
     Ok(())
 }
 
-fn is_behind_a_byte(out: &[u8], frame: &[u8]) -> bool {
+fn is_after_a_byte(out: &[u8], frame: &[u8]) -> bool {
     match out {
         [first, rest @ ..] => *first == 0xaa && rest == frame,
         [] => false,

@@ -9,7 +9,7 @@ pub length-overlaid : (file : List ℕ) (offset : ℕ) (bytes : List ℕ) → of
 length-overlaid file offset bytes le =
     omega (arith, length-append (take offset file ++ bytes) (drop (offset + length bytes) file), length-append (take offset file) bytes, length-take-le offset file (omega arith), length-drop (offset + length bytes) file)
 
--- the first sector, and those behind it
+-- the first sector, and those after it
 overlaid_first : (file bytes : List ℕ) → length bytes ≡ SECTOR_SIZE → overlaid file 0 bytes ≡ bytes ++ drop SECTOR_SIZE file
 overlaid_first file bytes long = let n : 0 + length bytes ≡ SECTOR_SIZE = omega arith in ap (λ (m : ℕ). bytes ++ drop m file) n
 

@@ -94,7 +94,7 @@ module _ {E : Type 0} {old mid new : FileView} {offset count next : ℕ} {sector
         read.still_given other given (λ same. apart count lt (same ∙ here)) (row.still_given other given (λ at less. apart at (omega (arith, less, lt))) was);
   }
 
--- a read of the sector alone, behind other reads
+-- a read of the sector alone, after other reads
 pub through_alone : {E : Type 0} {old mid new : FileView} {offset : ℕ} {into : Sector} {result : Result (Unit {0}) E} → OnlyReads old mid → IsFileRead mid new offset into result
     → IsReadThrough old new offset into result
 through_alone {E = E} {old = old} {mid = mid} {new = new} {offset = offset} {into = into} {result = result} first read = record {
@@ -127,7 +127,7 @@ through_row {E = E} {old = old} {new = new} {offset = offset} {place = place} {r
 pub row_dropped : (file : FileView) (start : ℕ) (row : Image) → HasRow file start 0 row
 row_dropped file start row = record { given = λ at lt. absurd (omega arith); found = λ honest at lt. absurd (omega arith) }
 
--- with other sectors behind
+-- with other sectors after
 pub row_in : {file : FileView} {start count : ℕ} {row : Image} (rest : Image) → HasRow file start count row → count ≤ length row → HasRow file start count (row ++ rest)
 row_in {file = file} {start = start} {row = row} rest has le = record {
   given = λ at lt. subst (λ (sector : Sector). file.gave (start + SECTOR_SIZE * at) sector) (sym (get_or_append_left row rest [] at (omega arith))) (has.given at lt);

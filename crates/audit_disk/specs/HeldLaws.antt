@@ -6,7 +6,7 @@ use Rattle.audit_disk.specs.Held.{Held, chosen, newest, content_of, IsImageOf, a
 use Rattle.audit_disk.specs.declared.block.Block.{Block}
 use Rattle.audit_base.specs.declared.limits.TheConstants.{SECTOR_SIZE}
 
--- a pick behind the last content gives the last
+-- a pick after the last content gives the last
 pub chosen_last : (synced : Block) (since : List Block) → (p : ℕ) × (chosen synced since p ≡ newest synced since)
 chosen_last synced [] = (zero, refl)
 chosen_last synced (block ∷ since) = let rest = chosen_last block since in (suc rest.0, rest.1)

@@ -21,4 +21,4 @@ is_line_feed byte = byte == line_feed
 -- the bytes before the first line feed, and those after it
 pub record IsCutInLines (bytes line rest : List ℕ) : Type 0 where
   pub first : line ≡ before_first is_line_feed bytes
-  pub behind : rest ≡ after_first is_line_feed bytes
+  pub after : rest ≡ after_first is_line_feed bytes

@@ -5,7 +5,7 @@ ghost use Rattle.std.specs.List.{before_first, after_first};
 /// isn't there.
 pub fn split_at_first(bytes: &[u8], byte: u8) -> (&[u8], &[u8])
     ensures before { result.0.now ≡ before_first (λ b. b == byte) bytes.now }
-    ensures behind { result.1.now ≡ after_first (λ b. b == byte) bytes.now }
+    ensures after { result.1.now ≡ after_first (λ b. b == byte) bytes.now }
 {
     match first_place(bytes, byte) {
         Some(place) => (&bytes[..place], &bytes[place + 1..]),

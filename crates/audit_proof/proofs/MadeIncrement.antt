@@ -118,7 +118,7 @@ made_roots leaves older some order small =
     let full : layer + height ≡ depth newer = omega (arith, node.below) in
     let inside : place < 2 ^ (layer + height) = rw full (omega (arith, depth-room newer)) in
     let last : place - start ≡ w - 1 = omega (arith, node.width) in
-    let behind : length (drop start leaves) ≡ newer - start = length-drop start leaves in
+    let after : length (drop start leaves) ≡ newer - start = length-drop start leaves in
     let fits : w ≤ length (drop start leaves) = omega (arith, node.width) in
     let low : min layer top ≡ layer = omega (arith, own.below) in
     let both : Versions = record { older = first; newer = first } in

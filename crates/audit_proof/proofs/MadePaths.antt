@@ -28,9 +28,9 @@ pub record IsMadeBy {V : Type 0} (H : List ℕ → List ℕ) (steps : Steps V) (
       ≡ made (suc layer) place leaves
 
 -- where a place stands in its node, seen from a node that begins a half before it
-start_of-behind : (from height place : ℕ) → 2 ^ (from + height) ≤ place →
+start_of-after : (from height place : ℕ) → 2 ^ (from + height) ≤ place →
     start_of place from ≡ 2 ^ (from + height) + start_of (place - 2 ^ (from + height)) from
-start_of-behind from height place h =
+start_of-after from height place h =
     let half = 2 ^ (from + height) in
     let w = 2 ^ from in
     let p = place - half in
@@ -71,7 +71,7 @@ module _ {V : Type 0} (made : ℕ → ℕ → List (List ℕ) → V) (from : ℕ
       elim (cases_lt place half) [
         | inl low ↦ way-low height place leaves low ∙ way-start height place leaves low
         | inr high ↦
-            (let start = start_of-behind from height place high in
+            (let start = start_of-after from height place high in
             let wide : 2 ^ (from + suc height) ≡ half * 2 = ap (λ k. 2 ^ k) (add-suc from height) ∙ pow-suc 2 (from + height) in
             let within : place - half < half = omega arith in
             let below = start_of-le (place - half) from in

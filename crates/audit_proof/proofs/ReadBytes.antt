@@ -92,13 +92,13 @@ same_number bytes at long small =
     ∙ number_bytes-number_of eight (omega (arith, length-take 8 (drop at bytes), length-drop at bytes))
     (small_number bytes at small)
 
--- bytes with a head, with these hashes and this rest behind it, are those that are written
-pub bytes_from_head : (mark : ℕ) (bytes : List ℕ) (head : Head) (hashes : List (List ℕ)) (behind : List ℕ) →
+-- bytes with a head, with these hashes and this rest after it, are those that are written
+pub bytes_from_head : (mark : ℕ) (bytes : List ℕ) (head : Head) (hashes : List (List ℕ)) (after : List ℕ) →
     head_of mark bytes ≡ Some head → ((i : ℕ) → get_or bytes i 0 < 256) →
-    length hashes ≡ head.number → concat hashes ++ behind ≡ drop HEAD_LEN bytes →
-    bytes ≡ proof_bytes mark head.first head.second hashes behind
+    length hashes ≡ head.number → concat hashes ++ after ≡ drop HEAD_LEN bytes →
+    bytes ≡ proof_bytes mark head.first head.second hashes after
 unfolding proof_bytes
-bytes_from_head mark bytes head hashes behind e small few rest =
+bytes_from_head mark bytes head hashes after e small few rest =
     let is = head_parts mark bytes head e in
     let one : take 8 (drop 1 bytes) ≡ number_bytes head.first =
     sym (same_number bytes 1 (omega (arith, is.long)) small) ∙ ap number_bytes (sym is.first) in

@@ -23,8 +23,8 @@ same_reached {V} v w xs ys h =
     (ap (λ (p : V × List (List ℕ)). p.0) same, ap (λ (p : V × List (List ℕ)). p.1) same)
 
 -- a half of a higher layer doesn't change where a place stands in a node of this one
-pub mod-behind : (layer above place : ℕ) → layer ≤ above → 2 ^ above ≤ place → (place - 2 ^ above) % 2 ^ layer ≡ place % 2 ^ layer
-mod-behind layer above place low over =
+pub mod-after : (layer above place : ℕ) → layer ≤ above → 2 ^ above ≤ place → (place - 2 ^ above) % 2 ^ layer ≡ place % 2 ^ layer
+mod-after layer above place low over =
     let w = 2 ^ layer in
     let up : above - layer + layer ≡ above = omega arith in
     let wide : 2 ^ above ≡ 2 ^ (above - layer) * w = ap (λ k. 2 ^ k) (sym up) ∙ pow-add 2 (above - layer) layer in
@@ -85,7 +85,7 @@ module _ {V : Type 0} (steps : Steps V) (from : ℕ) where
             ∙ ap (λ v. Some (v, rest ++ more)) found.3)
       ]
 
-  -- in a full node the leaves behind it don't matter
+  -- in a full node the leaves after it don't matter
   pub climb-full : (height place count : ℕ) (value : V) (hashes : List (List ℕ)) → place < 2 ^ (from + height) → 2 ^ (from + height) ≤ count →
       climb steps from height place count value hashes ≡ climb steps from height place (2 ^ (from + height)) value hashes
   climb-full zero place count value hashes h full =
@@ -177,7 +177,7 @@ module _ {V : Type 0} (steps : Steps V) (layer : ℕ) where
               ∙ sym (go_on-alone height place count low_climb low last)
         ]
         | inr high ↦
-            (let same : (place - half) % 2 ^ layer ≡ place % 2 ^ layer = mod-behind layer above place (omega arith) high in
+            (let same : (place - half) % 2 ^ layer ≡ place % 2 ^ layer = mod-after layer above place (omega arith) high in
             let below_is : climb steps 0 above (place - half) (count - half) value hashes ≡ go_on height (place - half) (count - half) low_climb =
             climb-through height (place - half) (count - half) value hashes (omega (arith, h, width)) (omega (arith, full, same, high, mod-le place (2 ^ layer)))
             ∙ ap (λ p. go_on height (place - half) (count - half) (climb steps 0 layer p (2 ^ layer) value hashes)) same in
@@ -340,14 +340,14 @@ module _ (H : List ℕ → List ℕ) (top : ℕ) (way : Way) (height half index 
   pub shared-left : (node over : SharedNode) → half ≤ way.place → half ≤ index → index ≤ way.place → way.place < 2 ^ top →
       IsShared H top right_way (index - half) (climbed_both H top right_way first hashes) hashes node → IsOverLeft hashes node over →
       IsShared H top way index (climbed_both H top way first hashes) hashes over
-  shared-left node over high behind order older shared taken =
+  shared-left node over high after order older shared taken =
       let steps = two_values H top in
       let above = way.from + height in
       let root = below_root high older in
       let versions = steps.with_left above shared.versions taken.hash in
       let width : 2 ^ over.layer ≡ 2 ^ node.layer = ap (λ k. 2 ^ k) taken.layer in
       let same : (index - half) % 2 ^ node.layer ≡ index % 2 ^ node.layer =
-      ap (λ n. (index - n) % 2 ^ node.layer) half_is ∙ mod-behind node.layer above index shared.low (omega (arith, half_is)) in
+      ap (λ n. (index - n) % 2 ^ node.layer) half_is ∙ mod-after node.layer above index shared.low (omega (arith, half_is)) in
       let start : index % 2 ^ over.layer ≡ index % 2 ^ node.layer = ap (λ n. index % n) width in
       let climbs = λ (layers count count_below : ℕ) (siblings below : List (List ℕ)) (value : List ℕ)
       (joined : siblings ≡ below ++ taken.hash ∷ []) (counts : count_below ≡ count - 2 ^ above) (tall : layers ≡ suc above)
@@ -363,7 +363,7 @@ module _ (H : List ℕ → List ℕ) (top : ℕ) (way : Way) (height half index 
       record {
         low = omega (arith, taken.layer, shared.low, layers);
         inside = omega (arith, taken.layer, shared.inside);
-        full = omega (arith, shared.full, same, start, width, high, behind, mod-le index (2 ^ node.layer));
+        full = omega (arith, shared.full, same, start, width, high, after, mod-le index (2 ^ node.layer));
         versions = versions;
         reached = both-left high ∙ ap (up_with (steps.with_left above)) shared.reached
             ∙ ap (λ hs. up_with (steps.with_left above) (Some (shared.versions, hs))) taken.taken;
@@ -494,9 +494,9 @@ module _ (H : List ℕ → List ℕ) (top : ℕ) (way : Way) (height half index 
       IsShared H top right_way (index - half) (climbed_both H top right_way first hashes) hashes node →
       IfOk result (OverLeft hashes node) →
       IfOk result (Shares H top way index (climbed_both H top way first hashes) hashes)
-  shares-left (Ok None) node high behind order older shared h = none-left high node h shared
-  shares-left (Ok (Some over)) node high behind order older shared h = shared-left node over high behind order older shared h
-  shares-left (Err e) node high behind order older shared h = h
+  shares-left (Ok None) node high after order older shared h = none-left high node h shared
+  shares-left (Ok (Some over)) node high after order older shared h = shared-left node over high after order older shared h
+  shares-left (Err e) node high after order older shared h = h
 
   pub shares-right : {E : Type 0} (result : Result (Option SharedNode) E) (node : SharedNode) →
       way.place < half → half < way.count → index ≤ way.place →

@@ -34,31 +34,31 @@ pub concat-push : (hashes : List (List ℕ)) (hash : List ℕ) → concat (hashe
 concat-push [] hash = append-nil hash
 concat-push (x ∷ hashes) hash = ap (λ bs. x ++ bs) (concat-push hashes hash) ∙ sym (append_assoc x (concat hashes) hash)
 
--- what stands before the hashes and behind it
-module _ (mark first second : ℕ) (hashes : List (List ℕ)) (behind : List ℕ) where
-  bytes-front : proof_bytes mark first second hashes behind
-      ≡ mark ∷ ((number_bytes first ++ number_bytes second) ++ (length hashes ∷ (concat hashes ++ behind)))
+-- what stands before the hashes and after it
+module _ (mark first second : ℕ) (hashes : List (List ℕ)) (after : List ℕ) where
+  bytes-front : proof_bytes mark first second hashes after
+      ≡ mark ∷ ((number_bytes first ++ number_bytes second) ++ (length hashes ∷ (concat hashes ++ after)))
   unfolding proof_bytes
-  bytes-front = ap (λ bs. mark ∷ bs) (sym (append_assoc (number_bytes first) (number_bytes second) (length hashes ∷ (concat hashes ++ behind))))
+  bytes-front = ap (λ bs. mark ∷ bs) (sym (append_assoc (number_bytes first) (number_bytes second) (length hashes ∷ (concat hashes ++ after))))
 
   front-length : length (number_bytes first ++ number_bytes second) ≡ 16
   front-length = omega (arith, length-append (number_bytes first) (number_bytes second), length-number_bytes first, length-number_bytes second)
 
-  pub drop-proof_bytes : drop HEAD_LEN (proof_bytes mark first second hashes behind) ≡ concat hashes ++ behind
+  pub drop-proof_bytes : drop HEAD_LEN (proof_bytes mark first second hashes after) ≡ concat hashes ++ after
   drop-proof_bytes =
       let front = number_bytes first ++ number_bytes second in
-      let body = concat hashes ++ behind in
+      let body = concat hashes ++ after in
       ap (drop HEAD_LEN) bytes-front
       ∙ ap (drop 17) (sym (append_assoc front (length hashes ∷ []) body))
       ∙ drop_at (front ++ length hashes ∷ []) body 17 (omega (arith, length-append front (length hashes ∷ []), front-length))
 
   pub head_of-proof_bytes : first < 2 ^ 64 → second < 2 ^ 64 →
-      head_of mark (proof_bytes mark first second hashes behind)
+      head_of mark (proof_bytes mark first second hashes after)
       ≡ Some (record { first = first; second = second; number = length hashes })
   unfolding head_of
   head_of-proof_bytes h k =
       let front = number_bytes first ++ number_bytes second in
-      let body = concat hashes ++ behind in
+      let body = concat hashes ++ after in
       let bytes = mark ∷ (front ++ (length hashes ∷ body)) in
       let rest = number_bytes second ++ (length hashes ∷ body) in
       let long : 18 ≤ length bytes = omega (arith, length-append front (length hashes ∷ body), front-length) in

@@ -1,5 +1,5 @@
 -- The bytes of proofs: a mark, two numbers of 8 bytes with the high byte first, the number of hashes
--- in one byte, the hashes, and behind those of a membership proof its entry. The layout is this
+-- in one byte, the hashes, and after those of a membership proof its entry. The layout is this
 -- project's own.
 use Rattle.std.specs.Prelude.{ℕ, ◌+◌, ◌*◌, ◌^◌, ◌<◌, ◌≤◌, nat_lt, nat_le, ◌==◌, ◌&&◌, List, [], ◌∷◌, ◌++◌, Option, None, Some, length, drop, slice_index, if◌then◌else◌}
 use Rattle.std.specs.List.{concat}
@@ -52,10 +52,10 @@ number_bytes n = to_be_bytes w64 n
 unfoldable pub number_in : List ℕ → ℕ → ℕ
 number_in bytes at = number_at w64 at bytes
 
--- the bytes of a mark, two numbers, hashes and what stands behind them
+-- the bytes of a mark, two numbers, hashes and what stands after them
 unfoldable pub proof_bytes : ℕ → ℕ → ℕ → List (List ℕ) → List ℕ → List ℕ
-proof_bytes mark first second hashes behind =
-    mark ∷ (number_bytes first ++ (number_bytes second ++ (length hashes ∷ (concat hashes ++ behind))))
+proof_bytes mark first second hashes after =
+    mark ∷ (number_bytes first ++ (number_bytes second ++ (length hashes ∷ (concat hashes ++ after))))
 
 abbrev pub member_bytes : Member → List ℕ
 member_bytes p = proof_bytes MEMBER_MARK p.index p.count p.hashes p.entry
@@ -71,7 +71,7 @@ head_of mark bytes =
     then Some (record { first = number_in bytes 1; second = number_in bytes 9; number = slice_index bytes 17 })
     else None)
 
--- a membership proof read from its head and from the bytes behind it
+-- a membership proof read from its head and from the bytes after it
 abbrev pub member_from : List ℕ → Option Head → Option Member
 member_from body None = None
 member_from body (Some head) =

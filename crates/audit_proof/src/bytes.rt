@@ -15,7 +15,7 @@ pub const INCREMENT_MARK: u8 = 2;
 /// The length of what stands before the hashes: the mark, two numbers, and the number of hashes in one byte.
 pub const HEAD_LEN: usize = 18;
 
-/// What stands before the hashes, behind the mark.
+/// What stands before the hashes, after the mark.
 #[derive(Clone, Copy)]
 pub struct Head {
     pub first: u64,
@@ -65,21 +65,21 @@ pub fn write_proof(
     first: u64,
     second: u64,
     hashes: &[Hash],
-    behind: &[u8],
+    after: &[u8],
 ) -> Result<Vec<u8>, AllocError>
     requires few { length hashes.now ≤ MAX_INCREMENT_HASHES }
-    requires short { length behind.now ≤ MAX_ENTRY }
-    ensures ok { IfOk result (λ bytes. bytes.items ≡ proof_bytes mark first second hashes.now behind.now) }
+    requires short { length after.now ≤ MAX_ENTRY }
+    ensures ok { IfOk result (λ bytes. bytes.items ≡ proof_bytes mark first second hashes.now after.now) }
     ensures first { first < 2 ^ 64 }
     ensures second { second < 2 ^ 64 }
     ensures whole { AreHashes hashes.now }
 {
-    let mut bytes = Vec::with_capacity(alloc, HEAD_LEN + HASH_LEN * hashes.len() + behind.len())?;
+    let mut bytes = Vec::with_capacity(alloc, HEAD_LEN + HASH_LEN * hashes.len() + after.len())?;
     bytes.push(mark)?;
     bytes.extend_from_slice(&number_to_bytes(first))?;
     bytes.extend_from_slice(&number_to_bytes(second))?;
     bytes.push(hashes.len() as u8)?;
     push_hashes(&mut bytes, hashes)?;
-    bytes.extend_from_slice(behind)?;
+    bytes.extend_from_slice(after)?;
     Ok(bytes)
 }

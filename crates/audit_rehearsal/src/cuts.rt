@@ -26,7 +26,7 @@ fn try_ways(alloc: Global, stream: &[u8], whole: &[u8]) -> anyhow::Result<u64> {
     let mut ways = 0u64;
     for first in 0..=stream.len() {
         let (front, rest) = cut(stream, first);
-        ways = ways.saturating_add(cuts_behind(alloc, front, rest, whole)?);
+        ways = ways.saturating_add(cuts_after(alloc, front, rest, whole)?);
     }
     Ok(ways)
 }
@@ -37,7 +37,7 @@ fn cut(stream: &[u8], place: usize) -> (&[u8], &[u8]) {
 }
 
 // In how many ways the rest is cut in two.
-fn cuts_behind(alloc: Global, front: &[u8], rest: &[u8], whole: &[u8]) -> anyhow::Result<u64> {
+fn cuts_after(alloc: Global, front: &[u8], rest: &[u8], whole: &[u8]) -> anyhow::Result<u64> {
     let mut ways = 0u64;
     for second in 0..=rest.len() {
         let (middle, back) = cut(rest, second);

@@ -21,7 +21,7 @@ use Rattle.audit_serving.specs.declared.fault.ServingFault.TheVariants.{BadFrame
 use Rattle.audit_serving.specs.Faults.{of_loop}
 use Rattle.audit_serving.specs.Served.{IsNewCore, LoopsOver, ServesRound, ServesRounds, LoopReachesOver, ReachesByRound}
 
--- no other fault is told as a line that spells no bytes
+-- no other fault is reported as a line that spells no bytes
 pub bad_of_loop : (fault : LoopFault StoreError) (number : ℕ) → of_loop fault ≡ BadFrameLine number → fault ≡ looping.BadLine number
 bad_of_loop looping.Connection number is = absurd (cc is)
 bad_of_loop (looping.Lines fault) number is = absurd (cc is)
@@ -29,11 +29,11 @@ bad_of_loop (looping.BadLine line) number is = cc is
 bad_of_loop (looping.Core error) number is = absurd (cc is)
 
 -- what holds of an answer that is Ok, and of one that isn't
-pub told_ok : {A F P : Type 0} (told : Result A F) (value : A) → told ≡ Ok value → P → OnOk told P
-told_ok {A = A} {F = F} {P = P} told value is has = subst (λ (answer : Result A F). OnOk answer P) (sym is) has
+pub on_ok : {A F P : Type 0} (outcome : Result A F) (value : A) → outcome ≡ Ok value → P → OnOk outcome P
+on_ok {A = A} {F = F} {P = P} outcome value is has = subst (λ (answer : Result A F). OnOk answer P) (sym is) has
 
-pub told_err : {A F : Type 0} (P : Type 0) (told : Result A F) (fault : F) → told ≡ Err fault → OnOk told P
-told_err {A = A} {F = F} P told fault is = subst (λ (answer : Result A F). OnOk answer P) (sym is) tt
+pub on_err : {A F : Type 0} (P : Type 0) (outcome : Result A F) (fault : F) → outcome ≡ Err fault → OnOk outcome P
+on_err {A = A} {F = F} P outcome fault is = subst (λ (answer : Result A F). OnOk answer P) (sym is) tt
 
 module _ {D : Type 0} {g : sectors.Ghosts D} where
   -- a store that is as it was

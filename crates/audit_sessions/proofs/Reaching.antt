@@ -219,7 +219,7 @@ module _ {C : Type 0} (M : CoreModel C) where
         most = omega (arith, long, read.within, most);
         calm = λ calm. (read.calm calm).1;
         known = λ known calm.
-            let h = read.told known in
+            let h = read.when_known known in
             record { read = h.bytes; written = h.written ∙ sym (append-nil before.written) };
       }
   piece_reached k count buffer old new before after read most (part, inr (front, rest, split, is), goes) =
@@ -232,13 +232,13 @@ module _ {C : Type 0} (M : CoreModel C) where
         lost = rest;
         most = omega (arith, long, read.within, most, ap length split, length-append front rest);
         calm = λ calm. (read.calm calm).1;
-        known = λ known calm. front_read k count buffer front rest before after (read.told known) split;
+        known = λ known calm. front_read k count buffer front rest before after (read.when_known known) split;
       }
 
   end_read : (k : ℕ) (steps : List StepData) (buffer : List ℕ) (before after : StreamView) (given : Result ℕ StreamFault) → IsStreamRead before after buffer given → ((count : ℕ) → given ≡ Ok count → count ≡ 0)
       → IsOk given → before.known ≡ true → bytes_of k steps ≡ [] → IsReadOf k steps [] [] before after
   end_read k steps buffer before after (Ok count) read none ok known brings =
-      let h = read.told known in
+      let h = read.when_known known in
       let zero_read : count ≡ 0 = none count refl in
       record {
         read = h.bytes ∙ ap (λ (n : ℕ). take n buffer ++ after.unread) zero_read ∙ ap (λ (bytes : List ℕ). bytes ++ after.unread) (sym brings);

@@ -39,7 +39,7 @@ piece_streamed k count buffer before after h = record {
 end_streamed : (k : ℕ) (buffer : List ℕ) (before after : StreamView) (given : Result ℕ StreamFault) → IsStreamRead before after buffer given → ((count : ℕ) → given ≡ Ok count → count ≡ 0) → IsOk given
     → before.known ≡ true → (after.known ≡ true) × IsStreamed k (an_end k ∷ []) [] before after
 end_streamed k buffer before after (Ok count) read none ok known =
-    let h = read.told known in
+    let h = read.when_known known in
     let zero_read : count ≡ 0 = none count refl in (
       h.known,
       record {
@@ -62,7 +62,7 @@ module _ {C : Type 0} (M : CoreModel C) where
         about = (refl, tt);
         calm = λ calm. ((read.calm calm).1, (a_piece k (take count buffer), refl, (refl, omega (arith, long, some), omega (arith, long, read.within, most))));
         known = λ known calm.
-            let h = read.told known in
+            let h = read.when_known known in
             (h.known, piece_streamed k count buffer before after h);
       }
 
@@ -101,7 +101,7 @@ module _ {C : Type 0} (M : CoreModel C) where
     about = tt;
     calm = λ calm. ((write.calm calm).1, taken);
     known = λ known calm.
-        let h = write.told known in
+        let h = write.when_known known in
         (h.known, record { read = sym h.unread; at_end = λ ended. absurd (true≢false (sym ended)); written = h.written });
   }
   written_turn k bytes old new before after (Err fault) ok write did taken = absurd (true≢false (sym ok))

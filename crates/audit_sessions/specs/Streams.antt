@@ -30,12 +30,12 @@ pub record HasWritten (old new : StreamView) (bytes : List ℕ) : Type 0 where
 pub record IsStreamRead (old new : StreamView) (buffer : List ℕ) (result : Result ℕ StreamFault) : Type 0 where
   pub within : IfOk result (λ count. count ≤ length buffer)
   pub calm : new.failed ≡ false → IsOk result × (old.failed ≡ false)
-  pub told : old.known ≡ true → IfOk result (λ count. HasRead old new count buffer)
+  pub when_known : old.known ≡ true → IfOk result (λ count. HasRead old new count buffer)
 
 -- what a write does
 pub record IsStreamWrite (old new : StreamView) (bytes : List ℕ) (result : Result Unit StreamFault) : Type 0 where
   pub calm : new.failed ≡ false → IsOk result × (old.failed ≡ false)
-  pub told : old.known ≡ true → OnOk result (HasWritten old new bytes)
+  pub when_known : old.known ≡ true → OnOk result (HasWritten old new bytes)
 
 -- ---- several streams
 

@@ -17,12 +17,12 @@ pieces_of_both (a_piece session piece ∷ steps) more are also = (are.0, are.1, 
 pieces_of_both (an_end session ∷ steps) more are also = absurd are
 pieces_of_both (a_flush ∷ steps) more are also = absurd are
 
-pub brings_more : (bytes rest piece behind : List ℕ) (steps : List StepData) → Brings bytes rest steps → rest ≡ piece ++ behind → length piece ≤ MAX_PIECE → Brings bytes behind (steps ++ a_piece 0 piece ∷ [])
-brings_more bytes rest piece behind steps h split within = record {
+pub brings_more : (bytes rest piece following : List ℕ) (steps : List StepData) → Brings bytes rest steps → rest ≡ piece ++ following → length piece ≤ MAX_PIECE → Brings bytes following (steps ++ a_piece 0 piece ∷ [])
+brings_more bytes rest piece following steps h split within = record {
   pieces = pieces_of_both steps (a_piece 0 piece ∷ []) h.pieces (refl, within, tt);
   all =
-      ap (λ (l : List ℕ). l ++ behind) (bytes_of-append 0 steps (a_piece 0 piece ∷ []) ∙ ap (λ (l : List ℕ). bytes_of 0 steps ++ l) (append-nil piece))
-      ∙ append_assoc (bytes_of 0 steps) piece behind
+      ap (λ (l : List ℕ). l ++ following) (bytes_of-append 0 steps (a_piece 0 piece ∷ []) ∙ ap (λ (l : List ℕ). bytes_of 0 steps ++ l) (append-nil piece))
+      ∙ append_assoc (bytes_of 0 steps) piece following
       ∙ ap (λ (r : List ℕ). bytes_of 0 steps ++ r) (sym split)
       ∙ h.all;
 }
@@ -41,14 +41,14 @@ module _ {C : Type 0} {M : CoreModel C} where
   pub nothing_fed : (core : C) (bytes : List ℕ) → CoreTransition M core core (Brings bytes bytes)
   nothing_fed core bytes = record { steps = []; taken = no_bytes; did = M.nothing_done core; none = λ k. refl; shape = record { pieces = tt; all = refl } }
 
-  pub piece_fed : (old mid new : C) (bytes rest piece behind : List ℕ) → CoreTransition M old mid (Brings bytes rest) → rest ≡ piece ++ behind → length piece ≤ MAX_PIECE
-      → M.Did mid new (a_piece 0 piece ∷ []) no_bytes → CoreTransition M old new (Brings bytes behind)
-  piece_fed old mid new bytes rest piece behind h split within did = record {
+  pub piece_fed : (old mid new : C) (bytes rest piece following : List ℕ) → CoreTransition M old mid (Brings bytes rest) → rest ≡ piece ++ following → length piece ≤ MAX_PIECE
+      → M.Did mid new (a_piece 0 piece ∷ []) no_bytes → CoreTransition M old new (Brings bytes following)
+  piece_fed old mid new bytes rest piece following h split within did = record {
     steps = h.steps ++ a_piece 0 piece ∷ [];
     taken = λ session. h.taken session ++ no_bytes session;
     did = M.more_done old mid new h.steps (a_piece 0 piece ∷ []) h.taken no_bytes h.did did;
     none = λ k. none_of_both (h.taken k) [] (h.none k) refl;
-    shape = brings_more bytes rest piece behind h.steps h.shape split within;
+    shape = brings_more bytes rest piece following h.steps h.shape split within;
   }
 
   pub all_fed : (old new : C) (bytes rest : List ℕ) → CoreTransition M old new (Brings bytes rest) → rest ≡ [] → CoreTransition M old new (Brings bytes [])

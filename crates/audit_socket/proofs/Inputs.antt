@@ -50,8 +50,8 @@ first_front byte [] rest none =
     let first = first_one byte (lines_of rest) in
     (first.0, first.1, in_line byte rest none.0 ∙ first.2)
 first_front byte (next ∷ front) rest none =
-    let behind = first_front next front rest none.1 in
-    (behind.0, behind.1, in_line byte (next ∷ (front ++ rest)) none.0 ∙ ap (onto_first byte) behind.2)
+    let after = first_front next front rest none.1 in
+    (after.0, after.1, in_line byte (next ∷ (front ++ rest)) none.0 ∙ ap (onto_first byte) after.2)
 
 -- ---- what was taken of a reader
 
@@ -84,15 +84,15 @@ unfolding lines_of
 end_of_line None now next line h last some = tt
 end_of_line (Some input) None next line h last some = absurd h.taken
 end_of_line (Some input) (Some rest) None line h last some = absurd last
-end_of_line (Some input) (Some rest) (Some behind) [] h last some = absurd (omega (arith, some))
-end_of_line (Some input) (Some rest) (Some behind) (byte ∷ line) h last some =
+end_of_line (Some input) (Some rest) (Some after) [] h last some = absurd (omega (arith, some))
+end_of_line (Some input) (Some rest) (Some after) (byte ∷ line) h last some =
     inl (ap lines_of (h.taken ∙ ap (λ r. (byte ∷ line) ++ r) last.0 ∙ append-nil (byte ∷ line)) ∙ last_line byte line h.none ∙ ap (λ r. (byte ∷ line) ∷ lines_of r) (sym last.1))
 
 pub end_of_input : (old now next : Option (List ℕ)) (line : List ℕ) → HasTaken old now line → TakesByte now next None → line ≡ [] → IsAtEnd old
 end_of_input None now next line h last none = tt
 end_of_input (Some input) None next line h last none = absurd h.taken
 end_of_input (Some input) (Some rest) None line h last none = absurd last
-end_of_input (Some input) (Some rest) (Some behind) line h last none = h.taken ∙ ap (λ l. l ++ rest) none ∙ last.0
+end_of_input (Some input) (Some rest) (Some after) line h last none = h.taken ∙ ap (λ l. l ++ rest) none ∙ last.0
 
 pub long_line : (old now : Option (List ℕ)) (line : List ℕ) → HasTaken old now line → MAX_DIGITS < length line → ReadsLine old now line
 long_line None now line h long = tt

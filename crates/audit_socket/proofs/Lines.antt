@@ -51,11 +51,11 @@ one_line old now frame line is text written = record {
 pub nothing_written : (known : Option (List ℕ)) (whole : List ℕ) → HasLinesBefore known known whole whole
 nothing_written known whole = record { front = []; all = refl; lines = no_lines known }
 
-pub line_more : (old now next : Option (List ℕ)) (rest whole frame behind line : List ℕ) → HasLinesBefore old now rest whole → rest ≡ frame ++ behind → IsFrame frame → line ≡ frame_line frame
-    → Appends now next line → HasLinesBefore old next behind whole
-line_more old now next rest whole frame behind line h split is text written = record {
+pub line_more : (old now next : Option (List ℕ)) (rest whole frame after line : List ℕ) → HasLinesBefore old now rest whole → rest ≡ frame ++ after → IsFrame frame → line ≡ frame_line frame
+    → Appends now next line → HasLinesBefore old next after whole
+line_more old now next rest whole frame after line h split is text written = record {
   front = h.front ++ frame;
-  all = append_assoc h.front frame behind ∙ ap (λ r. h.front ++ r) (sym split) ∙ h.all;
+  all = append_assoc h.front frame after ∙ ap (λ r. h.front ++ r) (sym split) ∙ h.all;
   lines = lines_of_both old now next h.front frame h.lines (one_line now next frame line is text written);
 }
 

@@ -68,14 +68,14 @@ brings_all bytes steps part h is = record {
 }
 
 -- of a piece that was refused a part
-front_brings : (bytes rest piece behind : List ℕ) (steps part : List StepData) → Brings bytes rest steps → rest ≡ piece ++ behind → length piece ≤ MAX_PIECE → IsPartOf (a_piece 0 piece) part
+front_brings : (bytes rest piece following : List ℕ) (steps part : List StepData) → Brings bytes rest steps → rest ≡ piece ++ following → length piece ≤ MAX_PIECE → IsPartOf (a_piece 0 piece) part
     → BringsFront bytes (steps ++ part)
-front_brings bytes rest piece behind steps part h split within (inl none) =
+front_brings bytes rest piece following steps part h split within (inl none) =
     (rest, subst (Brings bytes rest) (sym (ap (λ (more : List StepData). steps ++ more) none ∙ append-nil steps)) h)
-front_brings bytes rest piece behind steps part h split within (inr (front, lost, cut, is)) = (
-  lost ++ behind,
-  subst (λ (more : List StepData). Brings bytes (lost ++ behind) (steps ++ more)) (sym is)
-      (brings_more bytes rest front (lost ++ behind) steps h (split ∙ ap (λ (p : List ℕ). p ++ behind) cut ∙ append_assoc front lost behind) (omega (arith, within, ap length cut, length-append front lost))),
+front_brings bytes rest piece following steps part h split within (inr (front, lost, cut, is)) = (
+  lost ++ following,
+  subst (λ (more : List StepData). Brings bytes (lost ++ following) (steps ++ more)) (sym is)
+      (brings_more bytes rest front (lost ++ following) steps h (split ∙ ap (λ (p : List ℕ). p ++ following) cut ∙ append_assoc front lost following) (omega (arith, within, ap length cut, length-append front lost))),
 )
 
 -- the bytes of one line more
@@ -105,14 +105,14 @@ module _ {C : Type 0} {M : CoreModel C} where
     shape = (rest, h.shape);
   }
 
-  pub feed_refused : (old mid new : C) (bytes rest piece behind : List ℕ) → CoreTransition M old mid (Brings bytes rest) → rest ≡ piece ++ behind → length piece ≤ MAX_PIECE
+  pub feed_refused : (old mid new : C) (bytes rest piece following : List ℕ) → CoreTransition M old mid (Brings bytes rest) → rest ≡ piece ++ following → length piece ≤ MAX_PIECE
       → GoesBy M (a_piece 0 piece) mid new → LoopReached M old new (BringsFront bytes)
-  feed_refused old mid new bytes rest piece behind h split within goes = record {
+  feed_refused old mid new bytes rest piece following h split within goes = record {
     steps = h.steps ++ goes.0;
     taken = λ session. h.taken session ++ no_bytes session;
     reaches = M.reaches_on old mid new h.steps goes.0 h.taken no_bytes h.did goes.2;
     others = λ k apart. none_of_both (h.taken k) [] (h.none k) refl;
-    shape = front_brings bytes rest piece behind h.steps goes.0 h.shape split within goes.1;
+    shape = front_brings bytes rest piece following h.steps goes.0 h.shape split within goes.1;
   }
 
   -- ---- a flush

@@ -27,7 +27,7 @@ pub record IsFrontOfLong (input front : List ℕ) : Type 0 where
   pub first : lines_of input ≡ (front ++ rest) ∷ later
   pub long : MAX_DIGITS < length front
 
--- Of a reader whose bytes are known the first line was read, and those behind it are left; or of one that is too long
+-- Of a reader whose bytes are known the first line was read, and those after it are left; or of one that is too long
 -- the front.
 abbrev pub ReadsLine : Option (List ℕ) → Option (List ℕ) → List ℕ → Type 0
 ReadsLine None new line = Unit {0}

@@ -116,12 +116,12 @@ where
 {
     let mut rest = bytes;
     while !rest.is_empty() {
-        let (piece, behind) = rest.split_at(rest.len().min(MAX_PIECE));
+        let (piece, after) = rest.split_at(rest.len().min(MAX_PIECE));
         let arrived = link.to_server(piece, buffer)?;
         if let Err(error) = core.feed(SESSION, arrived) {
             return Err(LoopFault::Core(error));
         }
-        rest = behind;
+        rest = after;
     }
     Ok(())
 }
@@ -170,9 +170,9 @@ fn send_back<A: Read + Write + Drop, B: Read + Write + Drop>(
     let mut arrived = Vec::with_capacity(alloc, bytes.len())?;
     let mut rest = bytes;
     while !rest.is_empty() {
-        let (piece, behind) = rest.split_at(rest.len().min(MAX_PIECE));
+        let (piece, after) = rest.split_at(rest.len().min(MAX_PIECE));
         arrived.extend_from_slice(link.to_client(piece, buffer)?)?;
-        rest = behind;
+        rest = after;
     }
     Ok(arrived)
 }

@@ -11,7 +11,7 @@ use std::io::Write;
 // Bytes that tell the length of what comes after them.
 const LENGTH_SIZE: usize = 2;
 
-/// Writes a line of hex digits for each of the frames that bytes consist of. Bytes behind the last whole frame are a
+/// Writes a line of hex digits for each of the frames that bytes consist of. Bytes after the last whole frame are a
 /// fault.
 pub fn write_frames<W: Write>(alloc: Global, bytes: &[u8], writer: &mut W) -> Result<(), ReplyFault>
     ensures written { OnOk result (HasLines (W.contents writer.old) (W.contents writer.new) bytes.now) }
@@ -19,17 +19,17 @@ pub fn write_frames<W: Write>(alloc: Global, bytes: &[u8], writer: &mut W) -> Re
     let mut line = Vec::new(alloc);
     let mut rest = bytes;
     while !rest.is_empty() {
-        let Some((frame, behind)) = split_frame(rest) else {
+        let Some((frame, after)) = split_frame(rest) else {
             return Err(ReplyFault::Connection);
         };
         put_frame(&mut line, frame)?;
         write_whole(writer, &line)?;
-        rest = behind;
+        rest = after;
     }
     Ok(())
 }
 
-// The first frame, and what stands behind it, where there is a whole one.
+// The first frame, and what stands after it, where there is a whole one.
 fn split_frame(bytes: &[u8]) -> Option<(&[u8], &[u8])>
     ensures { IfSome result (λ parts. IsFrame parts.0.now × (bytes.now ≡ parts.0.now ++ parts.1.now)) }
 {

@@ -95,7 +95,7 @@ append_found fields read fits e =
     ∙ three_parts 4 4 fields in
     subst (λ (found : Request). IsBodyOf (1 ∷ fields) found) g.1 (record {
       allowed = (below_4 0 fields fits, below_4 4 fields fits, other, omega (arith, length-drop 8 fields));
-      same = ap (λ (behind : List ℕ). 1 ∷ behind) (sym whole);
+      same = ap (λ (after : List ℕ). 1 ∷ after) (sym whole);
     })
 
 commitment_found : (fields : List ℕ) (read : Request) → AreBytes fields → commitment_in fields ≡ Some read → IsBodyOf (2 ∷ fields) read
@@ -106,7 +106,7 @@ commitment_found fields read fits e =
     let whole : to_be_bytes w32 (number_at w32 0 fields) ≡ fields = back_4 0 fields fits (omega arith) ∙ take_all 4 fields (omega arith) in
     subst (λ (found : Request). IsBodyOf (2 ∷ fields) found) g.1 (record {
       allowed = below_4 0 fields fits;
-      same = ap (λ (behind : List ℕ). 2 ∷ behind) (sym whole);
+      same = ap (λ (after : List ℕ). 2 ∷ after) (sym whole);
     })
 
 -- a tag and two numbers
@@ -124,7 +124,7 @@ membership_found fields read fits e =
     let g = guard_some (eqb (length fields) 20) (request.Membership (number_at w32 0 fields) (number_at w64 4 fields) (number_at w64 12 fields)) read e in
     subst (λ (found : Request). IsBodyOf (3 ∷ fields) found) g.1 (record {
       allowed = (below_4 0 fields fits, below_8 4 fields fits, below_8 12 fields fits);
-      same = ap (λ (behind : List ℕ). 3 ∷ behind) (sym (two_numbers fields fits (eqb-true (length fields) 20 g.0)));
+      same = ap (λ (after : List ℕ). 3 ∷ after) (sym (two_numbers fields fits (eqb-true (length fields) 20 g.0)));
     })
 
 incremental_found : (fields : List ℕ) (read : Request) → AreBytes fields → incremental_in fields ≡ Some read → IsBodyOf (4 ∷ fields) read
@@ -133,7 +133,7 @@ incremental_found fields read fits e =
     let g = guard_some (eqb (length fields) 20) (request.Incremental (number_at w32 0 fields) (number_at w64 4 fields) (number_at w64 12 fields)) read e in
     subst (λ (found : Request). IsBodyOf (4 ∷ fields) found) g.1 (record {
       allowed = (below_4 0 fields fits, below_8 4 fields fits, below_8 12 fields fits);
-      same = ap (λ (behind : List ℕ). 4 ∷ behind) (sym (two_numbers fields fits (eqb-true (length fields) 20 g.0)));
+      same = ap (λ (after : List ℕ). 4 ∷ after) (sym (two_numbers fields fits (eqb-true (length fields) 20 g.0)));
     })
 
 entry_found : (fields : List ℕ) (read : Request) → AreBytes fields → entry_in fields ≡ Some read → IsBodyOf (5 ∷ fields) read
@@ -147,27 +147,27 @@ entry_found fields read fits e =
     ∙ two_parts 4 8 fields (omega arith) in
     subst (λ (found : Request). IsBodyOf (5 ∷ fields) found) g.1 (record {
       allowed = (below_4 0 fields fits, below_8 4 fields fits);
-      same = ap (λ (behind : List ℕ). 5 ∷ behind) (sym whole);
+      same = ap (λ (after : List ℕ). 5 ∷ after) (sym whole);
     })
 
 -- the kind by five tests, the first of which that holds tells it
 abbrev kind_by : (a b c d e : Bool) → Option RequestKind
 kind_by a b c d e = cond a (Some kind.Append) (cond b (Some kind.Commitment) (cond c (Some kind.Membership) (cond d (Some kind.Incremental) (cond e (Some kind.Entry) None))))
 
-record Tells (a b c d e : Bool) (found : Option RequestKind) : Type 0 where
+record IsKindBy (a b c d e : Bool) (found : Option RequestKind) : Type 0 where
   append : found ≡ Some kind.Append → a ≡ true
   commitment : found ≡ Some kind.Commitment → b ≡ true
   membership : found ≡ Some kind.Membership → c ≡ true
   incremental : found ≡ Some kind.Incremental → d ≡ true
   entry : found ≡ Some kind.Entry → e ≡ true
 
-told : (a b c d e : Bool) → Tells a b c d e (kind_by a b c d e)
-told true b c d e = record { append = λ h. refl; commitment = λ h. absurd cc; membership = λ h. absurd cc; incremental = λ h. absurd cc; entry = λ h. absurd cc }
-told false true c d e = record { append = λ h. absurd cc; commitment = λ h. refl; membership = λ h. absurd cc; incremental = λ h. absurd cc; entry = λ h. absurd cc }
-told false false true d e = record { append = λ h. absurd cc; commitment = λ h. absurd cc; membership = λ h. refl; incremental = λ h. absurd cc; entry = λ h. absurd cc }
-told false false false true e = record { append = λ h. absurd cc; commitment = λ h. absurd cc; membership = λ h. absurd cc; incremental = λ h. refl; entry = λ h. absurd cc }
-told false false false false true = record { append = λ h. absurd cc; commitment = λ h. absurd cc; membership = λ h. absurd cc; incremental = λ h. absurd cc; entry = λ h. refl }
-told false false false false false = record { append = λ h. absurd cc; commitment = λ h. absurd cc; membership = λ h. absurd cc; incremental = λ h. absurd cc; entry = λ h. absurd cc }
+is_kind_by : (a b c d e : Bool) → IsKindBy a b c d e (kind_by a b c d e)
+is_kind_by true b c d e = record { append = λ h. refl; commitment = λ h. absurd cc; membership = λ h. absurd cc; incremental = λ h. absurd cc; entry = λ h. absurd cc }
+is_kind_by false true c d e = record { append = λ h. absurd cc; commitment = λ h. refl; membership = λ h. absurd cc; incremental = λ h. absurd cc; entry = λ h. absurd cc }
+is_kind_by false false true d e = record { append = λ h. absurd cc; commitment = λ h. absurd cc; membership = λ h. refl; incremental = λ h. absurd cc; entry = λ h. absurd cc }
+is_kind_by false false false true e = record { append = λ h. absurd cc; commitment = λ h. absurd cc; membership = λ h. absurd cc; incremental = λ h. refl; entry = λ h. absurd cc }
+is_kind_by false false false false true = record { append = λ h. absurd cc; commitment = λ h. absurd cc; membership = λ h. absurd cc; incremental = λ h. absurd cc; entry = λ h. refl }
+is_kind_by false false false false false = record { append = λ h. absurd cc; commitment = λ h. absurd cc; membership = λ h. absurd cc; incremental = λ h. absurd cc; entry = λ h. absurd cc }
 
 -- the first byte is that of the kind
 record IsFirst (byte : ℕ) (found : Option RequestKind) : Type 0 where
@@ -179,7 +179,7 @@ record IsFirst (byte : ℕ) (found : Option RequestKind) : Type 0 where
 
 first_found : (first : ℕ) → IsFirst first (kind_at first)
 first_found first =
-    let t = told (eqb first 1) (eqb first 2) (eqb first 3) (eqb first 4) (eqb first 5) in
+    let t = is_kind_by (eqb first 1) (eqb first 2) (eqb first 3) (eqb first 4) (eqb first 5) in
     record {
       append = λ h. eqb-true first 1 (t.append h);
       commitment = λ h. eqb-true first 2 (t.commitment h);

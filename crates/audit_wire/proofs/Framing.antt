@@ -15,13 +15,13 @@ use Rattle.audit_wire.specs.Stream.{Framed, begun, spoiled, in_front, all_in_fro
 pub size_passes : (size : ℕ) → IsBodySize size → is_body_size size ≡ true
 size_passes size h = and_from (leb 1 size) (leb size MAX_BODY) (le-leb 1 size h.0) (le-leb size MAX_BODY h.1)
 
-pub size_tells : (size : ℕ) → is_body_size size ≡ true → IsBodySize size
-size_tells size h =
+pub size_holds : (size : ℕ) → is_body_size size ≡ true → IsBodySize size
+size_holds size h =
     let parts = and_parts (leb 1 size) (leb size MAX_BODY) h in
     (leb-true 1 size parts.0, leb-true size MAX_BODY parts.1)
 
 pub size_fails : (size : ℕ) → (IsBodySize size → ⊥) → is_body_size size ≡ false
-size_fails size h = elim (cases_Bool (is_body_size size)) [ inl e ↦ absurd (h (size_tells size e)) | inr e ↦ e ]
+size_fails size h = elim (cases_Bool (is_body_size size)) [ inl e ↦ absurd (h (size_holds size e)) | inr e ↦ e ]
 
 -- ---- at most so many bodies
 
@@ -67,7 +67,7 @@ within_enough (suc count) (suc other) (high ∷ []) h k = refl
 within_enough (suc count) (suc other) (high ∷ low ∷ bytes) h k =
     let size = size_of high low in
     let stays : Framed (List ℕ) = begun (high ∷ low ∷ bytes) in
-    ap (λ (behind : Framed (List ℕ)). cond (is_body_size size) (cond (leb size (length bytes)) (in_front (take size bytes) behind) stays) spoiled)
+    ap (λ (after : Framed (List ℕ)). cond (is_body_size size) (cond (leb size (length bytes)) (in_front (take size bytes) after) stays) spoiled)
     (within_enough count other (drop size bytes) (omega (arith, length-drop size bytes)) (omega (arith, length-drop size bytes)))
 
 -- ---- the bodies of a stream
@@ -89,7 +89,7 @@ bodies_whole high low body more h e =
     within_whole (suc (length (body ++ more))) high low (body ++ more) (subst IsBodySize (sym e) h) (omega arith)
     ∙ ap (λ (front : List ℕ). in_front front (bodies_within (suc (length (body ++ more))) (drop size (body ++ more)))) (take_at body more size (sym e))
     ∙ ap (λ (back : List ℕ). in_front body (bodies_within (suc (length (body ++ more))) back)) (drop_at body more size (sym e))
-    ∙ ap (λ (behind : Framed (List ℕ)). in_front body behind) (within_enough (suc (length (body ++ more))) (length more) more (omega arith) (omega arith))
+    ∙ ap (λ (after : Framed (List ℕ)). in_front body after) (within_enough (suc (length (body ++ more))) (length more) more (omega arith) (omega arith))
 
 -- the size that a frame announces
 pub frame_size : (size : ℕ) → IsBodySize size → from_be_bytes w16 (to_be_bytes w16 size) ≡ size
@@ -130,11 +130,11 @@ first_of_stream (high ∷ low ∷ bytes) =
     let size = size_of high low in
     elim (cases_Bool (is_body_size size)) [
       | inl e ↦ elim (cases_lt (length bytes) size) [
-        | inl lt ↦ partial (size_tells size e, lt)
+        | inl lt ↦ partial (size_holds size e, lt)
         | inr le ↦
             let body_length : length (take size bytes) ≡ size = omega (arith, length-take size bytes) in
-            whole high low (take size bytes) (drop size bytes) (subst IsBodySize (sym body_length) (size_tells size e)) (sym body_length)
-            (ap (λ (behind : List ℕ). high ∷ low ∷ behind) (sym (take-append-drop size bytes)))
+            whole high low (take size bytes) (drop size bytes) (subst IsBodySize (sym body_length) (size_holds size e)) (sym body_length)
+            (ap (λ (after : List ℕ). high ∷ low ∷ after) (sym (take-append-drop size bytes)))
       ]
       | inr e ↦ bad high low bytes (λ h. both_ways (is_body_size size) e (size_passes size h)) refl
     ]
@@ -155,16 +155,16 @@ continued_first (Some asked) framed more = choice_in_front framed.malformed aske
 continued_step : (bytes more : List ℕ) → ((shorter : List ℕ) → length shorter < length bytes → framed_requests (shorter ++ more) ≡ continued (framed_requests shorter) more)
     → First bytes → framed_requests (bytes ++ more) ≡ continued (framed_requests bytes) more
 continued_step bytes more before (partial h) = sym (ap (λ (framed : Framed Request). continued framed more) (requests_partial bytes h))
-continued_step bytes more before (bad high low behind h e) =
-    ap (λ (all : List ℕ). framed_requests (all ++ more)) e ∙ requests_bad high low (behind ++ more) h
-    ∙ sym (ap (λ (all : List ℕ). continued (framed_requests all) more) e ∙ ap (λ (framed : Framed Request). continued framed more) (requests_bad high low behind h))
-continued_step bytes more before (whole high low body behind h size e) =
+continued_step bytes more before (bad high low after h e) =
+    ap (λ (all : List ℕ). framed_requests (all ++ more)) e ∙ requests_bad high low (after ++ more) h
+    ∙ sym (ap (λ (all : List ℕ). continued (framed_requests all) more) e ∙ ap (λ (framed : Framed Request). continued framed more) (requests_bad high low after h))
+continued_step bytes more before (whole high low body after h size e) =
     ap (λ (all : List ℕ). framed_requests (all ++ more)) e
-    ∙ ap (λ (all : List ℕ). framed_requests (high ∷ low ∷ all)) (append_assoc body behind more)
-    ∙ requests_whole high low body (behind ++ more) h size
-    ∙ ap (λ (framed : Framed Request). read_first (request_in body) framed) (before behind (omega (arith, ap length e, length-append body behind)))
-    ∙ sym (continued_first (request_in body) (framed_requests behind) more)
-    ∙ sym (ap (λ (all : List ℕ). continued (framed_requests all) more) e ∙ ap (λ (framed : Framed Request). continued framed more) (requests_whole high low body behind h size))
+    ∙ ap (λ (all : List ℕ). framed_requests (high ∷ low ∷ all)) (append_assoc body after more)
+    ∙ requests_whole high low body (after ++ more) h size
+    ∙ ap (λ (framed : Framed Request). read_first (request_in body) framed) (before after (omega (arith, ap length e, length-append body after)))
+    ∙ sym (continued_first (request_in body) (framed_requests after) more)
+    ∙ sym (ap (λ (all : List ℕ). continued (framed_requests all) more) e ∙ ap (λ (framed : Framed Request). continued framed more) (requests_whole high low body after h size))
 
 continued_below : (count : ℕ) (bytes more : List ℕ) → length bytes < count → framed_requests (bytes ++ more) ≡ continued (framed_requests bytes) more
 continued_below zero bytes more lt = absurd (omega arith)

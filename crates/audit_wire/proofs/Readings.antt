@@ -11,7 +11,7 @@ use Rattle.audit_wire.specs.Request.{request_body, request_in, IsRequest}
 use Rattle.audit_wire.specs.Stream.{Framed, spoiled, in_front, read_first, framed_requests, request_frame, IsMalformedPlace, EndsIn, IsReading}
 use Rattle.audit_wire.proofs.Bodies.{AreBytes-take, request_found, request_again, request_size}
 use Rattle.audit_wire.proofs.Filling.{two}
-use Rattle.audit_wire.proofs.Framing.{size_tells, size_passes, requests_partial, requests_bad, requests_whole, requests_frame, First, partial, bad, whole, first_of_stream}
+use Rattle.audit_wire.proofs.Framing.{size_holds, size_passes, requests_partial, requests_bad, requests_whole, requests_frame, First, partial, bad, whole, first_of_stream}
 
 -- the frame of a request at the front is that request
 pub request_first : (asked : Request) (more : List ℕ) → IsRequest asked → framed_requests (request_frame asked ++ more) ≡ in_front asked (framed_requests more)
@@ -37,11 +37,11 @@ requests_malformed (high ∷ low ∷ bytes) fits h =
     let size = size_of high low in
     elim (cases_Bool (is_body_size size)) [
       | inl e ↦
-          let known = h (size_tells size e) in
+          let known = h (size_holds size e) in
           let body_length : length (take size bytes) ≡ size = omega (arith, length-take size bytes, known.0) in
           let empty = no_request (take size bytes) (AreBytes-take size bytes (λ place. fits (suc (suc place)))) known.1 in
-          sym (ap (λ (behind : List ℕ). framed_requests (high ∷ low ∷ behind)) (take-append-drop size bytes))
-          ∙ requests_whole high low (take size bytes) (drop size bytes) (subst IsBodySize (sym body_length) (size_tells size e)) (sym body_length)
+          sym (ap (λ (after : List ℕ). framed_requests (high ∷ low ∷ after)) (take-append-drop size bytes))
+          ∙ requests_whole high low (take size bytes) (drop size bytes) (subst IsBodySize (sym body_length) (size_holds size e)) (sym body_length)
           ∙ ap (λ (found : Option Request). read_first found (framed_requests (drop size bytes))) empty
       | inr e ↦ requests_bad high low bytes (λ k. both_ways (is_body_size size) e (size_passes size k))
     ]
@@ -57,14 +57,14 @@ reads (asked ∷ items) malformed rest place fits each ends =
     ∙ request_first asked (flat_map request_frame items ++ place) each.0
     ∙ ap (λ (framed : Framed Request). in_front asked framed) (reads items malformed rest place fits each.1 ends)
 
-AreBytes-behind : (front bytes : List ℕ) → AreBytes (front ++ bytes) → AreBytes bytes
-AreBytes-behind [] bytes fits = fits
-AreBytes-behind (byte ∷ front) bytes fits = AreBytes-behind front bytes (λ place. fits (suc place))
+AreBytes-after : (front bytes : List ℕ) → AreBytes (front ++ bytes) → AreBytes bytes
+AreBytes-after [] bytes fits = fits
+AreBytes-after (byte ∷ front) bytes fits = AreBytes-after front bytes (λ place. fits (suc place))
 
 pub reading_is : (bytes : List ℕ) (framed : Framed Request) → AreBytes bytes → IsReading bytes framed → framed ≡ framed_requests bytes
 reading_is bytes framed fits r =
-    let behind = AreBytes-behind (flat_map request_frame framed.items) r.place (subst AreBytes r.whole fits) in
-    sym (ap framed_requests r.whole ∙ reads framed.items framed.malformed framed.rest r.place behind r.each r.ends)
+    let after = AreBytes-after (flat_map request_frame framed.items) r.place (subst AreBytes r.whole fits) in
+    sym (ap framed_requests r.whole ∙ reads framed.items framed.malformed framed.rest r.place after r.each r.ends)
 
 -- ---- the definition gives a reading
 
@@ -115,9 +115,9 @@ reading_step bytes fits before (bad high low more h e) =
     (subst (λ (framed : Framed Request). IsReading (high ∷ low ∷ more) framed) (sym (requests_bad high low more h)) (reading_spoiled high low more h))
 reading_step bytes fits before (whole high low body more h size e) =
     let all_fit : AreBytes (high ∷ low ∷ (body ++ more)) = subst AreBytes e fits in
-    let behind_fits : AreBytes (body ++ more) = λ place. all_fit (suc (suc place)) in
-    let body_fits : AreBytes body = subst AreBytes (take_at body more (length body) refl) (AreBytes-take (length body) (body ++ more) behind_fits) in
-    let r = before more (omega (arith, ap length e, length-append body more)) (AreBytes-behind body more behind_fits) in
+    let after_fits : AreBytes (body ++ more) = λ place. all_fit (suc (suc place)) in
+    let body_fits : AreBytes body = subst AreBytes (take_at body more (length body) refl) (AreBytes-take (length body) (body ++ more) after_fits) in
+    let r = before more (omega (arith, ap length e, length-append body more)) (AreBytes-after body more after_fits) in
     subst (λ (all : List ℕ). IsReading all (framed_requests all)) (sym e)
     (subst (λ (framed : Framed Request). IsReading (high ∷ low ∷ (body ++ more)) framed) (sym (requests_whole high low body more h size))
     (reading_whole high low body more (request_in body) (all_fit 0) (all_fit 1) body_fits size refl r))

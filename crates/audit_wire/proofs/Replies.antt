@@ -64,7 +64,7 @@ membership_again tag hashes entry within fits =
     (Some (reply.Membership (number_at w32 0 fields) (first_hashes n all) (drop (HASH_LEN * n) all))) None whole
     ∙ ap (λ (m : ℕ). Some (reply.Membership m (first_hashes n all) (drop (HASH_LEN * n) all))) (from_be_bytes-to_be_bytes_4 tag fits.0)
     ∙ ap (λ (hs : List (List ℕ)). Some (reply.Membership tag hs (drop (HASH_LEN * n) all))) (first_hashes-concat hashes entry fits.1)
-    ∙ ap (λ (behind : List ℕ). Some (reply.Membership tag hashes behind)) (drop-concat hashes entry fits.1)
+    ∙ ap (λ (after : List ℕ). Some (reply.Membership tag hashes after)) (drop-concat hashes entry fits.1)
 
 increment_again : (tag : ℕ) (hashes : List (List ℕ)) → IsReply (reply.Incremental tag hashes) → HasReplyFields (reply.Incremental tag hashes)
     → increment_reply_in (to_be_bytes w32 tag ++ hash_list hashes) ≡ Some (reply.Incremental tag hashes)
@@ -134,9 +134,9 @@ frame_split : (a b rest others : List ℕ) → length a < 2 ^ 16 → length b < 
 frame_split a b rest others short_a short_b same =
     let size : length a ≡ length b =
     sym (from_be_bytes-to_be_bytes_2 (length a) short_a) ∙ ap (λ (bytes : List ℕ). from_be_bytes w16 (take 2 bytes)) same ∙ from_be_bytes-to_be_bytes_2 (length b) short_b in
-    let behind : a ++ rest ≡ b ++ others = ap (drop 2) same in (
-      sym (take_at a rest (length a) refl) ∙ ap (take (length a)) behind ∙ take_at b others (length a) (sym size),
-      sym (drop_at a rest (length a) refl) ∙ ap (drop (length a)) behind ∙ drop_at b others (length a) (sym size),
+    let after : a ++ rest ≡ b ++ others = ap (drop 2) same in (
+      sym (take_at a rest (length a) refl) ∙ ap (take (length a)) after ∙ take_at b others (length a) (sym size),
+      sym (drop_at a rest (length a) refl) ∙ ap (drop (length a)) after ∙ drop_at b others (length a) (sym size),
     )
 
 pub same_first_reply : (one other : Reply) (rest others : List ℕ) → IsWholeReply one → IsWholeReply other → reply_frame one ++ rest ≡ reply_frame other ++ others

@@ -45,7 +45,7 @@ fed_bodies closed piece more answer new f = dropped new more f.1
 
 requests_in-front : (bodies : List (List ℕ)) (framed : Framed (List ℕ)) → requests_in (all_in_front bodies framed) ≡ requests_of bodies (requests_in framed)
 requests_in-front [] framed = refl
-requests_in-front (body ∷ bodies) framed = ap (λ (behind : Framed Request). read_first (request_in body) behind) (requests_in-front bodies framed)
+requests_in-front (body ∷ bodies) framed = ap (λ (following : Framed Request). read_first (request_in body) following) (requests_in-front bodies framed)
 
 ahead_in : (progress : Progress) (bytes : List ℕ) → requests_ahead progress bytes ≡ requests_in (bodies_ahead progress bytes)
 unfolding framed_requests
@@ -66,7 +66,7 @@ fed_ahead old piece answer new later f =
     ahead_in old (taken_by answer piece ++ later)
     ∙ ap requests_in (fed_bodies old piece later answer new f)
     ∙ requests_in-front (handed_out new) (bodies_ahead new later)
-    ∙ ap (λ (behind : Framed Request). requests_of (handed_out new) behind) (sym (ahead_in new later))
+    ∙ ap (λ (following : Framed Request). requests_of (handed_out new) following) (sym (ahead_in new later))
 
 pub fed_requests : (old : Progress) (piece : List ℕ) (answer : Fed) (new : Progress) (later : List ℕ) → IsFed old piece answer new
     → requests_ahead old (piece ++ later) ≡ requests_of (handed_out new) (requests_ahead new (left_by answer piece ++ later))
@@ -82,7 +82,7 @@ answer_taken held piece (fed.Body taken) new t = (t.0, t.1, subst HasJustTaken (
 answer_taken held piece (fed.Malformed taken) new t = (t.0, t.1, subst HasJustTaken (sym t.3) tt)
 
 answer_dropped : (answer : Fed) (size : ℕ) (new : Progress) → answer ≡ fed.More → IsAnswer answer size new
-answer_dropped answer size new e = subst (λ (told : Fed). IsAnswer told size new) (sym e) tt
+answer_dropped answer size new e = subst (λ (given : Fed). IsAnswer given size new) (sym e) tt
 
 pub fed_answer : (old : Progress) (piece : List ℕ) (answer : Fed) (new : Progress) → IsFed old piece answer new → IsAnswer answer (length piece) new
 fed_answer (reading held) piece answer new f = answer_taken held piece answer new f
@@ -110,7 +110,7 @@ spoils_taken held piece (fed.Body taken) new t = (refl, ap is_spoiled t.2.3)
 spoils_taken held piece (fed.Malformed taken) new t = (refl, ap is_spoiled t.3)
 
 spoils_dropped : (answer : Fed) (new : Progress) → answer ≡ fed.More → new ≡ closed → Spoils answer true (is_spoiled new)
-spoils_dropped answer new told e = subst (λ (given : Fed). Spoils given true (is_spoiled new)) (sym told) (ap is_spoiled e)
+spoils_dropped answer new none e = subst (λ (given : Fed). Spoils given true (is_spoiled new)) (sym none) (ap is_spoiled e)
 
 pub fed_spoils : (old : Progress) (piece : List ℕ) (answer : Fed) (new : Progress) → IsFed old piece answer new → Spoils answer (is_spoiled old) (is_spoiled new)
 fed_spoils (reading held) piece answer new f = spoils_taken held piece answer new f

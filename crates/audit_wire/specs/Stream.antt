@@ -48,12 +48,12 @@ framed_bodies bytes = bodies_within (length bytes) bytes
 
 -- a body at the front: a request, or else a malformed place
 abbrev pub read_first : Option Request → Framed Request → Framed Request
-read_first None behind = spoiled
-read_first (Some request) behind = in_front request behind
+read_first None after = spoiled
+read_first (Some request) after = in_front request after
 
 abbrev pub requests_of : List (List ℕ) → Framed Request → Framed Request
-requests_of [] behind = behind
-requests_of (body ∷ bodies) behind = read_first (request_in body) (requests_of bodies behind)
+requests_of [] after = after
+requests_of (body ∷ bodies) after = read_first (request_in body) (requests_of bodies after)
 
 abbrev pub requests_in : Framed (List ℕ) → Framed Request
 requests_in bodies = requests_of bodies.items (record { items = []; malformed = bodies.malformed; rest = bodies.rest })

@@ -28,11 +28,11 @@ pub fn first_reply(output: &[u8]) -> Option<(&[u8], &[u8])>
         return None;
     }
     let size = u16::from_be_bytes([output[0], output[1]]) as usize;
-    let (_, behind) = output.split_at(LENGTH_BYTES);
-    if behind.len() < size {
+    let (_, after) = output.split_at(LENGTH_BYTES);
+    if after.len() < size {
         return None;
     }
-    Some(behind.split_at(size))
+    Some(after.split_at(size))
 }
 
 /// Reads the body of a frame as a reply: `Malformed` exactly where it is no reply's, and `Memory` where memory is
@@ -100,15 +100,15 @@ fn membership_of(alloc: Global, fields: &[u8]) -> Result<Reply, ReplyFault>
         return Err(ReplyFault::Malformed);
     }
     let number = fields[AFTER_TAG] as usize;
-    let (_, behind) = fields.split_at(AFTER_ONE_BYTE);
-    if number > MAX_MEMBER_HASHES || behind.len() < HASH_LEN * number {
+    let (_, after) = fields.split_at(AFTER_ONE_BYTE);
+    if number > MAX_MEMBER_HASHES || after.len() < HASH_LEN * number {
         return Err(ReplyFault::Malformed);
     }
-    let (_, entry) = behind.split_at(HASH_LEN * number);
+    let (_, entry) = after.split_at(HASH_LEN * number);
     if entry.len() > MAX_ENTRY {
         return Err(ReplyFault::Malformed);
     }
-    let Ok(hashes) = read_hashes(alloc, behind, number) else {
+    let Ok(hashes) = read_hashes(alloc, after, number) else {
         return Err(ReplyFault::Memory);
     };
     let Ok(entry) = Vec::from_slice(alloc, entry) else {
@@ -129,11 +129,11 @@ fn increment_of(alloc: Global, fields: &[u8]) -> Result<Reply, ReplyFault>
         return Err(ReplyFault::Malformed);
     }
     let number = fields[AFTER_TAG] as usize;
-    let (_, behind) = fields.split_at(AFTER_ONE_BYTE);
-    if number > MAX_INCREMENT_HASHES || behind.len() != HASH_LEN * number {
+    let (_, after) = fields.split_at(AFTER_ONE_BYTE);
+    if number > MAX_INCREMENT_HASHES || after.len() != HASH_LEN * number {
         return Err(ReplyFault::Malformed);
     }
-    let Ok(hashes) = read_hashes(alloc, behind, number) else {
+    let Ok(hashes) = read_hashes(alloc, after, number) else {
         return Err(ReplyFault::Memory);
     };
     Ok(Reply::Incremental {

@@ -4,7 +4,7 @@ use super::*;
 use audit_proof::laws::collide_three_with;
 use std::alloc::AllocError;
 
-// The sum of the first bytes of a text's two sides, behind its mark.
+// The sum of the first bytes of a text's two sides, after its mark.
 #[derive(Drop)]
 struct Sums;
 
@@ -18,7 +18,7 @@ impl TextHash for Sums {
     }
 }
 
-// The byte at a place, or 0 behind the end.
+// The byte at a place, or 0 after the end.
 fn byte_at(text: &[u8], place: usize) -> u8
     ensures { result ≡ slice_index_or text.now place 0 }
 {
@@ -237,7 +237,7 @@ fn entries_of_each_length_collide_across_versions(rt: HostRuntime) -> Result<(),
     Ok(())
 }
 
-// What `aa` alone in its tree, and another entry with one behind it, show by the weak hash.
+// What `aa` alone in its tree, and another entry with one after it, show by the weak hash.
 fn weakly_across(
     alloc: Global,
     increment: &[Hash],

@@ -185,9 +185,9 @@ fn decoded(alloc: Global, stream: &[u8], dice: &mut Dice) -> Result<Reading, All
     let mut rest = stream;
     while !rest.is_empty() {
         let size = (dice.below(9) as usize + 1).min(rest.len());
-        let (piece, behind) = rest.split_at(size);
+        let (piece, after) = rest.split_at(size);
         hear(&mut decoder, piece, &mut reading);
-        rest = behind;
+        rest = after;
     }
     reading.begun = !reading.malformed && decoder.pending();
     Ok(reading)
@@ -221,9 +221,9 @@ fn plain_request(body: &[u8], reading: &mut Reading) -> Option<()> {
     }
     reading.add(kind);
     for width in widths {
-        let (number, behind) = number_at_front(rest, *width)?;
+        let (number, after) = number_at_front(rest, *width)?;
         reading.add(number);
-        rest = behind;
+        rest = after;
     }
     if kind == 1 {
         reading.add(rest.len() as u64);
@@ -254,14 +254,14 @@ fn plain(stream: &[u8]) -> Reading {
             }
             None => break,
         }
-        let Some((body, behind)) = plain_frame(rest) else {
+        let Some((body, after)) = plain_frame(rest) else {
             break;
         };
         if plain_request(body, &mut reading).is_none() {
             reading.malformed = true;
             return reading;
         }
-        rest = behind;
+        rest = after;
     }
     reading.begun = !rest.is_empty();
     reading

@@ -35,12 +35,12 @@ fn prints(
         &mut output,
         &mut messages,
     );
-    let told = if status == Status::Done {
+    let written = if status == Status::Done {
         &output
     } else {
         &messages
     };
-    told.as_slice() == printed.as_bytes() && found == status
+    written.as_slice() == printed.as_bytes() && found == status
 }
 
 fn format<'a>(file: &'a str, sectors: &'a str, key_file: &'a str) -> Request<'a> {

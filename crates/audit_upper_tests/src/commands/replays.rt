@@ -143,13 +143,13 @@ fn refuses_line(rt: &HostRuntime, line: &[u8], message: &str) -> Result<bool, Fa
     Ok(refuses(rt, &input, message))
 }
 
-// A line of an event of this kind, whose payload is so many zero digits, and what else stands behind them.
+// A line of an event of this kind, whose payload is so many zero digits, and what else stands after them.
 fn line_of(alloc: Global, kind: &str, digits: usize, rest: &str) -> Result<String, Fail> {
     let zeros = vec![in alloc; b'0'; digits]?;
     Ok(format!(in alloc; "event {kind} {}{rest}", str::from_utf8(&zeros)?)?)
 }
 
-// The kind, the digits and what stands behind them, and what is printed.
+// The kind, the digits and what stands after them, and what is printed.
 const FAULTS: [(&str, usize, &str, &str); 7] = [
     ("4294967295", 0, "-", "audit: line 2: reserved kind\n"),
     ("4294967295", 65_394, "", "audit: line 2: reserved kind\n"),
@@ -252,7 +252,7 @@ fn a_writer_that_fails(rt: HostRuntime) {
 }
 
 // Whether a run over an output with so much room ends with that status, and reports that.
-fn ends_over(rt: &HostRuntime, room: usize, flushes: bool, status: Status, told: &[u8]) -> bool {
+fn ends_over(rt: &HostRuntime, room: usize, flushes: bool, status: Status, report: &[u8]) -> bool {
     let mut input = SHORT_INPUT;
     let mut output = FailingWriter { room, flushes };
     let mut messages = Vec::new(rt.alloc());
@@ -264,7 +264,7 @@ fn ends_over(rt: &HostRuntime, room: usize, flushes: bool, status: Status, told:
         &mut output,
         &mut messages,
     );
-    found == status && messages.as_slice() == told
+    found == status && messages.as_slice() == report
 }
 
 const CODES: [(Status, u8); 5] = [

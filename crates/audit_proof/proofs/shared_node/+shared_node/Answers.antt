@@ -1,7 +1,7 @@
 use Rattle.std.proofs.Common.{◌≡◌, ◌+◌, ◌-◌, ◌*◌, ◌%◌, ◌^◌, suc, ap, ◌∙◌, arith}
 use Rattle.std.proofs.lemmas.Nat.{one_shl}
 use Rattle.std.proofs.Math.Nat.{pow-suc}
-use Rattle.audit_proof.proofs.SharedNodes.{mod-behind, shared-first, shared-alone, shares-half, shares-left, shares-right, lost-left, lost-right}
+use Rattle.audit_proof.proofs.SharedNodes.{mod-after, shared-first, shared-alone, shares-half, shares-left, shares-right, lost-left, lost-right}
 use Rattle.audit_proof.proofs.shared_node.+shared_node.Goals as goal
 
 pub returns-then-way-eq0 : goal.returns-then-way-eq0
@@ -90,7 +90,7 @@ shared_node-requires g t c κs within =
     let width : 2 ^ (way.from + way.height) ≡ 2 ^ (way.from + height) * 2 = ap (λ k. 2 ^ k) up ∙ pow-suc 2 (way.from + height) in
     let back : way.place - half + 1 ≡ way.place + 1 - 2 ^ (way.from + height) = omega (arith, half_is, c.if-half-way.true) in
     let ended : (way.place - half + 1) % 2 ^ way.from ≡ 0 = ap (λ n. n % 2 ^ way.from) back
-    ∙ mod-behind way.from (way.from + height) (way.place + 1) (omega arith) (omega (arith, half_is, c.if-half-way.true))
+    ∙ mod-after way.from (way.from + height) (way.place + 1) (omega arith) (omega (arith, half_is, c.if-half-way.true))
     ∙ c.requires.ended in (
       omega (arith, c.if-way-eq0.false),
       (

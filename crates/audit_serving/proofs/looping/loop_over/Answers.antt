@@ -1,7 +1,7 @@
 use Rattle.std.proofs.Common.{◌≡◌, ◌∙◌, inr, Err, sym, ap}
 use Rattle.audit_serving.specs.declared.fault.ServingFault.TheVariants.{BadFrameLine}
 use Rattle.audit_serving.specs.Served.{IsNewCore}
-use Rattle.audit_serving.proofs.Served.{bad_of_loop, told_ok, told_err, kept_as, kept_by, looped, loop_reached}
+use Rattle.audit_serving.proofs.Served.{bad_of_loop, on_ok, on_err, kept_as, kept_by, looped, loop_reached}
 use Rattle.audit_serving.proofs.looping.loop_over.Goals.{in-Ok-run_lines, in-Err-run_lines}
 use Rattle.audit_serving.proofs.looping.loop_over.Goals as goal
 
@@ -19,8 +19,8 @@ returns-clause-done g c =
     elim c.match-run_lines.branch [
       | in-Ok-run_lines w ↦
           let ran = w.in-Ok-run_lines.ensures.done in
-          told_ok c.match-run_lines.done tt w.done-is (ran.0, looped c.args.store c.into_store.result c.in-Ok.core c.run_lines.new.core made c.into_store.ensures ran.1, ran.2)
-      | in-Err-run_lines w ↦ told_err _ c.match-run_lines.done w.fault_of_loop.result w.done-is
+          on_ok c.match-run_lines.done tt w.done-is (ran.0, looped c.args.store c.into_store.result c.in-Ok.core c.run_lines.new.core made c.into_store.ensures ran.1, ran.2)
+      | in-Err-run_lines w ↦ on_err _ c.match-run_lines.done w.fault_of_loop.result w.done-is
     ]
 
 pub returns-clause-bad : goal.returns-clause-bad
@@ -29,8 +29,8 @@ returns-clause-bad g c = λ number is.
     elim c.match-run_lines.branch [
       | in-Ok-run_lines w ↦ absurd (cc (sym w.done-is ∙ is))
       | in-Err-run_lines w ↦
-          let told : w.fault_of_loop.result ≡ BadFrameLine number = cc (sym w.done-is ∙ is) in
-          let ran = c.run_lines.ensures.bad number (w.in-Err-run_lines.is ∙ ap Err (bad_of_loop w.in-Err-run_lines.fault number (sym w.fault_of_loop.ensures ∙ told))) in
+          let fault_is : w.fault_of_loop.result ≡ BadFrameLine number = cc (sym w.done-is ∙ is) in
+          let ran = c.run_lines.ensures.bad number (w.in-Err-run_lines.is ∙ ap Err (bad_of_loop w.in-Err-run_lines.fault number (sym w.fault_of_loop.ensures ∙ fault_is))) in
           (ran.0, ran.1, looped c.args.store c.into_store.result c.in-Ok.core c.run_lines.new.core made c.into_store.ensures ran.2, ran.3)
     ]
 

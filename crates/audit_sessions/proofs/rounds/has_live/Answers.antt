@@ -5,4 +5,4 @@ use Rattle.audit_sessions.proofs.rounds.has_live.Goals as goal
 pub returns-then-not-ended-clause-live : goal.returns-then-not-ended-clause-live
 returns-then-not-ended-clause-live g c =
     let live : g.C.SessionCore.model.ended c.args.core.now [] c.loop-session.session ≡ false = search rules in
-    λ told. live_found c.args.count c.loop-session.session (g.C.SessionCore.model.ended c.args.core.now []) (omega arith) live
+    λ live_there. live_found c.args.count c.loop-session.session (g.C.SessionCore.model.ended c.args.core.now []) (omega arith) live
