@@ -1,5 +1,5 @@
 -- How the program ends with each fault of a command.
-use Rattle.std.specs.Prelude.{◌≡◌, ◌⊎◌}
+use Rattle.std.specs.Prelude.{◌≡◌, ◌⊎◌, ℕ}
 use Rattle.audit_store.specs.declared.store_error.StoreError.{StoreError}
 use Rattle.audit_store.specs.declared.store_error.StoreError.TheVariants as store
 use Rattle.audit_disk.specs.declared.file_fault.FileFault.{FileFault}
@@ -17,7 +17,15 @@ use Rattle.audit_commands.specs.declared.status.Status.TheVariants as ends
 use Rattle.audit_commands.specs.declared.fault.CommandFault.{CommandFault}
 use Rattle.audit_commands.specs.declared.fault.CommandFault.TheVariants.{BadArgument, FileExists, File, Lines, Refused, Export, BadProof, NotAccepted}
 
--- of lines
+-- the number that the program ends with
+abbrev pub exit_status_of : Status → ℕ
+exit_status_of ends.Done = 0
+exit_status_of ends.Refused = 1
+exit_status_of ends.Usage = 2
+exit_status_of ends.Device = 3
+exit_status_of ends.Memory = 4
+
+-- how it ends with faults of lines
 abbrev pub status_of_lines : LinesFault → Status
 status_of_lines lines.InputTooLong = ends.Refused
 status_of_lines (lines.Line line cause) = ends.Refused

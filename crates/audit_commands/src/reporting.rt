@@ -1,3 +1,6 @@
+ghost use Rattle.std.specs.Prelude.{◌≡◌};
+ghost use Rattle.audit_commands.specs.Faults.{status_of};
+
 use crate::fault::CommandFault;
 use crate::status::Status;
 use audit_lines::LinesFault;
@@ -9,7 +12,9 @@ use std::io::Write;
 /// Prints why a command wasn't done, in one line, and returns the status with which the program ends. Where the line
 /// can't be printed, the status alone reports the fault. For a proof that isn't accepted it prints nothing: the
 /// command has printed that itself. It takes no memory.
-pub fn report<M: Write>(fault: CommandFault, messages: &mut M) -> Status {
+pub fn report<M: Write>(fault: CommandFault, messages: &mut M) -> Status
+    ensures { result ≡ status_of fault }
+{
     let _ = match fault {
         CommandFault::BadArgument => writeln!(messages, "audit: bad argument"),
         CommandFault::FileExists => writeln!(messages, "audit: file exists"),

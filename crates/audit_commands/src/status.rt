@@ -14,8 +14,13 @@ pub enum Status {
 }
 
 impl Status {
+    ghost use Rattle.std.specs.Prelude.{◌≡◌};
+    ghost use Rattle.audit_commands.specs.Faults.{exit_status_of};
+
     /// The exit status.
-    pub fn code(self) -> u8 {
+    pub fn code(self) -> u8
+        ensures { result ≡ exit_status_of self }
+    {
         match self {
             Status::Done => 0,
             Status::Refused => 1,
