@@ -9,8 +9,11 @@ the end how many questions were asked.
 """
 import collections
 import contextlib
+import hashlib
+import hmac
 import io
 import os
+import re
 import subprocess
 import sys
 
@@ -18,8 +21,8 @@ import check_proof
 import history
 import read_export
 
-ANSWERS = ["accepted", "not accepted", "32 BadProof", "verified", "40 Short", "41 BadLength", "42 BadLink", "43 BadMac",
-           "44 WrongCommitment", "bad argument", "file fault"]
+ANSWERS = ["accepted", "not accepted", "32 BadProof", "verified open", "verified closed", "40 Short", "41 BadLength", "42 BadLink", "43 BadMac",
+           "44 WrongCommitment", "46 BadClose", "bad argument", "file fault"]
 
 
 class Comparison:
@@ -39,7 +42,7 @@ class Comparison:
         ours = status, output.getvalue(), messages.getvalue().replace(module.__name__ + ": ", "", 1)
         self.asked += 1
         last_line = (theirs[1] + theirs[2]).splitlines()[-1]
-        self.answers[last_line.split(": ")[-1].rstrip(" 0123456789")] += 1
+        self.answers[re.sub("^verified [0-9]+", "verified", last_line.split(": ")[-1])] += 1
         if ours != theirs:
             self.differ += 1
             print("%s %s: the program answers %r, the other %r" % (command, " ".join(words), theirs, ours))
@@ -154,6 +157,32 @@ def compare_exports(comparison, entries, newer):
         comparison.verify(b"".join(entries[:at] + 2 * [entries[at]] + entries[at + 1:]), "first.key", newer)
 
 
+def sealed(key, last_link, kind, payload):
+    """The entry of an event, under the key of its turn and after the last link."""
+    cipher = read_export.under_keystream(read_export.sha256(b"Encryption Key", kind, key), payload)
+    link = read_export.sha256(last_link, cipher, kind)
+    return kind + len(cipher).to_bytes(4, "big") + cipher + link + hmac.new(key, link, hashlib.sha256).digest()
+
+
+def compare_closed_exports(comparison, entries):
+    """The export with an entry after it that closes the log, with no payload and with one."""
+    key = read_export.read_key("first.key")
+    for _ in entries:
+        key = read_export.sha256(b"Increment Hash", key)
+    for payload in [b"", b"x"]:
+        closing = sealed(key, entries[-1][-64:-32], read_export.CLOSING, payload)
+        leaves = [history.leaf_hash(entry) for entry in [*entries, closing]]
+        word = "%d:%s" % (len(leaves), history.root(leaves).hex())
+        export = b"".join([*entries, closing])
+        later = sealed(read_export.sha256(b"Increment Hash", key), closing[-64:-32], bytes(4), b"later")
+        for more in [b"", b"\0", bytes(7), bytes(4) + b"\xff" * 4, closing, later]:
+            comparison.verify(export + more, "first.key", word)
+        for data in turned(closing, 5):
+            comparison.verify(b"".join(entries) + data, "first.key", word)
+        for size in range(0, len(closing), 7):
+            comparison.verify(export[:len(export) - size], "first.key", word)
+
+
 def compare_words(comparison, newer):
     for word in ["", "24", ":", newer + "0", newer[:-1], "x" + newer, " " + newer, "1" * 21 + newer[2:], newer.upper(),
                  "18446744073709551616" + newer[2:], "0" + newer]:
@@ -178,6 +207,7 @@ def main():
     compare_damaged_proofs(comparison, older, newer)
     compare_largest_trees(comparison)
     compare_exports(comparison, entries, newer)
+    compare_closed_exports(comparison, entries)
     compare_words(comparison, newer)
     for answer in ANSWERS:
         if comparison.answers[answer] == 0:

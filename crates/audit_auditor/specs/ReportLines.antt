@@ -1,5 +1,5 @@
 -- The lines of a verified export.
-use Rattle.std.specs.Prelude.{ℕ, ◌+◌, List, [], ◌∷◌, ◌++◌, length, codes}
+use Rattle.std.specs.Prelude.{Bool, true, false, ℕ, ◌+◌, List, [], ◌∷◌, ◌++◌, length, codes}
 use Rattle.std.specs.Fmt.{decimal}
 use Rattle.hex.specs.Hex.{encode_lower}
 use Rattle.audit_chain.specs.EventData.{EventData}
@@ -19,9 +19,14 @@ unfoldable pub event_lines : ℕ → List EventData → List ℕ
 event_lines number [] = []
 event_lines number (event ∷ events) = event_line number event ++ event_lines (number + 1) events
 
-abbrev pub count_line : ℕ → List ℕ
-count_line count = codes "verified " ++ decimal count ++ codes "\n"
+-- whether the log is closed
+abbrev pub state_word : Bool → List ℕ
+state_word true = codes "closed"
+state_word false = codes "open"
 
--- a line for each event, and the number of all
-unfoldable pub report_lines : List EventData → List ℕ
-report_lines events = event_lines 0 events ++ count_line (length events)
+abbrev pub count_line : ℕ → Bool → List ℕ
+count_line count closed = codes "verified " ++ decimal count ++ codes " " ++ state_word closed ++ codes "\n"
+
+-- a line for each event, and the number of all and whether these close the log
+unfoldable pub report_lines : List EventData → Bool → List ℕ
+report_lines events closed = event_lines 0 events ++ count_line (length events) closed

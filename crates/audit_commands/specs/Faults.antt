@@ -56,6 +56,7 @@ status_of_cause cause.BadLink = ends.Refused
 status_of_cause cause.BadMac = ends.Refused
 status_of_cause cause.WrongCommitment = ends.Refused
 status_of_cause cause.ReadFault = ends.Device
+status_of_cause cause.BadClose = ends.Refused
 status_of_cause cause.Memory = ends.Memory
 
 abbrev pub status_of : CommandFault → Status
