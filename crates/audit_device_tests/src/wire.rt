@@ -12,7 +12,7 @@ mod vectors;
 use vectors::*;
 
 /// The frames of one request each, and the requests.
-const REQUESTS: [(&[u8], RequestView<'static>); 5] = [
+const REQUESTS: [(&[u8], RequestView<'static>); 6] = [
     (
         &APPEND,
         RequestView::Append {
@@ -23,6 +23,7 @@ const REQUESTS: [(&[u8], RequestView<'static>); 5] = [
     ),
     (&COMMITMENT, RequestView::Commitment { tag: 9 }),
     (&GET_ENTRY, RequestView::Entry { tag: 4, index: 0 }),
+    (&CLOSE, RequestView::Close { tag: 3 }),
     (
         &GET_MEMBERSHIP,
         RequestView::Membership {
@@ -110,6 +111,7 @@ fn view_of(request: &Request) -> RequestView<'_> {
             tag: *tag,
             index: *index,
         },
+        Request::Close { tag } => RequestView::Close { tag: *tag },
     }
 }
 
@@ -205,10 +207,10 @@ fn the_longest_body_and_one_byte_more_is_not_read(rt: HostRuntime) -> Result<(),
     Ok(())
 }
 
-const NO_REQUESTS: [&[u8]; 16] = [
+const NO_REQUESTS: [&[u8]; 18] = [
     b"",
     b"\x00\x00\x00\x00\x09",
-    b"\x06\x00\x00\x00\x09",
+    b"\x07\x00\x00\x00\x09",
     b"\x81\x00\x00\x00\x09",
     b"\x01",
     b"\x01\x00\x00\x00\x07\x00\x00\x00",
@@ -222,12 +224,26 @@ const NO_REQUESTS: [&[u8]; 16] = [
     b"\x04\x00\x00\x00\x06\x00\x00\x00\x00\x00\x00\x00\x00\x00\x00\x00\x00\x00\x00\x00\x01\x00",
     b"\x05\x00\x00\x00\x04\x00\x00\x00\x00\x00\x00\x00",
     b"\x05\x00\x00\x00\x04\x00\x00\x00\x00\x00\x00\x00\x00\x00",
+    b"\x06\x00\x00\x00\x03\x00",
+    b"\x06\x00\x00\x00\x03\xff\xff\xff\xff",
 ];
 
 #[test]
 fn bodies_that_are_no_requests(rt: HostRuntime) {
     for (place, body) in NO_REQUESTS.iter().enumerate() {
         assert!(rt; read_request(body) == Err(Malformed), "body {place}");
+    }
+}
+
+#[test]
+fn a_close_that_is_cut_short_is_no_request(rt: HostRuntime) {
+    let (_, body) = CLOSE.split_at(2);
+    assert!(rt; read_request(body) == Ok(RequestView::Close { tag: 3 }));
+    for size in 0..body.len() {
+        assert!(rt;
+            read_request(&body[..size]) == Err(Malformed),
+            "size {size}"
+        );
     }
 }
 
@@ -371,13 +387,14 @@ fn a_commitment_has_the_bytes_of_the_formats(rt: HostRuntime) -> Result<(), Fail
     Ok(())
 }
 
-const REFUSALS: [(u8, Refusal, u8); 6] = [
+const REFUSALS: [(u8, Refusal, u8); 7] = [
     (0, Refusal::Malformed, 20),
     (2, Refusal::Full, 7),
     (3, Refusal::DamagedLog, 4),
     (4, Refusal::NoSuchVersion, 8),
     (5, Refusal::Worn, 9),
     (6, Refusal::Device, 11),
+    (7, Refusal::Closed, 13),
 ];
 
 #[test]

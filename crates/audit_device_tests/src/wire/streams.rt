@@ -8,7 +8,7 @@ use std::test::Fail;
 
 /// The digest of all readings, as a model of the formats in another language gives it for these
 /// streams.
-const EXPECTED: u64 = 0x604e_ad26_f5ae_c273;
+const EXPECTED: u64 = 0xb323_b236_ca1e_5348;
 
 const STREAMS: u64 = 10_000;
 
@@ -89,6 +89,10 @@ impl Reading {
                 self.add(*tag as u64);
                 self.add(*index);
             }
+            RequestView::Close { tag } => {
+                self.add(6);
+                self.add(*tag as u64);
+            }
         }
     }
 }
@@ -129,12 +133,13 @@ fn put_junk(stream: &mut Vec<u8>, dice: &mut Dice) -> Result<(), AllocError> {
 }
 
 fn put_frame(stream: &mut Vec<u8>, dice: &mut Dice) -> Result<(), AllocError> {
-    match dice.below(8) {
+    match dice.below(9) {
         0..=2 => put_append(stream, dice),
         3 => put_query(stream, dice, 2, 5),
         4 => put_query(stream, dice, 3, 21),
         5 => put_query(stream, dice, 4, 21),
         6 => put_query(stream, dice, 5, 13),
+        7 => put_query(stream, dice, 6, 5),
         _ => put_junk(stream, dice),
     }
 }
@@ -211,7 +216,7 @@ fn plain_request(body: &[u8], reading: &mut Reading) -> Option<()> {
     let (kind, mut rest) = number_at_front(body, 1)?;
     let widths: &[usize] = match (kind, body.len()) {
         (1, 9..=32_705) => &[4, 4],
-        (2, 5) => &[4],
+        (2 | 6, 5) => &[4],
         (3 | 4, 21) => &[4, 8, 8],
         (5, 13) => &[4, 8],
         _ => return None,
