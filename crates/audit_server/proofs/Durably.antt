@@ -10,7 +10,7 @@ use Rattle.audit_queue.specs.GroupCommit.{ServerState}
 use Rattle.audit_queue.specs.Arrivals.{appends_among}
 use Rattle.audit_store.specs.Store.{is_broken, Holds}
 use Rattle.audit_store.specs.declared.store_error.StoreError.{StoreError}
-use Rattle.audit_store.specs.declared.store_error.StoreError.TheVariants.{NotAStore, DamagedHeader, HeadersDisagree, DamagedLog, BatchTooLarge, Full, NoSuchVersion, Worn, Broken, Device, Memory, BadSize}
+use Rattle.audit_store.specs.declared.store_error.StoreError.TheVariants.{NotAStore, DamagedHeader, HeadersDisagree, DamagedLog, BatchTooLarge, Full, NoSuchVersion, Worn, Broken, Device, Memory, Closed, BadSize, ReservedKind}
 use Rattle.audit_commit.specs.declared.committer.Committer.{Committer}
 use Rattle.audit_commit.specs.Flush.{IsFlush}
 use Rattle.audit_commit.specs.Committer.{store_of, state_of}
@@ -41,7 +41,9 @@ other_refusal Worn other = refl
 other_refusal Broken other = absurd (other refl)
 other_refusal Device other = refl
 other_refusal Memory other = refl
+other_refusal Closed other = refl
 other_refusal BadSize other = refl
+other_refusal ReservedKind other = refl
 
 -- what was done of a step that was refused is a part of it
 some_part : (step : StepData) (fault : FeedFault) → IsPartOf step (part_done fault step)

@@ -16,7 +16,7 @@ use Rattle.audit_wire.specs.View.{request_shown, request_read}
 use Rattle.audit_base.specs.Bytes.{AreBytes}
 use Rattle.audit_wire.specs.Frame.{IsBodySize}
 use Rattle.audit_base.specs.Bytes.{number_at}
-use Rattle.audit_wire.specs.Request.{request_body, IsRequest, kind_at, append_in, commitment_in, membership_in, incremental_in, entry_in, fields_in, request_in}
+use Rattle.audit_wire.specs.Request.{request_body, IsRequest, kind_at, append_in, commitment_in, membership_in, incremental_in, entry_in, close_in, fields_in, request_in}
 
 -- ---- parts of bytes are bytes
 
@@ -150,24 +150,37 @@ entry_found fields read fits e =
       same = ap (λ (after : List ℕ). 5 ∷ after) (sym whole);
     })
 
--- the kind by five tests, the first of which that holds decides it
-abbrev kind_by : (a b c d e : Bool) → Option RequestKind
-kind_by a b c d e = cond a (Some kind.Append) (cond b (Some kind.Commitment) (cond c (Some kind.Membership) (cond d (Some kind.Incremental) (cond e (Some kind.Entry) None))))
+close_found : (fields : List ℕ) (read : Request) → AreBytes fields → close_in fields ≡ Some read → IsBodyOf (6 ∷ fields) read
+unfolding close_in
+close_found fields read fits e =
+    let g = guard_some (eqb (length fields) 4) (request.Close (number_at w32 0 fields)) read e in
+    let size = eqb-true (length fields) 4 g.0 in
+    let whole : to_be_bytes w32 (number_at w32 0 fields) ≡ fields = back_4 0 fields fits (omega arith) ∙ take_all 4 fields (omega arith) in
+    subst (λ (found : Request). IsBodyOf (6 ∷ fields) found) g.1 (record {
+      allowed = below_4 0 fields fits;
+      same = ap (λ (after : List ℕ). 6 ∷ after) (sym whole);
+    })
 
-record IsKindBy (a b c d e : Bool) (found : Option RequestKind) : Type 0 where
+-- the kind by six tests, the first of which that holds decides it
+abbrev kind_by : (a b c d e f : Bool) → Option RequestKind
+kind_by a b c d e f = cond a (Some kind.Append) (cond b (Some kind.Commitment) (cond c (Some kind.Membership) (cond d (Some kind.Incremental) (cond e (Some kind.Entry) (cond f (Some kind.Close) None)))))
+
+record IsKindBy (a b c d e f : Bool) (found : Option RequestKind) : Type 0 where
   append : found ≡ Some kind.Append → a ≡ true
   commitment : found ≡ Some kind.Commitment → b ≡ true
   membership : found ≡ Some kind.Membership → c ≡ true
   incremental : found ≡ Some kind.Incremental → d ≡ true
   entry : found ≡ Some kind.Entry → e ≡ true
+  close : found ≡ Some kind.Close → f ≡ true
 
-is_kind_by : (a b c d e : Bool) → IsKindBy a b c d e (kind_by a b c d e)
-is_kind_by true b c d e = record { append = λ h. refl; commitment = λ h. absurd cc; membership = λ h. absurd cc; incremental = λ h. absurd cc; entry = λ h. absurd cc }
-is_kind_by false true c d e = record { append = λ h. absurd cc; commitment = λ h. refl; membership = λ h. absurd cc; incremental = λ h. absurd cc; entry = λ h. absurd cc }
-is_kind_by false false true d e = record { append = λ h. absurd cc; commitment = λ h. absurd cc; membership = λ h. refl; incremental = λ h. absurd cc; entry = λ h. absurd cc }
-is_kind_by false false false true e = record { append = λ h. absurd cc; commitment = λ h. absurd cc; membership = λ h. absurd cc; incremental = λ h. refl; entry = λ h. absurd cc }
-is_kind_by false false false false true = record { append = λ h. absurd cc; commitment = λ h. absurd cc; membership = λ h. absurd cc; incremental = λ h. absurd cc; entry = λ h. refl }
-is_kind_by false false false false false = record { append = λ h. absurd cc; commitment = λ h. absurd cc; membership = λ h. absurd cc; incremental = λ h. absurd cc; entry = λ h. absurd cc }
+is_kind_by : (a b c d e f : Bool) → IsKindBy a b c d e f (kind_by a b c d e f)
+is_kind_by true b c d e f = record { append = λ h. refl; commitment = λ h. absurd cc; membership = λ h. absurd cc; incremental = λ h. absurd cc; entry = λ h. absurd cc; close = λ h. absurd cc }
+is_kind_by false true c d e f = record { append = λ h. absurd cc; commitment = λ h. refl; membership = λ h. absurd cc; incremental = λ h. absurd cc; entry = λ h. absurd cc; close = λ h. absurd cc }
+is_kind_by false false true d e f = record { append = λ h. absurd cc; commitment = λ h. absurd cc; membership = λ h. refl; incremental = λ h. absurd cc; entry = λ h. absurd cc; close = λ h. absurd cc }
+is_kind_by false false false true e f = record { append = λ h. absurd cc; commitment = λ h. absurd cc; membership = λ h. absurd cc; incremental = λ h. refl; entry = λ h. absurd cc; close = λ h. absurd cc }
+is_kind_by false false false false true f = record { append = λ h. absurd cc; commitment = λ h. absurd cc; membership = λ h. absurd cc; incremental = λ h. absurd cc; entry = λ h. refl; close = λ h. absurd cc }
+is_kind_by false false false false false true = record { append = λ h. absurd cc; commitment = λ h. absurd cc; membership = λ h. absurd cc; incremental = λ h. absurd cc; entry = λ h. absurd cc; close = λ h. refl }
+is_kind_by false false false false false false = record { append = λ h. absurd cc; commitment = λ h. absurd cc; membership = λ h. absurd cc; incremental = λ h. absurd cc; entry = λ h. absurd cc; close = λ h. absurd cc }
 
 -- the first byte is that of the kind
 record IsFirst (byte : ℕ) (found : Option RequestKind) : Type 0 where
@@ -176,16 +189,18 @@ record IsFirst (byte : ℕ) (found : Option RequestKind) : Type 0 where
   membership : found ≡ Some kind.Membership → byte ≡ 3
   incremental : found ≡ Some kind.Incremental → byte ≡ 4
   entry : found ≡ Some kind.Entry → byte ≡ 5
+  close : found ≡ Some kind.Close → byte ≡ 6
 
 first_found : (first : ℕ) → IsFirst first (kind_at first)
 first_found first =
-    let t = is_kind_by (eqb first 1) (eqb first 2) (eqb first 3) (eqb first 4) (eqb first 5) in
+    let t = is_kind_by (eqb first 1) (eqb first 2) (eqb first 3) (eqb first 4) (eqb first 5) (eqb first 6) in
     record {
       append = λ h. eqb-true first 1 (t.append h);
       commitment = λ h. eqb-true first 2 (t.commitment h);
       membership = λ h. eqb-true first 3 (t.membership h);
       incremental = λ h. eqb-true first 4 (t.incremental h);
       entry = λ h. eqb-true first 5 (t.entry h);
+      close = λ h. eqb-true first 6 (t.close h);
     }
 
 by_kind : (first : ℕ) (fields : List ℕ) (found : Option RequestKind) (read : Request) → AreBytes fields → IsFirst first found → fields_in found fields ≡ Some read → IsBodyOf (first ∷ fields) read
@@ -195,6 +210,7 @@ by_kind first fields (Some kind.Commitment) read fits is_first e = rw (is_first.
 by_kind first fields (Some kind.Membership) read fits is_first e = rw (is_first.membership refl) (membership_found fields read fits e)
 by_kind first fields (Some kind.Incremental) read fits is_first e = rw (is_first.incremental refl) (incremental_found fields read fits e)
 by_kind first fields (Some kind.Entry) read fits is_first e = rw (is_first.entry refl) (entry_found fields read fits e)
+by_kind first fields (Some kind.Close) read fits is_first e = rw (is_first.close refl) (close_found fields read fits e)
 
 pub request_found : (body : List ℕ) (read : Request) → AreBytes body → request_in body ≡ Some read → IsBodyOf body read
 unfolding request_in
@@ -255,6 +271,10 @@ entry_again tag index allowed =
     ap (λ (n : ℕ). Some (request.Entry n (number_at w64 4 fields))) (again_4 tag allowed.0)
     ∙ ap (λ (n : ℕ). Some (request.Entry tag n)) (again_8 index allowed.1)
 
+close_again : (tag : ℕ) → tag < 2 ^ 32 → close_in (to_be_bytes w32 tag) ≡ Some (request.Close tag)
+unfolding close_in
+close_again tag lt = ap (λ (n : ℕ). Some (request.Close n)) (again_4 tag lt)
+
 pub request_again : (asked : Request) → IsRequest asked → request_in (request_body asked) ≡ Some asked
 unfolding request_in
 request_again (request.Append tag event_kind payload) allowed = append_again tag event_kind payload allowed
@@ -262,6 +282,7 @@ request_again (request.Commitment tag) allowed = commitment_again tag allowed
 request_again (request.Membership tag index count) allowed = membership_again tag index count allowed
 request_again (request.Incremental tag older newer) allowed = incremental_again tag older newer allowed
 request_again (request.Entry tag index) allowed = entry_again tag index allowed
+request_again (request.Close tag) allowed = close_again tag allowed
 
 -- ---- and has a size that a frame may have
 
@@ -271,6 +292,7 @@ request_size (request.Commitment tag) allowed = (omega arith, omega arith)
 request_size (request.Membership tag index count) allowed = (omega arith, omega arith)
 request_size (request.Incremental tag older newer) allowed = (omega arith, omega arith)
 request_size (request.Entry tag index) allowed = (omega arith, omega arith)
+request_size (request.Close tag) allowed = (omega arith, omega arith)
 
 -- ---- what was read is a request with that body
 

@@ -100,6 +100,7 @@ refusal_again refusal.Full = refl
 refusal_again refusal.NoSuchVersion = refl
 refusal_again refusal.Worn = refl
 refusal_again refusal.Device = refl
+refusal_again refusal.Closed = refl
 refusal_again refusal.Malformed = refl
 
 refused_again : (tag : ℕ) (code : Refusal) → tag < 2 ^ 32 → refused_in (to_be_bytes w32 tag ++ refusal_code code ∷ []) ≡ Some (reply.Refused tag code)

@@ -22,6 +22,7 @@ refusal_code refusal.Full = 7
 refusal_code refusal.NoSuchVersion = 8
 refusal_code refusal.Worn = 9
 refusal_code refusal.Device = 11
+refusal_code refusal.Closed = 13
 refusal_code refusal.Malformed = 20
 
 -- the first byte of each kind: 0x81 to 0x85, and 0xff
@@ -92,6 +93,7 @@ refusal_of code =
     if code == 8 then Some refusal.NoSuchVersion else
     if code == 9 then Some refusal.Worn else
     if code == 11 then Some refusal.Device else
+    if code == 13 then Some refusal.Closed else
     if code == 20 then Some refusal.Malformed else None
 
 -- what the bytes after the first one say, for each kind

@@ -15,6 +15,7 @@ request_body (request.Commitment tag) = 2 ∷ to_be_bytes w32 tag
 request_body (request.Membership tag index count) = 3 ∷ (to_be_bytes w32 tag ++ to_be_bytes w64 index ++ to_be_bytes w64 count)
 request_body (request.Incremental tag older newer) = 4 ∷ (to_be_bytes w32 tag ++ to_be_bytes w64 older ++ to_be_bytes w64 newer)
 request_body (request.Entry tag index) = 5 ∷ (to_be_bytes w32 tag ++ to_be_bytes w64 index)
+request_body (request.Close tag) = 6 ∷ to_be_bytes w32 tag
 
 -- a request that has a body: its numbers fit their fields, and an append has a kind and a payload that it may have
 abbrev pub IsRequest : Request → Type 0
@@ -23,6 +24,7 @@ IsRequest (request.Commitment tag) = tag < 2 ^ 32
 IsRequest (request.Membership tag index count) = (tag < 2 ^ 32) × (index < 2 ^ 64) × (count < 2 ^ 64)
 IsRequest (request.Incremental tag older newer) = (tag < 2 ^ 32) × (older < 2 ^ 64) × (newer < 2 ^ 64)
 IsRequest (request.Entry tag index) = (tag < 2 ^ 32) × (index < 2 ^ 64)
+IsRequest (request.Close tag) = tag < 2 ^ 32
 
 -- the kind that the first byte of a body stands for
 abbrev pub kind_at : ℕ → Option RequestKind
@@ -31,7 +33,8 @@ kind_at byte =
     if byte == 2 then Some kind.Commitment else
     if byte == 3 then Some kind.Membership else
     if byte == 4 then Some kind.Incremental else
-    if byte == 5 then Some kind.Entry else None
+    if byte == 5 then Some kind.Entry else
+    if byte == 6 then Some kind.Close else None
 
 -- what the bytes after the first one say, for each kind
 unfoldable pub append_in : List ℕ → Option Request
@@ -55,6 +58,9 @@ incremental_in fields =
 unfoldable pub entry_in : List ℕ → Option Request
 entry_in fields = if length fields == 12 then Some (request.Entry (number_at w32 0 fields) (number_at w64 4 fields)) else None
 
+unfoldable pub close_in : List ℕ → Option Request
+close_in fields = if length fields == 4 then Some (request.Close (number_at w32 0 fields)) else None
+
 abbrev pub fields_in : Option RequestKind → List ℕ → Option Request
 fields_in None fields = None
 fields_in (Some kind.Append) fields = append_in fields
@@ -62,6 +68,7 @@ fields_in (Some kind.Commitment) fields = commitment_in fields
 fields_in (Some kind.Membership) fields = membership_in fields
 fields_in (Some kind.Incremental) fields = incremental_in fields
 fields_in (Some kind.Entry) fields = entry_in fields
+fields_in (Some kind.Close) fields = close_in fields
 
 -- the request that a body is
 unfoldable pub request_in : List ℕ → Option Request

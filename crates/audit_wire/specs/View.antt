@@ -13,6 +13,7 @@ request_shown (view.Commitment tag) = request.Commitment tag
 request_shown (view.Membership tag index count) = request.Membership tag index count
 request_shown (view.Incremental tag older newer) = request.Incremental tag older newer
 request_shown (view.Entry tag index) = request.Entry tag index
+request_shown (view.Close tag) = request.Close tag
 
 -- a request that has no payload
 abbrev pub IsQuery : RequestView → Type 0
@@ -21,6 +22,7 @@ IsQuery (view.Commitment tag) = Unit {0}
 IsQuery (view.Membership tag index count) = Unit {0}
 IsQuery (view.Incremental tag older newer) = Unit {0}
 IsQuery (view.Entry tag index) = Unit {0}
+IsQuery (view.Close tag) = Unit {0}
 
 -- the request that was read, if one was
 abbrev pub request_read : Result RequestView Malformed → Option Request

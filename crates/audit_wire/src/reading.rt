@@ -2,7 +2,7 @@ ghost use Rattle.std.specs.Prelude.{◌≡◌, ◌+◌, ◌≤◌, length, IfOk,
 ghost use Rattle.std.specs.Int.{w32, w64};
 ghost use Rattle.audit_wire.specs.declared.request.Request.{Request};
 ghost use Rattle.audit_base.specs.Bytes.{number_at};
-ghost use Rattle.audit_wire.specs.Request.{request_body, request_in, IsRequest, append_in, commitment_in, membership_in, incremental_in, entry_in};
+ghost use Rattle.audit_wire.specs.Request.{request_body, request_in, IsRequest, append_in, commitment_in, membership_in, incremental_in, entry_in, close_in};
 ghost use Rattle.audit_wire.specs.View.{request_shown, request_read};
 
 use crate::fields::{AFTER_ONE_NUMBER, AFTER_TAG, AFTER_TWO_NUMBERS, PAYLOAD_AT, TAG_AT};
@@ -41,6 +41,7 @@ fn read_by_kind(body: &[u8]) -> Result<RequestView<'_>, Malformed>
         RequestKind::Membership => membership_of(fields),
         RequestKind::Incremental => incremental_of(fields),
         RequestKind::Entry => entry_of(fields),
+        RequestKind::Close => close_of(fields),
     }
 }
 
@@ -112,5 +113,17 @@ fn entry_of(fields: &[u8]) -> Result<RequestView<'_>, Malformed>
     Ok(RequestView::Entry {
         tag: u32_at(fields, TAG_AT),
         index: u64_at(fields, AFTER_TAG),
+    })
+}
+
+#[tactic(auto, unfolding(crate::specs::Request::close_in))]
+fn close_of(fields: &[u8]) -> Result<RequestView<'_>, Malformed>
+    ensures { request_read result ≡ close_in fields.now }
+{
+    if fields.len() != AFTER_TAG {
+        return Err(Malformed);
+    }
+    Ok(RequestView::Close {
+        tag: u32_at(fields, TAG_AT),
     })
 }

@@ -13,6 +13,8 @@ pub enum Refusal {
     Worn = 9,
     /// The device failed.
     Device = 11,
+    /// The log is closed.
+    Closed = 13,
     /// The bytes were no request.
     Malformed = 20,
 }
@@ -37,6 +39,7 @@ impl Refusal {
             8 => Some(Refusal::NoSuchVersion),
             9 => Some(Refusal::Worn),
             11 => Some(Refusal::Device),
+            13 => Some(Refusal::Closed),
             20 => Some(Refusal::Malformed),
             _ => None,
         }

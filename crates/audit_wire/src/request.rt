@@ -30,4 +30,8 @@ pub enum Request {
         tag: u32,
         index: u64,
     },
+    /// Close the log.
+    Close {
+        tag: u32,
+    },
 }

@@ -8,6 +8,7 @@ pub(crate) enum RequestKind {
     Membership,
     Incremental,
     Entry,
+    Close,
 }
 
 impl RequestKind {
@@ -23,6 +24,7 @@ impl RequestKind {
             3 => Some(RequestKind::Membership),
             4 => Some(RequestKind::Incremental),
             5 => Some(RequestKind::Entry),
+            6 => Some(RequestKind::Close),
             _ => None,
         }
     }

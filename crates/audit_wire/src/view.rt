@@ -29,6 +29,9 @@ pub enum RequestView<'a> {
         tag: u32,
         index: u64,
     },
+    Close {
+        tag: u32,
+    },
 }
 
 impl<'a> RequestView<'a> {
@@ -57,6 +60,7 @@ impl<'a> RequestView<'a> {
                 newer,
             },
             RequestView::Entry { tag, index } => Request::Entry { tag, index },
+            RequestView::Close { tag } => Request::Close { tag },
         })
     }
 }
