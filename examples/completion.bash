@@ -1,7 +1,7 @@
 # Completion of the words of `audit` in bash: `source examples/completion.bash`.
 _audit() {
     local word=${COMP_WORDS[COMP_CWORD]} command=${COMP_WORDS[1]}
-    local commands="replay format append show prove check export verify serve loop"
+    local commands="replay format append close show prove check export verify serve loop"
     if [ "$COMP_CWORD" -eq 1 ]; then
         mapfile -t COMPREPLY < <(compgen -W "$commands --help" -- "$word")
         return
@@ -9,7 +9,7 @@ _audit() {
     case $command:$COMP_CWORD in
     serve:[5-9]) mapfile -t COMPREPLY < <(compgen -W "--sessions" -- "$word") ;;
     prove:3) mapfile -t COMPREPLY < <(compgen -W "member increment" -- "$word") ;;
-    format:2 | append:2 | show:2 | prove:2 | prove:6 | check:2 | export:[23] | verify:2 | serve:[23] | loop:[23] | format:4 | verify:3)
+    format:2 | append:2 | close:2 | show:2 | prove:2 | prove:6 | check:2 | export:[23] | verify:2 | serve:[23] | loop:[23] | format:4 | verify:3)
         mapfile -t COMPREPLY < <(compgen -f -- "$word")
         ;;
     *) COMPREPLY=() ;;

@@ -67,6 +67,9 @@ fn plain_request<'a>(name: &str, given: &ArgMatches<'a>) -> Request<'a> {
         "append" => Request::Append {
             file: word(given, "FILE"),
         },
+        "close" => Request::Close {
+            file: word(given, "FILE"),
+        },
         "show" => Request::Show {
             file: word(given, "FILE"),
         },
@@ -113,6 +116,7 @@ fn with_store<'a>(alloc: Global, command: Command<'a>) -> Result<Command<'a>, Al
         .subcommand(replay_command(alloc))?
         .subcommand(format_command(alloc)?)?
         .subcommand(append_command(alloc)?)?
+        .subcommand(close_command(alloc)?)?
         .subcommand(show_command(alloc)?)
 }
 
@@ -158,6 +162,13 @@ fn append_command<'a>(alloc: Global) -> Result<Command<'a>, AllocError> {
     Command::new(alloc, "append")
         .about("Appends events from standard input, and prints a line for each batch")
         .after_help(LIMITS)
+        .arg(required(alloc, "FILE", "The file of the store"))
+}
+
+fn close_command<'a>(alloc: Global) -> Result<Command<'a>, AllocError> {
+    Command::new(alloc, "close")
+        .about("Closes the log of a store: its last entry says so, and no key is kept")
+        .after_help("Nothing can be appended to a closed log.")
         .arg(required(alloc, "FILE", "The file of the store"))
 }
 

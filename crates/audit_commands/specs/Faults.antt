@@ -46,7 +46,9 @@ status_of_refusal store.Worn = ends.Refused
 status_of_refusal store.Broken = ends.Refused
 status_of_refusal store.Device = ends.Device
 status_of_refusal store.Memory = ends.Memory
+status_of_refusal store.Closed = ends.Refused
 status_of_refusal store.BadSize = ends.Refused
+status_of_refusal store.ReservedKind = ends.Refused
 
 -- of an export that isn't verified
 abbrev pub status_of_cause : Cause → Status

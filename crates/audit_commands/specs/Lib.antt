@@ -8,5 +8,6 @@ pub mod Shown
 pub mod Gathering
 pub mod Proofs
 pub mod Appended
+pub mod Closing
 pub mod Exports
 pub mod Checks

@@ -2,6 +2,7 @@
 use crate::appending::append_lines;
 use crate::arguments::{ProofRequest, commitment_asked, proof_request, sectors_asked};
 use crate::checking::check_proof;
+use crate::closing::close_log;
 use crate::exporting::{write_entries, write_exported};
 use crate::fault::CommandFault;
 use crate::files::{make_device, open_store, replace_file};
@@ -41,6 +42,11 @@ pub enum Request<'a> {
     },
     /// Append the events of the input to the store in a file.
     Append {
+        /// The file.
+        file: &'a str,
+    },
+    /// Close the log of the store in a file.
+    Close {
         /// The file.
         file: &'a str,
     },
@@ -129,6 +135,7 @@ where
             key_file,
         } => format_file(rt, alloc, file, sectors, key_file, output),
         Request::Append { file } => append_to(rt, alloc, file, input, output),
+        Request::Close { file } => close_file(rt, alloc, file, output),
         Request::Show { file } => show_file(rt, alloc, file, output),
         Request::Check {
             proof,
@@ -194,6 +201,19 @@ where
 {
     let mut store = open_store(rt, alloc, file)?;
     append_lines(alloc, &mut store, input, output)
+}
+
+fn close_file<F: Files, W: Write>(
+    rt: &F,
+    alloc: Global,
+    file: &str,
+    output: &mut W,
+) -> Result<(), CommandFault>
+where
+    F::File: FileExt,
+{
+    let mut store = open_store(rt, alloc, file)?;
+    close_log(alloc, &mut store, output)
 }
 
 fn show_file<F: Files, W: Write>(

@@ -1,7 +1,8 @@
 //! What a store shows of itself.
-ghost use Rattle.std.specs.Prelude.{◌≡◌, IfOk, OnOk, OnErr};
+ghost use Rattle.std.specs.Prelude.{◌≡◌, ◌++◌, IfOk, OnOk, OnErr};
 ghost use Rattle.std.specs.Io.KnownBytes.{Appends};
 ghost use Rattle.audit_lines.specs.Writing.{WritesInPart};
+ghost use Rattle.audit_auditor.specs.ReportLines.{state_word};
 ghost use Rattle.audit_store.specs.Store.{counting};
 ghost use Rattle.audit_commands.specs.Shown.{shown_lines};
 
@@ -12,8 +13,8 @@ use audit_store::Store;
 use std::alloc::{AllocError, Global};
 use std::io::Write;
 
-/// Writes the line of the commitment, and that of the device's sectors, the end of the log, the generation and the
-/// version of the format.
+/// Writes the line of the commitment, and that of the device's sectors, the end of the log, the generation, the version
+/// of the format and whether the log is closed.
 pub fn show<D: Sectors, W: Write>(
     alloc: Global,
     store: &Store<D>,
@@ -40,6 +41,19 @@ fn lines_of<D: Sectors>(alloc: Global, store: &Store<D>) -> Result<Vec<u8>, Allo
     push_number(&mut lines, b" end ", store.end())?;
     push_number(&mut lines, b" generation ", store.generation())?;
     push_number(&mut lines, b" version ", store.version() as u64)?;
+    lines.extend_from_slice(b" state ")?;
+    push_state(&mut lines, store.closed())?;
     lines.extend_from_slice(b"\n")?;
     Ok(lines)
+}
+
+// Adds whether a log is closed.
+fn push_state(line: &mut Vec<u8>, closed: bool) -> Result<(), AllocError>
+    ensures { OnOk result (line.new.items ≡ line.old.items ++ state_word closed) }
+{
+    if closed {
+        line.extend_from_slice(b"closed")
+    } else {
+        line.extend_from_slice(b"open")
+    }
 }

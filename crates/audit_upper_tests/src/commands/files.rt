@@ -56,7 +56,7 @@ const KEY_TEXT: &str = "00000000000000000000000000000000000000000000000000000000
 
 const SHOWN: &str = "\
 commit 3 14f62f94f894a0899217375286c3fc9aff843acaf2f9244791534711b20d0109\n\
-sectors 10 end 5 generation 4 version 2\n";
+sectors 10 end 5 generation 4 version 2 state open\n";
 
 const ACK: &str = "ack 0 3 14f62f94f894a0899217375286c3fc9aff843acaf2f9244791534711b20d0109\n";
 

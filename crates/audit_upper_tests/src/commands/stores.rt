@@ -1,6 +1,8 @@
 // What is printed is that of an independent model, which shares no code with the program.
 use audit_chain::Key;
-use audit_commands::{CommandFault, ProofRequest, append_lines, format_device, proof_bytes, show};
+use audit_commands::{
+    CommandFault, ProofRequest, append_lines, close_log, format_device, proof_bytes, show,
+};
 use audit_disk::{FailOnce, MemDisk};
 use audit_lines::{LineFault, LinesFault};
 use audit_store::{Store, StoreError};
@@ -110,7 +112,25 @@ fn a_device_that_gets_full(rt: HostRuntime) -> Result<(), Fail> {
 const FULL: &[u8] = b"\
 ack 0 64 a83418fd433e7f04e15aa90e18627e4ef5c2345ea331ea929a36f93bf3b55e06\n\
 commit 64 a83418fd433e7f04e15aa90e18627e4ef5c2345ea331ea929a36f93bf3b55e06\n\
-sectors 66 end 66 generation 4 version 2\n";
+sectors 66 end 66 generation 4 version 2 state open\n";
+
+const CLOSED: &[u8] = b"\
+closed 1 2d575e5b39c1814e3d248ecf4d9cde1d3c9577c0c4900494c66ebaca6f5809f2\n\
+commit 1 2d575e5b39c1814e3d248ecf4d9cde1d3c9577c0c4900494c66ebaca6f5809f2\n\
+sectors 3 end 3 generation 4 version 2 state closed\n";
+
+// What is closed stays as it is.
+#[test]
+fn a_log_of_no_event_is_closed(rt: HostRuntime) -> Result<(), Fail> {
+    let mut store = empty_store(rt.alloc(), 3)?;
+    let mut output = Vec::new(rt.alloc());
+    close_log(rt.alloc(), &mut store, &mut output)?;
+    let fault = close_log(rt.alloc(), &mut store, &mut output).err();
+    assert!(rt; fault == Some(CommandFault::Refused(StoreError::Closed)));
+    show(rt.alloc(), &store, &mut output)?;
+    assert!(rt; output.as_slice() == CLOSED);
+    Ok(())
+}
 
 // The last line is bad, so that nothing is appended.
 #[test]
