@@ -54,6 +54,7 @@ fn core_of_no_events(
 fn header_of(sectors: u64, version: u16, generation: u64) -> anyhow::Result<[u8; SECTOR_SIZE]> {
     let header = Header {
         version,
+        closed: false,
         generation,
         sectors,
         count: 0,

@@ -13,6 +13,7 @@ use std::test::Fail;
 fn header(generation: u64, sectors: u64, some: bool) -> Header {
     Header {
         version: VERSION,
+        closed: false,
         generation,
         sectors,
         count: if some { 1 } else { 0 },
@@ -156,6 +157,7 @@ fn with_entry(rt: &impl Abort, alloc: Global, bytes: &[u8]) -> Result<MemDisk, F
 fn header_after(sealed: &Sealed) -> Header {
     Header {
         version: VERSION,
+        closed: false,
         generation: 4,
         sectors: 16,
         count: 1,

@@ -37,7 +37,7 @@ fn as_versions(
 }
 
 // The device of one event with the payload `hi` under the first version.
-fn first_of_hi(rt: &impl Abort, alloc: Global) -> Result<MemDisk, Fail> {
+pub(crate) fn first_of_hi(rt: &impl Abort, alloc: Global) -> Result<MemDisk, Fail> {
     let store = of_hi(alloc, MemDisk::new(alloc, 16)?)?;
     let sectors = as_versions(rt, alloc, store, [FIRST_VERSION, FIRST_VERSION])?;
     Ok(MemDisk::from_sectors(alloc, &sectors)?)
