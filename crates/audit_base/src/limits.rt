@@ -1,5 +1,5 @@
-//! The limits of the formats and of sessions. Where one follows from others it is their sum or product, so that raising one is a
-//! change of one line here and of the law that fixes its number.
+//! The limits of the formats and of sessions. Where one follows from others it is their sum or product, so that raising
+//! one is a change of one line here and of the law that fixes its number.
 
 /// The length of a SHA-256 digest (FIPS 180-4) in bytes, which is that of hashes, keys, links and MACs.
 pub const HASH_LEN: usize = 32;
@@ -10,7 +10,8 @@ pub const SECTOR_SIZE: usize = 512;
 /// The longest payload of an event, in bytes: with the rest of its entry it fills 64 sectors, which are a whole batch.
 pub const MAX_PAYLOAD: usize = 32_696;
 
-/// The longest payload in a store of the format's first version, in bytes: with the rest of its entry it fills 8 sectors.
+/// The longest payload in a store of the format's first version, in bytes: with the rest of its entry it fills 8
+/// sectors.
 pub const FIRST_MAX_PAYLOAD: usize = 4_024;
 
 /// The kind of the event that closes a log, which no other event may have.
