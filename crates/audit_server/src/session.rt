@@ -76,40 +76,40 @@ impl Session {
         self.ended
     }
 
-    /// Takes the next bytes of the session, of number `k`. Refused, it has taken the bytes before the one that made
-    /// whole what was refused.
+    /// Takes the next bytes of the session, which has this number. Refused, it has taken the bytes before the one that
+    /// made whole what was refused.
     pub(crate) fn feed<D: Sectors>(
         &mut self,
         committer: &mut Committer<D>,
         alloc: Global,
-        k: usize,
+        session: usize,
         piece: &[u8],
     ) -> Result<(), FeedFault>
-        requires session { k < SESSIONS }
+        requires session { session < SESSIONS }
         requires sound { is_broken (store_of committer.old) ≡ false }
-        ensures { IsFed k piece.now self.old self.new committer.old committer.new result }
+        ensures { IsFed session piece.now self.old self.new committer.old committer.new result }
     {
         if self.ended {
             return Ok(());
         }
-        self.feed_live(committer, alloc, k, piece)
+        self.feed_live(committer, alloc, session, piece)
     }
 
     fn feed_live<D: Sectors>(
         &mut self,
         committer: &mut Committer<D>,
         alloc: Global,
-        k: usize,
+        session: usize,
         piece: &[u8],
     ) -> Result<(), FeedFault>
-        requires session { k < SESSIONS }
+        requires session { session < SESSIONS }
         requires sound { is_broken (store_of committer.old) ≡ false }
         requires live { self.old.ended ≡ false }
-        ensures { IsFed k piece.now self.old self.new committer.old committer.new result }
+        ensures { IsFed session piece.now self.old self.new committer.old committer.new result }
     {
         let mut taken = 0;
         loop {
-            match self.take_front(committer, alloc, k, &piece[taken..]) {
+            match self.take_front(committer, alloc, session, &piece[taken..]) {
                 Ok(Front::Request { taken: more }) => taken += more,
                 Ok(Front::Part) => return Ok(()),
                 Ok(Front::Malformed) => return Ok(()),
@@ -128,19 +128,19 @@ impl Session {
         &mut self,
         committer: &mut Committer<D>,
         alloc: Global,
-        k: usize,
+        session: usize,
         piece: &[u8],
     ) -> Result<Front, FeedFault>
-        requires session { k < SESSIONS }
+        requires session { session < SESSIONS }
         requires live { self.old.ended ≡ false }
-        ensures { IsFront k piece.now self.old self.new committer.old committer.new result }
+        ensures { IsFront session piece.now self.old self.new committer.old committer.new result }
     {
         let fed = self.decoder.feed(piece);
         let Some(taken) = place_after(fed) else {
             return Ok(Front::Part);
         };
         // A malformed length lends no bytes, and no bytes are no request.
-        match enter_body(committer, alloc, k, self.decoder.body()) {
+        match enter_body(committer, alloc, session, self.decoder.body()) {
             Ok(Item::Request) => Ok(Front::Request { taken }),
             Ok(Item::Malformed) => {
                 self.ended = true;
@@ -154,17 +154,17 @@ impl Session {
         }
     }
 
-    /// Ends the session, of number `k`: a frame that is begun is malformed then. Refused, it has not ended.
+    /// Ends the session, which has this number: a frame that is begun is malformed then. Refused, it has not ended.
     pub(crate) fn end<D: Sectors>(
         &mut self,
         committer: &mut Committer<D>,
-        k: usize,
+        session: usize,
     ) -> Result<(), StoreError>
-        requires session { k < SESSIONS }
+        requires session { session < SESSIONS }
         requires sound { is_broken (store_of committer.old) ≡ false }
-        ensures { IsEnd k self.old self.new committer.old committer.new result }
+        ensures { IsEnd session self.old self.new committer.old committer.new result }
     {
-        match self.end_frame(committer, k) {
+        match self.end_frame(committer, session) {
             Ok(()) => {
                 self.ended = true;
                 Ok(())
@@ -177,16 +177,16 @@ impl Session {
     fn end_frame<D: Sectors>(
         &self,
         committer: &mut Committer<D>,
-        k: usize,
+        session: usize,
     ) -> Result<(), StoreError>
-        requires session { k < SESSIONS }
+        requires session { session < SESSIONS }
         requires sound { is_broken (store_of committer.old) ≡ false }
-        ensures { IsFrameEnd k self.now committer.old committer.new result }
+        ensures { IsFrameEnd session self.now committer.old committer.new result }
     {
         if self.ended || !self.decoder.pending() {
             return Ok(());
         }
         let query = Query::Malformed;
-        committer.ask(Question { session: k, query })
+        committer.ask(Question { session, query })
     }
 }

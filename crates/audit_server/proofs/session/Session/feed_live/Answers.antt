@@ -10,7 +10,7 @@ tail_is : (taken : ℕ) (piece : List ℕ) → taken ≤ length piece → take (
 tail_is taken piece within = take_all (length piece - taken) (drop taken piece) (omega (arith, within, length-drop taken piece))
 
 pub loop-more-init : goal.loop-more-init
-loop-more-init g c = fed_start c.args.k c.args.piece.now c.args.self.now c.args.committer.now c.requires.live c.requires.sound
+loop-more-init g c = fed_start c.args.session c.args.piece.now c.args.self.now c.args.committer.now c.requires.live c.requires.sound
 
 pub take_front-requires-clause-live : goal.take_front-requires-clause-live
 take_front-requires-clause-live g c = c.loop-more.invariant.live
@@ -18,37 +18,37 @@ take_front-requires-clause-live g c = c.loop-more.invariant.live
 pub loop-more-smaller : goal.loop-more-smaller
 loop-more-smaller g c =
     let within : c.loop-more.taken ≤ length c.args.piece.now = c.loop-more.invariant.within in
-    let front : IsWhole c.args.k (drop c.loop-more.taken c.args.piece.now) c.in-Ok-Request.more c.loop-more.self c.take_front.new.self c.loop-more.committer c.take_front.new.committer =
-    subst (λ (tail : List ℕ). IsWhole c.args.k tail c.in-Ok-Request.more c.loop-more.self c.take_front.new.self c.loop-more.committer c.take_front.new.committer) (tail_is c.loop-more.taken c.args.piece.now within)
-    (subst (λ (it : Front). IsFront c.args.k (take (length c.args.piece.now - c.loop-more.taken) (drop c.loop-more.taken c.args.piece.now)) c.loop-more.self c.take_front.new.self c.loop-more.committer c.take_front.new.committer (Ok it))
+    let front : IsWhole c.args.session (drop c.loop-more.taken c.args.piece.now) c.in-Ok-Request.more c.loop-more.self c.take_front.new.self c.loop-more.committer c.take_front.new.committer =
+    subst (λ (tail : List ℕ). IsWhole c.args.session tail c.in-Ok-Request.more c.loop-more.self c.take_front.new.self c.loop-more.committer c.take_front.new.committer) (tail_is c.loop-more.taken c.args.piece.now within)
+    (subst (λ (it : Front). IsFront c.args.session (take (length c.args.piece.now - c.loop-more.taken) (drop c.loop-more.taken c.args.piece.now)) c.loop-more.self c.take_front.new.self c.loop-more.committer c.take_front.new.committer (Ok it))
     c.in-Ok-Request.field-0-is c.in-Ok-Request.ensures) in
     omega (arith, front.some, front.within, within, length-drop c.loop-more.taken c.args.piece.now)
 
 pub loop-more-preserved : goal.loop-more-preserved
 loop-more-preserved g c =
     let within : c.loop-more.taken ≤ length c.args.piece.now = c.loop-more.invariant.within in
-    let front : IsWhole c.args.k (drop c.loop-more.taken c.args.piece.now) c.in-Ok-Request.more c.loop-more.self c.take_front.new.self c.loop-more.committer c.take_front.new.committer =
-    subst (λ (tail : List ℕ). IsWhole c.args.k tail c.in-Ok-Request.more c.loop-more.self c.take_front.new.self c.loop-more.committer c.take_front.new.committer) (tail_is c.loop-more.taken c.args.piece.now within)
-    (subst (λ (it : Front). IsFront c.args.k (take (length c.args.piece.now - c.loop-more.taken) (drop c.loop-more.taken c.args.piece.now)) c.loop-more.self c.take_front.new.self c.loop-more.committer c.take_front.new.committer (Ok it))
+    let front : IsWhole c.args.session (drop c.loop-more.taken c.args.piece.now) c.in-Ok-Request.more c.loop-more.self c.take_front.new.self c.loop-more.committer c.take_front.new.committer =
+    subst (λ (tail : List ℕ). IsWhole c.args.session tail c.in-Ok-Request.more c.loop-more.self c.take_front.new.self c.loop-more.committer c.take_front.new.committer) (tail_is c.loop-more.taken c.args.piece.now within)
+    (subst (λ (it : Front). IsFront c.args.session (take (length c.args.piece.now - c.loop-more.taken) (drop c.loop-more.taken c.args.piece.now)) c.loop-more.self c.take_front.new.self c.loop-more.committer c.take_front.new.committer (Ok it))
     c.in-Ok-Request.field-0-is c.in-Ok-Request.ensures) in
-    fed_more c.args.k c.args.piece.now c.loop-more.taken c.args.self.now c.loop-more.self c.take_front.new.self c.args.committer.now c.loop-more.committer c.take_front.new.committer c.loop-more.invariant c.in-Ok-Request.more front
+    fed_more c.args.session c.args.piece.now c.loop-more.taken c.args.self.now c.loop-more.self c.take_front.new.self c.args.committer.now c.loop-more.committer c.take_front.new.committer c.loop-more.invariant c.in-Ok-Request.more front
 
 pub returns-in-Ok-Part : goal.returns-in-Ok-Part
 returns-in-Ok-Part g c =
-    let P : List ℕ → Front → Type 0 = λ tail it. IsFront c.args.k tail c.loop-more.self c.take_front.new.self c.loop-more.committer c.take_front.new.committer (Ok it) in
-    fed_part c.args.k c.args.piece.now c.loop-more.taken c.args.self.now c.loop-more.self c.take_front.new.self c.args.committer.now c.loop-more.committer c.take_front.new.committer c.loop-more.invariant
+    let P : List ℕ → Front → Type 0 = λ tail it. IsFront c.args.session tail c.loop-more.self c.take_front.new.self c.loop-more.committer c.take_front.new.committer (Ok it) in
+    fed_part c.args.session c.args.piece.now c.loop-more.taken c.args.self.now c.loop-more.self c.take_front.new.self c.args.committer.now c.loop-more.committer c.take_front.new.committer c.loop-more.invariant
     (subst (λ (tail : List ℕ). P tail front.Part) (tail_is c.loop-more.taken c.args.piece.now c.loop-more.invariant.within)
     (subst (P (take (length c.args.piece.now - c.loop-more.taken) (drop c.loop-more.taken c.args.piece.now))) c.in-Ok-Part.field-0-is c.in-Ok-Part.ensures))
 
 pub returns-in-Ok-Malformed : goal.returns-in-Ok-Malformed
 returns-in-Ok-Malformed g c =
-    let P : List ℕ → Front → Type 0 = λ tail it. IsFront c.args.k tail c.loop-more.self c.take_front.new.self c.loop-more.committer c.take_front.new.committer (Ok it) in
-    fed_spoiled c.args.k c.args.piece.now c.loop-more.taken c.args.self.now c.loop-more.self c.take_front.new.self c.args.committer.now c.loop-more.committer c.take_front.new.committer c.loop-more.invariant
+    let P : List ℕ → Front → Type 0 = λ tail it. IsFront c.args.session tail c.loop-more.self c.take_front.new.self c.loop-more.committer c.take_front.new.committer (Ok it) in
+    fed_spoiled c.args.session c.args.piece.now c.loop-more.taken c.args.self.now c.loop-more.self c.take_front.new.self c.args.committer.now c.loop-more.committer c.take_front.new.committer c.loop-more.invariant
     (subst (λ (tail : List ℕ). P tail front.Malformed) (tail_is c.loop-more.taken c.args.piece.now c.loop-more.invariant.within)
     (subst (P (take (length c.args.piece.now - c.loop-more.taken) (drop c.loop-more.taken c.args.piece.now))) c.in-Ok-Malformed.field-0-is c.in-Ok-Malformed.ensures))
 
 pub returns-in-Err : goal.returns-in-Err
 returns-in-Err g c =
-    fed_err c.args.k c.args.piece.now c.loop-more.taken c.args.self.now c.loop-more.self c.take_front.new.self c.args.committer.now c.loop-more.committer c.take_front.new.committer c.loop-more.invariant c.in-Err.fault
-    (subst (λ (tail : List ℕ). IsFront c.args.k tail c.loop-more.self c.take_front.new.self c.loop-more.committer c.take_front.new.committer (Err c.in-Err.fault)) (tail_is c.loop-more.taken c.args.piece.now c.loop-more.invariant.within)
+    fed_err c.args.session c.args.piece.now c.loop-more.taken c.args.self.now c.loop-more.self c.take_front.new.self c.args.committer.now c.loop-more.committer c.take_front.new.committer c.loop-more.invariant c.in-Err.fault
+    (subst (λ (tail : List ℕ). IsFront c.args.session tail c.loop-more.self c.take_front.new.self c.loop-more.committer c.take_front.new.committer (Err c.in-Err.fault)) (tail_is c.loop-more.taken c.args.piece.now c.loop-more.invariant.within)
     c.in-Err.ensures)

@@ -13,23 +13,23 @@ returns-in_default g c =
 
 pub invariant_of-self-in-Ok-Request : goal.invariant_of-self-in-Ok-Request
 invariant_of-self-in-Ok-Request g c =
-    let found = subst (λ (item : Item). IsItem c.args.k c.body.result.now c.args.committer.now c.enter_body.new.committer (Ok item)) c.in-Ok-Request.field-0-is c.in-Ok-Request.ensures in
+    let found = subst (λ (item : Item). IsItem c.args.session c.body.result.now c.args.committer.now c.enter_body.new.committer (Ok item)) c.in-Ok-Request.field-0-is c.in-Ok-Request.ensures in
     λ live. not_spoiled c.feed-fed.new.self found.0 (ap request_in (sym c.body.ensures.body) ∙ found.1)
 
 pub returns-in-Ok-Request : goal.returns-in-Ok-Request
 returns-in-Ok-Request g c =
-    let found = subst (λ (item : Item). IsItem c.args.k c.body.result.now c.args.committer.now c.enter_body.new.committer (Ok item)) c.in-Ok-Request.field-0-is c.in-Ok-Request.ensures in
+    let found = subst (λ (item : Item). IsItem c.args.session c.body.result.now c.args.committer.now c.enter_body.new.committer (Ok item)) c.in-Ok-Request.field-0-is c.in-Ok-Request.ensures in
     let shows : Shows c.self.inside.decoder c.self.inside.ended c.args.self.now = record { view = c.self.view_is; live = c.requires.live; inside = c.self.invariant } in
-    whole_done c.args.k c.feed-fed.new.self c.args.piece.now c.in-Some.taken c.args.committer.now c.enter_body.new.committer found.0 shows
+    whole_done c.args.session c.feed-fed.new.self c.args.piece.now c.in-Some.taken c.args.committer.now c.enter_body.new.committer found.0 shows
     (front_ended c.self.inside.decoder c.feed-fed.new.self c.args.piece.now c.feed-fed.result c.in-Some.taken (unspoiled shows) c.feed-fed.ensures.fed (sym c.place_after.ensures ∙ c.in-Some.is))
     (ap request_in (sym c.body.ensures.body) ∙ found.1)
     found.2
 
 pub returns-in-Ok-Malformed : goal.returns-in-Ok-Malformed
 returns-in-Ok-Malformed g c =
-    let found = subst (λ (item : Item). IsItem c.args.k c.body.result.now c.args.committer.now c.enter_body.new.committer (Ok item)) c.in-Ok-Malformed.field-0-is c.in-Ok-Malformed.ensures in
+    let found = subst (λ (item : Item). IsItem c.args.session c.body.result.now c.args.committer.now c.enter_body.new.committer (Ok item)) c.in-Ok-Malformed.field-0-is c.in-Ok-Malformed.ensures in
     let shows : Shows c.self.inside.decoder c.self.inside.ended c.args.self.now = record { view = c.self.view_is; live = c.requires.live; inside = c.self.invariant } in
-    spoiled_done c.args.k c.feed-fed.new.self c.args.piece.now c.in-Some.taken c.args.committer.now c.enter_body.new.committer shows
+    spoiled_done c.args.session c.feed-fed.new.self c.args.piece.now c.in-Some.taken c.args.committer.now c.enter_body.new.committer shows
     (front_ended c.self.inside.decoder c.feed-fed.new.self c.args.piece.now c.feed-fed.result c.in-Some.taken (unspoiled shows) c.feed-fed.ensures.fed (sym c.place_after.ensures ∙ c.in-Some.is))
     (ap request_in (sym c.body.ensures.body) ∙ found.0)
     found.1
@@ -37,9 +37,9 @@ returns-in-Ok-Malformed g c =
 pub returns-in-Err : goal.returns-in-Err
 returns-in-Err g c =
     let shows : Shows c.self.inside.decoder c.self.inside.ended c.args.self.now = record { view = c.self.view_is; live = c.requires.live; inside = c.self.invariant } in
-    untaken_done c.args.k c.feed-fed.new.self c.put_back.new.self c.args.piece.now c.feed-fed.result c.in-Some.taken c.args.committer.now c.enter_body.new.committer c.in-Err.error shows
+    untaken_done c.args.session c.feed-fed.new.self c.put_back.new.self c.args.piece.now c.feed-fed.result c.in-Some.taken c.args.committer.now c.enter_body.new.committer c.in-Err.error shows
     (front_ended c.self.inside.decoder c.feed-fed.new.self c.args.piece.now c.feed-fed.result c.in-Some.taken (unspoiled shows) c.feed-fed.ensures.fed (sym c.place_after.ensures ∙ c.in-Some.is))
     c.feed-fed.ensures.fed
     (sym c.place_after.ensures ∙ c.in-Some.is)
     c.put_back.ensures.before
-    (subst (λ (body : List ℕ). Enters (arrival_by c.args.k (request_in body)) c.args.committer.now c.enter_body.new.committer (Err c.in-Err.error)) c.body.ensures.body c.in-Err.ensures)
+    (subst (λ (body : List ℕ). Enters (arrival_by c.args.session (request_in body)) c.args.committer.now c.enter_body.new.committer (Err c.in-Err.error)) c.body.ensures.body c.in-Err.ensures)
