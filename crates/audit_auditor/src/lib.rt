@@ -10,4 +10,4 @@ mod verifying;
 pub use checking::{Proof, judge_proof, read_proof, write_judgment};
 pub use commitment_word::commitment_of;
 pub use fault::AuditorFault;
-pub use verifying::{verify_export, write_report};
+pub use verifying::{push_state, verify_export, write_report};

@@ -1,12 +1,12 @@
 //! What a store shows of itself.
-ghost use Rattle.std.specs.Prelude.{◌≡◌, ◌++◌, IfOk, OnOk, OnErr};
+ghost use Rattle.std.specs.Prelude.{◌≡◌, IfOk, OnOk, OnErr};
 ghost use Rattle.std.specs.Io.KnownBytes.{Appends};
 ghost use Rattle.audit_lines.specs.Writing.{WritesInPart};
-ghost use Rattle.audit_auditor.specs.ReportLines.{state_word};
 ghost use Rattle.audit_store.specs.Store.{counting};
 ghost use Rattle.audit_commands.specs.Shown.{shown_lines};
 
 use crate::fault::CommandFault;
+use audit_auditor::push_state;
 use audit_device::Sectors;
 use audit_lines::{push_number, put_line, write_whole};
 use audit_store::Store;
@@ -45,15 +45,4 @@ fn lines_of<D: Sectors>(alloc: Global, store: &Store<D>) -> Result<Vec<u8>, Allo
     push_state(&mut lines, store.closed())?;
     lines.extend_from_slice(b"\n")?;
     Ok(lines)
-}
-
-// Adds whether a log is closed.
-fn push_state(line: &mut Vec<u8>, closed: bool) -> Result<(), AllocError>
-    ensures { OnOk result (line.new.items ≡ line.old.items ++ state_word closed) }
-{
-    if closed {
-        line.extend_from_slice(b"closed")
-    } else {
-        line.extend_from_slice(b"open")
-    }
 }
