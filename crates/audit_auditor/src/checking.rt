@@ -52,7 +52,7 @@ pub fn judge_proof(proof: &Proof, older: &Commitment, newer: Option<Commitment>)
                 && increment.newer == newer.count
                 && accepts_increment(older, &newer, &increment.hashes),
         ),
-        _ => None,
+        (Proof::Member(_), Some(_)) | (Proof::Increment(_), None) => None,
     }
 }
 

@@ -55,7 +55,9 @@ impl CommandFault {
             CommandFault::File => Status::Device,
             CommandFault::Lines(LinesFault::Memory) => Status::Memory,
             CommandFault::Lines(LinesFault::Read | LinesFault::Write) => Status::Device,
-            CommandFault::Lines(_) => Status::Refused,
+            CommandFault::Lines(LinesFault::InputTooLong | LinesFault::Line { .. }) => {
+                Status::Refused
+            }
             CommandFault::Refused(StoreError::Memory) => Status::Memory,
             CommandFault::Refused(StoreError::Device) => Status::Device,
             CommandFault::Refused(_) => Status::Refused,
@@ -131,7 +133,12 @@ fn status_of_cause(cause: Cause) -> Status
     match cause {
         Cause::ReadFault => Status::Device,
         Cause::Memory => Status::Memory,
-        _ => Status::Refused,
+        Cause::Short
+        | Cause::BadLength
+        | Cause::BadLink
+        | Cause::BadMac
+        | Cause::WrongCommitment
+        | Cause::BadClose => Status::Refused,
     }
 }
 

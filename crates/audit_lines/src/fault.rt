@@ -57,7 +57,9 @@ impl From<FromHexError> for LineError {
     fn from(error: FromHexError) -> Self {
         match error {
             FromHexError::OutOfMemory => LineError::Memory,
-            _ => LineError::Fault(LineFault::BadEventLine),
+            FromHexError::InvalidHexCharacter { .. }
+            | FromHexError::OddLength
+            | FromHexError::InvalidStringLength => LineError::Fault(LineFault::BadEventLine),
         }
     }
 }

@@ -19,7 +19,7 @@ impl Health {
     {
         match self {
             Health::Closed => Health::Closed,
-            _ => Health::ReadFailed,
+            Health::Sound | Health::ReadFailed => Health::ReadFailed,
         }
     }
 }

@@ -17,6 +17,10 @@ pub fn bytes_of_line(alloc: Global, line: &[u8]) -> Result<Option<Vec<u8>>, Allo
     match hex::decode(alloc, line) {
         Ok(bytes) => Ok(Some(bytes)),
         Err(FromHexError::OutOfMemory) => Err(AllocError),
-        Err(_) => Ok(None),
+        Err(
+            FromHexError::InvalidHexCharacter { .. }
+            | FromHexError::OddLength
+            | FromHexError::InvalidStringLength,
+        ) => Ok(None),
     }
 }

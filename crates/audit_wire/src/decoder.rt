@@ -111,7 +111,7 @@ impl Decoder {
     {
         match self.state {
             State::Whole => &self.frame[LENGTH_BYTES..],
-            _ => &[],
+            State::Reading | State::Malformed | State::Closed => &[],
         }
     }
 
