@@ -35,6 +35,42 @@ pub struct Way {
     pub count: u64,
 }
 
+impl Way {
+    ghost use Rattle.std.specs.Prelude.{◌≡◌, ◌-◌, ◌≤◌};
+
+    /// The way without its last step, where that comes from the left half of the node at its end.
+    pub(crate) fn in_left_half(self) -> Way
+        requires { 1 ≤ self.height }
+        ensures { result
+            ≡ record { from = self.from; height = self.height - 1; place = self.place; count = self.count } }
+    {
+        Way {
+            height: self.height - 1,
+            ..self
+        }
+    }
+
+    /// The same from the right half, which begins after so many leaves.
+    pub(crate) fn in_right_half(self, leaves: u64) -> Way
+        requires height { 1 ≤ self.height }
+        requires place { leaves ≤ self.place }
+        requires count { leaves ≤ self.count }
+        ensures { result ≡ record {
+          from = self.from;
+          height = self.height - 1;
+          place = self.place - leaves;
+          count = self.count - leaves;
+        } }
+    {
+        Way {
+            from: self.from,
+            height: self.height - 1,
+            place: self.place - leaves,
+            count: self.count - leaves,
+        }
+    }
+}
+
 /// What a climb has reached: a value, and how many hashes it used.
 #[derive(Clone, Copy)]
 pub struct Reached<V> {
@@ -93,24 +129,12 @@ pub fn climb_from<C: Climber>(
     let layer = way.from + height;
     let half = 1 << layer;
     if half <= way.place {
-        let right = Way {
-            from: way.from,
-            height,
-            place: way.place - half,
-            count: way.count - half,
-        };
-        return match climb_from(climber, right, value, hashes) {
+        return match climb_from(climber, way.in_right_half(half), value, hashes) {
             None => None,
             Some(lower) => reach_with(climber, layer, Side::Left, lower, hashes),
         };
     }
-    let left = Way {
-        from: way.from,
-        height,
-        place: way.place,
-        count: way.count,
-    };
-    match climb_from(climber, left, value, hashes) {
+    match climb_from(climber, way.in_left_half(), value, hashes) {
         None => None,
         Some(lower) => {
             if way.count <= half {

@@ -155,13 +155,7 @@ pub fn meet<T: TextHash>(
     let height = way.height - 1;
     let half = 1 << (way.from + height);
     if half <= way.place {
-        let upper = Way {
-            from: way.from,
-            height,
-            place: way.place - half,
-            count: way.count - half,
-        };
-        return match meet(alloc, hash, upper, left, right)? {
+        return match meet(alloc, hash, way.in_right_half(half), left, right)? {
             Meeting::Apart(over_left, over_right) => meet_with(
                 alloc,
                 hash,
@@ -174,13 +168,7 @@ pub fn meet<T: TextHash>(
             other => Ok(other),
         };
     }
-    let lower = Way {
-        from: way.from,
-        height,
-        place: way.place,
-        count: way.count,
-    };
-    match meet(alloc, hash, lower, left, right)? {
+    match meet(alloc, hash, way.in_left_half(), left, right)? {
         Meeting::Apart(over_left, over_right) => {
             if way.count <= half {
                 meet_alone(alloc, hash, over_left, over_right)

@@ -129,12 +129,7 @@ pub fn shared_node<T: TextHash>(
     let height = way.height - 1;
     let half = 1 << (way.from + height);
     if half <= way.place {
-        let right = Way {
-            from: way.from,
-            height,
-            place: way.place - half,
-            count: way.count - half,
-        };
+        let right = way.in_right_half(half);
         if index < half {
             return left_node(alloc, climber, right, first, hashes);
         }
@@ -143,13 +138,7 @@ pub fn shared_node<T: TextHash>(
             Some(lower) => with_left(lower, hashes),
         };
     }
-    let left = Way {
-        from: way.from,
-        height,
-        place: way.place,
-        count: way.count,
-    };
-    match shared_node(alloc, climber, left, index, first, hashes)? {
+    match shared_node(alloc, climber, way.in_left_half(), index, first, hashes)? {
         None => Ok(None),
         Some(lower) => {
             if way.count <= half {

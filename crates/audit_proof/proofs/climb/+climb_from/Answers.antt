@@ -18,7 +18,7 @@ returns-in-None-clause-reached g t c =
     let half : 1 * 2 ^ (way.from + height) % 2 ^ 64 ≡ 2 ^ (way.from + height) =
     one_shl (way.from + height) 64 (omega (arith, c.requires.top, c.if-way-eq0.false)) in
     ap (up_with (steps.with_left (way.from + height)))
-    (c.in-None.ensures.reached ∙ ap (λ n. climb steps way.from height (way.place - n) (way.count - n) c.args.value c.args.hashes.now) half)
+    ((rw c.in_right_half.ensures at c.in-None.ensures.reached) ∙ ap (λ n. climb steps way.from height (way.place - n) (way.count - n) c.args.value c.args.hashes.now) half)
     ∙ sym (climb-left steps way.from height way.place way.count c.args.value c.args.hashes.now (omega (arith, half, c.if-half-way.true)))
     ∙ ap (λ k. climb steps way.from k way.place way.count c.args.value c.args.hashes.now) up
 
@@ -32,7 +32,7 @@ returns-in-Some-clause-reached g t c =
     one_shl (way.from + height) 64 (omega (arith, c.requires.top, c.if-way-eq0.false)) in
     c.reach_with.ensures.reached
     ∙ ap (up_with (steps.with_left (way.from + height)))
-    (c.in-Some.ensures.reached ∙ ap (λ n. climb steps way.from height (way.place - n) (way.count - n) c.args.value c.args.hashes.now) half)
+    ((rw c.in_right_half.ensures at c.in-Some.ensures.reached) ∙ ap (λ n. climb steps way.from height (way.place - n) (way.count - n) c.args.value c.args.hashes.now) half)
     ∙ sym (climb-left steps way.from height way.place way.count c.args.value c.args.hashes.now (omega (arith, half, c.if-half-way.true)))
     ∙ ap (λ k. climb steps way.from k way.place way.count c.args.value c.args.hashes.now) up
 
@@ -45,7 +45,7 @@ returns-in-None-climb_from-clause-reached g t c =
     let half : 1 * 2 ^ (way.from + height) % 2 ^ 64 ≡ 2 ^ (way.from + height) =
     one_shl (way.from + height) 64 (omega (arith, c.requires.top, c.if-way-eq0.false)) in
     sym (climb-lost steps way.from height way.place way.count c.args.value c.args.hashes.now
-    (omega (arith, half, c.if-half-way.false)) (sym c.in-None-climb_from.ensures.reached))
+    (omega (arith, half, c.if-half-way.false)) (sym (rw c.in_left_half.ensures at c.in-None-climb_from.ensures.reached)))
     ∙ ap (λ k. climb steps way.from k way.place way.count c.args.value c.args.hashes.now) up
 
 pub returns-then-way-half-clause-reached : goal.returns-then-way-half-clause-reached
@@ -58,7 +58,7 @@ returns-then-way-half-clause-reached g t c =
     one_shl (way.from + height) 64 (omega (arith, c.requires.top, c.if-way-eq0.false)) in
     ap (λ n. Some (c.reach_alone.result.value, drop n c.args.hashes.now)) c.reach_alone.ensures.used
     ∙ ap (λ v. Some (v, drop c.in-Some-climb_from.lower.used c.args.hashes.now)) c.reach_alone.ensures.value
-    ∙ ap (up_alone (steps.alone (way.from + height))) c.in-Some-climb_from.ensures.reached
+    ∙ ap (up_alone (steps.alone (way.from + height))) (rw c.in_left_half.ensures at c.in-Some-climb_from.ensures.reached)
     ∙ sym (climb-alone steps way.from height way.place way.count c.args.value c.args.hashes.now
     (omega (arith, half, c.if-half-way.false)) (omega (arith, half, c.if-way-half.true)))
     ∙ ap (λ k. climb steps way.from k way.place way.count c.args.value c.args.hashes.now) up
@@ -72,7 +72,7 @@ returns-else-way-half-clause-reached g t c =
     let half : 1 * 2 ^ (way.from + height) % 2 ^ 64 ≡ 2 ^ (way.from + height) =
     one_shl (way.from + height) 64 (omega (arith, c.requires.top, c.if-way-eq0.false)) in
     c.reach_with-else-way-half.ensures.reached
-    ∙ ap (up_with (steps.with_right (way.from + height))) c.in-Some-climb_from.ensures.reached
+    ∙ ap (up_with (steps.with_right (way.from + height))) (rw c.in_left_half.ensures at c.in-Some-climb_from.ensures.reached)
     ∙ sym (climb-right steps way.from height way.place way.count c.args.value c.args.hashes.now
     (omega (arith, half, c.if-half-way.false)) (omega (arith, half, c.if-way-half.false)))
     ∙ ap (λ k. climb steps way.from k way.place way.count c.args.value c.args.hashes.now) up

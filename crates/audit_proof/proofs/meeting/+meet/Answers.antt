@@ -36,7 +36,7 @@ returns-in-Apart g t c =
     let up : suc height ≡ way.height = omega (arith, c.if-way-eq0.false) in
     let half : 1 * 2 ^ (way.from + height) % 2 ^ 64 ≡ 2 ^ (way.from + height) =
     one_shl (way.from + height) 64 (omega (arith, c.requires.top, c.if-way-eq0.false)) in
-    let apart = rw c.in-Apart.is at c.in_ok-other.ensures in
+    let apart = rw c.in_right_half.ensures at (rw c.in-Apart.is at c.in_ok-other.ensures) in
     let over = λ (value : List ℕ) (hashes : List (List ℕ)) (below : Climbed (List ℕ)) (reached : climb steps way.from height (way.place - 1 * 2 ^ (way.from + height) % 2 ^ 64) (way.count - 1 * 2 ^ (way.from + height) % 2 ^ 64) value hashes ≡ below).
     ap (up_with (steps.with_left 0)) (sym reached ∙ ap (λ n. climb steps way.from height (way.place - n) (way.count - n) value hashes) half)
     ∙ sym (climb-left steps way.from height way.place way.count value hashes (omega (arith, half, c.if-half-way.true)))
@@ -59,7 +59,7 @@ returns-in_default g t c =
     ap (λ k. climb steps way.from k way.place way.count value hashes) (sym up)
     ∙ climb-left steps way.from height way.place way.count value hashes (omega (arith, half, c.if-half-way.true))
     ∙ ap (up_with (steps.with_left 0)) (ap (λ n. climb steps way.from height (way.place - n) (way.count - n) value hashes) (sym half) ∙ none) in
-    meeting_up H left.hashes.now right.hashes.now c.in_ok-other.other _ _ _ _ c.in_ok-other.ensures c.in_default.not-Apart
+    meeting_up H left.hashes.now right.hashes.now c.in_ok-other.other _ _ _ _ (rw c.in_right_half.ensures at c.in_ok-other.ensures) c.in_default.not-Apart
     (lost left.value.now left.hashes.now) (lost right.value.now right.hashes.now)
 
 pub returns-then-way-half : goal.returns-then-way-half
@@ -73,7 +73,7 @@ returns-then-way-half g t c =
     let up : suc height ≡ way.height = omega (arith, c.if-way-eq0.false) in
     let half : 1 * 2 ^ (way.from + height) % 2 ^ 64 ≡ 2 ^ (way.from + height) =
     one_shl (way.from + height) 64 (omega (arith, c.requires.top, c.if-way-eq0.false)) in
-    let apart = rw c.in-Apart-2.is at c.in_ok-other-2.ensures in
+    let apart = rw c.in_left_half.ensures at (rw c.in-Apart-2.is at c.in_ok-other-2.ensures) in
     let over = λ (value : List ℕ) (hashes : List (List ℕ)) (below : Climbed (List ℕ)) (reached : climb steps way.from height way.place way.count value hashes ≡ below).
     ap (up_alone (steps.alone 0)) (sym reached)
     ∙ sym (climb-alone steps way.from height way.place way.count value hashes (omega (arith, half, c.if-half-way.false)) (omega (arith, half, c.if-way-half.true)))
@@ -92,7 +92,7 @@ returns-else-way-half g t c =
     let up : suc height ≡ way.height = omega (arith, c.if-way-eq0.false) in
     let half : 1 * 2 ^ (way.from + height) % 2 ^ 64 ≡ 2 ^ (way.from + height) =
     one_shl (way.from + height) 64 (omega (arith, c.requires.top, c.if-way-eq0.false)) in
-    let apart = rw c.in-Apart-2.is at c.in_ok-other-2.ensures in
+    let apart = rw c.in_left_half.ensures at (rw c.in-Apart-2.is at c.in_ok-other-2.ensures) in
     let over = λ (value : List ℕ) (hashes : List (List ℕ)) (below : Climbed (List ℕ)) (reached : climb steps way.from height way.place way.count value hashes ≡ below).
     ap (up_with (steps.with_right 0)) (sym reached)
     ∙ sym (climb-right steps way.from height way.place way.count value hashes (omega (arith, half, c.if-half-way.false)) (omega (arith, half, c.if-way-half.false)))
@@ -114,5 +114,5 @@ returns-in_default-2 g t c =
     let lost = λ (value : List ℕ) (hashes : List (List ℕ)) (none : climb steps way.from height way.place way.count value hashes ≡ None).
     ap (λ k. climb steps way.from k way.place way.count value hashes) (sym up)
     ∙ climb-lost steps way.from height way.place way.count value hashes (omega (arith, half, c.if-half-way.false)) none in
-    meeting_up H left.hashes.now right.hashes.now c.in_ok-other-2.other _ _ _ _ c.in_ok-other-2.ensures c.in_default-2.not-Apart
+    meeting_up H left.hashes.now right.hashes.now c.in_ok-other-2.other _ _ _ _ (rw c.in_left_half.ensures at c.in_ok-other-2.ensures) c.in_default-2.not-Apart
     (lost left.value.now left.hashes.now) (lost right.value.now right.hashes.now)

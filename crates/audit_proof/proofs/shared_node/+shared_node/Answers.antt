@@ -20,7 +20,7 @@ returns-then-index-half g t c =
     let half = 1 * 2 ^ (way.from + height) % 2 ^ 64 in
     let up : suc height ≡ way.height = omega (arith, c.if-way-eq0.false) in
     let half_is : half ≡ 2 ^ (way.from + height) = one_shl (way.from + height) 64 (omega (arith, c.requires.top, c.if-way-eq0.false)) in
-    shares-half H top way height half c.args.index c.args.first.now c.args.hashes.now up half_is c.left_node.result c.if-half-way.true c.requires.place c.if-index-half.true c.requires.older c.left_node.ensures
+    shares-half H top way height half c.args.index c.args.first.now c.args.hashes.now up half_is c.left_node.result c.if-half-way.true c.requires.place c.if-index-half.true c.requires.older (rw c.in_right_half-right.ensures at c.left_node.ensures)
 
 pub returns-in-None : goal.returns-in-None
 returns-in-None g t c =
@@ -31,7 +31,7 @@ returns-in-None g t c =
     let half = 1 * 2 ^ (way.from + height) % 2 ^ 64 in
     let up : suc height ≡ way.height = omega (arith, c.if-way-eq0.false) in
     let half_is : half ≡ 2 ^ (way.from + height) = one_shl (way.from + height) 64 (omega (arith, c.requires.top, c.if-way-eq0.false)) in
-    lost-left H top way height half c.args.index c.args.first.now c.args.hashes.now up half_is c.if-half-way.true (rw c.in-None.is at c.in_ok-shared_node.ensures)
+    lost-left H top way height half c.args.index c.args.first.now c.args.hashes.now up half_is c.if-half-way.true (rw c.in_right_half-right.ensures at (rw c.in-None.is at c.in_ok-shared_node.ensures))
 
 pub returns-in-Some : goal.returns-in-Some
 returns-in-Some g t c =
@@ -43,7 +43,7 @@ returns-in-Some g t c =
     let up : suc height ≡ way.height = omega (arith, c.if-way-eq0.false) in
     let half_is : half ≡ 2 ^ (way.from + height) = one_shl (way.from + height) 64 (omega (arith, c.requires.top, c.if-way-eq0.false)) in
     shares-left H top way height half c.args.index c.args.first.now c.args.hashes.now up half_is c.with_left.result c.in-Some.lower c.if-half-way.true c.if-index-half.false c.requires.index c.requires.older
-    (rw c.in-Some.is at c.in_ok-shared_node.ensures) c.with_left.ensures
+    (rw c.in_right_half-right.ensures at (rw c.in-Some.is at c.in_ok-shared_node.ensures)) c.with_left.ensures
 
 pub returns-in-None-2 : goal.returns-in-None-2
 returns-in-None-2 g t c =
@@ -54,7 +54,7 @@ returns-in-None-2 g t c =
     let half = 1 * 2 ^ (way.from + height) % 2 ^ 64 in
     let up : suc height ≡ way.height = omega (arith, c.if-way-eq0.false) in
     let half_is : half ≡ 2 ^ (way.from + height) = one_shl (way.from + height) 64 (omega (arith, c.requires.top, c.if-way-eq0.false)) in
-    lost-right H top way height half c.args.index c.args.first.now c.args.hashes.now up half_is c.if-half-way.false (rw c.in-None-2.is at c.in_ok-shared_node-2.ensures)
+    lost-right H top way height half c.args.index c.args.first.now c.args.hashes.now up half_is c.if-half-way.false (rw c.in_left_half.ensures at (rw c.in-None-2.is at c.in_ok-shared_node-2.ensures))
 
 pub returns-then-way-half : goal.returns-then-way-half
 returns-then-way-half g t c =
@@ -66,7 +66,7 @@ returns-then-way-half g t c =
     let up : suc height ≡ way.height = omega (arith, c.if-way-eq0.false) in
     let half_is : half ≡ 2 ^ (way.from + height) = one_shl (way.from + height) 64 (omega (arith, c.requires.top, c.if-way-eq0.false)) in
     shared-alone H top way height half c.args.index c.args.first.now c.args.hashes.now up half_is c.in-Some-2.lower c.if-half-way.false c.if-way-half.true c.requires.index
-    (rw c.in-Some-2.is at c.in_ok-shared_node-2.ensures)
+    (rw c.in_left_half.ensures at (rw c.in-Some-2.is at c.in_ok-shared_node-2.ensures))
 
 pub returns-else-way-half : goal.returns-else-way-half
 returns-else-way-half g t c =
@@ -78,7 +78,7 @@ returns-else-way-half g t c =
     let up : suc height ≡ way.height = omega (arith, c.if-way-eq0.false) in
     let half_is : half ≡ 2 ^ (way.from + height) = one_shl (way.from + height) 64 (omega (arith, c.requires.top, c.if-way-eq0.false)) in
     shares-right H top way height half c.args.index c.args.first.now c.args.hashes.now up half_is c.with_right.result c.in-Some-2.lower c.if-half-way.false c.if-way-half.false c.requires.index
-    (rw c.in-Some-2.is at c.in_ok-shared_node-2.ensures) c.with_right.ensures
+    (rw c.in_left_half.ensures at (rw c.in-Some-2.is at c.in_ok-shared_node-2.ensures)) c.with_right.ensures
 
 pub shared_node-requires : goal.shared_node-requires
 shared_node-requires g t c κs within =
@@ -91,7 +91,8 @@ shared_node-requires g t c κs within =
     let back : way.place - half + 1 ≡ way.place + 1 - 2 ^ (way.from + height) = omega (arith, half_is, c.if-half-way.true) in
     let ended : (way.place - half + 1) % 2 ^ way.from ≡ 0 = ap (λ n. n % 2 ^ way.from) back
     ∙ mod-after way.from (way.from + height) (way.place + 1) (omega arith) (omega (arith, half_is, c.if-half-way.true))
-    ∙ c.requires.ended in (
+    ∙ c.requires.ended in
+    rw c.in_right_half-right.ensures (
       omega (arith, c.if-way-eq0.false),
       (
         within,
