@@ -1,4 +1,5 @@
 pub mod Sound
+pub mod Refusals
 pub mod Replies
 pub mod Runs
 pub mod Fronts

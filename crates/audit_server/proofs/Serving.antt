@@ -23,6 +23,7 @@ module _ {D : Type 0} {g : sectors.Ghosts D} where
     sessions = done.sessions;
     sound = λ sound. done.sound;
     broken = λ broken. absurd (not_broken broken);
+    failures = done.failures;
     serves = λ origin events holds.
         let one = done.advances origin events holds in (
           one.0,

@@ -1,10 +1,11 @@
 -- What enters leaves a store unbroken that was.
-use Rattle.std.proofs.Common.{◌≡◌, ◌≢◌, ◌∙◌, inl, inr, Bool, true, false, Ok, Err, List, [], sym, ap, subst}
+use Rattle.std.proofs.Common.{◌≡◌, ◌≢◌, ◌∙◌, inl, inr, Bool, true, false, Ok, Err, List, [], ◌∷◌, sym, ap, subst}
 use Rattle.audit_device.specs.declared.sectors.Sectors as sectors
 use Rattle.audit_chain.specs.Event.{EventData}
 use Rattle.audit_queue.specs.declared.commit_outcome.CommitOutcome.{CommitOutcome}
 use Rattle.audit_queue.specs.declared.commit_outcome.CommitOutcome.TheVariants.{Committed, Worn}
 use Rattle.audit_queue.specs.Arrivals.{Arrival, forces_flush}
+use Rattle.audit_queue.specs.declared.question.Question.{Question}
 use Rattle.audit_store.specs.Store.{is_broken}
 use Rattle.audit_store.specs.declared.store.Store.{Store}
 use Rattle.audit_store.specs.declared.store_error.StoreError.{StoreError}
@@ -14,26 +15,31 @@ use Rattle.audit_commit.specs.Committing.{IsCommitEnd}
 use Rattle.audit_commit.specs.Flush.{IsFlushed}
 use Rattle.audit_commit.specs.Committer.{store_of, waiting_of}
 use Rattle.audit_commit.specs.Entering.{IsReady, HasEntered, IsArrivalEnd}
+use Rattle.audit_server.specs.Running.{HaveEntered}
 use Rattle.audit_server.specs.Entering.{IsRequestEnd}
 
 module _ {D : Type 0} {g : sectors.Ghosts D} where
-  abbrev IsUnbroken : Committer D g → Type 0
+  abbrev pub IsUnbroken : Committer D g → Type 0
   IsUnbroken committer = is_broken (store_of committer) ≡ false
 
   commit_sound : (old new : Store D g) (batch : List EventData) (outcome : CommitOutcome) → IsCommitEnd old new batch (Ok outcome) → is_broken old ≡ false → is_broken new ≡ false
   commit_sound old new batch (Committed count root) end sound = end.sound
   commit_sound old new batch Worn end sound = end.same.broken ∙ sound
 
-  pub flushed_sound : (old new : Committer D g) → IsFlushed old new [] → IsUnbroken old → IsUnbroken new
-  flushed_sound old new flushed sound = flushed.questions.unchanged.broken ∙ commit_sound (store_of old) flushed.mid _ flushed.appends.outcome flushed.appends.end sound
+  pub flushed_sound : (old new : Committer D g) (rest : List Question) → IsFlushed old new rest → IsUnbroken old → IsUnbroken new
+  flushed_sound old new rest flushed sound = flushed.questions.unchanged.broken ∙ commit_sound (store_of old) flushed.mid _ flushed.appends.outcome flushed.appends.end sound
 
-  ready_sound : (full : Bool) (old new : Committer D g) → IsReady full old new (Ok tt) → IsUnbroken old → IsUnbroken new
-  ready_sound true old new ready sound = flushed_sound old new ready sound
+  pub ready_sound : (full : Bool) (old new : Committer D g) → IsReady full old new (Ok tt) → IsUnbroken old → IsUnbroken new
+  ready_sound true old new ready sound = flushed_sound old new [] ready sound
   ready_sound false old new ready sound = ap (λ (committer : Committer D g). is_broken (store_of committer)) ready ∙ sound
 
   pub entered_sound : (arrival : Arrival) (old new : Committer D g) → HasEntered arrival old new → IsUnbroken old → IsUnbroken new
   entered_sound arrival old new entered sound =
       ap is_broken entered.waits.store ∙ ready_sound (forces_flush (waiting_of old) arrival) old entered.ready entered.flushed sound
+
+  pub all_sound : (arrivals : List Arrival) (old new : Committer D g) → HaveEntered arrivals old new → IsUnbroken old → IsUnbroken new
+  all_sound [] old new same sound = ap (λ (committer : Committer D g). is_broken (store_of committer)) same ∙ sound
+  all_sound (arrival ∷ arrivals) old new all sound = all_sound arrivals all.0 new all.2 (entered_sound arrival old all.0 all.1 sound)
 
   ready_not_broken : (full : Bool) (old new : Committer D g) → IsReady full old new (Err Broken) → IsUnbroken old → ⊥
   ready_not_broken true old new ready sound = let broken : true ≡ false = sym ready.0 ∙ sound in absurd (cc broken)

@@ -1,11 +1,11 @@
 -- Steps of a core in turn.
-use Rattle.std.proofs.Common.{◌≡◌, ◌∙◌, ℕ, ◌+◌, ◌<◌, Bool, true, false, Result, Ok, Err, OnOk, List, [], ◌∷◌, ◌++◌, length, map, take, drop, get_or, slice_set, arith, refl, sym, ap, subst}
+use Rattle.std.proofs.Common.{◌≡◌, ◌∙◌, ℕ, ◌+◌, ◌<◌, ◌≤◌, Bool, true, false, Result, Ok, Err, OnOk, List, [], ◌∷◌, ◌++◌, length, map, take, drop, get_or, slice_set, arith, refl, sym, ap, subst}
 use Rattle.std.proofs.lemmas.List.{append-nil, map-append, take_more, drop_more, take-append-drop, length-map, length-take-le}
 use Rattle.audit_device.specs.declared.sectors.Sectors as sectors
 use Rattle.audit_chain.specs.Event.{EventData}
 use Rattle.audit_layout.specs.Origin.{Origin}
 use Rattle.audit_queue.specs.GroupCommit.{group_commit}
-use Rattle.audit_queue.specs.Arrivals.{Arrival, appends_among}
+use Rattle.audit_queue.specs.Arrivals.{appends_among}
 use Rattle.audit_store.specs.Store.{is_broken, Holds}
 use Rattle.audit_store.specs.declared.store_error.StoreError.{StoreError}
 use Rattle.audit_store.specs.declared.store_error.StoreError.TheVariants.{Broken, Device}
@@ -16,12 +16,15 @@ use Rattle.audit_sessions.specs.Steps.{StepData, a_piece, an_end, a_flush}
 use Rattle.audit_server.specs.declared.feed_fault.FeedFault.{FeedFault}
 use Rattle.audit_server.specs.declared.server_core.Core.{Core}
 use Rattle.audit_run.specs.Sessions.{SessionData, sessions_after, arrivals_by, state_after, sessions_run, arrivals_run, session_run}
-use Rattle.audit_server.specs.Running.{HaveEntered, AddsReplies, IsBrokenByDevice, AdvancesBy}
-use Rattle.audit_server.specs.Core.{committer_of, sessions_of, is_core_broken, IsSound, IsUntouched, IsPieceEnd, IsEndEnd, HasDone}
+use Rattle.audit_run.specs.Serving.{IsRefusedAs}
+use Rattle.audit_run.proofs.Serving.{refused_then}
+use Rattle.audit_server.specs.Running.{AddsReplies, IsBrokenByDevice, AdvancesBy}
+use Rattle.audit_server.specs.Core.{committer_of, sessions_of, is_core_broken, IsSound, IsUntouched, Refuses, IsPieceEnd, IsEndEnd, HasDone}
 use Rattle.audit_server.specs.declared.step.Step.{Step}
 use Rattle.audit_server.specs.declared.drive_fault.DriveFault.{DriveFault}
 use Rattle.audit_server.specs.Driving.{step_data, IsStepRefused, IsDriveStopped}
-use Rattle.audit_server.proofs.Sound.{entered_sound, flushed_sound}
+use Rattle.audit_server.proofs.Sound.{flushed_sound, all_sound}
+use Rattle.audit_server.proofs.Refusals.{failures_of, flushed_counts, all_count}
 use Rattle.audit_server.proofs.Replies.{adds_none, adds_more, flush_adds, all_add, broken_after}
 use Rattle.audit_run.proofs.Steps.{appends-append, sessions-append, arrivals-append, run-append}
 use Rattle.audit_server.proofs.Runs.{advances_none, advances_more, advances_as}
@@ -33,17 +36,15 @@ abbrev stop_of : DriveFault → Result (Unit {0}) DriveFault
 stop_of fault = Err fault
 
 module _ {D : Type 0} {g : sectors.Ghosts D} where
-  all_sound : (arrivals : List Arrival) (old new : Committer D g) → HaveEntered arrivals old new → is_broken (store_of old) ≡ false → is_broken (store_of new) ≡ false
-  all_sound [] old new same sound = ap (λ (c : Committer D g). is_broken (store_of c)) same ∙ sound
-  all_sound (arrival ∷ arrivals) old new all sound = all_sound arrivals all.0 new all.2 (entered_sound arrival old all.0 all.1 sound)
-
   -- ---- one step
 
-  one_step : (step : StepData) (old new : Core D g) → sessions_of new ≡ sessions_after step (sessions_of old) → IsSound new → AddsReplies (committer_of old) (committer_of new)
+  one_step : (step : StepData) (old new : Core D g) → sessions_of new ≡ sessions_after step (sessions_of old) → IsSound new
+      → failures_of (committer_of old) ≤ failures_of (committer_of new) → AddsReplies (committer_of old) (committer_of new)
       → AdvancesBy (appends_among (arrivals_by step (sessions_of old))) (λ origin. state_after origin step (sessions_of old)) (committer_of old) (committer_of new) → HasDone (step ∷ []) old new
-  one_step step old new sessions sound replies advances = record {
+  one_step step old new sessions sound failures replies advances = record {
     sessions = sessions;
     sound = sound;
+    failures = failures;
     replies = replies;
     advances = advances_as (ap appends_among (sym (append-nil (arrivals_by step (sessions_of old))))) (λ origin state. refl) advances;
   }
@@ -52,13 +53,13 @@ module _ {D : Type 0} {g : sectors.Ghosts D} where
   piece_done k piece old new (Err fault) end sound = tt
   piece_done k piece old new (Ok done) end sound =
       one_step (a_piece k piece) old new (end.only ∙ ap (slice_set (sessions_of old) k) end.fed.session) (all_sound _ (committer_of old) (committer_of new) end.fed.run.entered sound)
-      (all_add _ (committer_of old) (committer_of new) end.fed.run.entered) end.fed.run.advances
+      (all_count _ (committer_of old) (committer_of new) end.fed.run.entered) (all_add _ (committer_of old) (committer_of new) end.fed.run.entered) end.fed.run.advances
 
   pub end_done : (k : ℕ) (old new : Core D g) (result : Result (Unit {0}) StoreError) → IsEndEnd k old new result → IsSound old → OnOk result (HasDone (an_end k ∷ []) old new)
   end_done k old new (Err error) end sound = tt
   end_done k old new (Ok done) end sound =
       one_step (an_end k) old new (end.only ∙ ap (slice_set (sessions_of old) k) end.ended.session) (all_sound _ (committer_of old) (committer_of new) end.ended.frame.entered sound)
-      (all_add _ (committer_of old) (committer_of new) end.ended.frame.entered) end.ended.frame.advances
+      (all_count _ (committer_of old) (committer_of new) end.ended.frame.entered) (all_add _ (committer_of old) (committer_of new) end.ended.frame.entered) end.ended.frame.advances
 
   -- a flush that succeeded
   flush_advances : (old new : Committer D g) → ((origin : Origin) (events : List EventData) → Holds (store_of old) origin events → (after : List EventData) × IsFlush origin old new events after (Ok tt)) → AdvancesBy [] group_commit old new
@@ -70,12 +71,12 @@ module _ {D : Type 0} {g : sectors.Ghosts D} where
       → ((origin : Origin) (events : List EventData) → Holds (store_of (committer_of old)) origin events → (after : List EventData) × IsFlush origin (committer_of old) (committer_of new) events after result) → IsSound old → OnOk result (HasDone (a_flush ∷ []) old new)
   flush_done old new (Err error) sessions end flush sound = tt
   flush_done old new (Ok done) sessions end flush sound =
-      one_step a_flush old new sessions (flushed_sound (committer_of old) (committer_of new) end sound) (flush_adds (committer_of old) (committer_of new) [] end) (flush_advances (committer_of old) (committer_of new) flush)
+      one_step a_flush old new sessions (flushed_sound (committer_of old) (committer_of new) [] end sound) (flushed_counts (committer_of old) (committer_of new) [] end) (flush_adds (committer_of old) (committer_of new) [] end) (flush_advances (committer_of old) (committer_of new) flush)
 
   -- ---- steps in a row
 
   pub done_none : (core : Core D g) → IsSound core → HasDone [] core core
-  done_none core sound = record { sessions = refl; sound = sound; replies = adds_none (committer_of core); advances = advances_none (committer_of core) }
+  done_none core sound = record { sessions = refl; sound = sound; failures = omega arith; replies = adds_none (committer_of core); advances = advances_none (committer_of core) }
 
   pub done_more : {steps later : List StepData} {old mid new : Core D g} → HasDone steps old mid → HasDone later mid new → HasDone (steps ++ later) old new
   done_more {steps = steps} {later = later} {old = old} {mid = mid} {new = new} first next =
@@ -83,6 +84,7 @@ module _ {D : Type 0} {g : sectors.Ghosts D} where
       record {
         sessions = next.sessions ∙ ap (sessions_run later) first.sessions ∙ sym (sessions-append steps later sessions);
         sound = next.sound;
+        failures = omega (arith, first.failures, next.failures);
         replies = adds_more (committer_of old) (committer_of mid) (committer_of new) first.replies next.replies;
         advances =
             advances_as
@@ -149,6 +151,14 @@ module _ {D : Type 0} {g : sectors.Ghosts D} where
           let other : Broken ≡ Device = sym (ap (λ (f : FeedFault). f.error) of) ∙ is in
           absurd (cc other)
       decide false sound = broken_after (committer_of old) (committer_of now) (committer_of new) (to.done sound).replies (broken is)
+
+  -- what the refusal of that step says of the store
+  pub drive_cause : {steps : List Step} {number : ℕ} {old now : Core D g} (new : Core D g) (error : StoreError) → DoneTo steps number old now → Refuses now new error → Refuses old new error
+  drive_cause {old = old} {now = now} new error to refused = decide (is_broken (store_of (committer_of old))) refl
+    where
+      decide : (b : Bool) → is_broken (store_of (committer_of old)) ≡ b → Refuses old new error
+      decide true broken = subst (λ (c : Committer D g). IsRefusedAs error (store_of c) (store_of (committer_of new))) (to.none broken).1.committer refused
+      decide false sound = let done = to.done sound in refused_then error (store_of (committer_of old)) (store_of (committer_of now)) (store_of (committer_of new)) sound done.sound done.failures refused
 
   pub drive_refused : {steps : List Step} {number : ℕ} {old now new : Core D g} (fault : FeedFault) → DoneTo steps number old now → (is_core_broken now → (refusal_of fault ≡ refusal_of (record { taken = 0; error = Broken })) × IsUntouched now new) → is_core_broken old
       → (stop_of (record { step = number; taken = fault.taken; error = fault.error }) ≡ stop_of (record { step = 0; taken = 0; error = Broken })) × IsUntouched old new

@@ -1,8 +1,8 @@
 -- What contracts see of a core, and what its calls do.
-use Rattle.std.specs.Prelude.{◌≡◌, ℕ, true, false, Result, List, slice_set}
+use Rattle.std.specs.Prelude.{◌≡◌, ℕ, ◌≤◌, true, false, Result, List, slice_set}
 use Rattle.audit_device.specs.declared.sectors.Sectors as sectors
 use Rattle.audit_queue.specs.Arrivals.{appends_among}
-use Rattle.audit_store.specs.Store.{is_broken}
+use Rattle.audit_store.specs.Store.{device, is_broken}
 use Rattle.audit_store.specs.declared.store_error.StoreError.{StoreError}
 use Rattle.audit_commit.specs.declared.committer.Committer.{Committer}
 use Rattle.audit_commit.specs.Committer.{store_of}
@@ -10,7 +10,7 @@ use Rattle.audit_sessions.specs.Steps.{StepData}
 use Rattle.audit_server.specs.declared.server_core.Core.{Core}
 use Rattle.audit_server.specs.declared.feed_fault.FeedFault.{FeedFault}
 use Rattle.audit_run.specs.Sessions.{SessionData, session_at, sessions_run, arrivals_run, session_run}
-use Rattle.audit_run.specs.Serving.{CoreData}
+use Rattle.audit_run.specs.Serving.{CoreData, IsRefusedAs}
 use Rattle.audit_server.specs.Running.{AddsReplies, AdvancesBy}
 use Rattle.audit_server.specs.Feeding.{IsFed}
 use Rattle.audit_server.specs.Ending.{IsEnd}
@@ -44,6 +44,10 @@ module _ {D : Type 0} {g : sectors.Ghosts D} where
     pub committer : committer_of new ≡ committer_of old
     pub sessions : sessions_of new ≡ sessions_of old
 
+  -- what the refusal of a call says of the store
+  abbrev pub Refuses : Core D g → Core D g → StoreError → Type 0
+  Refuses old new error = IsRefusedAs error (store_of (committer_of old)) (store_of (committer_of new))
+
   -- ---- a piece, and an end
 
   pub record IsPieceEnd (k : ℕ) (piece : List ℕ) (old new : Core D g) (result : Result (Unit {0}) FeedFault) : Type 0 where
@@ -61,5 +65,7 @@ module _ {D : Type 0} {g : sectors.Ghosts D} where
   pub record HasDone (steps : List StepData) (old new : Core D g) : Type 0 where
     pub sessions : sessions_of new ≡ sessions_run steps (sessions_of old)
     pub sound : IsSound new
+    -- the device's count of failures never falls
+    pub failures : (device (store_of (committer_of old))).failures ≤ (device (store_of (committer_of new))).failures
     pub replies : AddsReplies (committer_of old) (committer_of new)
     pub advances : AdvancesBy (appends_among (arrivals_run steps (sessions_of old))) (λ origin. session_run origin steps (sessions_of old)) (committer_of old) (committer_of new)

@@ -2,15 +2,16 @@
 use Rattle.std.specs.Prelude.{ℕ, Bool, List, [], ◌∷◌, slice_index_or}
 use Rattle.std.proofs.Common.{◌∙◌, sym, ap}
 use Rattle.audit_device.specs.declared.sectors.Sectors as sectors
+use Rattle.audit_store.specs.declared.store_error.StoreError.{StoreError}
 use Rattle.audit_commit.specs.Committer.{outputs_of}
 use Rattle.audit_sessions.specs.Steps.{StepData}
 use Rattle.audit_sessions.specs.Core.{CoreModel}
 use Rattle.audit_server.specs.declared.server_core.Core.{Core}
 use Rattle.audit_run.specs.Sessions.{SessionData, session_at, sessions_run}
-use Rattle.audit_server.specs.Core.{committer_of, sessions_of, data_of}
+use Rattle.audit_server.specs.Core.{committer_of, sessions_of, data_of, Refuses}
 use Rattle.audit_run.specs.Serving.{HasServed, IsDurablyServed}
 use Rattle.audit_run.proofs.Steps.{sessions-append}
-use Rattle.audit_run.proofs.Serving.{served_none, served_more, served_durably, durably_more, stays}
+use Rattle.audit_run.proofs.Serving.{served_none, served_more, served_durably, served_refused, durably_more, stays}
 
 module _ {D : Type 0} {g : sectors.Ghosts D} where
   -- whether a session has ended, once a core has done these steps
@@ -37,3 +38,7 @@ module _ {D : Type 0} {g : sectors.Ghosts D} where
     done_reaches = λ old new steps taken did. served_durably (data_of old) (data_of new) did;
     reaches_on = λ old mid new steps later taken more first next. durably_more (data_of old) (data_of mid) (data_of new) (served_durably (data_of old) (data_of mid) first) next;
   }
+
+  -- a refusal says it of the steps before it, too
+  pub refuses_after : (old mid new : Core D g) (steps : List StepData) (taken : ℕ → List ℕ) (error : StoreError) → core_model.Did old mid steps taken → Refuses mid new error → Refuses old new error
+  refuses_after old mid new steps taken error did refused = served_refused error (data_of old) (data_of mid) (data_of new) did refused

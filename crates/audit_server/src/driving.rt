@@ -5,7 +5,7 @@ ghost use Rattle.audit_store.specs.declared.store_error.StoreError.TheVariants.{
 ghost use Rattle.audit_sessions.specs.Core.{no_bytes};
 ghost use Rattle.audit_run.specs.Serving.{IsDurablyServed};
 ghost use Rattle.audit_server.specs.Running.{IsBrokenByDevice};
-ghost use Rattle.audit_server.specs.Core.{committer_of, data_of, is_core_broken, IsSound, IsUntouched, HasDone};
+ghost use Rattle.audit_server.specs.Core.{committer_of, data_of, is_core_broken, IsSound, IsUntouched, Refuses, HasDone};
 ghost use Rattle.audit_server.specs.Driving.{step_data, step_done, steps_done, IsOfSession, IsStepRefused, IsDriveStopped};
 
 use crate::drive_fault::DriveFault;
@@ -28,6 +28,7 @@ pub fn drive<D: Sectors>(core: &mut Core<D>, steps: &[Step]) -> Result<(), Drive
         (steps_done (map step_data steps.now) result) no_bytes }
     ensures device { IfErr result (λ fault. fault.error ≡ Device
         → IsBrokenByDevice (committer_of core.old) (committer_of core.new)) }
+    ensures cause { IfErr result (λ fault. Refuses core.old core.new fault.error) }
 {
     for number in 0..steps.len() {
         if let Err(fault) = do_step(core, &steps[number]) {
@@ -52,6 +53,7 @@ fn do_step<D: Sectors>(core: &mut Core<D>, step: &Step) -> Result<(), FeedFault>
         no_bytes }
     ensures device { IfErr result (λ fault. fault.error ≡ Device
         → IsBrokenByDevice (committer_of core.old) (committer_of core.new)) }
+    ensures cause { IfErr result (λ fault. Refuses core.old core.new fault.error) }
 {
     let done = match *step {
         Step::Feed { session, piece } => return core.feed(session, piece),

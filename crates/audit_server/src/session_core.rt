@@ -4,11 +4,14 @@ use audit_sessions::SessionCore;
 use audit_store::StoreError;
 
 impl<D: Sectors> SessionCore for Core<D> {
-    ghost use Rattle.audit_server.specs.CoreModel.{core_model};
+    ghost use Rattle.audit_server.specs.Core.{Refuses};
+    ghost use Rattle.audit_server.specs.CoreModel.{core_model, refuses_after};
 
     type Error = StoreError;
 
     ghost model = { core_model };
+
+    ghost refuses = { Refuses };
 
     fn feed(&mut self, session: usize, piece: &[u8]) -> Result<(), StoreError> {
         match self.feed(session, piece) {
@@ -32,4 +35,6 @@ impl<D: Sectors> SessionCore for Core<D> {
     fn ended(&self, session: usize) -> bool {
         self.ended(session)
     }
+
+    ghost refuses_after = { refuses_after };
 }

@@ -1,25 +1,33 @@
 -- Serving a store by a new core.
-use Rattle.std.proofs.Common.{◌≡◌, ◌∙◌, ℕ, Option, Result, Ok, Err, List, [], ◌∷◌, ◌++◌, length, map, refl, sym, subst}
+use Rattle.std.proofs.Common.{◌≡◌, ◌⊎◌, ◌∙◌, inl, inr, ℕ, Option, Some, Result, Ok, Err, List, [], ◌∷◌, ◌++◌, length, map, refl, sym, ap, subst}
 use Rattle.std.proofs.lemmas.List.{length-map}
 use Rattle.std.specs.Prelude.{OnOk}
 use Rattle.audit_device.specs.declared.sectors.Sectors as sectors
 use Rattle.audit_store.specs.declared.store.Store.{Store}
+use Rattle.audit_store.specs.Store.{is_broken}
 use Rattle.audit_store.specs.declared.store_error.StoreError.{StoreError}
+use Rattle.audit_store.specs.declared.store_error.StoreError.TheVariants.{Memory}
 use Rattle.audit_commit.specs.Committer.{store_of}
-use Rattle.audit_run.specs.Serving.{IsDurablyServed, StoreKeepsOn}
+use Rattle.audit_run.specs.Serving.{IsDurablyServed, IsRefusedAs, StoreKeepsOn}
 use Rattle.audit_run.proofs.Serving.{kept_none, durably_keeps}
 use Rattle.audit_server.specs.declared.server_core.Core.{Core}
-use Rattle.audit_server.specs.Core.{committer_of, data_of}
+use Rattle.audit_server.specs.Core.{committer_of, data_of, Refuses}
 use Rattle.audit_server.specs.CoreModel.{core_model}
 use Rattle.audit_sessions.specs.Steps.{StepData}
 use Rattle.audit_sessions.specs.Streams.{StreamView}
-use Rattle.audit_sessions.specs.Transition.{Transition, Reached, IsServed}
+use Rattle.audit_sessions.specs.declared.serve_end.ServeFault.{ServeFault}
+use Rattle.audit_sessions.specs.declared.serve_end.ServeFault.TheVariants as serving
+use Rattle.audit_sessions.specs.Transition.{Transition, EndsAs, Reached, IsServed, IsCut}
 use Rattle.audit_socket.specs.Looping.{BringsLines, LoopTransition, LoopReached}
 use Rattle.audit_socket.specs.declared.loop_fault.LoopFault.{LoopFault}
 use Rattle.audit_socket.specs.declared.loop_fault.LoopFault.TheVariants as looping
-use Rattle.audit_serving.specs.declared.fault.ServingFault.TheVariants.{BadFrameLine}
-use Rattle.audit_serving.specs.Faults.{of_loop}
-use Rattle.audit_serving.specs.Served.{IsNewCore, LoopsOver, ServesRound, ServesRounds, LoopReachesOver, ReachesByRound}
+use Rattle.audit_lines.specs.declared.fault.LinesFault.{LinesFault}
+use Rattle.audit_lines.specs.declared.fault.LinesFault.TheVariants as lines
+use Rattle.audit_commands.specs.declared.fault.CommandFault.TheVariants.{File, Lines, Refused}
+use Rattle.audit_serving.specs.declared.fault.ServingFault.{ServingFault}
+use Rattle.audit_serving.specs.declared.fault.ServingFault.TheVariants.{Command, BadFrameLine}
+use Rattle.audit_serving.specs.Faults.{of_serving, of_loop}
+use Rattle.audit_serving.specs.Served.{IsNewCore, LoopsOver, ServesRound, ServesRounds, LoopReachesOver, ReachesByRound, IsLineLost, HasRefused, StopsRound, StopsLoop}
 
 -- no other fault is reported as a line that spells no bytes
 pub bad_of_loop : (fault : LoopFault StoreError) (number : ℕ) → of_loop fault ≡ BadFrameLine number → fault ≡ looping.BadLine number
@@ -34,6 +42,11 @@ on_ok {A = A} {F = F} {P = P} outcome value is has = subst (λ (answer : Result 
 
 pub on_err : {A F : Type 0} (P : Type 0) (outcome : Result A F) (fault : F) → outcome ≡ Err fault → OnOk outcome P
 on_err {A = A} {F = F} P outcome fault is = subst (λ (answer : Result A F). OnOk answer P) (sym is) tt
+
+-- the line of a round wasn't written
+pub line_lost : (cause : LinesFault) (fault : ServingFault) → fault ≡ Command (Lines cause) → (cause ≡ lines.Write) ⊎ (cause ≡ lines.Memory) → IsLineLost fault
+line_lost cause fault is (inl write) = inl (is ∙ ap (λ (of : LinesFault). Command (Lines of)) write)
+line_lost cause fault is (inr memory) = inr (is ∙ ap (λ (of : LinesFault). Command (Lines of)) memory)
 
 module _ {D : Type 0} {g : sectors.Ghosts D} where
   -- a store that is as it was
@@ -84,3 +97,46 @@ module _ {D : Type 0} {g : sectors.Ghosts D} where
     each = length-map streams view ∙ each;
     run = run;
   }
+
+  -- ---- why it stopped
+
+  -- memory was refused, and the store is as it was
+  pub no_memory_for : (old new : Store D g) (fault : ServingFault) → fault ≡ Command (Refused Memory) → new ≡ old → HasRefused old new fault
+  no_memory_for old new fault is same = (Memory, is, inr (inr (refl, ap is_broken same)))
+
+  -- no stream was had for a session
+  pub streams_refused : (sessions : ℕ) (store : Store D g) (fault : ServingFault) → (fault ≡ Command (Refused Memory)) ⊎ (fault ≡ Command File) → StopsRound sessions store store fault
+  streams_refused sessions store fault (inl memory) = inl (no_memory_for store store fault memory refl)
+  streams_refused sessions store fault (inr file) = inr (inl (file, refl))
+
+  -- what a core refused
+  core_refused : (old new : Store D g) (core last : Core D g) (error : StoreError) → IsNewCore old core → new ≡ store_of (committer_of last) → Refuses core last error → IsRefusedAs error old new
+  core_refused old new core last error made left refused =
+      subst (λ (store : Store D g). IsRefusedAs error old store) (sym left) (subst (λ (store : Store D g). IsRefusedAs error store (store_of (committer_of last))) made.store_is refused)
+
+  pub round_stopped : (old new : Store D g) (core last : Core D g) (sessions : ℕ) {S : Type 0} (view : S → StreamView) (streams later : List S) (fault : ServeFault StoreError) → IsNewCore old core → new ≡ store_of (committer_of last)
+      → length streams ≡ sessions
+      → ((error : StoreError) → Some fault ≡ Some (serving.Core error) → Refuses core last error)
+      → (Some fault ≡ Some serving.ReadFault → EndsAs core_model core last (map view streams) (map view later) (IsCut core_model (length streams) core last))
+      → StopsRound sessions old new (of_serving fault)
+  round_stopped old new core last sessions view streams later (serving.Core error) made left each refused cut = inl (error, refl, core_refused old new core last error made left (refused error refl))
+  round_stopped old new core last sessions view streams later serving.ReadFault made left each refused cut = inr (inr (
+    refl,
+    record {
+      core = core;
+      made = made;
+      last = last;
+      left = left;
+      streams = map view streams;
+      later = map view later;
+      each = length-map streams view ∙ each;
+      run = subst (λ (count : ℕ). EndsAs core_model core last (map view streams) (map view later) (IsCut core_model count core last)) each (cut refl);
+    },
+  ))
+
+  pub loop_stopped : (old new : Store D g) (core last : Core D g) (fault : LoopFault StoreError) → IsNewCore old core → new ≡ store_of (committer_of last)
+      → ((error : StoreError) → fault ≡ looping.Core error → Refuses core last error) → StopsLoop old new (of_loop fault)
+  loop_stopped old new core last looping.Connection made left refused = inr (inl refl)
+  loop_stopped old new core last (looping.Lines cause) made left refused = inr (inr (inl (cause, refl)))
+  loop_stopped old new core last (looping.BadLine number) made left refused = inr (inr (inr (number, refl)))
+  loop_stopped old new core last (looping.Core error) made left refused = inl (error, refl, core_refused old new core last error made left (refused error refl))

@@ -2,17 +2,28 @@
 use Rattle.std.specs.Prelude.{◌≡◌, ◌⊎◌, ℕ, Option, List, [], ◌∷◌, length, replicate}
 use Rattle.audit_device.specs.declared.sectors.Sectors as sectors
 use Rattle.audit_store.specs.declared.store.Store.{Store}
+use Rattle.audit_store.specs.declared.store_error.StoreError.{StoreError}
 use Rattle.audit_base.specs.declared.limits.TheConstants.{SESSIONS}
 use Rattle.audit_queue.specs.Waiting.{nothing_waits}
 use Rattle.audit_commit.specs.Committer.{store_of, waiting_of, outputs_of}
 use Rattle.audit_sessions.specs.Steps.{StepData}
 use Rattle.audit_sessions.specs.Streams.{StreamView}
-use Rattle.audit_sessions.specs.Transition.{Transition, Reached, IsServed}
+use Rattle.audit_sessions.specs.Transition.{Transition, EndsAs, Reached, IsServed, IsCut}
 use Rattle.audit_run.specs.Sessions.{new_session}
+use Rattle.audit_run.specs.Serving.{IsRefusedAs}
 use Rattle.audit_server.specs.declared.server_core.Core.{Core}
 use Rattle.audit_server.specs.Core.{committer_of, sessions_of}
 use Rattle.audit_server.specs.CoreModel.{core_model}
+use Rattle.audit_lines.specs.declared.fault.LinesFault.{LinesFault}
+use Rattle.audit_lines.specs.declared.fault.LinesFault.TheVariants.{Write, Memory}
 use Rattle.audit_socket.specs.Looping.{BringsLines, LoopTransition, LoopReached}
+use Rattle.audit_commands.specs.declared.fault.CommandFault.TheVariants.{File, Lines, Refused}
+use Rattle.audit_serving.specs.declared.fault.ServingFault.{ServingFault}
+use Rattle.audit_serving.specs.declared.fault.ServingFault.TheVariants.{Command, BadFrameLine, TooManyTurns}
+
+-- the line of a round couldn't be made for want of memory, or couldn't be written whole
+abbrev pub IsLineLost : ServingFault → Type 0
+IsLineLost fault = (fault ≡ Command (Lines Write)) ⊎ (fault ≡ Command (Lines Memory))
 
 module _ {D : Type 0} {g : sectors.Ghosts D} where
   -- a core over the store, with nothing that waits and every session at the front of its stream
@@ -72,3 +83,37 @@ module _ {D : Type 0} {g : sectors.Ghosts D} where
     pub mid : Store D g
     pub served : ServesRounds sessions turns old mid
     pub last : (new ≡ mid) ⊎ ReachesByRound sessions mid new
+
+  -- ---- why it stopped
+
+  -- a round of so many sessions had as many turns as may be, and those that were live then were ended
+  pub record CutsRound (sessions : ℕ) (old new : Store D g) : Type 0 where
+    pub core : Core D g
+    pub made : IsNewCore old core
+    pub last : Core D g
+    pub left : new ≡ store_of (committer_of last)
+    pub streams : List StreamView
+    pub later : List StreamView
+    pub each : length streams ≡ sessions
+    pub run : EndsAs core_model core last streams later (IsCut core_model sessions core last)
+
+  -- what was refused: by the core, or for want of memory before there was one
+  abbrev pub HasRefused : Store D g → Store D g → ServingFault → Type 0
+  HasRefused old new fault = (error : StoreError) × (fault ≡ Command (Refused error)) × IsRefusedAs error old new
+
+  -- A round stopped for this: something was refused, a connection couldn't be accepted, or it had as many turns as may
+  -- be.
+  abbrev pub StopsRound : ℕ → Store D g → Store D g → ServingFault → Type 0
+  StopsRound sessions old new fault = HasRefused old new fault ⊎ (((fault ≡ Command File) × (new ≡ old)) ⊎ ((fault ≡ TooManyTurns) × CutsRound sessions old new))
+
+  -- Rounds were served, and then one stopped for this, or the line of the last one wasn't written.
+  pub record StopsRounds (sessions : ℕ) (old new : Store D g) (fault : ServingFault) : Type 0 where
+    pub turns : List ℕ
+    pub mid : Store D g
+    pub served : ServesRounds sessions turns old mid
+    pub stops : StopsRound sessions mid new fault ⊎ (IsLineLost fault × (new ≡ mid))
+
+  -- A session over lines stopped for this: something was refused, the connection or the lines failed, or a line spells
+  -- no bytes.
+  abbrev pub StopsLoop : Store D g → Store D g → ServingFault → Type 0
+  StopsLoop old new fault = HasRefused old new fault ⊎ ((fault ≡ Command File) ⊎ (((cause : LinesFault) × (fault ≡ Command (Lines cause))) ⊎ ((number : ℕ) × (fault ≡ BadFrameLine number))))

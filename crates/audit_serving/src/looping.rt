@@ -1,10 +1,10 @@
 //! A session over lines, by a core over a store.
-ghost use Rattle.std.specs.Prelude.{◌≡◌, ◌⊎◌, ◌+◌, List, ℕ, length, IfSome, OnOk, Err};
+ghost use Rattle.std.specs.Prelude.{◌≡◌, ◌⊎◌, ◌+◌, List, ℕ, length, IfSome, IfErr, OnOk, Err};
 ghost use Rattle.audit_run.specs.Serving.{StoreKeepsOn};
 ghost use Rattle.audit_socket.specs.Input.{Spells, SpellsUpToBad};
 ghost use Rattle.audit_socket.specs.Looping.{AreLineTurns, IsWholeLoop};
 ghost use Rattle.audit_serving.specs.declared.fault.ServingFault.TheVariants.{BadFrameLine};
-ghost use Rattle.audit_serving.specs.Served.{LoopsOver, LoopReachesOver};
+ghost use Rattle.audit_serving.specs.Served.{LoopsOver, LoopReachesOver, StopsLoop};
 
 use crate::fault::{ServingFault, fault_of_loop, no_memory};
 use audit_device::Sectors;
@@ -43,6 +43,8 @@ where
         → (lines : List (List ℕ)) × (length lines + 1 ≡ number)
         × LoopsOver store result.0 (W.contents writer.old) (W.contents writer.new) (AreLineTurns lines)
         × IfSome (R.remaining reader.old) (SpellsUpToBad lines) }
+    // The fault is what stopped it: of a refusal the store is left as it says.
+    ensures fault { IfErr result.1 (StopsLoop store result.0) }
 {
     let mut core = match Core::new(alloc, store) {
         Ok(core) => core,

@@ -1,10 +1,13 @@
 //! Rounds of serving, each by a new core over the same store.
-ghost use Rattle.std.specs.Prelude.{◌≡◌, ◌⊎◌, ◌≤◌, List, ℕ, length, map, vec_len, IfOk, OnOk, OnErr};
+ghost use Rattle.std.specs.Prelude.{◌≡◌, ◌⊎◌, ◌≤◌, List, ℕ, length, map, vec_len, IfOk, IfErr, OnOk, OnErr};
 ghost use Rattle.std.specs.Io.KnownBytes.{Appends};
 ghost use Rattle.audit_base.specs.declared.limits.TheConstants.{SESSIONS};
 ghost use Rattle.audit_run.specs.Serving.{StoreKeepsOn};
 ghost use Rattle.audit_serving.specs.Rounds.{round_lines};
-ghost use Rattle.audit_serving.specs.Served.{ServesRound, ServesRounds, ReachesByRound, ReachesByRounds};
+ghost use Rattle.audit_store.specs.declared.store_error.StoreError.TheVariants.{Memory};
+ghost use Rattle.audit_commands.specs.declared.fault.CommandFault.TheVariants.{File, Refused};
+ghost use Rattle.audit_serving.specs.declared.fault.ServingFault.TheVariants.{Command};
+ghost use Rattle.audit_serving.specs.Served.{ServesRound, ServesRounds, ReachesByRound, ReachesByRounds, StopsRound, StopsRounds};
 
 use crate::fault::{ServingFault, fault_of_serving, no_memory};
 use audit_device::Sectors;
@@ -38,6 +41,8 @@ pub fn serve_rounds<D: Sectors + Drop, W: Write>(
         × Appends (W.contents writer.old) (W.contents writer.new) (round_lines 1 turns)) }
     // With one some rounds were served, and of one more some steps were done.
     ensures stopped { OnErr result.1 ((turns : List ℕ) × ReachesByRounds sessions turns store result.0) }
+    // The fault is what stopped them: of a refusal the store is left as it says.
+    ensures fault { IfErr result.1 (StopsRounds sessions store result.0) }
 {
     let mut store = store;
     for round in 0..rounds {
@@ -61,7 +66,8 @@ fn accept_streams(
     socket: &SocketFile,
     count: usize,
 ) -> Result<Vec<DuplexStream<UnixStream>>, ServingFault>
-    ensures { IfOk result (λ streams. vec_len streams ≡ count) }
+    ensures all { IfOk result (λ streams. vec_len streams ≡ count) }
+    ensures fault { IfErr result (λ fault. (fault ≡ Command (Refused Memory)) ⊎ (fault ≡ Command File)) }
 {
     let Ok(mut streams) = Vec::with_capacity(alloc, count) else {
         return Err(no_memory());
@@ -83,6 +89,7 @@ fn serve_round<D: Sectors + Drop>(
     ensures kept { StoreKeepsOn store result.0 }
     ensures served { IfOk result.1 (λ turns. ServesRound sessions turns store result.0) }
     ensures reached { (result.0 ≡ store) ⊎ ReachesByRound sessions store result.0 }
+    ensures fault { IfErr result.1 (StopsRound sessions store result.0) }
 {
     let mut streams = match accept_streams(alloc, socket, sessions) {
         Ok(streams) => streams,

@@ -1,4 +1,4 @@
-ghost use Rattle.std.specs.Prelude.{◌≡◌, ◌<◌, ◌≤◌, [], length, map, OnOk};
+ghost use Rattle.std.specs.Prelude.{◌≡◌, ◌<◌, ◌≤◌, [], length, map, IfErr, OnOk};
 ghost use Rattle.audit_base.specs.declared.limits.TheConstants.{SESSIONS};
 ghost use Rattle.audit_sessions.specs.declared.limits.TheConstants.{MAX_PIECE};
 ghost use Rattle.audit_sessions.specs.Transition.{Transition, SessionTransition, Reached, SessionReached, IsOneTurn, AreTurnsBelow};
@@ -17,6 +17,7 @@ fn read_turn<C: SessionCore, S: SessionStream>(
     requires room { 0 < length buffer.old }
     requires most { length buffer.old ≤ MAX_PIECE }
     ensures reaches { SessionReached C.model session core.old core.new (S.view stream.old) (S.view stream.new) }
+    ensures refused { IfErr result (C.refuses core.old core.new) }
     ensures done { OnOk result (SessionTransition C.model session core.old core.new
         (S.view stream.old) (S.view stream.new) (IsOneTurn session)) }
 {
@@ -36,6 +37,7 @@ pub fn read_turns<C: SessionCore, S: SessionStream>(
     requires room { 0 < length buffer.old }
     requires most { length buffer.old ≤ MAX_PIECE }
     ensures reaches { Reached C.model core.old core.new (map S.view streams.old) (map S.view streams.new) }
+    ensures refused { IfErr result (C.refuses core.old core.new) }
     ensures done { OnOk result (Transition C.model core.old core.new (map S.view streams.old) (map S.view streams.new)
         (AreTurnsBelow (length streams.old) (C.model.ended core.old []))) }
 {

@@ -1,4 +1,4 @@
-ghost use Rattle.std.specs.Prelude.{◌≡◌, ◌≢◌, ◌<◌, ◌≤◌, ◌+◌, ℕ, [], true, false, length, map, OnOk};
+ghost use Rattle.std.specs.Prelude.{◌≡◌, ◌≢◌, ◌<◌, ◌≤◌, ◌+◌, ℕ, [], true, false, length, map, IfErr, OnOk};
 ghost use Rattle.audit_base.specs.declared.limits.TheConstants.{SESSIONS};
 ghost use Rattle.audit_sessions.specs.declared.limits.TheConstants.{MAX_PIECE, MAX_TURNS};
 ghost use Rattle.audit_sessions.specs.Rounds.{live_below, IsRound, AreRounds};
@@ -28,6 +28,7 @@ pub fn has_live<C: SessionCore>(core: &C, count: usize) -> bool
 pub fn end_live<C: SessionCore>(core: &mut C, count: usize) -> Result<(), C::Error>
     requires { count ≤ SESSIONS }
     ensures reaches { CoreReached C.model core.old core.new BringNothing }
+    ensures refused { IfErr result (C.refuses core.old core.new) }
     ensures done { OnOk result (CoreTransition C.model core.old core.new
         (AreEndsBelow count (C.model.ended core.old []))) }
 {
@@ -49,6 +50,7 @@ fn serve_round<C: SessionCore, S: SessionStream>(
     requires room { 0 < length buffer.old }
     requires most { length buffer.old ≤ MAX_PIECE }
     ensures reaches { Reached C.model core.old core.new (map S.view streams.old) (map S.view streams.new) }
+    ensures refused { IfErr result (C.refuses core.old core.new) }
     ensures done { OnOk result (Transition C.model core.old core.new (map S.view streams.old) (map S.view streams.new)
         (IsRound (length streams.old) (C.model.ended core.old []))) }
 {
@@ -68,6 +70,7 @@ pub fn serve_rounds<C: SessionCore, S: SessionStream>(
     requires most { length buffer.old ≤ MAX_PIECE }
     ensures most { turns.new ≤ MAX_TURNS }
     ensures reaches { Reached C.model core.old core.new (map S.view streams.old) (map S.view streams.new) }
+    ensures refused { IfErr result (C.refuses core.old core.new) }
     ensures done { OnOk result (Transition C.model core.old core.new (map S.view streams.old) (map S.view streams.new)
         (AreRounds (length streams.old) (C.model.ended core.old) turns.new)) }
     // Only where there were as many rounds as may be are sessions left live.

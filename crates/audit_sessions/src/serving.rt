@@ -1,4 +1,4 @@
-ghost use Rattle.std.specs.Prelude.{◌≡◌, ◌<◌, ◌≤◌, [], true, false, length, map, IfOk, OnOk, None, Some};
+ghost use Rattle.std.specs.Prelude.{◌≡◌, ◌<◌, ◌≤◌, [], true, false, length, map, IfOk, IfErr, OnOk, None, Some};
 ghost use Rattle.audit_base.specs.declared.limits.TheConstants.{SESSIONS};
 ghost use Rattle.audit_sessions.specs.declared.limits.TheConstants.{MAX_PIECE, MAX_TURNS};
 ghost use Rattle.audit_sessions.specs.declared.serve_end.ServeFault.TheVariants as fault;
@@ -30,6 +30,8 @@ pub fn serve<C: SessionCore, S: SessionStream>(
     // didn't fail, the steps bring what was read, but for what a refused call lost; and what was taken was written to
     // it.
     ensures reaches { Reached C.model core.old core.new (map S.view streams.old) (map S.view streams.new) }
+    // A refusal is the one that ended it: what the core says by it is so.
+    ensures refused { (error : C.Error) → result.fault ≡ Some (fault.Core error) → C.refuses core.old core.new error }
     // Without a fault it did, where no stream failed, whole rounds up to the end of the last session, and a flush; and
     // each stream that reports its bytes and didn't fail was read and written as the steps say.
     ensures served { result.fault ≡ None → Transition C.model core.old core.new
@@ -61,6 +63,7 @@ fn serve_all<C: SessionCore, S: SessionStream>(
     requires most { length buffer.old ≤ MAX_PIECE }
     ensures most { turns.new ≤ MAX_TURNS }
     ensures reaches { Reached C.model core.old core.new (map S.view streams.old) (map S.view streams.new) }
+    ensures refused { IfErr result (C.refuses core.old core.new) }
     ensures served { IfOk result (λ cut. cut ≡ false → Transition C.model core.old core.new
         (map S.view streams.old) (map S.view streams.new)
         (IsServed C.model (length streams.old) turns.new core.old core.new)) }

@@ -1,4 +1,4 @@
-ghost use Rattle.std.specs.Prelude.{◌≡◌, ◌<◌, ◌≤◌, [], length, map, OnOk};
+ghost use Rattle.std.specs.Prelude.{◌≡◌, ◌<◌, ◌≤◌, [], length, map, IfErr, OnOk};
 ghost use Rattle.audit_base.specs.declared.limits.TheConstants.{SESSIONS};
 ghost use Rattle.audit_sessions.specs.Transition.{Transition, SessionTransition, Reached, SessionReached, IsTaken, AreTaken, IsFlushed};
 
@@ -14,6 +14,7 @@ fn write_turn<C: SessionCore, S: SessionStream>(
 ) -> Result<(), C::Error>
     requires { session < SESSIONS }
     ensures reaches { SessionReached C.model session core.old core.new (S.view stream.old) (S.view stream.new) }
+    ensures refused { IfErr result (C.refuses core.old core.new) }
     ensures done { OnOk result (SessionTransition C.model session core.old core.new
         (S.view stream.old) (S.view stream.new) (IsTaken C.model session core.old core.new)) }
 {
@@ -31,6 +32,7 @@ pub fn write_turns<C: SessionCore, S: SessionStream>(
 ) -> Result<(), C::Error>
     requires { length streams.old ≤ SESSIONS }
     ensures reaches { Reached C.model core.old core.new (map S.view streams.old) (map S.view streams.new) }
+    ensures refused { IfErr result (C.refuses core.old core.new) }
     ensures done { OnOk result (Transition C.model core.old core.new (map S.view streams.old) (map S.view streams.new)
         (AreTaken C.model (length streams.old) core.new)) }
 {
@@ -47,6 +49,7 @@ pub fn flush_and_write<C: SessionCore, S: SessionStream>(
 ) -> Result<(), C::Error>
     requires { length streams.old ≤ SESSIONS }
     ensures reaches { Reached C.model core.old core.new (map S.view streams.old) (map S.view streams.new) }
+    ensures refused { IfErr result (C.refuses core.old core.new) }
     ensures done { OnOk result (Transition C.model core.old core.new (map S.view streams.old) (map S.view streams.new)
         (IsFlushed C.model (length streams.old) core.new)) }
 {

@@ -40,6 +40,8 @@ where
     W: Write,
     // Whatever happens, the core went by steps that bring the first of what the first lines spell, in order.
     ensures reaches { LoopReached C.model core.old core.new (BringsLines (R.remaining reader.old)) }
+    // A refusal of the core is the one that ended it: what the core says by it is so.
+    ensures refused { (error : C.Error) → result ≡ Err (fault.Core error) → C.refuses core.old core.new error }
     // Without a fault each line was fed and flushed in turn, then the session was ended; and the replies were written.
     // Where the reader's bytes are known, these are what all their lines spell.
     ensures done { OnOk result ((lines : List (List ℕ)) × LoopTransition C.model core.old core.new
@@ -76,6 +78,7 @@ where
     W: Write,
     requires room { length buffer.old ≡ MAX_PIECE }
     ensures reaches { LoopReached C.model core.old core.new (BringsLines (R.remaining reader.old)) }
+    ensures refused { (error : C.Error) → result ≡ Err (fault.Core error) → C.refuses core.old core.new error }
     ensures done { OnOk result ((lines : List (List ℕ)) × LoopTransition C.model core.old core.new
         (W.contents writer.old) (W.contents writer.new) (AreLineTurns lines)
         × IfSome (R.remaining reader.old) (Spells lines)) }
@@ -111,6 +114,7 @@ where
     B: Read + Write + Drop,
     requires room { length buffer.old ≡ MAX_PIECE }
     ensures reaches { LoopReached C.model core.old core.new (BringsFront bytes.now) }
+    ensures refused { (error : C.Error) → result ≡ Err (fault.Core error) → C.refuses core.old core.new error }
     ensures done { OnOk result (CoreTransition C.model core.old core.new (Brings bytes.now [])) }
     ensures fault { IfErr result IsNoLineFault }
 {
@@ -141,6 +145,7 @@ where
     W: Write,
     requires room { length buffer.old ≡ MAX_PIECE }
     ensures reaches { LoopReached C.model core.old core.new (IsPartOf a_flush) }
+    ensures refused { (error : C.Error) → result ≡ Err (fault.Core error) → C.refuses core.old core.new error }
     ensures done { OnOk result (LoopTransition C.model core.old core.new (W.contents writer.old) (W.contents writer.new)
         (λ steps. steps ≡ a_flush ∷ [])) }
     ensures fault { IfErr result IsNoLineFault }

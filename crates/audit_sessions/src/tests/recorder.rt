@@ -112,6 +112,9 @@ impl SessionCore for Recorder {
 
     ghost model = { recorder_model };
 
+    // Its refusals say nothing.
+    ghost refuses = { λ old new error. Unit {0} };
+
     fn feed(&mut self, session: usize, piece: &[u8]) -> Result<(), AllocError> {
         self.ask(Asked::Feed {
             session,
@@ -140,4 +143,6 @@ impl SessionCore for Recorder {
     fn ended(&self, session: usize) -> bool {
         self.ended[session]
     }
+
+    ghost refuses_after = { λ old mid new steps taken error did refused. tt };
 }

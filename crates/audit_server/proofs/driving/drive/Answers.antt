@@ -1,4 +1,4 @@
-use Rattle.audit_server.proofs.Steps.{drive_none, drive_more, drive_refused, drive_stopped, drive_broken}
+use Rattle.audit_server.proofs.Steps.{drive_none, drive_more, drive_refused, drive_stopped, drive_broken, drive_cause}
 use Rattle.audit_server.proofs.Durably.{all_durably, drive_durably}
 use Rattle.audit_server.proofs.driving.drive.Goals as goal
 
@@ -22,3 +22,6 @@ returns-in-Err-clause-device g c = drive_broken c.in-Err.fault c.loop-number.inv
 
 pub returns-clause-durable : goal.returns-clause-durable
 returns-clause-durable g c = all_durably c.args.core.now c.loop-number.core c.loop-number.invariant c.loop-number-test.false
+
+pub returns-in-Err-clause-cause : goal.returns-in-Err-clause-cause
+returns-in-Err-clause-cause g c = drive_cause c.do_step.new.core c.in-Err.fault.error c.loop-number.invariant c.in-Err.ensures.cause

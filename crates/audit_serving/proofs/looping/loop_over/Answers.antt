@@ -1,7 +1,8 @@
-use Rattle.std.proofs.Common.{◌≡◌, ◌∙◌, inr, Err, sym, ap}
+use Rattle.std.proofs.Common.{◌≡◌, ◌∙◌, inr, Result, Err, IfErr, sym, ap, subst}
+use Rattle.audit_serving.specs.declared.fault.ServingFault.{ServingFault}
 use Rattle.audit_serving.specs.declared.fault.ServingFault.TheVariants.{BadFrameLine}
-use Rattle.audit_serving.specs.Served.{IsNewCore}
-use Rattle.audit_serving.proofs.Served.{bad_of_loop, on_ok, on_err, kept_as, kept_by, looped, loop_reached}
+use Rattle.audit_serving.specs.Served.{IsNewCore, StopsLoop}
+use Rattle.audit_serving.proofs.Served.{bad_of_loop, on_ok, on_err, kept_as, kept_by, looped, loop_reached, loop_stopped}
 use Rattle.audit_serving.proofs.looping.loop_over.Goals.{in-Ok-run_lines, in-Err-run_lines}
 use Rattle.audit_serving.proofs.looping.loop_over.Goals as goal
 
@@ -37,3 +38,15 @@ returns-clause-bad g c = λ number is.
 -- no core was made, and the store is handed back as it was
 pub returns-in-Err-clause-kept : goal.returns-in-Err-clause-kept
 returns-in-Err-clause-kept g c = kept_as c.args.store c.in-Err.failed.store c.in-Err.ensures.store
+
+pub returns-clause-fault : goal.returns-clause-fault
+returns-clause-fault g c =
+    let made : IsNewCore c.args.store c.in-Ok.core = record { store_is = c.in-Ok.ensures.store; waiting = c.in-Ok.ensures.waiting; outputs = c.in-Ok.ensures.outputs; sessions = c.in-Ok.ensures.sessions } in
+    elim c.match-run_lines.branch [
+      | in-Ok-run_lines w ↦ subst (λ (answer : Result (Unit {0}) ServingFault). IfErr answer (StopsLoop c.args.store c.into_store.result)) (sym w.done-is) tt
+      | in-Err-run_lines w ↦
+          subst (λ (answer : Result (Unit {0}) ServingFault). IfErr answer (StopsLoop c.args.store c.into_store.result)) (sym w.done-is)
+          (subst (StopsLoop c.args.store c.into_store.result) (sym w.fault_of_loop.ensures)
+          (loop_stopped c.args.store c.into_store.result c.in-Ok.core c.run_lines.new.core w.in-Err-run_lines.fault made c.into_store.ensures
+          (λ error is. c.run_lines.ensures.refused error (w.in-Err-run_lines.is ∙ ap Err is))))
+    ]
