@@ -12,7 +12,7 @@ use std::os::unix::fs::FileExt;
 
 /// Runs the program on the words of a command line, of which the first is its name. Lines that begin
 /// with `audit: ` go to `messages`, and so does clap's usage; every other text goes to `output`, which is
-/// flushed in the end.
+/// flushed at the end.
 pub fn run<F: Files + Net, S: AsStr, R: Read, W: Write, M: Write>(
     rt: &F,
     alloc: Global,

@@ -96,7 +96,7 @@ pub enum Request<'a> {
 }
 
 /// Does what is asked. Lines that begin with `audit: ` go to `messages`, and every other one to `output`, which is
-/// flushed in the end. It returns the status with which the program ends.
+/// flushed at the end. It returns the status with which the program ends.
 pub fn run<F: Files, R: Read, W: Write, M: Write>(
     rt: &F,
     alloc: Global,

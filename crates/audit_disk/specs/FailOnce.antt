@@ -6,7 +6,7 @@ use Rattle.audit_disk.specs.declared.fail_once.FailOnce.{FailOnce}
 use Rattle.audit_device.specs.declared.sectors.Sectors as sectors
 
 module _ {D : Type 0} {g : sectors.Ghosts D} where
-  -- the device behind it
+  -- the device inside it
   abbrev pub fail_once_inner : FailOnce D g → D
   fail_once_inner disk = disk.gate.inner
 

@@ -6,7 +6,7 @@ use Rattle.audit_disk.specs.declared.fuse.Fuse.{Fuse}
 use Rattle.audit_device.specs.declared.sectors.Sectors as sectors
 
 module _ {D : Type 0} {g : sectors.Ghosts D} where
-  -- the device behind it
+  -- the device inside it
   abbrev pub fuse_inner : Fuse D g → D
   fuse_inner fuse = fuse.gate.inner
 

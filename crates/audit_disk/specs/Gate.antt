@@ -1,4 +1,4 @@
--- A device behind a gate.
+-- A device inside a gate.
 use Rattle.std.specs.Prelude.{◌≡◌, ◌+◌, ◌<◌, ◌≤◌}
 use Rattle.audit_device.specs.View.{View, last_count}
 use Rattle.audit_disk.specs.Shifted.{shifted, MayMiss}

@@ -1,4 +1,4 @@
--- A device behind one that doesn't pass every call on: its clock counts the calls that were missed, too.
+-- A device inside one that doesn't pass every call on: the outer clock counts the calls that were missed, too.
 use Rattle.std.specs.Prelude.{◌≡◌, ℕ, ◌+◌, ◌-◌, ◌^◌, ◌<◌, ◌≤◌, min, max}
 use Rattle.std.proofs.Common.{sym, subst, arith}
 use Rattle.audit_device.specs.View.{View}

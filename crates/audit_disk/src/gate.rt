@@ -4,7 +4,7 @@ ghost use Rattle.audit_disk.specs.Passing.{PassesOn};
 
 use crate::{DeviceFault, SECTOR_SIZE, Sectors};
 
-/// A device behind a gate: a call is passed on, or it fails and the device doesn't see it.
+/// A device inside a gate: a call is passed on, or it fails and the device doesn't see it.
 #[derive(Drop)]
 pub(crate) struct Gate<D: Sectors> {
     pub(crate) inner: D,

@@ -37,7 +37,7 @@ pub enum Request<'a> {
 }
 
 /// Does what is asked. Lines that begin with `audit: ` go to `messages`, and every other one to `output`, which is
-/// flushed after each round, after the replies to each line, and in the end. It returns the status with which the
+/// flushed after each round, after the replies to each line, and at the end. It returns the status with which the
 /// program ends.
 pub fn run<F: Files + Net, R: Read, W: Write, M: Write>(
     rt: &F,

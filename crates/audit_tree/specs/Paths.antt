@@ -1,5 +1,5 @@
 -- The hash lists of the membership and the incremental proof of a history tree, over any hash
--- function H. Which hashes they hold, and their order, are this project's own profile.
+-- function H. Which hashes they hold, and their order, are this store's own.
 use Rattle.std.specs.Prelude.{ℕ, zero, suc, ◌+◌, ◌-◌, ◌*◌, ◌/◌, ◌%◌, ◌^◌, nat_le, nat_lt, ◌==◌, List, [], ◌∷◌, ◌++◌, length, drop, if◌then◌else◌}
 use Rattle.std.specs.Int.{w64, trailing_zeros}
 use Rattle.audit_tree.specs.Subtree.{subtree_hash, node_at, depth}
@@ -29,7 +29,7 @@ increment_path H leaves older =
     subtree_hash H layer (drop (older - 2 ^ layer) leaves)
     ∷ path H layer (depth (length leaves) - layer) (older - 1) leaves
 
--- The same siblings by places, as the profile has them: of the node of a layer that holds the leaf at
+-- The same siblings by places, as the format states them: of the node of a layer that holds the leaf at
 -- a place, under the first `count` leaves. A left sibling is there, and a right one where it has leaves.
 abbrev pub sibling_at : (List ℕ → List ℕ) → List (List ℕ) → ℕ → ℕ → ℕ → List (List ℕ)
 sibling_at H leaves count place layer =
