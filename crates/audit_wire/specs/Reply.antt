@@ -1,5 +1,5 @@
 -- The body of a reply: the kind in one byte, the request tag in four, and the fields of its kind.
-use Rattle.std.specs.Prelude.{◌≡◌, ℕ, ◌+◌, ◌*◌, ◌^◌, ◌<◌, ◌≤◌, ◌&&◌, ◌==◌, nat_le, if◌then◌else◌, List, [], ◌∷◌, ◌++◌, length, take, drop, slice_index, Option, Some, None, Result, Ok, Err, IsSome}
+use Rattle.std.specs.Prelude.{◌≡◌, ℕ, ◌+◌, ◌*◌, ◌^◌, ◌<◌, ◌≤◌, ◌&&◌, ◌==◌, nat_le, if◌then◌else◌, List, [], ◌∷◌, ◌++◌, length, take, drop, slice_index, Option, Some, None, Result, Ok, Err, MatchOption}
 use Rattle.std.specs.List.{flat_map}
 use Rattle.std.specs.Int.{w32, w64, to_be_bytes}
 use Rattle.audit_base.specs.Bytes.{number_at}
@@ -145,8 +145,17 @@ unfoldable pub reply_in : List ℕ → Option Reply
 reply_in [] = None
 reply_in (first ∷ fields) = reply_fields_in (reply_kind_at first) fields
 
+-- a reply that has hashes or an entry, which take memory
+abbrev pub HasParts : Reply → Type 0
+HasParts (reply.Acknowledgement tag index count root) = ⊥
+HasParts (reply.Commitment tag count root) = ⊥
+HasParts (reply.Membership tag hashes entry) = Unit {0}
+HasParts (reply.Incremental tag hashes) = Unit {0}
+HasParts (reply.Entry tag entry) = Unit {0}
+HasParts (reply.Refused tag code) = ⊥
+
 -- what reading a body as a reply has come to: the reply that the body is, or none, or memory was refused for one
 abbrev pub IsReadAs : Option Reply → Result Reply ReplyFault → Type 0
 IsReadAs said (Ok given) = said ≡ Some given
 IsReadAs said (Err fault.Malformed) = said ≡ None
-IsReadAs said (Err fault.Memory) = IsSome said
+IsReadAs said (Err fault.Memory) = MatchOption said ⊥ HasParts

@@ -3,7 +3,7 @@
 ghost use Rattle.std.specs.Prelude.{◌≡◌, ◌<◌, ◌^◌, ℕ, length, List, [], ◌∷◌, ◌++◌, Some};
 ghost use Rattle.audit_wire.specs.declared.request.Request.{Request};
 ghost use Rattle.audit_base.specs.declared.limits.TheConstants.{HASH_LEN};
-ghost use Rattle.audit_wire.specs.declared.limits.TheConstants.{ACKNOWLEDGEMENT_FRAME, REFUSAL_FRAME};
+ghost use Rattle.audit_wire.specs.declared.limits.TheConstants.{LENGTH_BYTES, MAX_BODY, MAX_FRAME, ACKNOWLEDGEMENT_FRAME, REFUSAL_FRAME};
 ghost use Rattle.audit_wire.specs.declared.refusal.Refusal.{Refusal};
 ghost use Rattle.audit_wire.specs.declared.reply.Reply.{Reply};
 ghost use Rattle.audit_wire.specs.declared.reply.Reply.TheVariants as reply;
@@ -95,4 +95,13 @@ pub fn a_byte_given_back_never_came()
         → IsFed old piece answer taken
         → HasJustTaken taken → PutsBack taken new → requests_ahead old (taken_but_one answer piece ++ later)
         ≡ requests_ahead new later }
+{}
+
+/// The limits of the frames, each as its number.
+pub fn limits_are_these_numbers()
+    ensures length { LENGTH_BYTES ≡ 2 }
+    ensures body { MAX_BODY ≡ 32705 }
+    ensures frame { MAX_FRAME ≡ 32707 }
+    ensures acknowledgement { ACKNOWLEDGEMENT_FRAME ≡ 55 }
+    ensures refusal { REFUSAL_FRAME ≡ 8 }
 {}

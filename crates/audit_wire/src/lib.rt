@@ -34,8 +34,8 @@ pub use fed::Fed;
 pub use hash_list::HashList;
 pub use laws::{
     a_byte_given_back_never_came, every_cut_gives_one_reading, every_reply_is_read_back,
-    every_request_is_read_back, more_bytes_keep_the_requests, one_reading_of_a_stream,
-    one_reading_of_replies, replies_have_their_sizes,
+    every_request_is_read_back, limits_are_these_numbers, more_bytes_keep_the_requests,
+    one_reading_of_a_stream, one_reading_of_replies, replies_have_their_sizes,
 };
 pub use limits::{ACKNOWLEDGEMENT_FRAME, LENGTH_BYTES, MAX_BODY, MAX_FRAME, REFUSAL_FRAME};
 pub use malformed::Malformed;
