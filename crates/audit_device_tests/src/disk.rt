@@ -11,6 +11,7 @@ use std::process::{self, Abort};
 use std::test::Fail;
 
 mod reading_ahead;
+mod system_files;
 
 /// Writes a sector of equal bytes, and reports whether that succeeded.
 fn put<D: Sectors>(rt: &impl Abort, disk: &mut D, at: u64, byte: u8) -> bool {
@@ -522,6 +523,19 @@ fn a_real_file_is_read_in_rows(rt: HostRuntime) -> Result<(), Fail> {
 
 /// A file of three sectors is opened, and then cut to two of them, and to a length that no device has.
 fn expect_cut(rt: &HostRuntime, judge: &impl Abort, path: &str) -> Result<(), Fail> {
+    expect_cut_while_open(rt, judge, path)?;
+    set_len(rt, path, 1025)?;
+    expect_unopened(rt, judge, path, FileFault::Length);
+    set_len(rt, path, 1024)?;
+    expect(
+        judge,
+        &mut FileDisk::open(rt, rt.alloc(), path)?,
+        &[Step::Size(2)],
+    );
+    Ok(())
+}
+
+fn expect_cut_while_open(rt: &HostRuntime, judge: &impl Abort, path: &str) -> Result<(), Fail> {
     let mut disk = FileDisk::open(rt, rt.alloc(), path)?;
     let kept = [
         Step::Size(3),
@@ -532,14 +546,6 @@ fn expect_cut(rt: &HostRuntime, judge: &impl Abort, path: &str) -> Result<(), Fa
     expect(judge, &mut disk, &kept);
     set_len(rt, path, 1024)?;
     expect(judge, &mut disk, &[Step::FindFails(2)]);
-    set_len(rt, path, 1025)?;
-    expect_unopened(rt, judge, path, FileFault::Length);
-    set_len(rt, path, 1024)?;
-    expect(
-        judge,
-        &mut FileDisk::open(rt, rt.alloc(), path)?,
-        &[Step::Size(2)],
-    );
     Ok(())
 }
 

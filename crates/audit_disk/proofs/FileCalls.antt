@@ -8,9 +8,9 @@ use Rattle.audit_disk.specs.FileView.{file_moment, file_view}
 use Rattle.audit_base.specs.declared.limits.TheConstants.{SECTOR_SIZE}
 use Rattle.audit_disk.proofs.FileSectors.{length-overlaid, sectors_of-overlaid, sector_at-sectors_of}
 
--- as many bytes as the sectors have
+-- at least as many bytes as the sectors have
 abbrev pub IsSized : FileView → ℕ → Type 0
-IsSized file sectors = file.honest → length file.bytes ≡ SECTOR_SIZE * sectors
+IsSized file sectors = file.honest → SECTOR_SIZE * sectors ≤ length file.bytes
 
 sized_after_write : {E : Type 0} (old new : FileView) (sectors at : ℕ) (bytes : Sector) (result : Result (Unit {0}) E) → IsSized old sectors → at < sectors → length bytes ≡ SECTOR_SIZE
     → IsFileWrite old new (SECTOR_SIZE * at) bytes result → IsSized new sectors
@@ -22,12 +22,12 @@ sized_after_write old new sectors at bytes result sized lt long write = λ hones
   where
     by_result : {E : Type 0} (result : Result (Unit {0}) E) → old.honest → OnOk result (new.bytes ≡ overlaid old.bytes (SECTOR_SIZE * at) bytes)
         → OnErr result ((new.bytes ≡ old.bytes) ⊎ (new.bytes ≡ overlaid old.bytes (SECTOR_SIZE * at) bytes))
-        → length (overlaid old.bytes (SECTOR_SIZE * at) bytes) ≡ length old.bytes → length new.bytes ≡ SECTOR_SIZE * sectors
-    by_result (Ok done) was stands stands_err over = ap length stands ∙ over ∙ sized was
+        → length (overlaid old.bytes (SECTOR_SIZE * at) bytes) ≡ length old.bytes → SECTOR_SIZE * sectors ≤ length new.bytes
+    by_result (Ok done) was stands stands_err over = omega (arith, ap length stands, over, sized was)
     by_result (Err fault) was stands stands_err over =
         ⊎_elim
-        (λ (same : new.bytes ≡ old.bytes). ap length same ∙ sized was)
-        (λ (changed : new.bytes ≡ overlaid old.bytes (SECTOR_SIZE * at) bytes). ap length changed ∙ over ∙ sized was)
+        (λ (same : new.bytes ≡ old.bytes). omega (arith, ap length same, sized was))
+        (λ (changed : new.bytes ≡ overlaid old.bytes (SECTOR_SIZE * at) bytes). omega (arith, ap length changed, over, sized was))
         stands_err
 
 module _ (old new : FileView) (sectors reached reached' clock clock' failures failures' : ℕ) (fits fits' : sectors < 2 ^ 64)
@@ -120,7 +120,7 @@ module _ (old new : FileView) (sectors reached reached' clock clock' failures fa
               either = inr (record {
                 before = sectors_of sectors over.0;
                 was_left = (honest, (over.0, now_out old reached clock over.0 in_order over.1, refl));
-                is = left.1.2 ∙ ap (λ (file : List ℕ). sectors_of sectors file) over.2 ∙ placed over.0 (old.same_length honest old.moment over.0 over.1 ∙ sized honest);
+                is = left.1.2 ∙ ap (λ (file : List ℕ). sectors_of sectors file) over.2 ∙ placed over.0 (omega (arith, old.same_length honest old.moment over.0 over.1, sized honest));
               });
             })
             (write.images honest left.1.0 (now_in new reached' clock' left.1.0 in_order' left.1.1));
@@ -130,7 +130,7 @@ module _ (old new : FileView) (sectors reached reached' clock clock' failures fa
         at_end_same = λ end honest. absurd (omega arith);
       }
         where
-          placed : (file : List ℕ) → length file ≡ SECTOR_SIZE * sectors → sectors_of sectors (overlaid file (SECTOR_SIZE * at) bytes) ≡ with_sector (sectors_of sectors file) at bytes
+          placed : (file : List ℕ) → SECTOR_SIZE * sectors ≤ length file → sectors_of sectors (overlaid file (SECTOR_SIZE * at) bytes) ≡ with_sector (sectors_of sectors file) at bytes
           placed file is = sectors_of-overlaid sectors at file bytes is lt long
 
           stands : (result : Outcome) → old.honest → OnOk result (new.bytes ≡ overlaid old.bytes (SECTOR_SIZE * at) bytes)
@@ -156,7 +156,7 @@ module _ (old new : FileView) (sectors reached reached' clock clock' failures fa
                 (
                   file,
                   now_out new reached' clock' file in_order' (over left.1.0 was),
-                  ap (λ (i : Image). with_sector i at bytes) left.1.2 ∙ sym (placed left.1.0 (old.same_length honest old.moment left.1.0 was ∙ sized honest)),
+                  ap (λ (i : Image). with_sector i at bytes) left.1.2 ∙ sym (placed left.1.0 (omega (arith, old.same_length honest old.moment left.1.0 was, sized honest))),
                 ),
               )
           written (Err fault) honest over = tt

@@ -33,7 +33,7 @@ drop-overlaid file bytes offset fits =
     ∙ ap (λ (l : List ℕ). take offset (drop SECTOR_SIZE file) ++ bytes ++ l) (ap (λ (n : ℕ). drop n file) far ∙ sym (drop-drop (offset + length bytes) SECTOR_SIZE file))
 
 -- bytes at a multiple of the sector's size are a sector
-pub sectors_of-overlaid : (count at : ℕ) (file bytes : List ℕ) → length file ≡ SECTOR_SIZE * count → at < count → length bytes ≡ SECTOR_SIZE
+pub sectors_of-overlaid : (count at : ℕ) (file bytes : List ℕ) → SECTOR_SIZE * count ≤ length file → at < count → length bytes ≡ SECTOR_SIZE
     → sectors_of count (overlaid file (SECTOR_SIZE * at) bytes) ≡ set (sectors_of count file) at bytes
 sectors_of-overlaid zero at file bytes long lt size = absurd (omega arith)
 sectors_of-overlaid (suc count) zero file bytes long lt size =
@@ -54,3 +54,9 @@ sector_at-sectors_of (suc count) (suc at) file lt =
     let there : SECTOR_SIZE + SECTOR_SIZE * at ≡ SECTOR_SIZE * suc at = omega arith in
     sector_at-sectors_of count at (drop SECTOR_SIZE file) (omega arith)
     ∙ ap (λ (l : List ℕ). take SECTOR_SIZE l) (drop-drop (SECTOR_SIZE * at) SECTOR_SIZE file ∙ ap (λ (n : ℕ). drop n file) there)
+
+-- the first sectors are those of fewer
+pub take-sectors_of : (count more : ℕ) (file : List ℕ) → count ≤ more → take count (sectors_of more file) ≡ sectors_of count file
+take-sectors_of zero more file le = refl
+take-sectors_of (suc count) zero file le = absurd (omega arith)
+take-sectors_of (suc count) (suc more) file le = ap (λ (image : Image). take SECTOR_SIZE file ∷ image) (take-sectors_of count more (drop SECTOR_SIZE file) (omega arith))

@@ -13,6 +13,8 @@ pub mod MemFileCalls
 pub mod MemoryCalls
 pub mod MemoryLemmas
 pub mod OverFiles
+pub mod PositionedCalls
+pub mod ReadOnlyCalls
 pub mod Reached
 pub mod Replays
 pub mod RowReads

@@ -185,6 +185,6 @@ module _ (old new : View) where
 pub unused_file : (view : View) (image : Image) (sectors : ℕ) → IsFresh view image → length image ≡ sectors → IsUnusedFile (joined_view view) sectors
 unused_file view image sectors fresh long = record {
   sized = λ honest.
-      length-joined view.size view.content (view.whole honest view.clock view.content (view.content_left honest)) ∙ ap (λ (n : ℕ). SECTOR_SIZE * n) (fresh.size ∙ long);
+      omega (arith, length-joined view.size view.content (view.whole honest view.clock view.content (view.content_left honest)), fresh.size, long);
   moment = λ honest. fresh.clock;
 }

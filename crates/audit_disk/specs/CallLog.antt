@@ -1,5 +1,5 @@
 -- A record of calls that grows.
-use Rattle.std.specs.Prelude.{◌≡◌, ◌+◌, ◌<◌, ◌≤◌, [], ◌∷◌, ◌++◌}
+use Rattle.std.specs.Prelude.{◌≡◌, ℕ, ◌+◌, ◌-◌, ◌<◌, ◌≤◌, [], ◌∷◌, ◌++◌, vec_len, vec_capacity}
 use Rattle.audit_device.specs.View.{last_count}
 use Rattle.audit_device.specs.Calls.{Ticks, HasRisen}
 use Rattle.audit_disk.specs.declared.call.Effect.{Effect}
@@ -18,3 +18,7 @@ pub record Refuses (old new : CallLog) : Type 0 where
   pub clock : Ticks old.clock new.clock
   pub failures : HasRisen old.failures new.failures
   pub more : old.failures ≤ new.failures
+
+-- how many more calls it has the memory for
+abbrev pub spare : CallLog → ℕ
+spare log = vec_capacity log.calls - vec_len log.calls

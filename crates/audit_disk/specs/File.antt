@@ -126,9 +126,9 @@ pub record IsSectorOffset (file : FileView) (offset : ℕ) : Type 0 where
 pub record IsRowOffset (file : FileView) (offset count : ℕ) : Type 0 where
   pub multiple : offset % SECTOR_SIZE ≡ 0
   pub within : file.honest → offset + SECTOR_SIZE * count ≤ length file.bytes
-  pub fits : offset + SECTOR_SIZE * count < 2 ^ 64
+  pub fits : offset + SECTOR_SIZE * count ≤ 2 ^ 64
 
--- as many bytes as so many sectors have, and no call was made
+-- at least as many bytes as so many sectors have, and no call was made
 pub record IsUnusedFile (file : FileView) (sectors : ℕ) : Type 0 where
-  pub sized : file.honest → length file.bytes ≡ SECTOR_SIZE * sectors
+  pub sized : file.honest → SECTOR_SIZE * sectors ≤ length file.bytes
   pub moment : file.honest → file.moment ≡ 0

@@ -1,5 +1,5 @@
 -- A device in a file.
-use Rattle.std.specs.Prelude.{◌≡◌, ◌⊎◌, ℕ, ◌<◌, ◌≤◌, Bool, true, false, List, IsErr, unwrap_or}
+use Rattle.std.specs.Prelude.{◌≡◌, ◌⊎◌, ℕ, ◌<◌, ◌≤◌, Bool, true, false, List, take, IsErr, unwrap_or}
 use Rattle.std.specs.Option.{is_some}
 use Rattle.audit_device.specs.Image.{Image}
 use Rattle.audit_device.specs.View.{View, last_count}
@@ -8,6 +8,18 @@ use Rattle.audit_disk.specs.File.{FileView, sectors_of}
 use Rattle.audit_disk.specs.FileView.{file_view, sectors_fit}
 use Rattle.audit_disk.specs.declared.file_disk.FileDisk.{FileDisk}
 use Rattle.audit_disk.specs.declared.sector_file.SectorFile as files
+
+-- the device of the first sectors of another
+pub record IsFrontOf (front whole : View) (count : ℕ) : Type 0 where
+  pub size : front.size ≡ count
+  pub content : front.content ≡ take count whole.content
+  pub clock : front.clock ≡ whole.clock
+  pub failures : front.failures ≡ whole.failures
+  pub honest : whole.honest → front.honest
+  pub was_honest : front.honest → whole.honest
+  -- a crash leaves the first sectors of what it leaves of the other, and nothing else
+  pub left : (moment : ℕ) (image : Image) → whole.left_at moment image → front.left_at moment (take count image)
+  pub no_other : (moment : ℕ) (image : Image) → front.left_at moment image → (full : Image) × whole.left_at moment full × (image ≡ take count full)
 
 module _ {F : Type 0} {g : files.Ghosts F} where
   -- everything that is known of it as a device

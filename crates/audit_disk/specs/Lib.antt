@@ -9,17 +9,22 @@ pub mod Countdown
 pub mod FailOnce
 pub mod File
 pub mod FileDisk
+pub mod FileFaults
 pub mod Fuse
 pub mod Held
 pub mod MemDisk
 pub mod MemFileView
 pub mod OsFile
 pub mod Passing
+pub mod Positioned
+pub mod ReadOnlyView
+pub mod SectorSource
 -- Views of devices and files, with their laws.
 pub mod FileView
 pub mod HeldLaws
 pub mod MemFile
 pub mod Memory
+pub mod ReadOnly
 pub mod Shifted
 -- What only bodies need.
 pub mod CallLog

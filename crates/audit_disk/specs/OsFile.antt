@@ -1,18 +1,17 @@
 -- A file of the operating system, of whose bytes no contract knows anything.
-use Rattle.std.specs.Prelude.{ℕ, []}
-use Rattle.std.specs.Coded.{Unit-prop}
+use Rattle.std.specs.Prelude.{ℕ, Result, MatchResult, IsOk, IsErr}
 use Rattle.audit_disk.specs.File.{FileView}
+use Rattle.audit_disk.specs.Positioned.{counted_file, unknown_positioned}
+use Rattle.audit_disk.specs.declared.os_file.OsFile.{OsFile}
 
 -- It isn't known to be as described: what is said of honest files is a premise there.
 abbrev pub unknown_file : ℕ → FileView
-unknown_file failures = record {
-  bytes = [];
-  moment = 0;
-  left_at = λ moment file. ⊥;
-  failures = failures;
-  gave = λ offset bytes. Unit {0};
-  honest = ⊥;
-  given_once = λ offset bytes. Unit-prop;
-  bytes_left = λ honest. absurd honest;
-  same_length = λ honest. absurd honest;
-}
+unknown_file failures = counted_file unknown_positioned failures
+
+-- the file whose failed calls it counts
+abbrev pub file_below : {F : Type 0} → OsFile F → F
+file_below it = it.file
+
+-- both are Ok, or both are errors
+abbrev pub AnswersAlike : {E D : Type 0} → Result (Unit {0}) E → Result (Unit {0}) D → Type 0
+AnswersAlike one other = MatchResult one (λ _. IsOk other) (λ _. IsErr other)

@@ -3,7 +3,7 @@ ghost use Rattle.audit_disk.specs.Memory.{latest};
 
 use crate::DeviceFault;
 use crate::call::{Call, Effect};
-use std::alloc::Global;
+use std::alloc::{AllocError, Global};
 
 /// The calls that reached the medium, the clock and the count of failures.
 #[derive(Drop)]
@@ -16,7 +16,9 @@ pub(crate) struct CallLog {
 }
 
 impl CallLog {
-    ghost use Rattle.audit_disk.specs.CallLog.{Notes, Refuses};
+    ghost use Rattle.std.specs.Prelude.{◌+◌, IsOk};
+    ghost use Rattle.audit_device.specs.View.{last_count};
+    ghost use Rattle.audit_disk.specs.CallLog.{Notes, Refuses, spare};
 
     pub(crate) fn new(alloc: Global) -> Self
         ensures calls { result.calls.items ≡ [] }
@@ -30,10 +32,22 @@ impl CallLog {
         }
     }
 
+    /// Takes the memory for that many more calls.
+    pub(crate) fn reserve(&mut self, calls: usize) -> Result<(), AllocError>
+        ensures calls { self.new.calls.items ≡ self.old.calls.items }
+        ensures clock { self.new.clock ≡ self.old.clock }
+        ensures failures { self.new.failures ≡ self.old.failures }
+        ensures spare { OnOk result (calls ≤ spare self.new) }
+    {
+        self.calls.reserve(calls)
+    }
+
     /// Notes a call that is about to reach the medium. A refused growth is a failed call.
     pub(crate) fn note(&mut self, effect: Effect) -> Result<(), DeviceFault>
         ensures ok { OnOk result (Notes self.old self.new effect) }
         ensures err { OnErr result (Refuses self.old self.new) }
+        ensures room { 0 < spare self.old → self.old.clock < last_count → IsOk result }
+        ensures spare { spare self.old ≤ spare self.new + 1 }
     {
         if self.clock == u64::MAX {
             self.failures = self.failures.saturating_add(1);

@@ -22,7 +22,7 @@ pub struct FileDisk<F: SectorFile> {
     /// The clock after the first sync that failed.
     failed_at: Option<u64>,
     ghost fits: { SECTOR_SIZE * sectors < 2 ^ 64 },
-    ghost sized: { (F.file file.inner).honest → length (F.file file.inner).bytes ≡ SECTOR_SIZE * sectors },
+    ghost sized: { (F.file file.inner).honest → SECTOR_SIZE * sectors ≤ length (F.file file.inner).bytes },
     ghost in_order: { unwrap_or failed_at clock ≤ clock },
     ghost in_range: { clock < 2 ^ 64 },
     ghost in_step: { (F.file file.inner).honest → (F.file file.inner).moment ≤ unwrap_or failed_at clock },
@@ -30,9 +30,11 @@ pub struct FileDisk<F: SectorFile> {
 
 impl<F: SectorFile> FileDisk<F> {
     ghost use Rattle.std.specs.Prelude.{IsTrue, IsFalse, IfOk};
-    ghost use Rattle.audit_disk.specs.FileDisk.{inner_of, IsOverFile, Reaches, IsShut};
+    ghost use Rattle.audit_disk.specs.FileDisk.{file_disk_view, inner_of, has_stopped};
+    ghost use Rattle.audit_disk.specs.FileDisk.{IsOverFile, IsFrontOf, Reaches, IsShut};
 
-    /// Makes a device over a file of `sectors` whole sectors. The memory for reading ahead, 64 KiB, is taken here.
+    /// Makes a device over the first `sectors` sectors of a file that has at least so many. The memory for reading
+    /// ahead, 64 KiB, is taken here.
     pub fn over(alloc: Global, file: F, sectors: u64) -> Result<Self, AllocError>
     where
         F: Drop,
@@ -63,6 +65,30 @@ impl<F: SectorFile> FileDisk<F> {
         ensures { result ≡ inner_of self }
     {
         self.file.inner
+    }
+
+    /// The device of the first `sectors` sectors of the same file. The clock, the failures and the file stay as they
+    /// are, and after a sync that failed every call still fails.
+    pub fn with_sectors(self, sectors: u64) -> Self
+        requires { sectors ≤ (file_disk_view self).size }
+        ensures front { IsFrontOf (file_disk_view result) (file_disk_view self) sectors }
+        ensures file { inner_of result ≡ inner_of self }
+        ensures stopped { has_stopped result ≡ has_stopped self }
+    {
+        FileDisk {
+            file: self.file,
+            sectors,
+            clock: self.clock,
+            failures: self.failures,
+            failed_at: self.failed_at,
+        }
+    }
+
+    /// The file, to be looked at.
+    pub(crate) fn file(&self) -> &F
+        ensures { result.now ≡ inner_of self.now }
+    {
+        &self.file.inner
     }
 
     /// Whether a write or a sync would not reach the file.

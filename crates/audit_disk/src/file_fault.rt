@@ -1,4 +1,5 @@
 use std::alloc::AllocError;
+use std::fs::TryLockError;
 use std::io;
 use thiserror::Error;
 
@@ -14,6 +15,12 @@ pub enum FileFault {
     /// Memory was refused.
     #[error("out of memory")]
     Memory,
+    /// Another open of it holds the lock.
+    #[error("the file is in use")]
+    InUse,
+    /// It has fewer whole sectors than were asked for: `sectors` of them.
+    #[error("the file has {sectors} sectors")]
+    TooSmall { sectors: u64 },
 }
 
 impl From<io::Error> for FileFault {
@@ -24,6 +31,20 @@ impl From<io::Error> for FileFault {
 
     fn from(_: io::Error) -> Self {
         FileFault::Io
+    }
+}
+
+impl From<TryLockError> for FileFault {
+    ghost use Rattle.std.specs.Prelude.{◌≡◌};
+    ghost use Rattle.audit_disk.specs.FileFaults.{of_lock};
+
+    ghost from_gives = { λ given fault. fault ≡ of_lock given };
+
+    fn from(given: TryLockError) -> Self {
+        match given {
+            TryLockError::WouldBlock => FileFault::InUse,
+            TryLockError::Error(error) => FileFault::from(error),
+        }
     }
 }
 

@@ -1,21 +1,32 @@
 //! Devices in files of the operating system.
-ghost use Rattle.std.specs.Prelude.{◌≡◌, ◌≢◌, ◌*◌, ◌%◌, ◌^◌, ◌<◌, ◌≤◌, ◌↔◌, IfOk, IsErrOf, replicate};
+//!
+//! Each holds a lock on its file from before the first read or write of it until the device is let go: one that may
+//! write holds it alone.
+ghost use Rattle.std.specs.Prelude.{◌≡◌, ◌≢◌, ◌⊎◌, ◌*◌, ◌/◌, ◌%◌, ◌^◌, ◌<◌, ◌≤◌, ◌↔◌};
+ghost use Rattle.std.specs.Prelude.{IfOk, IfErr, IsErrOf, replicate, length};
 ghost use Rattle.audit_base.specs.declared.limits.TheConstants.{SECTOR_SIZE};
 ghost use Rattle.audit_disk.specs.FileDisk.{IsFreshFile, file_disk_view};
 ghost use Rattle.audit_disk.specs.MemDisk.{IsFresh};
+ghost use Rattle.audit_disk.specs.Positioned.{ShowsFront, IsUncalled};
 
 use crate::os_file::OsFile;
 use crate::read_ahead::new_row;
-use crate::{FileDisk, FileFault, MemDisk, MemFile, SECTOR_SIZE};
+use crate::{
+    FileDisk, FileFault, FileIdentity, MemDisk, MemFile, PositionedFile, SECTOR_SIZE, SystemFile,
+};
 use std::alloc::{AllocError, Global};
-use std::fs::{self, Files, OpenFile, OpenOptions};
+use std::fs::{self, Files, OpenFile, OpenOptions, Permissions};
 use std::io;
-use std::os::unix::fs::FileExt;
+use std::os::unix::fs::{FileTypeExt, OpenOptionsExt, PermissionsExt};
 use std::path::Path;
 
-impl<F: FileExt + OpenFile + Drop> FileDisk<OsFile<F>> {
-    /// Makes a file of `sectors` zero sectors. A file that is there isn't overwritten: that is a fault. A file
-    /// that can't be given its length or synced is removed again, where the system lets it be. Where memory is
+/// The mode of a file that its owner may read and write, and nobody else.
+const OWNER_ONLY: u32 = 0o600;
+
+impl<F: SystemFile> FileDisk<OsFile<F>> {
+    /// Makes a file of `sectors` zero sectors and takes the lock on it. From the first moment it is open to nobody but
+    /// its owner (0600), whatever the umask is. A file that is there isn't overwritten: that is a fault. A file that
+    /// can't be locked, given its length or synced is removed again, where the system lets it be. Where memory is
     /// refused, no file is made.
     pub fn create<R: Files<File = F>>(
         rt: &R,
@@ -27,23 +38,38 @@ impl<F: FileExt + OpenFile + Drop> FileDisk<OsFile<F>> {
         ensures fresh { IfOk result IsFreshFile }
         ensures length { IsErrOf result FileFault.Length ↔ (2 ^ 64 ≤ SECTOR_SIZE * sectors) }
     {
+        FileDisk::create_with_mode(rt, alloc, path, sectors, OWNER_ONLY)
+    }
+
+    /// The same with the permission bits `mode`, as in `0o640`. The file is made for its owner alone, and then given
+    /// its mode; a mode that can't be set is a fault, and removes it again.
+    pub fn create_with_mode<R: Files<File = F>>(
+        rt: &R,
+        alloc: Global,
+        path: &str,
+        sectors: u64,
+        mode: u32,
+    ) -> Result<FileDisk<OsFile<F>>, FileFault>
+        ensures size { IfOk result (λ disk. (file_disk_view disk).size ≡ sectors) }
+        ensures fresh { IfOk result IsFreshFile }
+        ensures length { IsErrOf result FileFault.Length ↔ (2 ^ 64 ≤ SECTOR_SIZE * sectors) }
+    {
         let Some(length) = sectors.checked_mul(SECTOR_SIZE as u64) else {
             return Err(FileFault::Length);
         };
         let row = new_row(alloc)?;
-        let file = OpenOptions::new()
-            .read(true)
-            .write(true)
-            .create_new(true)
-            .open(rt, path)?;
-        if lay_out(rt, &file, path, length).is_err() {
+        let mut options = OpenOptions::new();
+        options.read(true).write(true).create_new(true);
+        options.mode(OWNER_ONLY);
+        let file = options.open(rt, path)?;
+        if let Err(fault) = take_and_lay_out(rt, &file, path, length, mode) {
             let _ = fs::remove_file(rt, path);
-            return Err(FileFault::Io);
+            return Err(fault);
         }
         Ok(FileDisk::with_row(OsFile::new(file), sectors, row))
     }
 
-    /// Opens a file as a device. Its length has to be a multiple of 512.
+    /// Opens a file or a block device as a device. Its length has to be a multiple of 512.
     pub fn open<R: Files<File = F>>(
         rt: &R,
         alloc: Global,
@@ -51,9 +77,83 @@ impl<F: FileExt + OpenFile + Drop> FileDisk<OsFile<F>> {
     ) -> Result<FileDisk<OsFile<F>>, FileFault>
         ensures { IfOk result IsFreshFile }
     {
-        let file = OpenOptions::new().read(true).write(true).open(rt, path)?;
-        let length = file.metadata()?.len();
-        let sectors = whole_sectors(length)?;
+        FileDisk::over_whole(alloc, open_alone(rt, path)?)
+    }
+
+    /// Opens a file or a block device of at least `sectors` whole sectors as a device of the first `sectors` of them.
+    /// It keeps its length. One with fewer is `TooSmall`.
+    pub fn open_in_place<R: Files<File = F>>(
+        rt: &R,
+        alloc: Global,
+        path: &str,
+        sectors: u64,
+    ) -> Result<FileDisk<OsFile<F>>, FileFault>
+        ensures size { IfOk result (λ disk. (file_disk_view disk).size ≡ sectors) }
+        ensures fresh { IfOk result IsFreshFile }
+        ensures small { IfErr result (λ fault. (held : _) → fault ≡ FileFault.TooSmall held → held < sectors) }
+    {
+        FileDisk::over_front(alloc, open_alone(rt, path)?, sectors)
+    }
+
+    /// Opens a file or a block device without the right to write, so each write of the device fails. Other opens that
+    /// only read may be there beside it, and none that may write. A folder or a pipe is a fault, and isn't opened.
+    pub fn open_read_only<R: Files<File = F>>(
+        rt: &R,
+        alloc: Global,
+        path: &str,
+    ) -> Result<FileDisk<OsFile<F>>, FileFault>
+        ensures { IfOk result IsFreshFile }
+    {
+        let kind = fs::metadata(rt, path)?.file_type();
+        if kind.is_dir() || kind.is_fifo() {
+            return Err(FileFault::Io);
+        }
+        let file = OpenOptions::new().read(true).open(rt, path)?;
+        file.try_lock_shared()?;
+        FileDisk::over_whole(alloc, file)
+    }
+
+    /// Which file the device is in, as the open file itself tells it.
+    pub fn identity(&self) -> io::Result<FileIdentity> {
+        self.file().identity()
+    }
+}
+
+impl<F: PositionedFile + Drop> FileDisk<OsFile<F>> {
+    /// Makes a device over all of an open file, whose length has to be a multiple of 512.
+    pub fn over_whole(alloc: Global, file: F) -> Result<FileDisk<OsFile<F>>, FileFault>
+        requires { IsUncalled (F.positioned file) }
+        ensures fresh { IfOk result IsFreshFile }
+        ensures front { IfOk result (λ disk. ShowsFront (F.positioned file) (file_disk_view disk)) }
+        ensures whole { (F.positioned file).honest → IfOk result (λ disk.
+            length (F.positioned file).bytes ≡ SECTOR_SIZE * (file_disk_view disk).size) }
+        ensures length { (F.positioned file).honest → IsErrOf result FileFault.Length
+            → length (F.positioned file).bytes % SECTOR_SIZE ≢ 0 }
+    {
+        let mut file = file;
+        let sectors = whole_sectors(file.length()?)?;
+        Ok(FileDisk::over(alloc, OsFile::new(file), sectors)?)
+    }
+
+    /// Makes a device over the first `sectors` sectors of an open file, which has to have so many whole ones.
+    pub fn over_front(
+        alloc: Global,
+        file: F,
+        sectors: u64,
+    ) -> Result<FileDisk<OsFile<F>>, FileFault>
+        requires { IsUncalled (F.positioned file) }
+        ensures size { IfOk result (λ disk. (file_disk_view disk).size ≡ sectors) }
+        ensures fresh { IfOk result IsFreshFile }
+        ensures front { IfOk result (λ disk. ShowsFront (F.positioned file) (file_disk_view disk)) }
+        ensures small { IfErr result (λ fault. (held : _) → fault ≡ FileFault.TooSmall held → held < sectors) }
+        ensures held { (F.positioned file).honest → IfErr result (λ fault. (held : _)
+            → fault ≡ FileFault.TooSmall held → held ≡ length (F.positioned file).bytes / SECTOR_SIZE) }
+    {
+        let mut file = file;
+        let held = file.length()? / SECTOR_SIZE as u64;
+        if held < sectors {
+            return Err(FileFault::TooSmall { sectors: held });
+        }
         Ok(FileDisk::over(alloc, OsFile::new(file), sectors)?)
     }
 }
@@ -82,16 +182,33 @@ fn whole_sectors(length: u64) -> Result<u64, FileFault>
     Ok(length / SECTOR_SIZE as u64)
 }
 
-/// Gives a new file its length, and puts it and its name on the medium.
-fn lay_out<R: Files<File = F>, F: OpenFile + Drop>(
+/// Opens what is there to be read and written, and takes the lock on it.
+fn open_alone<R: Files<File = F>, F: SystemFile>(rt: &R, path: &str) -> Result<F, FileFault>
+    ensures { IfErr result (λ fault. (fault ≡ FileFault.Io) ⊎ (fault ≡ FileFault.InUse)) }
+{
+    let file = OpenOptions::new().read(true).write(true).open(rt, path)?;
+    file.try_lock()?;
+    Ok(file)
+}
+
+/// Takes the lock on a new file, gives it its mode and its length, and puts it and its name on the medium.
+fn take_and_lay_out<R: Files<File = F>, F: SystemFile>(
     rt: &R,
     file: &F,
     path: &str,
     length: u64,
-) -> io::Result<()> {
+    mode: u32,
+) -> Result<(), FileFault>
+    ensures { IfErr result (λ fault. (fault ≡ FileFault.Io) ⊎ (fault ≡ FileFault.InUse)) }
+{
+    file.try_lock()?;
+    if mode != OWNER_ONLY {
+        file.set_permissions(Permissions::from_mode(mode))?;
+    }
     file.set_len(length)?;
     file.sync_all()?;
-    sync_folder(rt, path)
+    sync_folder(rt, path)?;
+    Ok(())
 }
 
 /// Puts the name of a new file on the medium, where its folder can be opened.

@@ -6,7 +6,7 @@ use crate::block::Block;
 use crate::call::Effect;
 use crate::call_log::CallLog;
 use crate::replay::{blocks_of, crashed_blocks, zero_blocks};
-use crate::{DeviceFault, SECTOR_SIZE, Sectors};
+use crate::{DeviceFault, SECTOR_SIZE, SectorSource, Sectors};
 use std::alloc::{AllocError, Global};
 
 /// A device in memory, for tests. It is honest, and keeps a record of its calls, so that any crash can be tried.
@@ -65,6 +65,31 @@ impl Sectors for MemDisk {
         ensures held { HoldsSync (disk_held self.old) (disk_held self.new) result }
     {
         self.log.note(Effect::Sync)?;
+        Ok(())
+    }
+}
+
+/// It is only read, as it is now.
+impl SectorSource for MemDisk {
+    ghost use Rattle.std.specs.Prelude.{IsOk};
+    ghost use Rattle.audit_disk.specs.MemDisk.{disk_view};
+    ghost use Rattle.audit_disk.specs.SectorSource.{source_of, IsSourceRead};
+
+    ghost source = { λ disk. source_of (⟦<MemDisk as Sectors>⟧.view disk) };
+
+    fn sectors(&self) -> u64 {
+        self.size()
+    }
+
+    /// It takes no memory, so it never fails.
+    fn read_sector(&self, at: u64, into: &mut [u8; SECTOR_SIZE]) -> Result<(), DeviceFault>
+        requires { at < (disk_view self.now).size }
+        ensures read { IsSourceRead (source_of (disk_view self.now)) at into.new result }
+        ensures succeeds { IsOk result }
+    {
+        let block = &self.content[at as usize];
+        let bytes = block.bytes;
+        *into = bytes;
         Ok(())
     }
 }

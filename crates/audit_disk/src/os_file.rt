@@ -1,47 +1,69 @@
 ghost use Rattle.std.specs.Prelude.{◌≡◌};
-ghost use Rattle.audit_disk.specs.OsFile.{unknown_file};
+ghost use Rattle.audit_device.specs.Calls.{CountsFailure};
+ghost use Rattle.audit_disk.specs.OsFile.{AnswersAlike};
+ghost use Rattle.audit_disk.specs.Positioned.{counted_file};
 
 use crate::counting::counted;
-use crate::{DeviceFault, SECTOR_SIZE, SectorFile};
-use std::fs::OpenFile;
-use std::os::unix::fs::FileExt;
+use crate::{DeviceFault, FileIdentity, PositionedFile, SECTOR_SIZE, SectorFile, SystemFile};
+use std::{io, slice};
 
-/// An open file of the operating system. No contract knows what its bytes are, so it isn't proved to be honest.
+/// An open file whose calls that fail are counted. It is honest where the file below is.
 #[derive(Drop)]
 pub struct OsFile<F> {
     file: F,
     failures: u64,
 }
 
-impl<F: FileExt + OpenFile + Drop> OsFile<F> {
+impl<F: PositionedFile> OsFile<F> {
+    ghost use Rattle.audit_disk.specs.OsFile.{file_below};
+
     /// The file, of which no call has failed.
     pub fn new(file: F) -> Self
-        ensures { result.failures ≡ 0 }
+        ensures failures { result.failures ≡ 0 }
+        ensures file { file_below result ≡ file }
     {
         OsFile { file, failures: 0 }
     }
 }
 
-impl<F: FileExt + OpenFile + Drop> SectorFile for OsFile<F> {
-    ghost file = { λ it. unknown_file it.failures };
+impl<F: SystemFile> OsFile<F> {
+    /// Which file it is.
+    pub(crate) fn identity(&self) -> io::Result<FileIdentity> {
+        Ok(FileIdentity::of(&self.file.metadata()?))
+    }
+}
+
+impl<F: PositionedFile> SectorFile for OsFile<F> {
+    ghost file = { λ it. counted_file (F.positioned it.file) it.failures };
 
     fn read_at(&mut self, offset: u64, into: &mut [u8; SECTOR_SIZE]) -> Result<(), DeviceFault> {
-        let outcome = self.file.read_exact_at(into, offset);
-        counted(outcome.map_err(|_| DeviceFault), &mut self.failures)
+        let outcome = self.file.read_exact_at(slice::from_mut(into), offset);
+        counted_call(outcome, &mut self.failures)
     }
 
     fn read_row(&mut self, offset: u64, into: &mut [[u8; SECTOR_SIZE]]) -> Result<(), DeviceFault> {
-        let outcome = self.file.read_exact_at(into.as_flattened_mut(), offset);
-        counted(outcome.map_err(|_| DeviceFault), &mut self.failures)
+        let outcome = self.file.read_exact_at(into, offset);
+        counted_call(outcome, &mut self.failures)
     }
 
     fn write_at(&mut self, offset: u64, bytes: &[u8; SECTOR_SIZE]) -> Result<(), DeviceFault> {
         let outcome = self.file.write_all_at(bytes, offset);
-        counted(outcome.map_err(|_| DeviceFault), &mut self.failures)
+        counted_call(outcome, &mut self.failures)
     }
 
     fn sync(&mut self) -> Result<(), DeviceFault> {
         let outcome = self.file.sync_data();
-        counted(outcome.map_err(|_| DeviceFault), &mut self.failures)
+        counted_call(outcome, &mut self.failures)
+    }
+}
+
+/// Counts a call that failed, and returns its result without the cause.
+fn counted_call(outcome: io::Result<()>, failures: &mut u64) -> Result<(), DeviceFault>
+    ensures result { AnswersAlike outcome result }
+    ensures counts { CountsFailure failures.old failures.new outcome }
+{
+    match outcome {
+        Ok(()) => Ok(()),
+        Err(_) => counted(Err(DeviceFault), failures),
     }
 }

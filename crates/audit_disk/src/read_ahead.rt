@@ -1,5 +1,6 @@
 ghost use Rattle.std.specs.Prelude.{◌≡◌, ◌*◌, ◌%◌, ◌<◌, ◌≤◌, length};
 ghost use Rattle.audit_base.specs.declared.limits.TheConstants.{SECTOR_SIZE};
+ghost use Rattle.audit_disk.specs.declared.read_ahead.TheConstants.{ROWS_FROM};
 ghost use Rattle.audit_disk.specs.File.{HasRow, HasRow-prop, IsRowOffset, OnlyReads};
 
 use crate::{DeviceFault, SECTOR_SIZE, SectorFile};
@@ -13,8 +14,13 @@ pub(crate) fn new_row(alloc: Global) -> Result<Vec<[u8; SECTOR_SIZE]>, AllocErro
     Ok(vec![in alloc; [0; SECTOR_SIZE]; ROW_SECTORS]?)
 }
 
+/// Where rows may begin. The sectors before it are those of a store's headers, which have its key: they are read alone
+/// each time, so that no key stays in the row.
+const ROWS_FROM: u64 = 2 * SECTOR_SIZE as u64;
+
 /// A file of which a read that goes on where the last one ended reads a row of sectors at once: two, and then each time
-/// twice as many. What it holds is what the file gave; every write, every sync and every read elsewhere drops it.
+/// twice as many. What it holds is what the file gave; every write, every sync and every read elsewhere drops it. The
+/// first two sectors are in no row.
 #[derive(Drop)]
 pub(crate) struct ReadAhead<F: SectorFile> {
     pub(crate) inner: F,
@@ -26,6 +32,7 @@ pub(crate) struct ReadAhead<F: SectorFile> {
     /// Where the last read ended.
     next: u64,
     ghost aligned: { start % SECTOR_SIZE ≡ 0 },
+    ghost after_headers: { ROWS_FROM ≤ start },
     ghost in_row: { held ≤ length row.items },
     ghost given: { HasRow (F.file inner) start held row.items } by { HasRow-prop (F.file inner) start held row.items },
 }
@@ -42,7 +49,7 @@ impl<F: SectorFile> ReadAhead<F> {
         ReadAhead {
             inner,
             row,
-            start: 0,
+            start: ROWS_FROM,
             held: 0,
             next: u64::MAX,
         }
@@ -60,7 +67,7 @@ impl<F: SectorFile> ReadAhead<F> {
         requires some { 0 < sectors }
         ensures { IsReadThrough (F.file self.old.inner) (F.file self.new.inner) offset into.new result }
     {
-        if offset == self.next && self.place_of(offset).is_none() {
+        if offset >= ROWS_FROM && offset == self.next && self.place_of(offset).is_none() {
             self.fill(offset, sectors);
         }
         self.next = offset.saturating_add(SECTOR_SIZE as u64);
@@ -91,7 +98,8 @@ impl<F: SectorFile> ReadAhead<F> {
 
     /// Reads the next row, where the file has so many sectors from that offset on.
     fn fill(&mut self, offset: u64, sectors: u64)
-        requires { IsRowOffset (F.file self.old.inner) offset sectors }
+        requires row { IsRowOffset (F.file self.old.inner) offset sectors }
+        requires after_headers { ROWS_FROM ≤ offset }
         ensures { OnlyReads (F.file self.old.inner) (F.file self.new.inner) }
     {
         let wanted = self.held.saturating_mul(2).max(2).min(self.row.len());

@@ -121,14 +121,15 @@ fn expect_calls(rt: &impl Abort, disk: Disk, reads: u64, rows: u64) {
     assert_eq!(rt; (file.reads, file.rows), (reads, rows));
 }
 
-// Rows of 2, 4, .. 128 sectors, one of 128 again, and one of the last 17.
+// The first two sectors alone, each time; then rows of 2, 4, .. 128 sectors, one of 128 again, and one of the last 16.
 #[test]
 fn reads_that_go_on_read_rows(rt: HostRuntime) -> Result<(), Fail> {
     let mut disk = new_disk(rt.alloc(), SECTORS)?;
     for at in 0..SECTORS {
         expect_read(&rt, &mut disk, &[at]);
     }
-    expect_calls(&rt, disk, 1, 9);
+    expect_read(&rt, &mut disk, &[0, 1, 0, 1]);
+    expect_calls(&rt, disk, 6, 9);
     Ok(())
 }
 
@@ -163,10 +164,9 @@ fn sectors_that_were_read_are_given_again(rt: HostRuntime) -> Result<(), Fail> {
 #[test]
 fn a_write_and_a_sync_drop_what_was_read(rt: HostRuntime) -> Result<(), Fail> {
     let mut disk = new_disk(rt.alloc(), SECTORS)?;
-    expect_read(&rt, &mut disk, &[0, 1]);
-    write(&rt, &mut disk, 2, b'w');
-    assert_eq!(&rt; found(&rt, &mut disk, 2), Some(b'w'));
-    expect_read(&rt, &mut disk, &[3]);
+    expect_read(&rt, &mut disk, &[1, 2]);
+    write(&rt, &mut disk, 3, b'w');
+    assert_eq!(&rt; found(&rt, &mut disk, 3), Some(b'w'));
     assert!(&rt; disk.sync().is_ok());
     assert_eq!(&rt; found(&rt, &mut disk, 3), Some(SYNCED));
     Ok(())

@@ -1,0 +1,19 @@
+ghost use Rattle.audit_disk.specs.ReadOnly.{IsLastWritten};
+
+use crate::block::Block;
+use crate::call::{Call, Effect};
+
+/// What these calls wrote last to that sector.
+pub(crate) fn last_written(calls: &[Call], at: usize) -> Option<Block>
+    ensures { IsLastWritten calls.now at result }
+{
+    let mut found = None;
+    for call in calls {
+        if let Effect::Write(place, block) = call.effect {
+            if place == at {
+                found = Some(block);
+            }
+        }
+    }
+    found
+}

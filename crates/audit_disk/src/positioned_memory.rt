@@ -1,0 +1,40 @@
+//! A file in memory by its calls at offsets: there are honest ones.
+ghost use Rattle.audit_disk.specs.MemFileView.{mem_file_view};
+ghost use Rattle.audit_disk.specs.OsFile.{AnswersAlike};
+ghost use Rattle.audit_disk.specs.Positioned.{uncounted};
+
+use crate::{DeviceFault, MemFile, PositionedFile, SECTOR_SIZE, SectorFile, Sectors};
+use std::io::{self, ErrorKind};
+
+impl PositionedFile for MemFile {
+    ghost positioned = { λ it. uncounted (mem_file_view it) };
+
+    fn read_exact_at(&mut self, into: &mut [[u8; SECTOR_SIZE]], offset: u64) -> io::Result<()> {
+        as_system(self.read_row(offset, into))
+    }
+
+    fn write_all_at(&mut self, bytes: &[u8; SECTOR_SIZE], offset: u64) -> io::Result<()> {
+        as_system(self.write_at(offset, bytes))
+    }
+
+    fn sync_data(&mut self) -> io::Result<()> {
+        as_system(self.sync())
+    }
+
+    fn length(&mut self) -> io::Result<u64> {
+        match self.disk.size().checked_mul(SECTOR_SIZE as u64) {
+            Some(bytes) => Ok(bytes),
+            None => Err(io::Error::from(ErrorKind::FileTooLarge)),
+        }
+    }
+}
+
+/// The result as a system gives it.
+fn as_system(outcome: Result<(), DeviceFault>) -> io::Result<()>
+    ensures { AnswersAlike outcome result }
+{
+    match outcome {
+        Ok(()) => Ok(()),
+        Err(DeviceFault) => Err(io::Error::from(ErrorKind::Other)),
+    }
+}

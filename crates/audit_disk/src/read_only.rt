@@ -1,0 +1,121 @@
+ghost use Rattle.std.specs.Prelude.{◌≡◌, ◌<◌, ◌≤◌};
+ghost use Rattle.audit_device.specs.Calls.{CountsFailure};
+ghost use Rattle.audit_disk.specs.ReadOnly.{IsReadThrough};
+
+use crate::block::Block;
+use crate::call::Effect;
+use crate::call_log::CallLog;
+use crate::counting::counted;
+use crate::last_written::last_written;
+use crate::{DeviceFault, SECTOR_SIZE, SectorSource, Sectors};
+use std::alloc::{AllocError, Global};
+
+/// A device over sectors that are only read. Reads give what was written last, or else what the source has; writes
+/// and syncs are kept in memory and never reach the source. So the source can be looked at as if it were repaired.
+///
+/// It is honest where the source is: at the start its content is the source's, with nothing pending. Like any device
+/// it counts its writes and syncs, and the calls that failed. A write or a sync for which memory is refused fails and
+/// is not kept.
+#[derive(Drop)]
+pub struct ReadOnly<'a, S: SectorSource> {
+    source: &'a S,
+    log: CallLog,
+}
+
+impl<'a, S: SectorSource> ReadOnly<'a, S> {
+    ghost use Rattle.std.specs.Prelude.{◌≤◌, OnOk};
+    ghost use Rattle.audit_device.specs.Moments.{IsUnused};
+    ghost use Rattle.audit_disk.specs.ReadOnlyView.{read_only_view, source_under, spare_calls, IsFreshOver};
+
+    /// Makes a device over a source. It takes no memory.
+    pub fn over(alloc: Global, source: &'a S) -> Self
+        ensures source { source_under result ≡ source.now }
+        ensures fresh { IsFreshOver (S.source source.now) (read_only_view S.source result) }
+    {
+        ReadOnly {
+            source,
+            log: CallLog::new(alloc),
+        }
+    }
+
+    /// Takes the memory for that many more writes and syncs, which then are kept without asking for any. Nothing else
+    /// changes, after an error either.
+    pub fn reserve(&mut self, calls: usize) -> Result<(), AllocError>
+        ensures spare { OnOk result (calls ≤ spare_calls self.new) }
+        ensures source { source_under self.new ≡ source_under self.old }
+        ensures unused { IsUnused (read_only_view S.source self.old) (read_only_view S.source self.new) }
+    {
+        self.log.reserve(calls)
+    }
+}
+
+impl<S: SectorSource> Sectors for ReadOnly<'_, S> {
+    ghost use Rattle.std.specs.Prelude.{◌+◌, ◌≤◌, IsOk};
+    ghost use Rattle.audit_device.specs.View.{last_count};
+    ghost use Rattle.audit_device.specs.Calls.{IsRead, IsWrite, IsSync};
+    ghost use Rattle.audit_disk.specs.ReadOnly.{overlay_view};
+    ghost use Rattle.audit_disk.specs.ReadOnlyView.{read_only_view, source_under, spare_calls};
+
+    ghost view = { λ disk. overlay_view (S.source disk.source.now) disk.log.calls.items disk.log.clock
+        disk.log.failures disk.log.stamped disk.log.in_range };
+
+    fn size(&self) -> u64 {
+        self.source.sectors()
+    }
+
+    fn calls(&self) -> u64 {
+        self.log.clock
+    }
+
+    /// It fails only where a read of the source does.
+    fn read(&mut self, at: u64, into: &mut [u8; SECTOR_SIZE]) -> Result<(), DeviceFault>
+        requires { at < (read_only_view S.source self.old).size }
+        ensures read { IsRead (read_only_view S.source self.old) (read_only_view S.source self.new) at into.new result }
+        ensures spare { spare_calls self.new ≡ spare_calls self.old }
+    {
+        read_through(self.source, &mut self.log, at, into)
+    }
+
+    /// It fails only where memory is refused, or at the end of the clock.
+    fn write(&mut self, at: u64, bytes: &[u8; SECTOR_SIZE]) -> Result<(), DeviceFault>
+        requires { at < (read_only_view S.source self.old).size }
+        ensures write { IsWrite (read_only_view S.source self.old) (read_only_view S.source self.new) at bytes.now result }
+        ensures room { 0 < spare_calls self.old → (read_only_view S.source self.old).clock < last_count → IsOk result }
+        ensures spare { spare_calls self.old ≤ spare_calls self.new + 1 }
+    {
+        let block = Block { bytes: *bytes };
+        self.log.note(Effect::Write(at as usize, block))
+    }
+
+    /// It fails only where memory is refused, or at the end of the clock.
+    fn sync(&mut self) -> Result<(), DeviceFault>
+        ensures sync { IsSync (read_only_view S.source self.old) (read_only_view S.source self.new) result }
+        ensures room { 0 < spare_calls self.old → (read_only_view S.source self.old).clock < last_count → IsOk result }
+        ensures spare { spare_calls self.old ≤ spare_calls self.new + 1 }
+    {
+        self.log.note(Effect::Sync)
+    }
+}
+
+// Reads what these calls wrote last to that sector, or else what the source has. A failed read is counted.
+fn read_through<S: SectorSource>(
+    source: &S,
+    log: &mut CallLog,
+    at: u64,
+    into: &mut [u8; SECTOR_SIZE],
+) -> Result<(), DeviceFault>
+    requires { at < (S.source source.now).size }
+    ensures read { IsReadThrough (S.source source.now) log.old.calls.items at into.new result }
+    ensures counts { CountsFailure log.old.failures log.new.failures result }
+    ensures calls { log.new.calls ≡ log.old.calls }
+    ensures clock { log.new.clock ≡ log.old.clock }
+    ensures more { log.old.failures ≤ log.new.failures }
+{
+    if let Some(block) = last_written(&log.calls, at as usize) {
+        let bytes = block.bytes;
+        *into = bytes;
+        return Ok(());
+    }
+    let outcome = source.read_sector(at, into);
+    counted(outcome, &mut log.failures)
+}

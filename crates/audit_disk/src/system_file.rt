@@ -1,0 +1,52 @@
+//! The files of the operating system.
+ghost use Rattle.audit_disk.specs.Positioned.{unknown_positioned};
+
+use crate::{PositionedFile, SECTOR_SIZE};
+use std::fs::{File, OpenFile, TryLockError};
+use std::io::{self, Seek, SeekFrom};
+use std::os::unix::fs::FileExt;
+
+/// An open file of the operating system, or a type of a program's own that passes each call on to one. No contract
+/// knows what its bytes are, so it isn't proved to be honest.
+pub trait SystemFile: PositionedFile + OpenFile + Drop {
+    /// Takes the lock that one open of the file at a time has. It is held until the file is let go.
+    fn try_lock(&self) -> Result<(), TryLockError>;
+
+    /// Takes the lock that any number of opens of the file have while none has the other one.
+    fn try_lock_shared(&self) -> Result<(), TryLockError>;
+
+    ghost unknown: { (it : Self) → (Self.positioned it).honest → ⊥ };
+}
+
+// A block device has its length at its end alone: its metadata say 0.
+impl PositionedFile for File {
+    ghost positioned = { λ _. unknown_positioned };
+
+    fn read_exact_at(&mut self, into: &mut [[u8; SECTOR_SIZE]], offset: u64) -> io::Result<()> {
+        FileExt::read_exact_at(self, into.as_flattened_mut(), offset)
+    }
+
+    fn write_all_at(&mut self, bytes: &[u8; SECTOR_SIZE], offset: u64) -> io::Result<()> {
+        FileExt::write_all_at(self, bytes, offset)
+    }
+
+    fn sync_data(&mut self) -> io::Result<()> {
+        File::sync_data(self)
+    }
+
+    fn length(&mut self) -> io::Result<u64> {
+        self.seek(SeekFrom::End(0))
+    }
+}
+
+impl SystemFile for File {
+    ghost unknown = { λ _ honest. honest };
+
+    fn try_lock(&self) -> Result<(), TryLockError> {
+        File::try_lock(self)
+    }
+
+    fn try_lock_shared(&self) -> Result<(), TryLockError> {
+        File::try_lock_shared(self)
+    }
+}
