@@ -1,0 +1,102 @@
+//! Stores in sectors that are only read.
+ghost use Rattle.std.specs.Prelude.{◌≡◌, ◌<◌};
+
+use super::stops::{batches_in, passed, run_to};
+use super::*;
+use audit_disk::{DeviceFault, ReadOnly, SectorSource};
+
+fn opened_read_only<S: SectorSource>(
+    alloc: Global,
+    source: &S,
+) -> Result<Store<ReadOnly<'_, S>>, StoreError> {
+    match Store::open_read_only(alloc, source) {
+        Ok(store) => Ok(store),
+        Err(failed) => Err(failed.error),
+    }
+}
+
+// After a stop at each call, also between the two headers, the store has the answers and the sectors that an opening
+// of the device gives it. The device itself has had no call.
+#[test]
+fn a_run_stopped_after_each_call_read_only(rt: HostRuntime) -> Result<(), Fail> {
+    let alloc = rt.alloc();
+    for round in 0..24 * 8 {
+        let (calls, mask) = (round / 8, round % 8);
+        let (disk, _) = run_to(alloc, calls)?;
+        let left = crashed(alloc, &disk, mask)?;
+        let batches = batches_in(&rt, opened_read_only(alloc, &left)?)?;
+        assert_eq!(rt;
+            batches,
+            passed(calls + mask / 2 % 2, [6, 13, 21]),
+            "{calls}, {mask}"
+        );
+        assert!(rt; left.calls() == 0);
+    }
+    Ok(())
+}
+
+// What is appended to a store that only reads is held beside its sectors, and is gone with it.
+#[test]
+fn an_append_that_is_not_kept(rt: HostRuntime) -> Result<(), Fail> {
+    let alloc = rt.alloc();
+    let disk = store_of(alloc, 16, &[0, 5])?.into_disk();
+    let mut store = opened_read_only(alloc, &disk)?;
+    assert!(rt; store.append(&batch(alloc, 2, &[441])?)?.count == 3);
+    assert!(rt; answers(&mut store)? == answers(&mut store_of(alloc, 16, &[0, 5, 441])?)?);
+    assert!(rt; opened_read_only(alloc, &disk)?.commitment().count == 2);
+    Ok(())
+}
+
+// Sectors of which one can't be read. They are never honest.
+#[derive(Drop)]
+struct Unreadable {
+    disk: MemDisk,
+    at: u64,
+}
+
+impl SectorSource for Unreadable {
+    ghost use Rattle.audit_disk.specs.MemDisk.{disk_view};
+    ghost use Rattle.audit_disk.specs.SectorSource.{source_of};
+    ghost use Rattle.audit_store.specs.Dishonest.{dishonest};
+
+    ghost source = { λ it. source_of (dishonest (disk_view it.disk)) };
+
+    fn sectors(&self) -> u64 {
+        self.disk.sectors()
+    }
+
+    fn read_sector(&self, at: u64, into: &mut [u8; 512]) -> Result<(), DeviceFault> {
+        if at == self.at {
+            return Err(DeviceFault);
+        }
+        self.disk.read_sector(at, into)
+    }
+}
+
+// An opening reads the headers and the log, of three sectors, and nothing after it.
+#[test]
+fn a_sector_that_cannot_be_read(rt: HostRuntime) -> Result<(), Fail> {
+    let alloc = rt.alloc();
+    for at in 0..8 {
+        let disk = store_of(alloc, 8, &[0, 5, 400])?.into_disk();
+        let refusal = opened_read_only(alloc, &Unreadable { disk, at }).err();
+        let expected = if at < 5 {
+            Some(StoreError::Device)
+        } else {
+            None
+        };
+        assert!(rt; refusal == expected, "{at}");
+    }
+    Ok(())
+}
+
+// To be run with each growth refused in turn: what an opening keeps asks for no memory after its first sync, so it is
+// never refused as the device's.
+#[test]
+fn a_growth_that_is_refused_read_only(rt: HostRuntime) -> Result<(), Fail> {
+    let alloc = rt.alloc();
+    let (disk, _) = run_to(alloc, 6)?;
+    let error = opened_read_only(alloc, &disk).err();
+    assert!(rt; matches!(error, None | Some(StoreError::Memory)));
+    Ok(())
+}
