@@ -5,3 +5,4 @@ pub mod Acks
 pub mod KnownEntries
 pub mod Exported
 pub mod Checks
+pub mod SalvagedEntries

@@ -9,7 +9,7 @@ use Rattle.audit_proof.specs.Acceptance.{AcceptsMembership, AcceptsIncrement}
 use Rattle.audit_proof.specs.ProofBytes.{Member, Increment, member_of, increment_of}
 use Rattle.audit_store.specs.declared.store_error.StoreError.TheVariants as store
 use Rattle.audit_commands.specs.declared.fault.CommandFault.{CommandFault}
-use Rattle.audit_commands.specs.declared.fault.CommandFault.TheVariants.{BadArgument, FileExists, File, Lines, Refused, Export, BadProof, NotAccepted}
+use Rattle.audit_commands.specs.declared.fault.CommandFault.TheVariants.{BadArgument, FileExists, File, InUse, TooSmall, Salvaged, Lines, Refused, Export, BadProof, NotAccepted}
 
 -- the bytes are a membership proof of the commitment's count, and it is accepted
 pub record IsAcceptedMember (bytes : List ℕ) (commitment : Commitment) : Type 0 where
@@ -59,6 +59,9 @@ IsUnread (Refused error) bytes = error ≡ store.Memory
 IsUnread BadArgument bytes = ⊥
 IsUnread FileExists bytes = ⊥
 IsUnread File bytes = ⊥
+IsUnread InUse bytes = ⊥
+IsUnread (TooSmall sectors) bytes = ⊥
+IsUnread Salvaged bytes = ⊥
 IsUnread (Export fault) bytes = ⊥
 IsUnread NotAccepted bytes = ⊥
 
@@ -88,6 +91,9 @@ IsChecked (Err (Lines (lines.Line line cause))) bytes older newer old new = ⊥
 IsChecked (Err (Refused error)) bytes older newer old new = (error ≡ store.Memory) × Keeps old new
 IsChecked (Err FileExists) bytes older newer old new = ⊥
 IsChecked (Err File) bytes older newer old new = ⊥
+IsChecked (Err InUse) bytes older newer old new = ⊥
+IsChecked (Err (TooSmall sectors)) bytes older newer old new = ⊥
+IsChecked (Err Salvaged) bytes older newer old new = ⊥
 IsChecked (Err (Export fault)) bytes older newer old new = ⊥
 
 -- the fault isn't in the bytes: reading or writing failed, or memory was refused
@@ -97,6 +103,9 @@ IsFailure (Refused error) = error ≡ store.Memory
 IsFailure BadArgument = ⊥
 IsFailure FileExists = ⊥
 IsFailure File = ⊥
+IsFailure InUse = ⊥
+IsFailure (TooSmall sectors) = ⊥
+IsFailure Salvaged = ⊥
 IsFailure (Export fault) = ⊥
 IsFailure BadProof = ⊥
 IsFailure NotAccepted = ⊥

@@ -1,5 +1,5 @@
 -- How the program ends with each fault of a command.
-use Rattle.std.specs.Prelude.{◌≡◌, ◌⊎◌, ℕ}
+use Rattle.std.specs.Prelude.{◌≡◌, ◌⊎◌, ℕ, Result, Ok, Err}
 use Rattle.audit_store.specs.declared.store_error.StoreError.{StoreError}
 use Rattle.audit_store.specs.declared.store_error.StoreError.TheVariants as store
 use Rattle.audit_disk.specs.declared.file_fault.FileFault.{FileFault}
@@ -15,7 +15,7 @@ use Rattle.audit_auditor.specs.declared.fault.AuditorFault.TheVariants as audito
 use Rattle.audit_commands.specs.declared.status.Status.{Status}
 use Rattle.audit_commands.specs.declared.status.Status.TheVariants as ends
 use Rattle.audit_commands.specs.declared.fault.CommandFault.{CommandFault}
-use Rattle.audit_commands.specs.declared.fault.CommandFault.TheVariants.{BadArgument, FileExists, File, Lines, Refused, Export, BadProof, NotAccepted}
+use Rattle.audit_commands.specs.declared.fault.CommandFault.TheVariants.{BadArgument, FileExists, File, InUse, TooSmall, Salvaged, Lines, Refused, Export, BadProof, NotAccepted}
 
 -- the number that the program ends with
 abbrev pub exit_status_of : Status → ℕ
@@ -65,11 +65,19 @@ abbrev pub status_of : CommandFault → Status
 status_of BadArgument = ends.Usage
 status_of FileExists = ends.Refused
 status_of File = ends.Device
+status_of InUse = ends.Device
+status_of (TooSmall sectors) = ends.Refused
+status_of Salvaged = ends.Refused
 status_of (Lines cause) = status_of_lines cause
 status_of (Refused error) = status_of_refusal error
 status_of (Export fault) = status_of_cause fault.cause
 status_of BadProof = ends.Refused
 status_of NotAccepted = ends.Refused
+
+-- how it ends where its output was written whole
+abbrev pub status_of_end : Result (Unit {0}) CommandFault → Status
+status_of_end (Ok done) = ends.Done
+status_of_end (Err fault) = status_of fault
 
 -- the fault of the same meaning
 abbrev pub of_auditor : AuditorFault → CommandFault
@@ -83,6 +91,8 @@ of_reading reading.Memory = Refused store.Memory
 abbrev pub of_file : FileFault → CommandFault
 of_file file.Io = File
 of_file file.Length = File
+of_file file.InUse = InUse
+of_file (file.TooSmall sectors) = TooSmall sectors
 of_file file.Memory = Refused store.Memory
 
 -- a line couldn't be made for want of memory, or couldn't be written whole

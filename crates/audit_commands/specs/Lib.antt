@@ -1,5 +1,6 @@
 pub mod Replay
 pub mod Faults
+pub mod Mode
 pub mod Arguments
 pub mod KeyFile
 pub mod Batches
@@ -11,3 +12,4 @@ pub mod Appended
 pub mod Closing
 pub mod Exports
 pub mod Checks
+pub mod Salvaged

@@ -10,7 +10,7 @@ use Rattle.audit_store.specs.Recovered.{IsOfDeviceOrMemory}
 use Rattle.audit_commands.specs.declared.arguments.ProofRequest.{ProofRequest}
 use Rattle.audit_commands.specs.declared.arguments.ProofRequest.TheVariants as asked
 use Rattle.audit_commands.specs.declared.fault.CommandFault.{CommandFault}
-use Rattle.audit_commands.specs.declared.fault.CommandFault.TheVariants.{BadArgument, FileExists, File, Lines, Refused, Export, BadProof, NotAccepted}
+use Rattle.audit_commands.specs.declared.fault.CommandFault.TheVariants.{BadArgument, FileExists, File, InUse, TooSmall, Salvaged, Lines, Refused, Export, BadProof, NotAccepted}
 
 -- that an event is one of the first `count`: its siblings on the way to their root, and its entry
 abbrev pub member_of_log : List ℕ → List EventData → ℕ → ℕ → Member
@@ -46,6 +46,9 @@ IsDeviceOrMemory (Lines cause) = ⊥
 IsDeviceOrMemory BadArgument = ⊥
 IsDeviceOrMemory FileExists = ⊥
 IsDeviceOrMemory File = ⊥
+IsDeviceOrMemory InUse = ⊥
+IsDeviceOrMemory (TooSmall sectors) = ⊥
+IsDeviceOrMemory Salvaged = ⊥
 IsDeviceOrMemory (Export fault) = ⊥
 IsDeviceOrMemory BadProof = ⊥
 IsDeviceOrMemory NotAccepted = ⊥

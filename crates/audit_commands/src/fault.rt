@@ -3,6 +3,7 @@ ghost use Rattle.audit_commands.specs.Faults.{status_of_cause};
 
 use crate::status::Status;
 use audit_auditor::AuditorFault;
+use audit_device::DeviceFault;
 use audit_disk::FileFault;
 use audit_lines::LinesFault;
 use audit_proof::ReadFault;
@@ -24,6 +25,18 @@ pub enum CommandFault {
     /// A file couldn't be opened, read, written or made.
     #[error("a file failed")]
     File,
+    /// Another program has the store open.
+    #[error("the store is in use")]
+    InUse,
+    /// The file or device that was to be formatted in place has fewer sectors than were asked for.
+    #[error("there are {sectors} sectors")]
+    TooSmall {
+        /// How many it has.
+        sectors: u64,
+    },
+    /// The store is damaged, and the entries that could still be read were written.
+    #[error("the store is damaged")]
+    Salvaged,
     /// Lines weren't read or written.
     #[error(transparent)]
     Lines(LinesFault),
@@ -52,7 +65,8 @@ impl CommandFault {
         match self {
             CommandFault::BadArgument => Status::Usage,
             CommandFault::FileExists => Status::Refused,
-            CommandFault::File => Status::Device,
+            CommandFault::File | CommandFault::InUse => Status::Device,
+            CommandFault::TooSmall { .. } | CommandFault::Salvaged => Status::Refused,
             CommandFault::Lines(LinesFault::Memory) => Status::Memory,
             CommandFault::Lines(LinesFault::Read | LinesFault::Write) => Status::Device,
             CommandFault::Lines(LinesFault::InputTooLong | LinesFault::Line { .. }) => {
@@ -89,6 +103,18 @@ impl From<StoreError> for CommandFault {
     }
 }
 
+impl From<DeviceFault> for CommandFault {
+    ghost use Rattle.std.specs.Prelude.{◌≡◌};
+    ghost use Rattle.audit_store.specs.declared.store_error.StoreError.TheVariants.{Device};
+    ghost use Rattle.audit_commands.specs.declared.fault.CommandFault.TheVariants.{Refused};
+
+    ghost from_gives = { λ _ fault. fault ≡ Refused Device };
+
+    fn from(_: DeviceFault) -> Self {
+        CommandFault::Refused(StoreError::Device)
+    }
+}
+
 impl From<AllocError> for CommandFault {
     ghost use Rattle.std.specs.Prelude.{◌≡◌};
     ghost use Rattle.audit_store.specs.declared.store_error.StoreError.TheVariants.{Memory};
@@ -110,6 +136,8 @@ impl From<FileFault> for CommandFault {
     fn from(given: FileFault) -> Self {
         match given {
             FileFault::Io | FileFault::Length => CommandFault::File,
+            FileFault::InUse => CommandFault::InUse,
+            FileFault::TooSmall { sectors } => CommandFault::TooSmall { sectors },
             FileFault::Memory => CommandFault::Refused(StoreError::Memory),
         }
     }

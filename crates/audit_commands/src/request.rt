@@ -1,40 +1,55 @@
 //! What the program is asked to do, and doing it.
-use crate::appending::append_lines;
-use crate::arguments::{ProofRequest, commitment_asked, proof_request, sectors_asked};
-use crate::checking::check_proof;
-use crate::closing::close_log;
-use crate::exporting::{write_entries, write_exported};
+use crate::answering::{export_file, prove_file, show_file};
+use crate::arguments::proof_request;
+use crate::auditing::{check_file, verify_file};
+use crate::changing::{append_to, close_file};
 use crate::fault::CommandFault;
-use crate::files::{make_device, open_store, replace_file};
-use crate::formatting::format_device;
-use crate::key_file::read_key;
-use crate::proving::proof_bytes;
+use crate::making::{format_file, format_in_place};
 use crate::replaying::replay;
-use crate::reporting::report;
-use crate::showing::show;
+use crate::reporting::report_end;
 use crate::status::Status;
-use crate::text::write_number;
-use audit_auditor::verify_export;
-use audit_chain::Key;
-use audit_device::Sectors;
-use audit_store::{Store, StoreError};
+use audit_disk::SystemFile;
 use std::alloc::Global;
-use std::fs::{self, Files};
-use std::io::{BufWriter, Read, Write};
-use std::os::unix::fs::FileExt;
+use std::fs::Files;
+use std::io::{Read, Write};
 
-// Room for entries of an export that weren't written yet, in bytes.
-const EXPORT_ROOM: usize = 1 << 16;
+/// How a command that only answers opens the store.
+#[derive(Clone, Copy, Debug, PartialEq, Eq)]
+pub enum Access {
+    /// As every other command: the opening repairs what a crash left half done.
+    Repair,
+    /// The file is opened without the right to write, and nothing of it changes.
+    ReadOnly,
+    /// So too; and of a damaged store the entries are taken that can still be read.
+    Salvage,
+}
+
+/// Where a store is made.
+#[derive(Clone, Copy, Debug, PartialEq, Eq)]
+pub enum Site<'a> {
+    /// In a new file, with these permissions where they are given.
+    NewFile {
+        /// Three octal digits.
+        mode: Option<&'a str>,
+    },
+    /// In a file or a block device that is there.
+    InPlace {
+        /// Whether a store that is there may be lost.
+        erase: bool,
+    },
+}
 
 /// What the program is asked to do, with the words of the command line as they were given.
 #[derive(Clone, Copy, Debug)]
 pub enum Request<'a> {
     /// Seal the events of the input, and write the entries and their commitment.
     Replay,
-    /// Make a file, and format it for a store.
+    /// Format a file for a store.
     Format {
-        /// The file to be made.
+        /// The file.
         file: &'a str,
+        /// Whether it is made.
+        site: Site<'a>,
         /// How many sectors it is to have.
         sectors: &'a str,
         /// The file with the first key.
@@ -54,6 +69,8 @@ pub enum Request<'a> {
     Show {
         /// The file.
         file: &'a str,
+        /// How it is opened.
+        access: Access,
     },
     /// Check a proof under one commitment or two.
     Check {
@@ -68,8 +85,10 @@ pub enum Request<'a> {
     Export {
         /// The file.
         file: &'a str,
-        /// The file for the export, which is replaced. It isn't the store's.
+        /// The file for the export, which is replaced; `-` for the output. It isn't the store's.
         out: &'a str,
+        /// How the store is opened.
+        access: Access,
     },
     /// Verify an export, and write its events.
     Verify {
@@ -90,8 +109,10 @@ pub enum Request<'a> {
         first: &'a str,
         /// The count, or the newer one.
         second: &'a str,
-        /// The file for the proof, which is replaced. It isn't the store's.
+        /// The file for the proof, which is replaced; `-` for the output. It isn't the store's.
         out: &'a str,
+        /// How the store is opened.
+        access: Access,
     },
 }
 
@@ -106,15 +127,10 @@ pub fn run<F: Files, R: Read, W: Write, M: Write>(
     messages: &mut M,
 ) -> Status
 where
-    F::File: FileExt,
+    F::File: SystemFile,
 {
     let done = perform(rt, alloc, request, input, output);
-    let flushed = output.flush();
-    match (done, flushed) {
-        (Ok(()), Ok(())) => Status::Done,
-        (Ok(()), Err(_)) => report(CommandFault::File, messages),
-        (Err(fault), _) => report(fault, messages),
-    }
+    report_end(done, output.flush(), messages)
 }
 
 fn perform<F: Files, R: Read, W: Write>(
@@ -125,24 +141,31 @@ fn perform<F: Files, R: Read, W: Write>(
     output: &mut W,
 ) -> Result<(), CommandFault>
 where
-    F::File: FileExt,
+    F::File: SystemFile,
 {
     match request {
         Request::Replay => Ok(replay(alloc, input, output)?),
         Request::Format {
             file,
+            site: Site::NewFile { mode },
             sectors,
             key_file,
-        } => format_file(rt, alloc, file, sectors, key_file, output),
+        } => format_file(rt, alloc, file, mode, sectors, key_file, output),
+        Request::Format {
+            file,
+            site: Site::InPlace { erase },
+            sectors,
+            key_file,
+        } => format_in_place(rt, alloc, file, erase, sectors, key_file, output),
         Request::Append { file } => append_to(rt, alloc, file, input, output),
         Request::Close { file } => close_file(rt, alloc, file, output),
-        Request::Show { file } => show_file(rt, alloc, file, output),
+        Request::Show { file, access } => show_file(rt, alloc, file, access, output),
         Request::Check {
             proof,
             older,
             newer,
         } => check_file(rt, alloc, proof, older, newer, output),
-        Request::Export { file, out } => export_file(rt, alloc, file, out, output),
+        Request::Export { file, out, access } => export_file(rt, alloc, file, access, out, output),
         Request::Verify {
             export,
             key_file,
@@ -154,173 +177,10 @@ where
             first,
             second,
             out,
+            access,
         } => match proof_request(kind, first, second) {
-            Some(asked) => prove_file(rt, alloc, file, asked, out, output),
+            Some(asked) => prove_file(rt, alloc, file, access, asked, out, output),
             None => Err(CommandFault::BadArgument),
         },
     }
-}
-
-// The file is made when all words are judged and the key was read. Where it can't be formatted it is removed again.
-fn format_file<F: Files, W: Write>(
-    rt: &F,
-    alloc: Global,
-    file: &str,
-    sectors: &str,
-    key_file: &str,
-    output: &mut W,
-) -> Result<(), CommandFault>
-where
-    F::File: FileExt,
-{
-    let sectors = sectors_asked(sectors)?;
-    let first_key = key_in(rt, alloc, key_file)?;
-    let disk = make_device(rt, alloc, file, sectors)?;
-    let formatted = format_device(alloc, disk, first_key, output);
-    if matches!(formatted, Err(CommandFault::Refused(_))) {
-        let _ = fs::remove_file(rt, file);
-    }
-    formatted
-}
-
-// The key that a key file holds.
-fn key_in<F: Files>(rt: &F, alloc: Global, key_file: &str) -> Result<Key, CommandFault> {
-    let mut file = fs::open(rt, key_file)?;
-    read_key(alloc, &mut file)
-}
-
-fn append_to<F: Files, R: Read, W: Write>(
-    rt: &F,
-    alloc: Global,
-    file: &str,
-    input: &mut R,
-    output: &mut W,
-) -> Result<(), CommandFault>
-where
-    F::File: FileExt,
-{
-    let mut store = open_store(rt, alloc, file)?;
-    append_lines(alloc, &mut store, input, output)
-}
-
-fn close_file<F: Files, W: Write>(
-    rt: &F,
-    alloc: Global,
-    file: &str,
-    output: &mut W,
-) -> Result<(), CommandFault>
-where
-    F::File: FileExt,
-{
-    let mut store = open_store(rt, alloc, file)?;
-    close_log(alloc, &mut store, output)
-}
-
-fn show_file<F: Files, W: Write>(
-    rt: &F,
-    alloc: Global,
-    file: &str,
-    output: &mut W,
-) -> Result<(), CommandFault>
-where
-    F::File: FileExt,
-{
-    let store = open_store(rt, alloc, file)?;
-    show(alloc, &store, output)
-}
-
-// The commitments are judged before the file is touched.
-fn check_file<F: Files, W: Write>(
-    rt: &F,
-    alloc: Global,
-    proof: &str,
-    older: &str,
-    newer: Option<&str>,
-    output: &mut W,
-) -> Result<(), CommandFault>
-where
-    F::File: FileExt,
-{
-    let older = commitment_asked(older)?;
-    let newer = match newer {
-        Some(word) => Some(commitment_asked(word)?),
-        None => None,
-    };
-    check_proof(alloc, &mut fs::open(rt, proof)?, &older, newer, output)
-}
-
-// The store is opened before the file of the export is made, which isn't that of the store.
-fn export_file<F: Files, W: Write>(
-    rt: &F,
-    alloc: Global,
-    file: &str,
-    out: &str,
-    output: &mut W,
-) -> Result<(), CommandFault>
-where
-    F::File: FileExt,
-{
-    let mut store = open_store(rt, alloc, file)?;
-    let size = write_export(alloc, &mut store, replace_file(rt, file, out)?)?;
-    write_exported(alloc, store.commitment().count, size, output)
-}
-
-// Writes the entries of a store to a file, and returns how many bytes they have.
-fn write_export<D: Sectors, W: Write + Drop>(
-    alloc: Global,
-    store: &mut Store<D>,
-    file: W,
-) -> Result<u64, CommandFault> {
-    let Ok(mut export) = BufWriter::with_capacity(alloc, EXPORT_ROOM, file) else {
-        return Err(CommandFault::Refused(StoreError::Memory));
-    };
-    let size = write_entries(store, &mut export)?;
-    export.flush()?;
-    Ok(size)
-}
-
-// The arguments are judged before the export is touched.
-fn verify_file<F: Files, W: Write>(
-    rt: &F,
-    alloc: Global,
-    export: &str,
-    key_file: &str,
-    commitment: &str,
-    output: &mut W,
-) -> Result<(), CommandFault> {
-    let first_key = key_in(rt, alloc, key_file)?;
-    let commitment = commitment_asked(commitment)?;
-    let mut export = fs::open(rt, export)?;
-    Ok(verify_export(alloc, &mut export, &first_key, &commitment, output)?)
-}
-
-// The store is opened before the file of the proof is made, which isn't that of the store.
-fn prove_file<F: Files, W: Write>(
-    rt: &F,
-    alloc: Global,
-    file: &str,
-    asked: ProofRequest,
-    out: &str,
-    output: &mut W,
-) -> Result<(), CommandFault>
-where
-    F::File: FileExt,
-{
-    let proof = proof_of(rt, alloc, file, asked)?;
-    replace_file(rt, file, out)?.write_all(&proof)?;
-    write_number(alloc, b"proof ", proof.len() as u64, output)
-}
-
-// The bytes of a proof of the store in a file.
-fn proof_of<F: Files>(
-    rt: &F,
-    alloc: Global,
-    file: &str,
-    asked: ProofRequest,
-) -> Result<Vec<u8>, CommandFault>
-where
-    F::File: FileExt,
-{
-    let mut store = open_store(rt, alloc, file)?;
-    proof_bytes(alloc, &mut store, asked)
 }

@@ -1,4 +1,5 @@
 //! Commands over words, readers, writers, devices and files.
 mod files;
 mod replays;
+mod salvages;
 mod stores;

@@ -1,6 +1,7 @@
 // Whole command lines over files. What is printed is that of an independent model.
-use audit_commands::{Request, Status, run};
+use audit_commands::{Access, CommandFault, Request, Site, Status, mode_asked, report_end, run};
 use std::fs::{self, OpenOptions};
+use std::io::{self, ErrorKind};
 use std::path::PathBuf;
 use std::test::Fail;
 use std::{env, process};
@@ -46,6 +47,7 @@ fn prints(
 fn format<'a>(file: &'a str, sectors: &'a str, key_file: &'a str) -> Request<'a> {
     Request::Format {
         file,
+        site: Site::NewFile { mode: None },
         sectors,
         key_file,
     }
@@ -95,8 +97,16 @@ fn a_store_in_a_file(rt: HostRuntime) -> Result<(), Fail> {
         )
     );
     assert!(rt; prints(&rt, Request::Append { file }, THREE, ACK, Status::Done));
-    for _ in 0..2 {
-        assert!(rt; prints(&rt, Request::Show { file }, b"", SHOWN, Status::Done));
+    for access in [Access::Repair, Access::ReadOnly] {
+        assert!(rt;
+            prints(
+                &rt,
+                Request::Show { file, access },
+                b"",
+                SHOWN,
+                Status::Done
+            )
+        );
     }
     let prove = Request::Prove {
         file,
@@ -104,11 +114,48 @@ fn a_store_in_a_file(rt: HostRuntime) -> Result<(), Fail> {
         first: "1",
         second: "3",
         out: out.as_str(),
+        access: Access::Repair,
     };
     assert!(rt; prints(&rt, prove, b"", "proof 114\n", Status::Done));
     assert!(rt; fs::metadata(&rt, out.as_str())?.len() == 114);
     for path in [file, key.as_str(), out.as_str()] {
         fs::remove_file(&rt, path)?;
     }
+    Ok(())
+}
+
+// Words, and the permissions that they ask for: as POSIX's chmod reads them, where the owner reads and writes.
+const MODES: [(&str, Option<u32>); 12] = [
+    ("600", Some(384)),
+    ("640", Some(416)),
+    ("666", Some(438)),
+    ("677", Some(447)),
+    ("", None),
+    ("60", None),
+    ("0600", None),
+    ("700", None),
+    ("400", None),
+    ("680", None),
+    ("608", None),
+    ("6a0", None),
+];
+
+#[test]
+fn modes_are_three_octal_digits(rt: HostRuntime) -> Result<(), Fail> {
+    for (word, mode) in MODES {
+        assert!(rt; mode_asked(word).ok() == mode);
+    }
+    Ok(())
+}
+
+#[test]
+fn output_that_is_lost_is_reported_last(rt: HostRuntime) -> Result<(), Fail> {
+    let mut messages = Vec::new(rt.alloc());
+    let lost = || Err(io::Error::from(ErrorKind::StorageFull));
+    assert!(rt; report_end(Err(CommandFault::BadProof), lost(), &mut messages) == Status::Device);
+    assert!(rt; report_end(Ok(()), lost(), &mut messages) == Status::Device);
+    assert!(rt; report_end(Err(CommandFault::File), lost(), &mut messages) == Status::Device);
+    let wanted = "audit: 32 BadProof\naudit: file fault\naudit: file fault\naudit: file fault\n";
+    assert!(rt; messages.as_slice() == wanted.as_bytes());
     Ok(())
 }
