@@ -1,7 +1,13 @@
-use std::fs::{self, Files};
-use std::io;
+use crate::owner_only::OwnerOnly;
+use std::alloc::Global;
+use std::fs::{self, Files, Permissions};
+use std::io::{self, ErrorKind};
 use std::net::Net;
+use std::os::unix::fs::{FileTypeExt, MetadataExt, PermissionsExt};
 use std::os::unix::net::{UnixListener, UnixStream};
+
+/// Who may connect to a socket for which nothing else is asked: its owner alone.
+pub const OWNER_ONLY: u32 = 0o600;
 
 /// A Unix socket at a path, on which connections arrive.
 #[derive(Drop)]
@@ -10,11 +16,21 @@ pub struct SocketFile {
 }
 
 impl SocketFile {
-    /// Makes the socket's file. A file that is already there is an error and stays, also that of a socket nobody
-    /// serves.
-    pub fn bind<F: Files + Net>(rt: &F, path: &str) -> io::Result<SocketFile> {
-        let listener = UnixListener::bind(rt, path)?;
-        Ok(SocketFile { listener })
+    /// Makes the socket's file, open to its owner alone from the moment in which it is there; then `mode` is set, where
+    /// it is another one. A socket of this user that nobody serves, as a program that was killed leaves it, is
+    /// replaced. Any other file that is there is an error, and stays.
+    pub fn bind<F: Files + Net>(
+        rt: &F,
+        alloc: Global,
+        path: &str,
+        mode: u32,
+    ) -> io::Result<SocketFile> {
+        let bound = bind_new(rt, alloc, path, mode);
+        if !is_in_use(&bound) || !is_abandoned(rt, path) {
+            return bound;
+        }
+        fs::remove_file(rt, path)?;
+        bind_new(rt, alloc, path, mode)
     }
 
     /// Waits for the next connection.
@@ -27,4 +43,45 @@ impl SocketFile {
     pub fn remove<F: Files>(self, rt: &F, path: &str) -> io::Result<()> {
         fs::remove_file(rt, path)
     }
+}
+
+// Makes the file of a socket where none is.
+fn bind_new<F: Files + Net>(
+    rt: &F,
+    alloc: Global,
+    path: &str,
+    mode: u32,
+) -> io::Result<SocketFile> {
+    let listener = UnixListener::bind(&OwnerOnly::new(rt, alloc), path)?;
+    if mode != OWNER_ONLY {
+        fs::set_permissions(rt, path, Permissions::from_mode(mode))?;
+    }
+    Ok(SocketFile { listener })
+}
+
+// Whether a file is where the socket's was to be made.
+fn is_in_use(bound: &io::Result<SocketFile>) -> bool {
+    match bound {
+        Ok(_) => false,
+        Err(error) => error.kind() == ErrorKind::AddrInUse,
+    }
+}
+
+// Whether a socket of this user stands at the path, and nobody listens there.
+fn is_abandoned<F: Files + Net>(rt: &F, path: &str) -> bool {
+    is_own_socket(rt, path).unwrap_or(false) && is_refused(rt, path)
+}
+
+fn is_refused<F: Net>(rt: &F, path: &str) -> bool {
+    match UnixStream::connect(rt, path) {
+        Ok(_) => false,
+        Err(error) => error.kind() == ErrorKind::ConnectionRefused,
+    }
+}
+
+// The folder of a process in /proc belongs to the user as whom it runs.
+fn is_own_socket<F: Files>(rt: &F, path: &str) -> io::Result<bool> {
+    let found = fs::symlink_metadata(rt, path)?;
+    let own = fs::metadata(rt, "/proc/self")?;
+    Ok(found.file_type().is_socket() && found.uid() == own.uid())
 }
