@@ -1,5 +1,5 @@
 use audit_base::{MAX_PAYLOAD, SESSIONS};
-use audit_commands::Request;
+use audit_commands::{Access, Request, Site};
 use audit_lines::INPUT_LIMIT;
 use audit_log::{MAX_SECTORS, MIN_SECTORS, VERSION as FORMAT_VERSION};
 use audit_serving::Request as Serving;
@@ -9,6 +9,9 @@ use std::convert::AsStr;
 
 /// What `--version` prints after the name: the newest version of the format.
 const VERSION: &str = "2";
+
+// The option that every command has.
+const EXPLAIN: &str = "explain";
 
 /// What the help of the commands that read events says of their input.
 const LIMITS: &str =
@@ -21,7 +24,16 @@ const _: () = prove!(MAX_PAYLOAD == 32_696 && INPUT_LIMIT == 16_777_216);
 
 const _: () = prove!(MIN_SECTORS == 3 && MAX_SECTORS == 16_777_216 && SESSIONS == 16);
 
-/// What the words of a command line ask for.
+/// What the words of a command line ask for, and how it is reported.
+#[derive(Clone, Copy)]
+pub struct CommandLine<'a> {
+    /// The command with its arguments.
+    pub asked: Asked<'a>,
+    /// Whether causes and warnings are printed where there is no terminal, too.
+    pub explain: bool,
+}
+
+/// What the program is asked for.
 #[derive(Clone, Copy)]
 pub enum Asked<'a> {
     /// A command that serves no sessions.
@@ -32,11 +44,17 @@ pub enum Asked<'a> {
 
 /// Parses the words of a command line, the first of which is the program's name, into what they ask for. Without a
 /// command it is `Replay`. The error prints help or usage, or says that memory ran out.
-pub fn request_of<'a, S: AsStr>(alloc: Global, words: &'a [S]) -> Result<Asked<'a>, Error> {
+pub fn request_of<'a, S: AsStr>(alloc: Global, words: &'a [S]) -> Result<CommandLine<'a>, Error> {
     let matches = command(alloc)?.try_get_matches_from(words)?;
     match matches.subcommand() {
-        Some((name, given)) => Ok(asked_by(name, given)),
-        None => Ok(Asked::Plain(Request::Replay)),
+        Some((name, given)) => Ok(CommandLine {
+            asked: asked_by(name, given),
+            explain: given.get_flag(EXPLAIN),
+        }),
+        None => Ok(CommandLine {
+            asked: Asked::Plain(Request::Replay),
+            explain: false,
+        }),
     }
 }
 
@@ -48,10 +66,12 @@ fn asked_by<'a>(name: &str, given: &ArgMatches<'a>) -> Asked<'a> {
             socket: word(given, "SOCKET"),
             rounds: word(given, "ROUNDS"),
             sessions: given.get_str("sessions"),
+            socket_mode: given.get_str("socket-mode"),
         }),
         "loop" => Asked::Serving(Serving::Loop {
             file: word(given, "FILE"),
             socket: word(given, "SOCKET"),
+            socket_mode: given.get_str("socket-mode"),
         }),
         _ => Asked::Plain(plain_request(name, given)),
     }
@@ -61,6 +81,7 @@ fn plain_request<'a>(name: &str, given: &ArgMatches<'a>) -> Request<'a> {
     match name {
         "format" => Request::Format {
             file: word(given, "FILE"),
+            site: site(given),
             sectors: word(given, "SECTORS"),
             key_file: word(given, "KEYFILE"),
         },
@@ -72,6 +93,7 @@ fn plain_request<'a>(name: &str, given: &ArgMatches<'a>) -> Request<'a> {
         },
         "show" => Request::Show {
             file: word(given, "FILE"),
+            access: access(given),
         },
         "check" => Request::Check {
             proof: word(given, "PROOF"),
@@ -81,6 +103,11 @@ fn plain_request<'a>(name: &str, given: &ArgMatches<'a>) -> Request<'a> {
         "export" => Request::Export {
             file: word(given, "FILE"),
             out: word(given, "OUT"),
+            access: if given.get_flag("salvage") {
+                Access::Salvage
+            } else {
+                access(given)
+            },
         },
         "verify" => Request::Verify {
             export: word(given, "EXPORT"),
@@ -93,8 +120,31 @@ fn plain_request<'a>(name: &str, given: &ArgMatches<'a>) -> Request<'a> {
             first: word(given, "A"),
             second: word(given, "B"),
             out: word(given, "OUT"),
+            access: access(given),
         },
         _ => Request::Replay,
+    }
+}
+
+// How a command that only answers opens the store.
+fn access(given: &ArgMatches<'_>) -> Access {
+    if given.get_flag("read-only") {
+        Access::ReadOnly
+    } else {
+        Access::Repair
+    }
+}
+
+// Where a store is made.
+fn site<'a>(given: &ArgMatches<'a>) -> Site<'a> {
+    if given.get_flag("in-place") {
+        Site::InPlace {
+            erase: given.get_flag("erase"),
+        }
+    } else {
+        Site::NewFile {
+            mode: given.get_str("mode"),
+        }
     }
 }
 
@@ -113,27 +163,32 @@ fn command<'a>(alloc: Global) -> Result<Command<'a>, AllocError> {
 // With the commands that write events.
 fn with_store<'a>(alloc: Global, command: Command<'a>) -> Result<Command<'a>, AllocError> {
     command
-        .subcommand(replay_command(alloc))?
-        .subcommand(format_command(alloc)?)?
-        .subcommand(append_command(alloc)?)?
-        .subcommand(close_command(alloc)?)?
-        .subcommand(show_command(alloc)?)
+        .subcommand(explained(alloc, replay_command(alloc))?)?
+        .subcommand(explained(alloc, format_command(alloc)?)?)?
+        .subcommand(explained(alloc, append_command(alloc)?)?)?
+        .subcommand(explained(alloc, close_command(alloc)?)?)?
+        .subcommand(explained(alloc, show_command(alloc)?)?)
 }
 
 // With the commands for an auditor.
 fn with_auditing<'a>(alloc: Global, command: Command<'a>) -> Result<Command<'a>, AllocError> {
     command
-        .subcommand(prove_command(alloc)?)?
-        .subcommand(check_command(alloc)?)?
-        .subcommand(export_command(alloc)?)?
-        .subcommand(verify_command(alloc)?)
+        .subcommand(explained(alloc, prove_command(alloc)?)?)?
+        .subcommand(explained(alloc, check_command(alloc)?)?)?
+        .subcommand(explained(alloc, export_command(alloc)?)?)?
+        .subcommand(explained(alloc, verify_command(alloc)?)?)
 }
 
 // With the commands that serve sessions.
 fn with_serving<'a>(alloc: Global, command: Command<'a>) -> Result<Command<'a>, AllocError> {
     command
-        .subcommand(serve_command(alloc)?)?
-        .subcommand(loop_command(alloc)?)
+        .subcommand(explained(alloc, serve_command(alloc)?)?)?
+        .subcommand(explained(alloc, loop_command(alloc)?)?)
+}
+
+// With the option that every command has.
+fn explained<'a>(alloc: Global, command: Command<'a>) -> Result<Command<'a>, AllocError> {
+    command.arg(explain_flag(alloc))
 }
 
 fn replay_command<'a>(alloc: Global) -> Command<'a> {
@@ -155,7 +210,14 @@ fn format_command<'a>(alloc: Global) -> Result<Command<'a>, AllocError> {
             alloc,
             "KEYFILE",
             "The file with the first key, in 64 hex digits",
-        ))
+        ))?
+        .arg(mode_option(alloc)?)?
+        .arg(flag(
+            alloc,
+            "in-place",
+            "Formats a file or a block device that is there, of SECTORS or more",
+        ))?
+        .arg(erase_flag(alloc)?)
 }
 
 fn append_command<'a>(alloc: Global) -> Result<Command<'a>, AllocError> {
@@ -175,7 +237,8 @@ fn close_command<'a>(alloc: Global) -> Result<Command<'a>, AllocError> {
 fn show_command<'a>(alloc: Global) -> Result<Command<'a>, AllocError> {
     Command::new(alloc, "show")
         .about("Prints the commitment of a store, and where it stands")
-        .arg(required(alloc, "FILE", "The file of the store"))
+        .arg(required(alloc, "FILE", "The file of the store"))?
+        .arg(read_only_flag(alloc))
 }
 
 fn prove_command<'a>(alloc: Global) -> Result<Command<'a>, AllocError> {
@@ -185,7 +248,12 @@ fn prove_command<'a>(alloc: Global) -> Result<Command<'a>, AllocError> {
         .arg(required(alloc, "KIND", "member or increment"))?
         .arg(required(alloc, "A", "The number of the event, or the older count"))?
         .arg(required(alloc, "B", "The count, or the newer one"))?
-        .arg(required(alloc, "OUT", "The file for the proof, which is replaced"))
+        .arg(required(
+            alloc,
+            "OUT",
+            "The file for the proof, which is replaced; - for standard output",
+        ))?
+        .arg(read_only_flag(alloc))
 }
 
 fn check_command<'a>(alloc: Global) -> Result<Command<'a>, AllocError> {
@@ -204,7 +272,17 @@ fn export_command<'a>(alloc: Global) -> Result<Command<'a>, AllocError> {
     Command::new(alloc, "export")
         .about("Writes the entries of a store to a file")
         .arg(required(alloc, "FILE", "The file of the store"))?
-        .arg(required(alloc, "OUT", "The file for the entries, which is replaced"))
+        .arg(required(
+            alloc,
+            "OUT",
+            "The file for the entries, which is replaced; - for standard output",
+        ))?
+        .arg(read_only_flag(alloc))?
+        .arg(flag(
+            alloc,
+            "salvage",
+            "With --read-only; of a damaged store the entries that can still be read",
+        ))
 }
 
 fn verify_command<'a>(alloc: Global) -> Result<Command<'a>, AllocError> {
@@ -231,7 +309,8 @@ fn serve_command<'a>(alloc: Global) -> Result<Command<'a>, AllocError> {
                 .value_name("N")
                 .action(ArgAction::Set)
                 .help("How many sessions each round has, 1 to 16 [default: 1]"),
-        )
+        )?
+        .arg(socket_mode_option(alloc))
 }
 
 fn loop_command<'a>(alloc: Global) -> Result<Command<'a>, AllocError> {
@@ -240,7 +319,57 @@ fn loop_command<'a>(alloc: Global) -> Result<Command<'a>, AllocError> {
             "Serves one session over a socket, whose frames come as lines of hex digits from standard input",
         )
         .arg(required(alloc, "FILE", "The file of the store"))?
-        .arg(required(alloc, "SOCKET", "The path of the socket, which is made"))
+        .arg(required(alloc, "SOCKET", "The path of the socket, which is made"))?
+        .arg(socket_mode_option(alloc))
+}
+
+fn flag<'a>(alloc: Global, name: &'a str, help: &'a str) -> Arg<'a> {
+    Arg::new(alloc, name)
+        .long(name)
+        .action(ArgAction::SetTrue)
+        .help(help)
+}
+
+fn explain_flag<'a>(alloc: Global) -> Arg<'a> {
+    flag(
+        alloc,
+        EXPLAIN,
+        "Prints the cause of a fault and warnings in lines of their own, as on a terminal",
+    )
+}
+
+fn read_only_flag<'a>(alloc: Global) -> Arg<'a> {
+    flag(
+        alloc,
+        "read-only",
+        "Opens the store without the right to write: nothing is repaired",
+    )
+}
+
+fn socket_mode_option<'a>(alloc: Global) -> Arg<'a> {
+    Arg::new(alloc, "socket-mode")
+        .long("socket-mode")
+        .value_name("MODE")
+        .action(ArgAction::Set)
+        .help("The permissions of the socket, 600 to 677 in octal digits [default: 600]")
+}
+
+fn mode_option<'a>(alloc: Global) -> Result<Arg<'a>, AllocError> {
+    Arg::new(alloc, "mode")
+        .long("mode")
+        .value_name("MODE")
+        .action(ArgAction::Set)
+        .help("The permissions of the file, 600 to 677 in octal digits [default: 600]")
+        .conflicts_with("in-place")
+}
+
+fn erase_flag<'a>(alloc: Global) -> Result<Arg<'a>, AllocError> {
+    flag(
+        alloc,
+        "erase",
+        "With --in-place: even if FILE holds a store",
+    )
+    .requires_arg("in-place")
 }
 
 fn required<'a>(alloc: Global, id: &'a str, help: &'a str) -> Arg<'a> {

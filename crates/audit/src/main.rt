@@ -2,16 +2,24 @@
 #![tactic(auto)]
 
 mod command;
+mod explaining;
+mod host;
+mod noted_file;
+mod notes;
 mod program;
+mod streams;
 mod words;
 
 use audit_commands::{CommandFault, Status, report};
 use audit_store::StoreError;
+use host::Host;
+use noted_file::NotedFile;
+use notes::Notes;
 use program::run;
 use std::env::Args;
-use std::io;
-use std::io::{BufWriter, ErrorKind};
+use std::io::{self, BufWriter, ErrorKind, IsTerminal};
 use std::process::ExitCode;
+use streams::hold_standard_streams;
 use words::words;
 
 // Room for output that wasn't written yet, in bytes.
@@ -22,6 +30,9 @@ fn main(rt: HostRuntime) -> ExitCode {
 }
 
 fn start(rt: &HostRuntime) -> Status {
+    if hold_standard_streams(rt).is_err() {
+        return report(CommandFault::File, &mut rt.stderr());
+    }
     let begun = match words(rt, rt.alloc()) {
         Ok(words) => run_words(rt, words),
         Err(error) => Err(error),
@@ -35,12 +46,17 @@ fn start(rt: &HostRuntime) -> Status {
 fn run_words(rt: &HostRuntime, words: Args) -> io::Result<Status> {
     let alloc = rt.alloc();
     let words: Vec<String> = words.collect(alloc)?;
-    let mut output = BufWriter::with_capacity(alloc, OUTPUT_ROOM, io::writer(rt))?;
+    let notes = Notes::new(&words);
+    let mut input = NotedFile::new(rt.reader(), "standard input", &notes);
+    let output = NotedFile::new(io::writer(rt), "standard output", &notes);
+    let mut output = BufWriter::with_capacity(alloc, OUTPUT_ROOM, output)?;
     Ok(run(
-        rt,
+        &Host::new(rt, &notes),
         alloc,
         &words,
-        &mut rt.reader(),
+        &notes,
+        rt.stderr().is_terminal(),
+        &mut input,
         &mut output,
         &mut rt.stderr(),
     ))

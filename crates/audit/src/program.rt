@@ -1,42 +1,48 @@
 use crate::command::{Asked, request_of};
+use crate::explaining::explain;
+use crate::notes::Notes;
 use audit_commands::{CommandFault, Status, report};
+use audit_disk::SystemFile;
 use audit_store::StoreError;
 use clap::Error;
 use clap::error::ErrorKind;
 use std::alloc::Global;
-use std::convert::AsStr;
 use std::fs::Files;
 use std::io::{Read, Write};
 use std::net::Net;
-use std::os::unix::fs::FileExt;
 
 /// Runs the program on the words of a command line, of which the first is its name. Lines that begin
 /// with `audit: ` go to `messages`, and so does clap's usage; every other text goes to `output`, which is
-/// flushed at the end.
-pub fn run<F: Files + Net, S: AsStr, R: Read, W: Write, M: Write>(
+/// flushed at the end. Where `messages` is a terminal, or the command line asks for it, causes and warnings follow.
+pub fn run<F: Files + Net, R: Read, W: Write, M: Write>(
     rt: &F,
     alloc: Global,
-    words: &[S],
+    words: &[String],
+    notes: &Notes<'_>,
+    is_terminal: bool,
     input: &mut R,
     output: &mut W,
     messages: &mut M,
 ) -> Status
 where
-    F::File: FileExt,
+    F::File: SystemFile,
 {
-    match request_of(alloc, words) {
-        Ok(Asked::Plain(request)) => {
-            audit_commands::run(rt, alloc, request, input, output, messages)
-        }
-        Ok(Asked::Serving(request)) => {
-            audit_serving::run(rt, alloc, request, input, output, messages)
-        }
-        Err(error) => explain(&error, output, messages),
+    let line = match request_of(alloc, words) {
+        Ok(line) => line,
+        Err(error) => return print_usage(&error, output, messages),
+    };
+    let status = match line.asked {
+        Asked::Plain(request) => audit_commands::run(rt, alloc, request, input, output, messages),
+        Asked::Serving(request) => audit_serving::run(rt, alloc, request, input, output, messages),
+    };
+    if is_terminal || line.explain {
+        let _ = explain(rt, line.asked, status, notes, messages);
     }
+    status
 }
 
 // Prints clap's help, or its usage, or that memory ran out.
-fn explain<W: Write, M: Write>(error: &Error, output: &mut W, messages: &mut M) -> Status {
+fn print_usage<W: Write, M: Write>(error: &Error, output: &mut W, messages: &mut M) -> Status {
     if error.kind() == ErrorKind::OutOfMemory {
         return report(CommandFault::Refused(StoreError::Memory), messages);
     }

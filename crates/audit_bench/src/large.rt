@@ -1,11 +1,11 @@
 //! What events of the longest payload cost, beside the SHA-256, the ChaCha20 and the calls of the file that they can't
 //! do without.
-use crate::stores::{BATCH_LENS, hash_messages, new_store, write_bare};
+use crate::stores::{BATCH_LENS, bare_disk, hash_messages, new_store, write_bare};
 use crate::times::{Times, since};
 use anyhow::bail;
 use audit_base::{MAX_ENTRY, MAX_ENTRY_SECTORS, MAX_PAYLOAD};
 use audit_chain::{Event, Key};
-use audit_disk::{FileDisk, Sectors};
+use audit_disk::{Sectors, SystemFile};
 use audit_proof::Commitment;
 use audit_store::Store;
 use audit_verify::verify;
@@ -15,7 +15,6 @@ use rand_core::utils::NextWord;
 use sha2::{Digest, Sha256};
 use std::alloc::{AllocError, Global};
 use std::fs::Files;
-use std::os::unix::fs::FileExt;
 use std::rt::Clock;
 use std::time::Instant;
 
@@ -36,10 +35,10 @@ pub fn measure<R: Files + AllocGlobal + Clock + Eprint>(
     events: u32,
 ) -> anyhow::Result<()>
 where
-    R::File: FileExt,
+    R::File: SystemFile,
 {
     let mut store = new_store(rt, file, MAX_ENTRY_SECTORS * u64::from(events) + 2)?;
-    let mut bare = FileDisk::open(rt, rt.alloc(), file)?;
+    let mut bare = bare_disk(rt, file)?;
     print_times(
         rt,
         "appending",

@@ -1,17 +1,16 @@
 //! What sessions cost over a store in a file: group commit of small events, and replies to questions.
 use crate::flushes::time_flushes;
 use crate::questions::time_questions;
-use crate::stores::{LARGE_BATCH, append_large, new_store, small_events};
+use crate::stores::{LARGE_BATCH, append_large, bare_disk, new_store, small_events};
 use crate::times::since;
 use anyhow::{Context, bail};
 use audit_base::SESSIONS;
-use audit_disk::{FileDisk, Sectors};
+use audit_disk::{Sectors, SystemFile};
 use audit_server::Core;
 use audit_store::Store;
 use audit_wire::first_reply;
 use std::alloc::Global;
 use std::fs::Files;
-use std::os::unix::fs::FileExt;
 use std::rt::Clock;
 use std::time::Instant;
 
@@ -33,11 +32,11 @@ pub fn measure<R: Files + AllocGlobal + Clock + Eprint>(
     events: u32,
 ) -> anyhow::Result<()>
 where
-    R::File: FileExt,
+    R::File: SystemFile,
 {
     let events = u64::from(events);
     let store = new_store(rt, file, SPARE_SECTORS + events)?;
-    let mut bare = FileDisk::open(rt, rt.alloc(), file)?;
+    let mut bare = bare_disk(rt, file)?;
     let mut store = time_sizes(rt, store, &mut bare)?;
     fill(rt.alloc(), &mut store, events)?;
     time_questions(rt, store, &mut bare)

@@ -2,12 +2,11 @@
 use crate::times::{Times, since};
 use anyhow::{Context, bail};
 use audit_chain::{Event, Key};
-use audit_disk::{FileDisk, OsFile, SECTOR_SIZE, Sectors};
+use audit_disk::{FileDisk, OsFile, SECTOR_SIZE, Sectors, SystemFile};
 use audit_store::{Failed, Store};
 use sha2::{Digest, Sha256};
 use std::alloc::Global;
-use std::fs::{self, Files};
-use std::os::unix::fs::FileExt;
+use std::fs::{self, Files, OpenOptions};
 use std::rt::Clock;
 use std::time::Instant;
 
@@ -44,7 +43,7 @@ pub fn measure<R: Files + AllocGlobal + Clock + Eprint>(
     events: u32,
 ) -> anyhow::Result<()>
 where
-    R::File: FileExt,
+    R::File: SystemFile,
 {
     fill_store(rt, file, events)?;
     time_openings(rt, file)?;
@@ -57,13 +56,22 @@ fn fill_store<R: Files + AllocGlobal + Clock + Eprint>(
     events: u32,
 ) -> anyhow::Result<()>
 where
-    R::File: FileExt,
+    R::File: SystemFile,
 {
     let mut store = new_store(rt, file, SPARE_SECTORS + u64::from(events))?;
-    let mut bare = FileDisk::open(rt, rt.alloc(), file)?;
+    let mut bare = bare_disk(rt, file)?;
     time_batches(rt, &mut store, &mut bare, 1)?;
     time_batches(rt, &mut store, &mut bare, LARGE_BATCH)?;
     append_large(rt.alloc(), &mut store, u64::from(events / LARGE_BATCH))
+}
+
+/// The file as a device without a lock, beside a store that is open there and keeps its own.
+pub fn bare_disk<R: Files + AllocGlobal>(rt: &R, file: &str) -> anyhow::Result<Disk<R::File>>
+where
+    R::File: SystemFile,
+{
+    let opened = OpenOptions::new().read(true).write(true).open(rt, file)?;
+    Ok(FileDisk::over_whole(rt.alloc(), opened)?)
 }
 
 /// A new store of so many sectors in the file, which isn't there.
@@ -73,7 +81,7 @@ pub fn new_store<R: Files + AllocGlobal>(
     sectors: u64,
 ) -> anyhow::Result<Store<Disk<R::File>>>
 where
-    R::File: FileExt,
+    R::File: SystemFile,
 {
     let disk = FileDisk::create(rt, rt.alloc(), file, sectors)?;
     made(Store::format(rt.alloc(), disk, Key::from_bytes([0; 32])))
@@ -201,7 +209,7 @@ pub fn hash_messages(lens: &[usize], number: u64) -> u8 {
 // Times openings of the store in the file, beside the reading of as many sectors alone and the SHA-256 blocks.
 fn time_openings<R: Files + AllocGlobal + Clock + Eprint>(rt: &R, file: &str) -> anyhow::Result<()>
 where
-    R::File: FileExt,
+    R::File: SystemFile,
 {
     let mut least = time_opening(rt, file)?;
     for _ in 1..OPENINGS {
@@ -265,7 +273,7 @@ struct Opened {
 // Opens the store once, then reads its sectors, and then hashes what was hashed.
 fn time_opening<R: Files + AllocGlobal + Clock>(rt: &R, file: &str) -> anyhow::Result<OpeningTimes>
 where
-    R::File: FileExt,
+    R::File: SystemFile,
 {
     let opened = open_once(rt, file)?;
     let calls = time_reads(rt, file, opened.end)?;
@@ -282,7 +290,7 @@ where
 
 fn open_once<R: Files + AllocGlobal + Clock>(rt: &R, file: &str) -> anyhow::Result<Opened>
 where
-    R::File: FileExt,
+    R::File: SystemFile,
 {
     let disk = FileDisk::open(rt, rt.alloc(), file)?;
     let start = Instant::now(rt)?;
@@ -297,7 +305,7 @@ where
 // Times the reading of every sector below that one.
 fn time_reads<R: Files + AllocGlobal + Clock>(rt: &R, file: &str, end: u64) -> anyhow::Result<u128>
 where
-    R::File: FileExt,
+    R::File: SystemFile,
 {
     let mut bare = FileDisk::open(rt, rt.alloc(), file)?;
     let start = Instant::now(rt)?;

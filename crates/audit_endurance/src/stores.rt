@@ -1,11 +1,10 @@
 //! A store in a file.
 use anyhow::Context;
 use audit_chain::{Event, Key};
-use audit_disk::{FileDisk, Sectors};
+use audit_disk::{FileDisk, Sectors, SystemFile};
 use audit_store::{Failed, Store};
 use std::alloc::Global;
 use std::fs::Files;
-use std::os::unix::fs::FileExt;
 
 // The sectors of the device.
 const SECTORS: u64 = 40_000;
@@ -16,7 +15,7 @@ const EVENTS: u32 = 3;
 /// Makes the file, with a store of no events under a key of zeros.
 pub fn format<R: Files + AllocGlobal + Print>(rt: &R, file: &str) -> anyhow::Result<()>
 where
-    R::File: FileExt,
+    R::File: SystemFile,
 {
     let disk = FileDisk::create(rt, rt.alloc(), file, SECTORS)?;
     let key = Key::from_bytes([0; 32]);
@@ -32,7 +31,7 @@ pub fn append<R: Files + AllocGlobal + Print>(
     batches: u32,
 ) -> anyhow::Result<()>
 where
-    R::File: FileExt,
+    R::File: SystemFile,
 {
     let mut store = made(Store::open(rt.alloc(), FileDisk::open(rt, rt.alloc(), file)?))?;
     for number in 0..batches {
@@ -55,7 +54,7 @@ pub(crate) fn batch_of(alloc: Global, number: u32) -> anyhow::Result<Vec<Event>>
 /// Opens the store, reads each entry, and prints how many there are.
 pub fn count<R: Files + AllocGlobal + Print>(rt: &R, file: &str) -> anyhow::Result<()>
 where
-    R::File: FileExt,
+    R::File: SystemFile,
 {
     let mut store = made(Store::open(rt.alloc(), FileDisk::open(rt, rt.alloc(), file)?))?;
     let count = store.commitment().count;

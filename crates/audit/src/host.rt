@@ -1,0 +1,126 @@
+use crate::noted_file::NotedFile;
+use crate::notes::Notes;
+use std::alloc::Allocator;
+use std::fs::{Files, Metadata, OpenOptions, Permissions};
+use std::io;
+use std::net::{Net, SocketAddr};
+use std::os::fd::{BorrowedFd, OwnedFd};
+use std::os::unix::net::{self as unix, UnixStream};
+use std::path::PathBuf;
+
+/// The operating system's files and sockets, of which each failure is noted for the line that explains it.
+#[derive(Drop)]
+pub struct Host<'a, R> {
+    rt: &'a R,
+    notes: &'a Notes<'a>,
+}
+
+impl<'a, R> Host<'a, R> {
+    /// The runtime, with a place for notes.
+    pub fn new(rt: &'a R, notes: &'a Notes<'a>) -> Host<'a, R> {
+        Host { rt, notes }
+    }
+
+    // The result of a call about a path, which is noted where it failed.
+    fn noted<T>(&self, path: &str, outcome: io::Result<T>) -> io::Result<T> {
+        match outcome {
+            Ok(given) => Ok(given),
+            Err(error) => Err(self.notes.note(self.notes.word_of(path), error)),
+        }
+    }
+}
+
+impl<'a, R: Files> Files for Host<'a, R> {
+    type File = NotedFile<'a, R::File>;
+
+    type Dir = R::Dir;
+
+    fn open_file(&self, how: &OpenOptions, path: &str) -> io::Result<NotedFile<'a, R::File>> {
+        let file = self.noted(path, self.rt.open_file(how, path))?;
+        self.notes.forget();
+        Ok(NotedFile::new(file, self.notes.word_of(path), self.notes))
+    }
+
+    fn open_dir(&self, path: &str) -> io::Result<R::Dir> {
+        self.noted(path, self.rt.open_dir(path))
+    }
+
+    fn metadata(&self, path: &str) -> io::Result<Metadata> {
+        self.noted(path, self.rt.metadata(path))
+    }
+
+    fn symlink_metadata(&self, path: &str) -> io::Result<Metadata> {
+        self.noted(path, self.rt.symlink_metadata(path))
+    }
+
+    fn copy(&self, from: &str, to: &str) -> io::Result<u64> {
+        self.noted(to, self.rt.copy(from, to))
+    }
+
+    fn rename(&self, from: &str, to: &str) -> io::Result<()> {
+        self.noted(to, self.rt.rename(from, to))
+    }
+
+    fn remove_file(&self, path: &str) -> io::Result<()> {
+        self.noted(path, self.rt.remove_file(path))
+    }
+
+    fn create_dir(&self, path: &str) -> io::Result<()> {
+        self.noted(path, self.rt.create_dir(path))
+    }
+
+    fn remove_dir(&self, path: &str) -> io::Result<()> {
+        self.noted(path, self.rt.remove_dir(path))
+    }
+
+    fn remove_dir_all<B: Allocator>(&self, alloc: B, path: &str) -> io::Result<()> {
+        self.noted(path, self.rt.remove_dir_all(alloc, path))
+    }
+
+    fn canonicalize<B: Allocator>(&self, alloc: B, path: &str) -> io::Result<PathBuf<B>> {
+        self.noted(path, self.rt.canonicalize(alloc, path))
+    }
+
+    // What is no link is no failure.
+    fn read_link<B: Allocator>(&self, alloc: B, path: &str) -> io::Result<PathBuf<B>> {
+        self.rt.read_link(alloc, path)
+    }
+
+    fn set_permissions(&self, path: &str, permissions: Permissions) -> io::Result<()> {
+        self.noted(path, self.rt.set_permissions(path, permissions))
+    }
+
+    fn bind_unix(&self, socket: BorrowedFd<'_>, address: &unix::SocketAddr) -> io::Result<()> {
+        self.noted(path_of(address), self.rt.bind_unix(socket, address))
+    }
+}
+
+impl<R: Net> Net for Host<'_, R> {
+    type Stream = R::Stream;
+
+    type Listener = R::Listener;
+
+    fn bind(&self, address: SocketAddr) -> io::Result<R::Listener> {
+        self.rt.bind(address)
+    }
+
+    fn connect(&self, address: SocketAddr) -> io::Result<R::Stream> {
+        self.rt.connect(address)
+    }
+
+    fn connect_unix(&self, address: &unix::SocketAddr) -> io::Result<UnixStream> {
+        self.noted(path_of(address), self.rt.connect_unix(address))
+    }
+
+    fn unix_socket(&self) -> io::Result<OwnedFd> {
+        self.rt.unix_socket()
+    }
+}
+
+// The path of an address, for a note.
+fn path_of(address: &unix::SocketAddr) -> &str {
+    match address.as_pathname() {
+        Some(path) => path.as_str(),
+        None => "",
+    }
+}
