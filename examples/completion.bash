@@ -6,8 +6,20 @@ _audit() {
         mapfile -t COMPREPLY < <(compgen -W "$commands --help --version" -- "$word")
         return
     fi
+    if [[ $word == -* ]]; then
+        local options="--explain --help"
+        case $command in
+        format) options="$options --mode --in-place --erase" ;;
+        show | prove) options="$options --read-only" ;;
+        export) options="$options --read-only --salvage" ;;
+        serve) options="$options --sessions --socket-mode" ;;
+        loop) options="$options --socket-mode" ;;
+        esac
+        mapfile -t COMPREPLY < <(compgen -W "$options" -- "$word")
+        return
+    fi
     case $command:$COMP_CWORD in
-    serve:[5-9]) mapfile -t COMPREPLY < <(compgen -W "--sessions" -- "$word") ;;
+    serve:[5-9]) mapfile -t COMPREPLY < <(compgen -W "--sessions --socket-mode" -- "$word") ;;
     prove:3) mapfile -t COMPREPLY < <(compgen -W "member increment" -- "$word") ;;
     format:2 | append:2 | close:2 | show:2 | prove:2 | prove:6 | check:2 | export:[23] | verify:2 | serve:[23] | loop:[23] | format:4 | verify:3)
         mapfile -t COMPREPLY < <(compgen -f -- "$word")
