@@ -43,8 +43,8 @@ fn print_cause<F: Files, M: Write>(
     notes: &Notes<'_>,
     messages: &mut M,
 ) -> io::Result<()> {
-    if let Some(note) = notes.last() {
-        return writeln!(messages, "audit: {}: {}", note.what, note.error);
+    if let Some((name, error)) = notes.last() {
+        return writeln!(messages, "audit: {name}: {error}");
     }
     let Some(store) = store else {
         return Ok(());

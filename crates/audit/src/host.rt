@@ -10,35 +10,33 @@ use std::path::PathBuf;
 
 /// The operating system's files and sockets, of which each failure is noted for the line that explains it.
 #[derive(Drop)]
-pub struct Host<'a, R> {
-    rt: &'a R,
-    notes: &'a Notes<'a>,
+pub struct Host<'n, 'w, R> {
+    rt: &'n R,
+    notes: &'n Notes<'w>,
 }
 
-impl<'a, R> Host<'a, R> {
+impl<'n, 'w, R> Host<'n, 'w, R> {
     /// The runtime, with a place for notes.
-    pub fn new(rt: &'a R, notes: &'a Notes<'a>) -> Host<'a, R> {
+    pub fn new(rt: &'n R, notes: &'n Notes<'w>) -> Host<'n, 'w, R> {
         Host { rt, notes }
     }
 
-    // The result of a call about a path, which is noted where it failed.
+    // The result of a call about a path, whose error is noted.
     fn noted<T>(&self, path: &str, outcome: io::Result<T>) -> io::Result<T> {
-        match outcome {
-            Ok(given) => Ok(given),
-            Err(error) => Err(self.notes.note(self.notes.word_of(path), error)),
-        }
+        self.notes.watch(self.notes.subject_of(path), &outcome);
+        outcome
     }
 }
 
-impl<'a, R: Files> Files for Host<'a, R> {
-    type File = NotedFile<'a, R::File>;
+impl<'n, 'w, R: Files> Files for Host<'n, 'w, R> {
+    type File = NotedFile<'n, 'w, R::File>;
 
     type Dir = R::Dir;
 
-    fn open_file(&self, how: &OpenOptions, path: &str) -> io::Result<NotedFile<'a, R::File>> {
+    fn open_file(&self, how: &OpenOptions, path: &str) -> io::Result<NotedFile<'n, 'w, R::File>> {
         let file = self.noted(path, self.rt.open_file(how, path))?;
         self.notes.forget();
-        Ok(NotedFile::new(file, self.notes.word_of(path), self.notes))
+        Ok(NotedFile::new(file, self.notes.subject_of(path), self.notes))
     }
 
     fn open_dir(&self, path: &str) -> io::Result<R::Dir> {
@@ -95,7 +93,7 @@ impl<'a, R: Files> Files for Host<'a, R> {
     }
 }
 
-impl<R: Net> Net for Host<'_, R> {
+impl<R: Net> Net for Host<'_, '_, R> {
     type Stream = R::Stream;
 
     type Listener = R::Listener;

@@ -14,7 +14,7 @@ use audit_commands::{CommandFault, Status, report};
 use audit_store::StoreError;
 use host::Host;
 use noted_file::NotedFile;
-use notes::Notes;
+use notes::{Notes, Subject};
 use program::run;
 use std::env::Args;
 use std::io::{self, BufWriter, ErrorKind, IsTerminal};
@@ -44,17 +44,20 @@ fn start(rt: &HostRuntime) -> Status {
 }
 
 fn run_words(rt: &HostRuntime, words: Args) -> io::Result<Status> {
+    let words: Vec<String> = words.collect(rt.alloc())?;
+    run_noted(rt, &words, &Notes::new(&words))
+}
+
+fn run_noted(rt: &HostRuntime, words: &[String], notes: &Notes<'_>) -> io::Result<Status> {
     let alloc = rt.alloc();
-    let words: Vec<String> = words.collect(alloc)?;
-    let notes = Notes::new(&words);
-    let mut input = NotedFile::new(rt.reader(), "standard input", &notes);
-    let output = NotedFile::new(io::writer(rt), "standard output", &notes);
+    let mut input = NotedFile::new(rt.reader(), Subject::Input, notes);
+    let output = NotedFile::new(io::writer(rt), Subject::Output, notes);
     let mut output = BufWriter::with_capacity(alloc, OUTPUT_ROOM, output)?;
     Ok(run(
-        &Host::new(rt, &notes),
+        &Host::new(rt, notes),
         alloc,
-        &words,
-        &notes,
+        words,
+        notes,
         rt.stderr().is_terminal(),
         &mut input,
         &mut output,
