@@ -3,6 +3,7 @@
 
 mod command;
 mod explaining;
+mod forms;
 mod host;
 mod noted_file;
 mod notes;

@@ -1,0 +1,403 @@
+//! The commands as a command line and its help have them.
+use audit_base::{MAX_PAYLOAD, SESSIONS};
+use audit_lines::INPUT_LIMIT;
+use audit_log::{MAX_SECTORS, MIN_SECTORS, VERSION as FORMAT_VERSION};
+use clap::{Arg, ArgAction, Command};
+use std::alloc::{AllocError, Global};
+
+/// The option that every command has.
+pub const EXPLAIN: &str = "explain";
+
+/// What `--version` prints after the name: the newest version of the format.
+const VERSION: &str = "2";
+
+// What the help of the commands that read events says of their input.
+const LIMITS: &str =
+    "An event has a payload of at most 32696 bytes, and the input has at most 16777216 bytes.";
+
+// What that option does.
+const EXPLAINS: &str =
+    "Prints the cause of a fault and warnings in lines of their own, as on a terminal";
+
+// The numbers in what this file prints are those of the code.
+const _: () = prove!(FORMAT_VERSION == 2);
+
+const _: () = prove!(MAX_PAYLOAD == 32_696 && INPUT_LIMIT == 16_777_216);
+
+const _: () = prove!(MIN_SECTORS == 3 && MAX_SECTORS == 16_777_216 && SESSIONS == 16);
+
+/// A command: its name, what its help says, the words that follow it, and its options.
+struct Form {
+    name: &'static str,
+    about: &'static str,
+    // What its help ends with.
+    after: Option<&'static str>,
+    words: &'static [Word],
+    options: &'static [Choice],
+}
+
+/// A word that follows the name of a command.
+struct Word {
+    name: &'static str,
+    help: &'static str,
+    is_required: bool,
+}
+
+/// An option of a command.
+struct Choice {
+    name: &'static str,
+    // What its value is called. Without one it is a flag.
+    value: Option<&'static str>,
+    help: &'static str,
+    // The option without which it is refused.
+    needs: Option<&'static str>,
+    // The option beside which it is refused.
+    excludes: Option<&'static str>,
+}
+
+static FORMS: [Form; 11] = [
+    Form {
+        name: "replay",
+        about: "Seals events from standard input, and prints their entries and the commitment",
+        after: Some(LIMITS),
+        words: &[],
+        options: &[],
+    },
+    Form {
+        name: "format",
+        about: "Makes a file, and formats it for a store of no events",
+        after: None,
+        words: &[
+            Word {
+                name: "FILE",
+                help: "The file to be made",
+                is_required: true,
+            },
+            Word {
+                name: "SECTORS",
+                help: "Its size in sectors of 512 bytes, 3 to 16777216",
+                is_required: true,
+            },
+            Word {
+                name: "KEYFILE",
+                help: "The file with the first key, in 64 hex digits",
+                is_required: true,
+            },
+        ],
+        options: &[
+            Choice {
+                name: "mode",
+                value: Some("MODE"),
+                help: "The permissions of the file, 600 to 677 in octal digits [default: 600]",
+                needs: None,
+                excludes: Some("in-place"),
+            },
+            Choice {
+                name: "in-place",
+                value: None,
+                help: "Formats a file or a block device that is there, of SECTORS or more",
+                needs: None,
+                excludes: None,
+            },
+            Choice {
+                name: "erase",
+                value: None,
+                help: "With --in-place: even if FILE holds a store",
+                needs: Some("in-place"),
+                excludes: None,
+            },
+        ],
+    },
+    Form {
+        name: "append",
+        about: "Appends events from standard input, and prints a line for each batch",
+        after: Some(LIMITS),
+        words: &[Word {
+            name: "FILE",
+            help: "The file of the store",
+            is_required: true,
+        }],
+        options: &[],
+    },
+    Form {
+        name: "close",
+        about: "Closes the log of a store: its last entry says so, and no key is kept",
+        after: Some("Nothing can be appended to a closed log."),
+        words: &[Word {
+            name: "FILE",
+            help: "The file of the store",
+            is_required: true,
+        }],
+        options: &[],
+    },
+    Form {
+        name: "show",
+        about: "Prints the commitment of a store, and where it stands",
+        after: None,
+        words: &[Word {
+            name: "FILE",
+            help: "The file of the store",
+            is_required: true,
+        }],
+        options: &[Choice {
+            name: "read-only",
+            value: None,
+            help: "Opens the store without the right to write: nothing is repaired",
+            needs: None,
+            excludes: None,
+        }],
+    },
+    Form {
+        name: "prove",
+        about: "Writes a proof of a store's history to a file",
+        after: None,
+        words: &[
+            Word {
+                name: "FILE",
+                help: "The file of the store",
+                is_required: true,
+            },
+            Word {
+                name: "KIND",
+                help: "member or increment",
+                is_required: true,
+            },
+            Word {
+                name: "A",
+                help: "The number of the event, or the older count",
+                is_required: true,
+            },
+            Word {
+                name: "B",
+                help: "The count, or the newer one",
+                is_required: true,
+            },
+            Word {
+                name: "OUT",
+                help: "The file for the proof, which is replaced; - for standard output",
+                is_required: true,
+            },
+        ],
+        options: &[Choice {
+            name: "read-only",
+            value: None,
+            help: "Opens the store without the right to write: nothing is repaired",
+            needs: None,
+            excludes: None,
+        }],
+    },
+    Form {
+        name: "check",
+        about: "Checks a proof under a commitment, or under an older and a newer one",
+        after: None,
+        words: &[
+            Word {
+                name: "PROOF",
+                help: "The file with the proof",
+                is_required: true,
+            },
+            Word {
+                name: "OLDER",
+                help: "The commitment, as COUNT:ROOT",
+                is_required: true,
+            },
+            Word {
+                name: "NEWER",
+                help: "The newer commitment, for an incremental proof",
+                is_required: false,
+            },
+        ],
+        options: &[],
+    },
+    Form {
+        name: "export",
+        about: "Writes the entries of a store to a file",
+        after: None,
+        words: &[
+            Word {
+                name: "FILE",
+                help: "The file of the store",
+                is_required: true,
+            },
+            Word {
+                name: "OUT",
+                help: "The file for the entries, which is replaced; - for standard output",
+                is_required: true,
+            },
+        ],
+        options: &[
+            Choice {
+                name: "read-only",
+                value: None,
+                help: "Opens the store without the right to write: nothing is repaired",
+                needs: None,
+                excludes: None,
+            },
+            Choice {
+                name: "salvage",
+                value: None,
+                help: "Opens the store as --read-only does; of a damaged one, the entries that can still be read",
+                needs: None,
+                excludes: None,
+            },
+        ],
+    },
+    Form {
+        name: "verify",
+        about: "Verifies an export of a store, and prints its events",
+        after: None,
+        words: &[
+            Word {
+                name: "EXPORT",
+                help: "The file with the export",
+                is_required: true,
+            },
+            Word {
+                name: "KEYFILE",
+                help: "The file with the first key, in 64 hex digits",
+                is_required: true,
+            },
+            Word {
+                name: "COMMIT",
+                help: "The commitment, as COUNT:ROOT",
+                is_required: true,
+            },
+        ],
+        options: &[],
+    },
+    Form {
+        name: "serve",
+        about: "Serves sessions of a store over a socket, in rounds",
+        after: None,
+        words: &[
+            Word {
+                name: "FILE",
+                help: "The file of the store",
+                is_required: true,
+            },
+            Word {
+                name: "SOCKET",
+                help: "The path of the socket, which is made",
+                is_required: true,
+            },
+            Word {
+                name: "ROUNDS",
+                help: "How many rounds",
+                is_required: true,
+            },
+        ],
+        options: &[
+            Choice {
+                name: "sessions",
+                value: Some("N"),
+                help: "How many sessions each round has, 1 to 16 [default: 1]",
+                needs: None,
+                excludes: None,
+            },
+            Choice {
+                name: "socket-mode",
+                value: Some("MODE"),
+                help: "The permissions of the socket, 600 to 677 in octal digits [default: 600]",
+                needs: None,
+                excludes: None,
+            },
+        ],
+    },
+    Form {
+        name: "loop",
+        about: "Serves one session over a socket, whose frames come as lines of hex digits from standard input",
+        after: None,
+        words: &[
+            Word {
+                name: "FILE",
+                help: "The file of the store",
+                is_required: true,
+            },
+            Word {
+                name: "SOCKET",
+                help: "The path of the socket, which is made",
+                is_required: true,
+            },
+        ],
+        options: &[Choice {
+            name: "socket-mode",
+            value: Some("MODE"),
+            help: "The permissions of the socket, 600 to 677 in octal digits [default: 600]",
+            needs: None,
+            excludes: None,
+        }],
+    },
+];
+
+/// The program's command line.
+pub fn command_line<'a>(alloc: Global) -> Result<Command<'a>, AllocError> {
+    let mut command = Command::new(alloc, "audit")
+        .about("A tamper-evident audit store")
+        .version(VERSION);
+    for form in FORMS.iter() {
+        command = command.subcommand(subcommand(alloc, form)?)?;
+    }
+    Ok(command)
+}
+
+fn subcommand<'a>(alloc: Global, form: &'static Form) -> Result<Command<'a>, AllocError> {
+    let command = Command::new(alloc, form.name).about(form.about);
+    let command = match form.after {
+        Some(text) => command.after_help(text),
+        None => command,
+    };
+    let command = with_words(alloc, command, form.words)?;
+    with_options(alloc, command, form.options)?.arg(flag(alloc, EXPLAIN, EXPLAINS))
+}
+
+fn with_words<'a>(
+    alloc: Global,
+    mut command: Command<'a>,
+    words: &'static [Word],
+) -> Result<Command<'a>, AllocError> {
+    for word in words {
+        let arg = Arg::new(alloc, word.name)
+            .required(word.is_required)
+            .action(ArgAction::Set)
+            .help(word.help);
+        command = command.arg(arg)?;
+    }
+    Ok(command)
+}
+
+fn with_options<'a>(
+    alloc: Global,
+    mut command: Command<'a>,
+    options: &'static [Choice],
+) -> Result<Command<'a>, AllocError> {
+    for option in options {
+        command = command.arg(option_of(alloc, option)?)?;
+    }
+    Ok(command)
+}
+
+fn option_of<'a>(alloc: Global, option: &'static Choice) -> Result<Arg<'a>, AllocError> {
+    let arg = match option.value {
+        Some(value) => Arg::new(alloc, option.name)
+            .long(option.name)
+            .value_name(value)
+            .action(ArgAction::Set)
+            .help(option.help),
+        None => flag(alloc, option.name, option.help),
+    };
+    let arg = match option.needs {
+        Some(other) => arg.requires_arg(other)?,
+        None => arg,
+    };
+    match option.excludes {
+        Some(other) => arg.conflicts_with(other),
+        None => Ok(arg),
+    }
+}
+
+fn flag<'a>(alloc: Global, name: &'a str, help: &'a str) -> Arg<'a> {
+    Arg::new(alloc, name)
+        .long(name)
+        .action(ArgAction::SetTrue)
+        .help(help)
+}
