@@ -1,6 +1,6 @@
 use crate::forms::{EXPLAIN, command_line};
-use audit_commands::{Access, Request, Site};
-use audit_serving::Request as Serving;
+use audit_cli_serve::Request as Serving;
+use audit_cli_store::{Access, Request, Site};
 use clap::{ArgMatches, Error};
 use std::alloc::Global;
 use std::convert::AsStr;

@@ -1,8 +1,8 @@
 //! Causes and warnings, in lines of their own.
 use crate::command::Asked;
 use crate::notes::Notes;
-use audit_commands::{Request, Status};
-use audit_serving::Request as Serving;
+use audit_cli_serve::Request as Serving;
+use audit_cli_store::{Request, Status};
 use std::fs::{self, Files};
 use std::io::{self, Write};
 use std::os::unix::fs::PermissionsExt;

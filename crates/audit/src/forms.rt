@@ -1,7 +1,7 @@
 //! The commands as a command line and its help have them.
 use audit_base::{MAX_PAYLOAD, SESSIONS};
-use audit_lines::INPUT_LIMIT;
 use audit_log::{MAX_SECTORS, MIN_SECTORS, VERSION as FORMAT_VERSION};
+use audit_text::INPUT_LIMIT;
 use clap::{Arg, ArgAction, Command};
 use std::alloc::{AllocError, Global};
 

@@ -11,7 +11,7 @@ mod program;
 mod streams;
 mod words;
 
-use audit_commands::{CommandFault, Status, report};
+use audit_cli_store::{CommandError, Status, report};
 use audit_store::StoreError;
 use host::Host;
 use noted_file::NotedFile;
@@ -32,7 +32,7 @@ fn main(rt: HostRuntime) -> ExitCode {
 
 fn start(rt: &HostRuntime) -> Status {
     if hold_standard_streams(rt).is_err() {
-        return report(CommandFault::File, &mut rt.stderr());
+        return report(CommandError::File, &mut rt.stderr());
     }
     let begun = match words(rt, rt.alloc()) {
         Ok(words) => run_words(rt, words),
@@ -69,9 +69,9 @@ fn run_noted(rt: &HostRuntime, words: &[String], notes: &Notes<'_>) -> io::Resul
 // Prints why the program couldn't begin: memory was refused, or a word is no text.
 fn explain_start(rt: &HostRuntime, error: &io::Error) -> Status {
     let fault = if error.kind() == ErrorKind::OutOfMemory {
-        CommandFault::Refused(StoreError::Memory)
+        CommandError::Refused(StoreError::Memory)
     } else {
-        CommandFault::BadArgument
+        CommandError::BadArgument
     };
     report(fault, &mut rt.stderr())
 }

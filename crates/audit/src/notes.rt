@@ -21,8 +21,8 @@ struct Note {
     error: io::Error,
 }
 
-/// The last call of the operating system that failed, kept for the line that explains a fault of a file: the fault itself
-/// names neither path nor cause.
+/// The last call of the operating system that failed, kept for the line that explains a fault of a file: the fault
+/// itself names neither path nor cause.
 #[derive(Drop)]
 pub struct Notes<'a> {
     words: &'a [String],

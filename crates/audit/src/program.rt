@@ -1,7 +1,7 @@
 use crate::command::{Asked, request_of};
 use crate::explaining::explain;
 use crate::notes::Notes;
-use audit_commands::{CommandFault, Status, report};
+use audit_cli_store::{CommandError, Status, report};
 use audit_disk::SystemFile;
 use audit_store::StoreError;
 use clap::Error;
@@ -32,8 +32,10 @@ where
         Err(error) => return print_usage(&error, output, messages),
     };
     let status = match line.asked {
-        Asked::Plain(request) => audit_commands::run(rt, alloc, request, input, output, messages),
-        Asked::Serving(request) => audit_serving::run(rt, alloc, request, input, output, messages),
+        Asked::Plain(request) => audit_cli_store::run(rt, alloc, request, input, output, messages),
+        Asked::Serving(request) => audit_cli_serve::run(
+            rt, alloc, request, input, output, messages,
+        ),
     };
     if is_terminal || line.explain {
         let _ = explain(rt, line.asked, status, notes, messages);
@@ -44,14 +46,14 @@ where
 // Prints clap's help, or its usage, or that memory ran out.
 fn print_usage<W: Write, M: Write>(error: &Error, output: &mut W, messages: &mut M) -> Status {
     if error.kind() == ErrorKind::OutOfMemory {
-        return report(CommandFault::Refused(StoreError::Memory), messages);
+        return report(CommandError::Refused(StoreError::Memory), messages);
     }
     if error.use_stderr() {
         let _ = write!(messages, "{error}");
         return Status::Usage;
     }
     if write!(output, "{error}").is_err() || output.flush().is_err() {
-        return report(CommandFault::File, messages);
+        return report(CommandError::File, messages);
     }
     Status::Done
 }

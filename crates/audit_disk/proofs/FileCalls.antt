@@ -1,9 +1,9 @@
 -- The calls of a file are those of a device.
 use Rattle.std.proofs.Common.{◌≡◌, ◌⊎◌, inl, inr, ⊎_elim, ℕ, ◌+◌, ◌*◌, ◌^◌, ◌<◌, ◌≤◌, Ok, Err, Result, OnOk, OnErr, List, length, take, drop, refl, sym, ◌∙◌, ap, subst, arith}
-use Rattle.audit_device.specs.Image.{Sector, Image, sector_at, with_sector}
-use Rattle.audit_device.specs.View.{View, last_count}
-use Rattle.audit_device.specs.Calls.{Outcome, Continues, CountsFailure, Ticks, IsRead, IsWrite}
-use Rattle.audit_disk.specs.File.{overlaid, sectors_of, FileView, GoesOn, IsReadThrough, IsFileWrite}
+use Rattle.audit_disk_model.specs.Image.{Sector, Image, sector_at, with_sector}
+use Rattle.audit_disk_model.specs.View.{View, last_count}
+use Rattle.audit_disk_model.specs.Calls.{Outcome, Continues, CountsFailure, Ticks, IsRead, IsWrite}
+use Rattle.audit_disk.specs.File.{overlaid, sectors_of, FileView, FileContinues, IsReadThrough, IsFileWrite}
 use Rattle.audit_disk.specs.FileView.{file_moment, file_view}
 use Rattle.audit_base.specs.declared.limits.TheConstants.{SECTOR_SIZE}
 use Rattle.audit_disk.proofs.FileSectors.{length-overlaid, sectors_of-overlaid, sector_at-sectors_of}
@@ -43,7 +43,7 @@ module _ (old new : FileView) (sectors reached reached' clock clock' failures fa
   abbrev SameMoments : Type 0
   SameMoments = old.honest → (at : ℕ) → at ≤ clock → file_moment new.moment reached' at ≡ file_moment old.moment reached at
 
-  continues : GoesOn old new → SameMoments → clock ≤ clock' → failures ≤ failures' → Continues before after
+  continues : FileContinues old new → SameMoments → clock ≤ clock' → failures ≤ failures' → Continues before after
   continues goes_on same_moment later more = record {
     size = refl;
     clock = later;
@@ -101,7 +101,7 @@ module _ (old new : FileView) (sectors reached reached' clock clock' failures fa
       ticks : Ticks clock clock'
       ticks = record { before_end = λ lt. next; at_end = λ le. absurd (omega arith) }
 
-      goes : GoesOn old new → (old.honest → old.moment < last_count → new.moment ≡ old.moment + 1) → Continues before after
+      goes : FileContinues old new → (old.honest → old.moment < last_count → new.moment ≡ old.moment + 1) → Continues before after
       goes goes_on moment = continues goes_on (λ honest at le. omega (arith, moment honest (omega (arith, in_step honest)))) (omega arith) more
 
       pub write_file : (at : ℕ) (bytes : Sector) (result : Outcome) → at < sectors → length bytes ≡ SECTOR_SIZE → IsFileWrite old new (SECTOR_SIZE * at) bytes result

@@ -1,7 +1,7 @@
 -- Sectors in a file.
 use Rattle.std.proofs.Common.{◌≡◌, ℕ, zero, suc, ◌+◌, ◌*◌, ◌<◌, ◌≤◌, List, ◌∷◌, ◌++◌, length, take, drop, set, refl, sym, ◌∙◌, ap, arith}
 use Rattle.std.proofs.lemmas.List.{length-append, length-take-le, length-drop, take_at, drop_at, take-take, take-append-le, drop-append-le, drop-drop, drop-take}
-use Rattle.audit_device.specs.Image.{Image, sector_at}
+use Rattle.audit_disk_model.specs.Image.{Image, sector_at}
 use Rattle.audit_disk.specs.File.{overlaid, sectors_of}
 use Rattle.audit_base.specs.declared.limits.TheConstants.{SECTOR_SIZE}
 

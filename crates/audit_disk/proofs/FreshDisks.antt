@@ -1,10 +1,10 @@
 -- A `MemDisk` of which no call was made.
 use Rattle.std.proofs.Common.{◌≡◌, ℕ, Ok, Err, Result, IfOk, List, [], ◌∷◌, map, refl, sym, ◌∙◌, ap, subst, length, ◌<◌, ◌^◌}
 use Rattle.std.proofs.lemmas.List.{length-map}
-use Rattle.audit_device.specs.Image.{Sector, Image}
-use Rattle.audit_device.specs.View.{View}
-use Rattle.audit_device.specs.Moments.{IsAfterCrash}
-use Rattle.audit_disk.specs.Held.{Held, settled, content_of, bytes_of, IsImageOf, crashed}
+use Rattle.audit_disk_model.specs.Image.{Sector, Image}
+use Rattle.audit_disk_model.specs.View.{View}
+use Rattle.audit_disk_model.specs.Moments.{IsAfterCrash}
+use Rattle.audit_disk.specs.Held.{Held, settled, content_of, bytes_of_blocks, IsImageOf, crashed}
 use Rattle.audit_disk.specs.Memory.{after_calls, held_at}
 use Rattle.audit_disk.specs.MemDisk.{disk_view, disk_held, IsFresh, HoldsOnly, IsEachPicked}
 use Rattle.audit_disk.specs.declared.block.Block.{Block}
@@ -16,23 +16,23 @@ use Rattle.audit_disk.proofs.MemoryLemmas.{held_now}
 use Rattle.audit_disk.proofs.MemoryCalls.{IsCurrent}
 use Rattle.audit_disk.proofs.MemDiskCalls.{view_of}
 
-pub content_of-settled : (blocks : List Block) → content_of (map settled blocks) ≡ bytes_of blocks
+pub content_of-settled : (blocks : List Block) → content_of (map settled blocks) ≡ bytes_of_blocks blocks
 content_of-settled [] = refl
 content_of-settled (block ∷ blocks) = ap (λ (image : Image). block.bytes ∷ image) (content_of-settled blocks)
 
-settled_image : (blocks : List Block) (image : Image) → IsImageOf (map settled blocks) image → image ≡ bytes_of blocks
+settled_image : (blocks : List Block) (image : Image) → IsImageOf (map settled blocks) image → image ≡ bytes_of_blocks blocks
 settled_image [] [] is = refl
 settled_image [] (bytes ∷ image) is = absurd is
 settled_image (block ∷ blocks) [] is = absurd is
 settled_image (block ∷ blocks) (bytes ∷ image) is = ap (λ (s : Sector). s ∷ image) is.0.1 ∙ ap (λ (i : Image). block.bytes ∷ i) (settled_image blocks image is.1)
 
 -- the content before the first call
-pub current_fresh : (start content : List Block) (log : CallLog) → start ≡ content → log.calls.items ≡ [] → IsCurrent start (bytes_of content) log.calls.items
+pub current_fresh : (start content : List Block) (log : CallLog) → start ≡ content → log.calls.items ≡ [] → IsCurrent start (bytes_of_blocks content) log.calls.items
 current_fresh start content log same none =
-    ap bytes_of (sym same) ∙ sym (content_of-settled start) ∙ ap (λ (calls : List Call). content_of (after_calls calls (map settled start))) (sym none)
+    ap bytes_of_blocks (sym same) ∙ sym (content_of-settled start) ∙ ap (λ (calls : List Call). content_of (after_calls calls (map settled start))) (sym none)
 
-pub fresh : (start content : List Block) (log : CallLog) (current : IsCurrent start (bytes_of content) log.calls.items) (sized : length start < 2 ^ 64) → start ≡ content → log.calls.items ≡ []
-    → log.clock ≡ 0 → log.failures ≡ 0 → IsFresh (view_of start content log current sized) (bytes_of content)
+pub fresh : (start content : List Block) (log : CallLog) (current : IsCurrent start (bytes_of_blocks content) log.calls.items) (sized : length start < 2 ^ 64) → start ≡ content → log.calls.items ≡ []
+    → log.clock ≡ 0 → log.failures ≡ 0 → IsFresh (view_of start content log current sized) (bytes_of_blocks content)
 fresh start content log current sized same none clock failures = record {
   size = ap length same ∙ sym (length-map content (λ (block : Block). block.bytes));
   content = refl;
@@ -42,12 +42,12 @@ fresh start content log current sized same none clock failures = record {
   settled = record {
     left = (view_of start content log current sized).content_left;
     only = λ honest other left.
-        settled_image start other (subst (λ (calls : List Call). IsImageOf (held_at start calls log.clock) other) none left) ∙ ap bytes_of same;
+        settled_image start other (subst (λ (calls : List Call). IsImageOf (held_at start calls log.clock) other) none left) ∙ ap bytes_of_blocks same;
   };
 }
 
-pub fresh_held : (start content : List Block) (log : CallLog) → start ≡ content → log.calls.items ≡ [] → HoldsOnly (after_calls log.calls.items (map settled start)) (bytes_of content)
-fresh_held start content log same none = (start, ap (λ (calls : List Call). after_calls calls (map settled start)) none, ap bytes_of same)
+pub fresh_held : (start content : List Block) (log : CallLog) → start ≡ content → log.calls.items ≡ [] → HoldsOnly (after_calls log.calls.items (map settled start)) (bytes_of_blocks content)
+fresh_held start content log same none = (start, ap (λ (calls : List Call). after_calls calls (map settled start)) none, ap bytes_of_blocks same)
 
 -- the image of each pick may be left, and each image that may be left is that of some pick
 pub crash_image : (disk : MemDisk) (pick : List ℕ) → (disk_view disk).left_at disk.log.clock (crashed (disk_held disk) pick)

@@ -1,14 +1,14 @@
 -- Calls that a gate doesn't pass on.
 use Rattle.std.proofs.Common.{◌≡◌, ⊎_elim, ℕ, ◌+◌, ◌^◌, ◌<◌, ◌≤◌, Err, refl, sym, ◌∙◌, ap, subst, arith}
 use Rattle.std.proofs.lemmas.Bool.{cases_lt}
-use Rattle.audit_device.specs.Image.{Sector}
-use Rattle.audit_device.specs.View.{View, last_count}
-use Rattle.audit_device.specs.Calls.{HasRisen, Ticks, IsRead, IsWrite, IsSync}
+use Rattle.audit_disk_model.specs.Image.{Sector}
+use Rattle.audit_disk_model.specs.View.{View, last_count}
+use Rattle.audit_disk_model.specs.Calls.{HasRisen, Ticks, IsRead, IsWrite, IsSync}
 use Rattle.audit_disk.specs.Shifted.{inner_moment, shifted}
 use Rattle.audit_disk.specs.Gate.{gate_view, MayShut, IsBelowEnd, Misses}
 use Rattle.audit_disk.specs.declared.gate.Gate.{Gate}
-use Rattle.audit_device.specs.declared.fault.DeviceFault.{DeviceFault}
-use Rattle.audit_device.specs.declared.sectors.Sectors as sectors
+use Rattle.audit_disk_model.specs.declared.fault.DeviceFault.{DeviceFault}
+use Rattle.audit_disk_model.specs.declared.sectors.Sectors as sectors
 use Rattle.audit_disk.proofs.ShiftedCalls.{read_missed, write_missed, sync_missed, missed_more}
 
 module _ {D : Type 0} {g : sectors.Ghosts D} (old new : Gate D g) (unseen : new.inner ≡ old.inner)

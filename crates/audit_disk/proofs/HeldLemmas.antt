@@ -1,7 +1,7 @@
 -- What a write and a sync make of the images.
 use Rattle.std.proofs.Common.{◌≡◌, ◌⊎◌, inl, inr, ⊎_elim, ℕ, zero, suc, List, [], ◌∷◌, ◌++◌, set, refl, sym, ◌∙◌, ap, ◌≤◌, length, arith}
-use Rattle.audit_device.specs.Image.{Sector, Image}
-use Rattle.audit_disk.specs.Held.{Held, chosen, newest, content_of, IsImageOf, crashed, after_write, after_sync}
+use Rattle.audit_disk_model.specs.Image.{Sector, Image}
+use Rattle.audit_disk.specs.Held.{Held, picked, newest, content_of, IsImageOf, crashed, after_write, after_sync}
 use Rattle.audit_disk.specs.HeldLaws.{chosen_last}
 use Rattle.audit_disk.specs.MemDisk.{ArePicks}
 use Rattle.audit_disk.specs.declared.block.Block.{Block}
@@ -10,23 +10,23 @@ pub newest-push : (synced block : Block) (since : List Block) → newest synced 
 newest-push synced block [] = refl
 newest-push synced block (next ∷ since) = newest-push next block since
 
-pub synced_first : (synced : Block) (since : List Block) → synced.bytes ≡ (chosen synced since zero).bytes
+pub synced_first : (synced : Block) (since : List Block) → synced.bytes ≡ (picked synced since zero).bytes
 synced_first synced [] = refl
 synced_first synced (next ∷ since) = refl
 
-chosen_push : (synced block : Block) (since : List Block) (p : ℕ) → (chosen synced (since ++ block ∷ []) p ≡ chosen synced since p) ⊎ (chosen synced (since ++ block ∷ []) p ≡ block)
+chosen_push : (synced block : Block) (since : List Block) (p : ℕ) → (picked synced (since ++ block ∷ []) p ≡ picked synced since p) ⊎ (picked synced (since ++ block ∷ []) p ≡ block)
 chosen_push synced block [] zero = inl refl
 chosen_push synced block [] (suc p) = inr refl
 chosen_push synced block (next ∷ since) zero = inl refl
 chosen_push synced block (next ∷ since) (suc p) = chosen_push next block since p
 
-chosen_kept : (synced block : Block) (since : List Block) (p : ℕ) → (q : ℕ) × (chosen synced (since ++ block ∷ []) q ≡ chosen synced since p)
+chosen_kept : (synced block : Block) (since : List Block) (p : ℕ) → (q : ℕ) × (picked synced (since ++ block ∷ []) q ≡ picked synced since p)
 chosen_kept synced block [] p = (zero, refl)
 chosen_kept synced block (next ∷ since) zero = (zero, refl)
 chosen_kept synced block (next ∷ since) (suc p) = let rest = chosen_kept next block since p in (suc rest.0, rest.1)
 
 -- each content is that of a pick up to their number
-chosen_within : (synced : Block) (since : List Block) (p : ℕ) → (q : ℕ) × (q ≤ length since) × (chosen synced since q ≡ chosen synced since p)
+chosen_within : (synced : Block) (since : List Block) (p : ℕ) → (q : ℕ) × (q ≤ length since) × (picked synced since q ≡ picked synced since p)
 chosen_within synced [] p = (zero, omega arith, refl)
 chosen_within synced (block ∷ since) zero = (zero, omega arith, refl)
 chosen_within synced (block ∷ since) (suc p) = let rest = chosen_within block since p in (suc rest.0, omega (arith, rest.1), rest.2)
@@ -50,8 +50,8 @@ written_image (sector ∷ rest) zero block [] is = absurd is
 written_image (sector ∷ rest) (suc at) block [] is = absurd is
 written_image (sector ∷ rest) zero block (bytes ∷ image) is =
     ⊎_elim
-    (λ (old : chosen sector.synced (sector.since ++ block ∷ []) is.0.0 ≡ chosen sector.synced sector.since is.0.0). inl ((is.0.0, is.0.1 ∙ ap (λ (b : Block). b.bytes) old), is.1))
-    (λ (new : chosen sector.synced (sector.since ++ block ∷ []) is.0.0 ≡ block).
+    (λ (old : picked sector.synced (sector.since ++ block ∷ []) is.0.0 ≡ picked sector.synced sector.since is.0.0). inl ((is.0.0, is.0.1 ∙ ap (λ (b : Block). b.bytes) old), is.1))
+    (λ (new : picked sector.synced (sector.since ++ block ∷ []) is.0.0 ≡ block).
     inr (sector.synced.bytes ∷ image, ((zero, synced_first sector.synced sector.since), is.1), ap (λ (s : Sector). s ∷ image) (is.0.1 ∙ ap (λ (b : Block). b.bytes) new)))
     (chosen_push sector.synced block sector.since is.0.0)
 written_image (sector ∷ rest) (suc at) block (bytes ∷ image) is =

@@ -1,7 +1,7 @@
-pub use Rattle.audit_device.proofs.Images
-pub use Rattle.audit_device.proofs.Moments
-pub use Rattle.audit_device.proofs.Rows
-pub use Rattle.audit_device.proofs.Windows
+pub use Rattle.audit_disk_model.proofs.Images
+pub use Rattle.audit_disk_model.proofs.Moments
+pub use Rattle.audit_disk_model.proofs.Rows
+pub use Rattle.audit_disk_model.proofs.Windows
 pub mod Contents
 pub mod FileCalls
 pub mod FileSectors

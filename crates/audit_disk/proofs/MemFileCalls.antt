@@ -2,11 +2,11 @@
 use Rattle.std.proofs.Common.{◌≡◌, ◌≢◌, ◌⊎◌, inl, inr, ⊎_elim, ℕ, zero, suc, ◌+◌, ◌*◌, ◌/◌, ◌<◌, ◌≤◌, Ok, Err, OnOk, OnErr, List, [], ◌∷◌, ◌++◌, length, take, drop, refl, sym, ◌∙◌, ap, arith}
 use Rattle.std.proofs.Math.Seq.{take-append-add, drop-append-add}
 use Rattle.std.proofs.lemmas.List.{take_at, drop_at, append_assoc, get_or-set_other}
-use Rattle.audit_device.specs.Image.{Sector, Image, IsWhole, sector_at, with_sector}
-use Rattle.audit_device.specs.View.{View}
-use Rattle.audit_device.specs.Calls.{Outcome, Continues, IsWritten, IsRead, IsWrite, IsSync}
-use Rattle.audit_disk.specs.File.{IsUnusedFile, overlaid, GoesOn, IsFileRead, IsFileWrite, IsFileSync}
-use Rattle.audit_disk.specs.MemFile.{joined, length-joined, joined_view}
+use Rattle.audit_disk_model.specs.Image.{Sector, Image, IsWhole, sector_at, with_sector}
+use Rattle.audit_disk_model.specs.View.{View}
+use Rattle.audit_disk_model.specs.Calls.{Outcome, Continues, IsWritten, IsRead, IsWrite, IsSync}
+use Rattle.audit_disk.specs.File.{IsUnusedFile, overlaid, FileContinues, IsFileRead, IsFileWrite, IsFileSync}
+use Rattle.audit_disk.specs.MemFile.{bytes_of_image, length-joined, joined_view}
 use Rattle.audit_disk.specs.MemDisk.{IsFresh}
 use Rattle.audit_base.specs.declared.limits.TheConstants.{SECTOR_SIZE}
 
@@ -18,25 +18,25 @@ are_whole : {size : ℕ} {image : Image} → IsWhole size image → AreWhole ima
 are_whole whole = λ at lt. whole.each at (omega (arith, whole.sectors))
 
 -- one sector of the bytes
-joined-sector_at : (image : Image) (at : ℕ) → AreWhole image → at < length image → sector_at image at ≡ take SECTOR_SIZE (drop (SECTOR_SIZE * at) (joined image))
+joined-sector_at : (image : Image) (at : ℕ) → AreWhole image → at < length image → sector_at image at ≡ take SECTOR_SIZE (drop (SECTOR_SIZE * at) (bytes_of_image image))
 joined-sector_at [] at whole lt = absurd (omega arith)
-joined-sector_at (bytes ∷ image) zero whole lt = sym (take_at bytes (joined image) SECTOR_SIZE (whole zero (omega arith)))
+joined-sector_at (bytes ∷ image) zero whole lt = sym (take_at bytes (bytes_of_image image) SECTOR_SIZE (whole zero (omega arith)))
 joined-sector_at (bytes ∷ image) (suc at) whole lt =
     let long : length bytes ≡ SECTOR_SIZE = whole zero (omega arith) in
     let there : length bytes + SECTOR_SIZE * at ≡ SECTOR_SIZE * suc at = omega arith in
     joined-sector_at image at (λ k below. whole (suc k) (omega arith)) (omega arith)
-    ∙ ap (λ (l : List ℕ). take SECTOR_SIZE l) (sym (drop-append-add bytes (joined image) (SECTOR_SIZE * at)) ∙ ap (λ (n : ℕ). drop n (bytes ++ joined image)) there)
+    ∙ ap (λ (l : List ℕ). take SECTOR_SIZE l) (sym (drop-append-add bytes (bytes_of_image image) (SECTOR_SIZE * at)) ∙ ap (λ (n : ℕ). drop n (bytes ++ bytes_of_image image)) there)
 
 -- the bytes with one sector written
-joined-with_sector : (image : Image) (at : ℕ) (next : Sector) → AreWhole image → at < length image → length next ≡ SECTOR_SIZE → joined (with_sector image at next) ≡ overlaid (joined image) (SECTOR_SIZE * at) next
+joined-with_sector : (image : Image) (at : ℕ) (next : Sector) → AreWhole image → at < length image → length next ≡ SECTOR_SIZE → bytes_of_image (with_sector image at next) ≡ overlaid (bytes_of_image image) (SECTOR_SIZE * at) next
 joined-with_sector [] at next whole lt size = absurd (omega arith)
 joined-with_sector (bytes ∷ image) zero next whole lt size =
     let long : length bytes ≡ SECTOR_SIZE = whole zero (omega arith) in
     let n : 0 + length next ≡ SECTOR_SIZE = omega arith in
-    sym (ap (λ (m : ℕ). next ++ drop m (bytes ++ joined image)) n ∙ ap (λ (l : List ℕ). next ++ l) (drop_at bytes (joined image) SECTOR_SIZE long))
+    sym (ap (λ (m : ℕ). next ++ drop m (bytes ++ bytes_of_image image)) n ∙ ap (λ (l : List ℕ). next ++ l) (drop_at bytes (bytes_of_image image) SECTOR_SIZE long))
 joined-with_sector (bytes ∷ image) (suc at) next whole lt size =
     let long : length bytes ≡ SECTOR_SIZE = whole zero (omega arith) in
-    let rest = joined image in
+    let rest = bytes_of_image image in
     let off = SECTOR_SIZE * at in
     let there : SECTOR_SIZE * suc at ≡ length bytes + off = omega arith in
     let far : length bytes + off + length next ≡ length bytes + (off + length next) = omega arith in
@@ -47,7 +47,7 @@ joined-with_sector (bytes ∷ image) (suc at) next whole lt size =
     ∙ ap (λ (l : List ℕ). take (length bytes + off) (bytes ++ rest) ++ next ++ l) (sym (drop-append-add bytes rest (off + length next)) ∙ ap (λ (n : ℕ). drop n (bytes ++ rest)) (sym far))
     ∙ ap (λ (n : ℕ). overlaid (bytes ++ rest) n next) (sym there)
 
-goes_on : {old new : View} → Continues old new → GoesOn (joined_view old) (joined_view new)
+goes_on : {old new : View} → Continues old new → FileContinues (joined_view old) (joined_view new)
 goes_on calls = record {
   honest = calls.honest;
   was_honest = calls.was_honest;
@@ -59,7 +59,7 @@ content_whole : (view : View) → view.honest → AreWhole view.content
 content_whole view honest = are_whole (view.whole honest view.clock view.content (view.content_left honest))
 
 -- a sector stands at each offset within the bytes
-pub offset_within : (view : View) (offset : ℕ) → view.honest → offset + SECTOR_SIZE ≤ length (joined view.content) → offset / SECTOR_SIZE < view.size
+pub offset_within : (view : View) (offset : ℕ) → view.honest → offset + SECTOR_SIZE ≤ length (bytes_of_image view.content) → offset / SECTOR_SIZE < view.size
 offset_within view offset honest fits =
     let long = length-joined view.size view.content (view.whole honest view.clock view.content (view.content_left honest)) in
     omega (arith, fits, long)
@@ -74,13 +74,13 @@ module _ (old new : View) where
         let before = read.continues.was_honest honest in
         was before multiple ∙ ap (λ (image : Image). sector_at image (other / SECTOR_SIZE)) (sym (read.content before));
     moment = λ honest. read.clock;
-    same = λ honest. ap joined (read.content honest);
+    same = λ honest. ap bytes_of_image (read.content honest);
     found = λ honest. found result honest (read.bytes honest);
   }
     where
-      found : (result : Outcome) → old.honest → OnOk result (into ≡ sector_at old.content at) → OnOk result (into ≡ take SECTOR_SIZE (drop offset (joined old.content)))
+      found : (result : Outcome) → old.honest → OnOk result (into ≡ sector_at old.content at) → OnOk result (into ≡ take SECTOR_SIZE (drop offset (bytes_of_image old.content)))
       found (Ok done) honest is =
-          is ∙ joined-sector_at old.content at (content_whole old honest) (omega (arith, (old.whole honest old.clock old.content (old.content_left honest)).sectors)) ∙ ap (λ (n : ℕ). take SECTOR_SIZE (drop n (joined old.content))) (sym there)
+          is ∙ joined-sector_at old.content at (content_whole old honest) (omega (arith, (old.whole honest old.clock old.content (old.content_left honest)).sectors)) ∙ ap (λ (n : ℕ). take SECTOR_SIZE (drop n (bytes_of_image old.content))) (sym there)
       found (Err fault) honest is = tt
 
       given : (result : Outcome) → (old.honest → OnOk result (into ≡ sector_at old.content at)) → OnOk result ((joined_view new).gave offset into)
@@ -106,14 +106,14 @@ module _ (old new : View) where
         ⊎_elim
         (λ (same : old.left_at old.clock left.1.0). inl (honest, (left.1.0, same, left.1.2)))
         (λ (over : IsWritten (old.left_at old.clock) at bytes left.1.0).
-        inr (joined over.before, (honest, (over.before, over.was_left, refl)), left.1.2 ∙ ap joined over.is ∙ placed over.before (old.whole honest old.clock over.before over.was_left)))
+        inr (bytes_of_image over.before, (honest, (over.before, over.was_left, refl)), left.1.2 ∙ ap bytes_of_image over.is ∙ placed over.before (old.whole honest old.clock over.before over.was_left)))
         (write.images honest left.1.0 left.1.1).either;
     unwritten = λ honest file left. (write.continues.honest honest, (left.1.0, write.unwritten honest left.1.0 left.1.1, left.1.2));
     written = λ honest. written result honest (write.written honest);
   }
     where
-      placed : (image : Image) → IsWhole old.size image → joined (with_sector image at bytes) ≡ overlaid (joined image) offset bytes
-      placed image whole = joined-with_sector image at bytes (are_whole whole) (omega (arith, whole.sectors)) long ∙ ap (λ (n : ℕ). overlaid (joined image) n bytes) (sym there)
+      placed : (image : Image) → IsWhole old.size image → bytes_of_image (with_sector image at bytes) ≡ overlaid (bytes_of_image image) offset bytes
+      placed image whole = joined-with_sector image at bytes (are_whole whole) (omega (arith, whole.sectors)) long ∙ ap (λ (n : ℕ). overlaid (bytes_of_image image) n bytes) (sym there)
 
       kept : (result : Outcome) → OnOk result (new.content ≡ with_sector old.content at bytes) → OnErr result ((new.content ≡ old.content) ⊎ (new.content ≡ with_sector old.content at bytes))
           → (other : ℕ) → other ≢ at → sector_at new.content other ≡ sector_at old.content other
@@ -127,17 +127,17 @@ module _ (old new : View) where
       now : old.honest → IsWhole old.size old.content
       now honest = old.whole honest old.clock old.content (old.content_left honest)
 
-      stands : (result : Outcome) → old.honest → OnOk result (new.content ≡ with_sector old.content at bytes) → OnOk result (joined new.content ≡ overlaid (joined old.content) offset bytes)
-      stands (Ok done) honest is = ap joined is ∙ placed old.content (now honest)
+      stands : (result : Outcome) → old.honest → OnOk result (new.content ≡ with_sector old.content at bytes) → OnOk result (bytes_of_image new.content ≡ overlaid (bytes_of_image old.content) offset bytes)
+      stands (Ok done) honest is = ap bytes_of_image is ∙ placed old.content (now honest)
       stands (Err fault) honest is = tt
 
       stands_err : (result : Outcome) → old.honest → OnErr result ((new.content ≡ old.content) ⊎ (new.content ≡ with_sector old.content at bytes))
-          → OnErr result ((joined new.content ≡ joined old.content) ⊎ (joined new.content ≡ overlaid (joined old.content) offset bytes))
+          → OnErr result ((bytes_of_image new.content ≡ bytes_of_image old.content) ⊎ (bytes_of_image new.content ≡ overlaid (bytes_of_image old.content) offset bytes))
       stands_err (Ok done) honest is = tt
       stands_err (Err fault) honest is =
           ⊎_elim
-          (λ (same : new.content ≡ old.content). inl (ap joined same))
-          (λ (changed : new.content ≡ with_sector old.content at bytes). inr (ap joined changed ∙ placed old.content (now honest)))
+          (λ (same : new.content ≡ old.content). inl (ap bytes_of_image same))
+          (λ (changed : new.content ≡ with_sector old.content at bytes). inr (ap bytes_of_image changed ∙ placed old.content (now honest)))
           is
 
       written : (result : Outcome) → old.honest → OnOk result ((image : Image) → old.left_at old.clock image → new.left_at new.clock (with_sector image at bytes))
@@ -160,15 +160,15 @@ module _ (old new : View) where
         let before = sync.continues.was_honest honest in
         was before multiple ∙ ap (λ (image : Image). sector_at image (other / SECTOR_SIZE)) (sym (sync.content before));
     moment = λ honest below. sync.clock.before_end below;
-    same = λ honest. ap joined (sync.content honest);
+    same = λ honest. ap bytes_of_image (sync.content honest);
     only = λ honest. only result (sync.only honest);
     no_other = λ honest. no_other result honest (sync.no_other honest);
     kept = λ honest. kept result honest (sync.kept honest);
   }
     where
       only : (result : Outcome) → OnOk result ((image : Image) → new.left_at new.clock image → image ≡ old.content)
-          → OnOk result ((file : List ℕ) → (joined_view new).left_at new.clock file → file ≡ joined old.content)
-      only (Ok done) is = λ file left. left.1.2 ∙ ap joined (is left.1.0 left.1.1)
+          → OnOk result ((file : List ℕ) → (joined_view new).left_at new.clock file → file ≡ bytes_of_image old.content)
+      only (Ok done) is = λ file left. left.1.2 ∙ ap bytes_of_image (is left.1.0 left.1.1)
       only (Err fault) is = tt
 
       no_other : (result : Outcome) → old.honest → OnErr result ((image : Image) → new.left_at new.clock image → old.left_at old.clock image)

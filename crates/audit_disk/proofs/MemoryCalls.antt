@@ -1,15 +1,15 @@
 -- The calls of a device that keeps a record of its calls are those of the crash model.
 use Rattle.std.proofs.Common.{◌≡◌, ◌⊎◌, inl, inr, ⊎_elim, ℕ, ◌+◌, ◌<◌, ◌≤◌, Ok, Err, List, [], ◌∷◌, ◌++◌, map, set, refl, sym, ◌∙◌, ap, subst, arith, ◌^◌, length}
-use Rattle.audit_device.specs.Image.{Sector, Image, sector_at}
-use Rattle.audit_device.specs.View.{View, last_count}
-use Rattle.audit_device.specs.Calls.{Continues, HasRisen, Ticks, IsWritten, IsRead, IsWrite, IsSync}
+use Rattle.audit_disk_model.specs.Image.{Sector, Image, sector_at}
+use Rattle.audit_disk_model.specs.View.{View, last_count}
+use Rattle.audit_disk_model.specs.Calls.{Continues, HasRisen, Ticks, IsWritten, IsRead, IsWrite, IsSync}
 use Rattle.audit_disk.specs.Held.{Held, settled, content_of, IsImageOf}
 use Rattle.audit_disk.specs.Memory.{after_call, after_calls, held_at, latest, memory_view}
 use Rattle.audit_disk.specs.declared.block.Block.{Block}
 use Rattle.audit_disk.specs.declared.call.Call.{Call}
 use Rattle.audit_disk.specs.declared.call.Effect.{Effect}
 use Rattle.audit_disk.specs.declared.call.Effect.TheVariants.{Write, Sync}
-use Rattle.audit_device.specs.declared.fault.DeviceFault.{DeviceFault}
+use Rattle.audit_disk_model.specs.declared.fault.DeviceFault.{DeviceFault}
 use Rattle.audit_disk.proofs.HeldLemmas.{content_of-after_write, content_of-after_sync, written_image, unwritten_image, image_written, synced_image}
 use Rattle.audit_disk.proofs.MemoryLemmas.{after_calls-append, held_now, held_same, held_before, held_next}
 

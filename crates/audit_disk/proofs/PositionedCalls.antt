@@ -1,10 +1,10 @@
 -- Calls of a file at offsets, with a count of those that failed kept beside it, are those of a file of sectors.
 use Rattle.std.proofs.Common.{◌≡◌, ℕ, ◌+◌, ◌*◌, ◌≤◌, Ok, Err, Result, OnOk, List, [], ◌∷◌, length, slice_index_or, take, drop, sym, ◌∙◌, ap, subst, arith}
 use Rattle.std.proofs.lemmas.Bool.{false≢true}
-use Rattle.audit_device.specs.Image.{Sector, Image}
-use Rattle.audit_device.specs.View.{View}
-use Rattle.audit_device.specs.Calls.{CountsFailure}
-use Rattle.audit_disk.specs.File.{FileView, sectors_of, GoesOn, OnlyReads, IsFileRead, IsRowRead, IsFileWrite, IsFileSync}
+use Rattle.audit_disk_model.specs.Image.{Sector, Image}
+use Rattle.audit_disk_model.specs.View.{View}
+use Rattle.audit_disk_model.specs.Calls.{CountsFailure}
+use Rattle.audit_disk.specs.File.{FileView, sectors_of, FileContinues, OnlyFileReads, IsFileRead, IsRowRead, IsFileWrite, IsFileSync}
 use Rattle.audit_disk.specs.OsFile.{AnswersAlike}
 use Rattle.audit_disk.specs.Positioned.{PositionedView, counted_file, uncounted, ShowsFront, IsPositionedRead, IsPositionedWrite, IsPositionedSync}
 use Rattle.audit_base.specs.declared.limits.TheConstants.{SECTOR_SIZE}
@@ -16,7 +16,7 @@ alike_counts failures failures' (Ok done) (Err fault) alike counts = absurd (fal
 alike_counts failures failures' (Err fault) (Ok done) alike counts = absurd (false≢true alike)
 alike_counts failures failures' (Err fault) (Err too) alike counts = counts
 
-goes_on_recounted : {old new : FileView} (failures failures' : ℕ) → GoesOn old new → GoesOn (counted_file (uncounted old) failures) (counted_file (uncounted new) failures')
+goes_on_recounted : {old new : FileView} (failures failures' : ℕ) → FileContinues old new → FileContinues (counted_file (uncounted old) failures) (counted_file (uncounted new) failures')
 goes_on_recounted failures failures' goes_on = record { honest = goes_on.honest; was_honest = goes_on.was_honest; kept = goes_on.kept; no_other = goes_on.no_other }
 
 -- the same call with another count beside it, and its outcome without the cause or with another
@@ -149,7 +149,7 @@ one_of {old = old} {new = new} {offset = offset} {result = result} (sector ∷ [
 one_of (sector ∷ other ∷ more) before one long read = absurd (omega arith)
 
 -- a device over a file of which nothing was asked but its length shows the first sectors of the file as it was
-module _ (file measured : PositionedView) (view : View) (count : ℕ) (only : OnlyReads (counted_file file 0) (counted_file measured 0))
+module _ (file measured : PositionedView) (view : View) (count : ℕ) (only : OnlyFileReads (counted_file file 0) (counted_file measured 0))
     (size : view.size ≡ count) (content : view.content ≡ sectors_of count measured.bytes) where
   pub shows_front : (file.honest → SECTOR_SIZE * count ≤ length file.bytes) → (measured.honest → view.honest) → (view.honest → measured.honest)
       → (measured.honest → (bytes : List ℕ) → measured.left_at measured.moment bytes → view.left_at 0 (sectors_of count bytes))

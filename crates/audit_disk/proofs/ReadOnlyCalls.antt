@@ -4,14 +4,14 @@ use Rattle.std.specs.List.{filter}
 use Rattle.std.proofs.lemmas.Bool.{lt-leb, cases_lt}
 use Rattle.std.proofs.lemmas.List.{append-nil, reverse-append, length-set, get_or-set_same, get_or-set_other}
 use Rattle.std.proofs.lemmas.List.Elements.{filter-append}
-use Rattle.audit_device.specs.Image.{Sector, Image, sector_at, with_sector}
-use Rattle.audit_device.specs.View.{View, last_count}
-use Rattle.audit_device.specs.Calls.{Outcome, Continues, HasRisen, CountsFailure, Ticks, IsRead, IsWrite, IsSync}
-use Rattle.audit_device.specs.declared.fault.DeviceFault.{DeviceFault}
-use Rattle.audit_disk.specs.CallLog.{Notes, Refuses}
+use Rattle.audit_disk_model.specs.Image.{Sector, Image, sector_at, with_sector}
+use Rattle.audit_disk_model.specs.View.{View, last_count}
+use Rattle.audit_disk_model.specs.Calls.{Outcome, Continues, HasRisen, CountsFailure, Ticks, IsRead, IsWrite, IsSync}
+use Rattle.audit_disk_model.specs.declared.fault.DeviceFault.{DeviceFault}
+use Rattle.audit_disk.specs.CallLog.{Notes, RefusesCall}
 use Rattle.audit_disk.specs.Memory.{calls_until, calls_until_all}
 use Rattle.audit_disk.specs.SectorSource.{SourceView}
-use Rattle.audit_disk.specs.ReadOnly.{content_by, content_over, left_by, left_over, overlay_view, bytes_or, IsLastWritten, IsReadThrough}
+use Rattle.audit_disk.specs.ReadOnly.{content_by, content_over, images_after, left_over, overlay_view, bytes_or, IsLastWritten, IsReadThrough}
 use Rattle.audit_disk.specs.declared.block.Block.{Block}
 use Rattle.audit_disk.specs.declared.call.Call.{Call}
 use Rattle.audit_disk.specs.declared.call.Effect.{Effect}
@@ -155,13 +155,13 @@ module _ (source : SourceView) (log log' : CallLog) where
         at_end = λ end. refl;
       }
 
-  later_of : Refuses log log' → log.clock ≤ log'.clock
+  later_of : RefusesCall log log' → log.clock ≤ log'.clock
   later_of refuses = ⊎_elim (λ (lt : log.clock < last_count). let next = refuses.clock.before_end lt in omega arith) (λ (le : last_count ≤ log.clock). let same = refuses.clock.at_end le in omega arith) (cases_lt log.clock last_count)
 
-  pub write_refused : (at : ℕ) (bytes : Sector) (fault : DeviceFault) → Refuses log log' → IsWrite old new at bytes (Err fault)
+  pub write_refused : (at : ℕ) (bytes : Sector) (fault : DeviceFault) → RefusesCall log log' → IsWrite old new at bytes (Err fault)
   write_refused at bytes fault refuses = write_fails refuses.calls (later_of refuses) refuses.more refuses.clock refuses.failures fault at bytes
 
-  pub sync_refused : (fault : DeviceFault) → Refuses log log' → IsSync old new (Err fault)
+  pub sync_refused : (fault : DeviceFault) → RefusesCall log log' → IsSync old new (Err fault)
   sync_refused fault refuses = sync_fails refuses.calls (later_of refuses) refuses.more refuses.clock refuses.failures fault
 
   -- the call was kept
@@ -200,10 +200,10 @@ module _ (source : SourceView) (log log' : CallLog) where
         ∙ one_more log.calls.items (record { moment = log'.clock; effect = effect })
         ∙ ap (λ (all : List Call). record { moment = log'.clock; effect = effect } ∷ reverse all) (sym (calls_until_all log.calls.items log.clock log.stamped))
 
-    pub into_next : (image : Image) → new.left_at log'.clock image → left_by effect (content_over (reverse (calls_until log.clock log.calls.items)) start) left image
+    pub into_next : (image : Image) → new.left_at log'.clock image → images_after effect (content_over (reverse (calls_until log.clock log.calls.items)) start) left image
     into_next image is = subst (λ (all : List Call). left_over all start image) now_next is
 
-    pub out_next : (image : Image) → left_by effect (content_over (reverse (calls_until log.clock log.calls.items)) start) left image → new.left_at log'.clock image
+    pub out_next : (image : Image) → images_after effect (content_over (reverse (calls_until log.clock log.calls.items)) start) left image → new.left_at log'.clock image
     out_next image is = subst (λ (all : List Call). left_over all start image) (sym now_next) is
 
   pub write_noted : (at : ℕ) (block : Block) → Notes log log' (Write at block) → IsWrite old new at block.bytes (Ok tt)
@@ -234,11 +234,11 @@ module _ (source : SourceView) (log log' : CallLog) where
   }
 
   -- whatever came of it
-  pub write_is : (at : ℕ) (block : Block) (result : Outcome) → OnOk result (Notes log log' (Write at block)) → OnErr result (Refuses log log') → IsWrite old new at block.bytes result
+  pub write_is : (at : ℕ) (block : Block) (result : Outcome) → OnOk result (Notes log log' (Write at block)) → OnErr result (RefusesCall log log') → IsWrite old new at block.bytes result
   write_is at block (Ok done) notes refuses = write_noted at block notes
   write_is at block (Err fault) notes refuses = write_refused at block.bytes fault refuses
 
-  pub sync_is : (result : Outcome) → OnOk result (Notes log log' Sync) → OnErr result (Refuses log log') → IsSync old new result
+  pub sync_is : (result : Outcome) → OnOk result (Notes log log' Sync) → OnErr result (RefusesCall log log') → IsSync old new result
   sync_is (Ok done) notes refuses = sync_noted notes
   sync_is (Err fault) notes refuses = sync_refused fault refuses
 

@@ -2,10 +2,10 @@
 use Rattle.std.proofs.Common.{◌≡◌, ℕ, zero, suc, ◌+◌, ◌-◌, ◌<◌, ◌≤◌, nat_lt, cond, List, [], ◌∷◌, ◌++◌, map, set, get_or, take, drop, length, refl, sym, ◌∙◌, ap, subst, arith}
 use Rattle.std.proofs.lemmas.Bool.{lt-ltb, le-ltb}
 use Rattle.std.proofs.lemmas.List.{length-append, map-append, take_more, drop_more, set_at, get_or_at, append_assoc, length-map, length-take}
-use Rattle.audit_device.specs.Image.{Image}
-use Rattle.audit_disk.specs.Held.{Held, settled, chosen, newest, bytes_of, crashed, after_write, after_sync}
+use Rattle.audit_disk_model.specs.Image.{Image}
+use Rattle.audit_disk.specs.Held.{Held, settled, picked, newest, bytes_of_blocks, crashed, after_write, after_sync}
 use Rattle.audit_disk.specs.Memory.{after_call, after_calls}
-use Rattle.audit_disk.specs.Progress.{IsProgress, AreProgress, pushed, synced, written_at, after_effect, landed_of}
+use Rattle.audit_disk.specs.Progress.{IsSectorProgress, AreProgress, pushed, synced, written_at, after_effect, landed_of}
 use Rattle.audit_disk.specs.declared.block.Block.{Block}
 use Rattle.audit_disk.specs.declared.call.Call.{Call}
 use Rattle.audit_disk.specs.declared.call.Effect.{Effect}
@@ -15,17 +15,17 @@ use Rattle.audit_disk.proofs.HeldLemmas.{newest-push, synced_first}
 use Rattle.audit_disk.proofs.MemoryLemmas.{after_calls-append}
 
 -- what a pick chooses after one write more
-chosen-push : (old block : Block) (since : List Block) (p : ℕ) → chosen old (since ++ block ∷ []) p ≡ cond (nat_lt 0 (p - length since)) block (chosen old since p)
+chosen-push : (old block : Block) (since : List Block) (p : ℕ) → picked old (since ++ block ∷ []) p ≡ cond (nat_lt 0 (p - length since)) block (picked old since p)
 chosen-push old block [] zero = refl
 chosen-push old block [] (suc p) = ap (λ b. cond b block old) (sym (lt-ltb 0 (suc p - 0) (omega arith)))
 chosen-push old block (next ∷ since) zero = ap (λ b. cond b block old) (sym (le-ltb 0 (0 - suc (length since)) (omega arith)))
 chosen-push old block (next ∷ since) (suc p) =
     let less : p - length since ≡ suc p - suc (length since) = omega arith in
-    chosen-push next block since p ∙ ap (λ n. cond (nat_lt 0 n) block (chosen next since p)) less
+    chosen-push next block since p ∙ ap (λ n. cond (nat_lt 0 n) block (picked next since p)) less
 
 -- one sector, after a write and after a sync
-progress-push : (held : Held) (p : ℕ) (progress : Progress) (block : Block) → IsProgress held p progress
-    → IsProgress (record { synced = held.synced; since = held.since ++ block ∷ [] }) p (pushed progress block)
+progress-push : (held : Held) (p : ℕ) (progress : Progress) (block : Block) → IsSectorProgress held p progress
+    → IsSectorProgress (record { synced = held.synced; since = held.since ++ block ∷ [] }) p (pushed progress block)
 progress-push held p progress block is = record {
   newest = sym (newest-push held.synced block held.since);
   landed = ap (λ n. cond (nat_lt 0 n) block progress.landed) is.left ∙ ap (λ (b : Block). cond (nat_lt 0 (p - length held.since)) block b) is.landed
@@ -34,7 +34,7 @@ progress-push held p progress block is = record {
   left = omega (arith, is.left, length-append held.since (block ∷ []));
 }
 
-progress-synced : (held : Held) (p : ℕ) (progress : Progress) → IsProgress held p progress → IsProgress (settled (newest held.synced held.since)) p (synced progress)
+progress-synced : (held : Held) (p : ℕ) (progress : Progress) → IsSectorProgress held p progress → IsSectorProgress (settled (newest held.synced held.since)) p (synced progress)
 progress-synced held p progress is = record {
   newest = is.newest;
   landed = is.newest;
@@ -74,7 +74,7 @@ progress_more calls start picks all i call lt are =
 
 -- one sector more
 pub progress_push : (held : List Held) (picks : List ℕ) (all : List Progress) (sector : Held) (progress : Progress) → AreProgress held picks all
-    → IsProgress sector (get_or picks (length held) 0) progress → AreProgress (held ++ sector ∷ []) picks (all ++ progress ∷ [])
+    → IsSectorProgress sector (get_or picks (length held) 0) progress → AreProgress (held ++ sector ∷ []) picks (all ++ progress ∷ [])
 progress_push [] [] [] sector progress are is = (is, tt)
 progress_push [] (pick ∷ picks) [] sector progress are is = (is, tt)
 progress_push [] picks (first ∷ others) sector progress are is = absurd are
@@ -83,17 +83,17 @@ progress_push (held ∷ rest) [] (first ∷ others) sector progress are is = (ar
 progress_push (held ∷ rest) (pick ∷ picks) (first ∷ others) sector progress are is = (are.0, progress_push rest picks others sector progress are.1 is)
 
 -- what the crash leaves in the end
-pub landed-crashed : (held : List Held) (picks : List ℕ) (all : List Progress) → AreProgress held picks all → bytes_of (landed_of all) ≡ crashed held picks
+pub landed-crashed : (held : List Held) (picks : List ℕ) (all : List Progress) → AreProgress held picks all → bytes_of_blocks (landed_of all) ≡ crashed held picks
 landed-crashed [] picks [] are = refl
 landed-crashed [] picks (progress ∷ others) are = absurd are
 landed-crashed (sector ∷ rest) picks [] are = absurd are
 landed-crashed (sector ∷ rest) [] (progress ∷ others) are =
-    ap (λ (b : Block). b.bytes ∷ bytes_of (landed_of others)) are.0.landed
-    ∙ ap (λ (s : List ℕ). s ∷ bytes_of (landed_of others)) (sym (synced_first sector.synced sector.since))
+    ap (λ (b : Block). b.bytes ∷ bytes_of_blocks (landed_of others)) are.0.landed
+    ∙ ap (λ (s : List ℕ). s ∷ bytes_of_blocks (landed_of others)) (sym (synced_first sector.synced sector.since))
     ∙ ap (λ (i : Image). sector.synced.bytes ∷ i) (landed-crashed rest [] others are.1)
 landed-crashed (sector ∷ rest) (pick ∷ picks) (progress ∷ others) are =
-    ap (λ (b : Block). b.bytes ∷ bytes_of (landed_of others)) are.0.landed
-    ∙ ap (λ (i : Image). (chosen sector.synced sector.since pick).bytes ∷ i) (landed-crashed rest picks others are.1)
+    ap (λ (b : Block). b.bytes ∷ bytes_of_blocks (landed_of others)) are.0.landed
+    ∙ ap (λ (i : Image). (picked sector.synced sector.since pick).bytes ∷ i) (landed-crashed rest picks others are.1)
 
 -- a write to one place of the list
 pub set-written_at : (all : List Progress) (at : ℕ) (block : Block) (progress : Progress) → set all at (pushed (get_or all at progress) block) ≡ written_at all at block

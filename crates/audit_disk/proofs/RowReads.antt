@@ -2,15 +2,15 @@
 use Rattle.std.proofs.Common.{inl, inr, ◌≡◌, ℕ, ◌+◌, ◌*◌, ◌<◌, ◌≤◌, min, Ok, Err, Result, IsErr, OnOk, OnErr, List, [], ◌++◌, length, take, drop, set, refl, sym, ◌∙◌, ap, subst, arith}
 use Rattle.std.proofs.lemmas.List.{get_or-set_same, get_or-set_other, get_or_append_left}
 use Rattle.std.proofs.lemmas.Bool.{cases_eq, false≢true}
-use Rattle.audit_device.specs.Image.{Sector, Image, sector_at}
-use Rattle.audit_device.specs.View.{last_count}
-use Rattle.audit_device.specs.Calls.{CountsFailure, HasRisen}
-use Rattle.audit_disk.specs.File.{FileView, OnlyReads, HasRow, IsFileRead, IsRowRead, IsReadThrough}
+use Rattle.audit_disk_model.specs.Image.{Sector, Image, sector_at}
+use Rattle.audit_disk_model.specs.View.{last_count}
+use Rattle.audit_disk_model.specs.Calls.{CountsFailure, HasRisen}
+use Rattle.audit_disk.specs.File.{FileView, OnlyFileReads, HasRow, IsFileRead, IsRowRead, IsReadThrough}
 use Rattle.audit_disk.specs.ReadAhead.{StandsAt}
 use Rattle.audit_base.specs.declared.limits.TheConstants.{SECTOR_SIZE}
 
 -- no call
-pub only_none : (file : FileView) → OnlyReads file file
+pub only_none : (file : FileView) → OnlyFileReads file file
 only_none file = record {
   goes_on = record {
     honest = λ honest. honest;
@@ -24,7 +24,7 @@ only_none file = record {
 }
 
 -- one read more
-pub only_then : {E : Type 0} {old mid new : FileView} {offset : ℕ} {into : Sector} {result : Result (Unit {0}) E} → OnlyReads old mid → IsFileRead mid new offset into result → OnlyReads old new
+pub only_then : {E : Type 0} {old mid new : FileView} {offset : ℕ} {into : Sector} {result : Result (Unit {0}) E} → OnlyFileReads old mid → IsFileRead mid new offset into result → OnlyFileReads old new
 only_then {E = E} {old = old} {mid = mid} {new = new} {result = result} first read = record {
   goes_on = record {
     honest = λ honest. read.goes_on.honest (first.goes_on.honest honest);
@@ -95,7 +95,7 @@ module _ {E : Type 0} {old mid new : FileView} {offset count next : ℕ} {sector
   }
 
 -- a read of the sector alone, after other reads
-pub through_alone : {E : Type 0} {old mid new : FileView} {offset : ℕ} {into : Sector} {result : Result (Unit {0}) E} → OnlyReads old mid → IsFileRead mid new offset into result
+pub through_alone : {E : Type 0} {old mid new : FileView} {offset : ℕ} {into : Sector} {result : Result (Unit {0}) E} → OnlyFileReads old mid → IsFileRead mid new offset into result
     → IsReadThrough old new offset into result
 through_alone {E = E} {old = old} {mid = mid} {new = new} {offset = offset} {into = into} {result = result} first read = record {
   only = only_then first read;
@@ -109,7 +109,7 @@ through_alone {E = E} {old = old} {mid = mid} {new = new} {offset = offset} {int
     fault (Err failed) counts = omega (arith, first.failures, counts)
 
 -- the sector was read before
-pub through_row : {E : Type 0} {old new : FileView} {start held offset place : ℕ} {row : Image} → OnlyReads old new → HasRow new start held row → StandsAt start held offset place
+pub through_row : {E : Type 0} {old new : FileView} {start held offset place : ℕ} {row : Image} → OnlyFileReads old new → HasRow new start held row → StandsAt start held offset place
     → IsReadThrough {E = E} old new offset (sector_at row place) (Ok tt)
 through_row {E = E} {old = old} {new = new} {offset = offset} {place = place} {row = row} only has stands = record {
   only = only;

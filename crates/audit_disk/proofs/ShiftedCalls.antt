@@ -1,9 +1,9 @@
 -- Calls that are passed on to the inner device, and calls that it misses, are those of the crash model.
 use Rattle.std.proofs.Common.{◌≡◌, inl, inr, ⊎_elim, ℕ, ◌+◌, ◌^◌, ◌<◌, ◌≤◌, Ok, Err, IsErr, OnOk, OnErr, refl, sym, ap, subst, arith}
 use Rattle.std.proofs.lemmas.Bool.{false≢true, cases_lt}
-use Rattle.audit_device.specs.Image.{Sector, Image, with_sector}
-use Rattle.audit_device.specs.View.{View, last_count}
-use Rattle.audit_device.specs.Calls.{Outcome, Continues, CountsFailure, HasRisen, Ticks, IsWritten, IsRead, IsWrite, IsSync}
+use Rattle.audit_disk_model.specs.Image.{Sector, Image, with_sector}
+use Rattle.audit_disk_model.specs.View.{View, last_count}
+use Rattle.audit_disk_model.specs.Calls.{Outcome, Continues, CountsFailure, HasRisen, Ticks, IsWritten, IsRead, IsWrite, IsSync}
 use Rattle.audit_disk.specs.Shifted.{inner_moment, inner_moment_now, shifted, MayMiss}
 
 -- an image now is one of the inner device now

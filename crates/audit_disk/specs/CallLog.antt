@@ -1,7 +1,7 @@
 -- A record of calls that grows.
 use Rattle.std.specs.Prelude.{◌≡◌, ℕ, ◌+◌, ◌-◌, ◌<◌, ◌≤◌, [], ◌∷◌, ◌++◌, vec_len, vec_capacity}
-use Rattle.audit_device.specs.View.{last_count}
-use Rattle.audit_device.specs.Calls.{Ticks, HasRisen}
+use Rattle.audit_disk_model.specs.View.{last_count}
+use Rattle.audit_disk_model.specs.Calls.{Ticks, HasRisen}
 use Rattle.audit_disk.specs.declared.call.Effect.{Effect}
 use Rattle.audit_disk.specs.declared.call_log.CallLog.{CallLog}
 
@@ -13,7 +13,7 @@ pub record Notes (old new : CallLog) (effect : Effect) : Type 0 where
   pub failures : new.failures ≡ old.failures
 
 -- a failed call, which reached nothing
-pub record Refuses (old new : CallLog) : Type 0 where
+pub record RefusesCall (old new : CallLog) : Type 0 where
   pub calls : new.calls.items ≡ old.calls.items
   pub clock : Ticks old.clock new.clock
   pub failures : HasRisen old.failures new.failures

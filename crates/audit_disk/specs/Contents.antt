@@ -18,4 +18,5 @@ content_after Sync blocks = blocks
 
 -- nothing is pending after these calls, whatever the synced start
 pub record EndSynced (calls : List Call) : Type 0 where
-  pub settled : (start : List Block) → after_calls calls (map settled start) ≡ map settled (newest_of (after_calls calls (map settled start)))
+  pub settled : (start : List Block)
+      → after_calls calls (map settled start) ≡ map settled (newest_of (after_calls calls (map settled start)))

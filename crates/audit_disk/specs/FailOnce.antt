@@ -1,9 +1,9 @@
 -- What a device that fails once shows.
 use Rattle.std.specs.Prelude.{ℕ, Option}
-use Rattle.audit_device.specs.View.{View}
+use Rattle.audit_disk_model.specs.View.{View}
 use Rattle.audit_disk.specs.Gate.{gate_view}
 use Rattle.audit_disk.specs.declared.fail_once.FailOnce.{FailOnce}
-use Rattle.audit_device.specs.declared.sectors.Sectors as sectors
+use Rattle.audit_disk_model.specs.declared.sectors.Sectors as sectors
 
 module _ {D : Type 0} {g : sectors.Ghosts D} where
   -- the device inside it

@@ -1,9 +1,10 @@
 -- A file of bytes that is written in whole sectors.
-use Rattle.std.specs.Prelude.{◌≡◌, ◌≢◌, ◌⊎◌, ℕ, zero, suc, ◌+◌, ◌*◌, ◌%◌, ◌^◌, ◌<◌, ◌≤◌, min, List, [], ◌∷◌, ◌++◌, length, take, drop, Result, OnOk, OnErr}
+use Rattle.std.specs.Prelude.{◌≡◌, ◌≢◌, ◌⊎◌, ℕ, zero, suc, ◌+◌, ◌*◌, ◌%◌, ◌^◌, ◌<◌, ◌≤◌, min, List, [], ◌∷◌, ◌++◌}
+use Rattle.std.specs.Prelude.{length, take, drop, Result, OnOk, OnErr}
 use Rattle.std.proofs.Props.{props}
-use Rattle.audit_device.specs.Image.{Sector, Image, sector_at}
-use Rattle.audit_device.specs.View.{last_count}
-use Rattle.audit_device.specs.Calls.{CountsFailure, HasRisen}
+use Rattle.audit_disk_model.specs.Image.{Sector, Image, sector_at}
+use Rattle.audit_disk_model.specs.View.{last_count}
+use Rattle.audit_disk_model.specs.Calls.{CountsFailure, HasRisen}
 use Rattle.audit_base.specs.declared.limits.TheConstants.{SECTOR_SIZE}
 
 -- the file with other bytes from that offset on
@@ -39,14 +40,15 @@ abbrev pub KeepsGiven : FileView → FileView → ℕ → Type 0
 KeepsGiven old new offset = (other : ℕ) (bytes : Sector) → other ≢ offset → old.gave other bytes → new.gave other bytes
 
 -- some calls were made
-pub record GoesOn (old new : FileView) : Type 0 where
+pub record FileContinues (old new : FileView) : Type 0 where
   pub honest : old.honest → new.honest
   pub was_honest : new.honest → old.honest
   pub kept : old.honest → (at : ℕ) (file : List ℕ) → at ≤ old.moment → old.left_at at file → new.left_at at file
   pub no_other : old.honest → (at : ℕ) (file : List ℕ) → at ≤ old.moment → new.left_at at file → old.left_at at file
 
-pub record IsFileRead {E : Type 0} (old new : FileView) (offset : ℕ) (into : Sector) (result : Result (Unit {0}) E) : Type 0 where
-  pub goes_on : GoesOn old new
+pub record IsFileRead {E : Type 0} (old new : FileView) (offset : ℕ) (into : Sector)
+    (result : Result (Unit {0}) E) : Type 0 where
+  pub goes_on : FileContinues old new
   pub failures : CountsFailure old.failures new.failures result
   pub given : OnOk result (new.gave offset into)
   pub still_given : KeepsGiven old new offset
@@ -55,8 +57,8 @@ pub record IsFileRead {E : Type 0} (old new : FileView) (offset : ℕ) (into : S
   pub found : old.honest → OnOk result (into ≡ take SECTOR_SIZE (drop offset old.bytes))
 
 -- Nothing was asked of it but reads, of whatever sectors.
-pub record OnlyReads (old new : FileView) : Type 0 where
-  pub goes_on : GoesOn old new
+pub record OnlyFileReads (old new : FileView) : Type 0 where
+  pub goes_on : FileContinues old new
   -- no failure was forgotten
   pub failures : min old.failures last_count ≤ new.failures
   pub moment : old.honest → new.moment ≡ old.moment
@@ -66,7 +68,8 @@ pub record OnlyReads (old new : FileView) : Type 0 where
 -- nothing was written there since.
 pub record HasRow (file : FileView) (offset count : ℕ) (sectors : Image) : Type 0 where
   pub given : (at : ℕ) → at < count → file.gave (offset + SECTOR_SIZE * at) (sector_at sectors at)
-  pub found : file.honest → (at : ℕ) → at < count → sector_at sectors at ≡ take SECTOR_SIZE (drop (offset + SECTOR_SIZE * at) file.bytes)
+  pub found : file.honest → (at : ℕ) → at < count
+      → sector_at sectors at ≡ take SECTOR_SIZE (drop (offset + SECTOR_SIZE * at) file.bytes)
 
 pub HasRow-prop : (file : FileView) (offset count : ℕ) (sectors : Image) → IsProp (HasRow file offset count sectors)
 HasRow-prop file offset count sectors = Prim.hlevel (file.given_once, props)
@@ -74,29 +77,35 @@ HasRow-prop file offset count sectors = Prim.hlevel (file.given_once, props)
 -- What reads gave at offsets outside of the row still stands.
 abbrev pub KeepsOutside : FileView → FileView → ℕ → ℕ → Type 0
 KeepsOutside old new offset count =
-    (other : ℕ) (bytes : Sector) → ((at : ℕ) → at < count → other ≢ offset + SECTOR_SIZE * at) → old.gave other bytes → new.gave other bytes
+    (other : ℕ) (bytes : Sector) → ((at : ℕ) → at < count → other ≢ offset + SECTOR_SIZE * at) → old.gave other bytes
+    → new.gave other bytes
 
 -- A read of so many sectors in a row: all of them, or an error.
-pub record IsRowRead {E : Type 0} (old new : FileView) (offset count : ℕ) (sectors : Image) (result : Result (Unit {0}) E) : Type 0 where
-  pub only : OnlyReads old new
+pub record IsRowRead {E : Type 0} (old new : FileView) (offset count : ℕ) (sectors : Image)
+    (result : Result (Unit {0}) E) : Type 0 where
+  pub only : OnlyFileReads old new
   pub failures : CountsFailure old.failures new.failures result
   pub row : OnOk result (HasRow new offset count sectors)
   pub still_given : KeepsOutside old new offset count
 
-pub record IsFileWrite {E : Type 0} (old new : FileView) (offset : ℕ) (bytes : Sector) (result : Result (Unit {0}) E) : Type 0 where
-  pub goes_on : GoesOn old new
+pub record IsFileWrite {E : Type 0} (old new : FileView) (offset : ℕ) (bytes : Sector)
+    (result : Result (Unit {0}) E) : Type 0 where
+  pub goes_on : FileContinues old new
   pub failures : CountsFailure old.failures new.failures result
   pub still_given : KeepsGiven old new offset
   pub moment : old.honest → old.moment < last_count → new.moment ≡ old.moment + 1
   pub stands : old.honest → OnOk result (new.bytes ≡ overlaid old.bytes offset bytes)
   pub stands_err : old.honest → OnErr result ((new.bytes ≡ old.bytes) ⊎ (new.bytes ≡ overlaid old.bytes offset bytes))
   pub images : old.honest → (file : List ℕ) → new.left_at new.moment file
-      → old.left_at old.moment file ⊎ ((before : List ℕ) × old.left_at old.moment before × (file ≡ overlaid before offset bytes))
+      → old.left_at old.moment file
+      ⊎ ((before : List ℕ) × old.left_at old.moment before × (file ≡ overlaid before offset bytes))
   pub unwritten : old.honest → (file : List ℕ) → old.left_at old.moment file → new.left_at new.moment file
-  pub written : old.honest → OnOk result ((file : List ℕ) → old.left_at old.moment file → new.left_at new.moment (overlaid file offset bytes))
+  pub written : old.honest
+      → OnOk result ((file : List ℕ) → old.left_at old.moment file
+      → new.left_at new.moment (overlaid file offset bytes))
 
 pub record IsFileSync {E : Type 0} (old new : FileView) (result : Result (Unit {0}) E) : Type 0 where
-  pub goes_on : GoesOn old new
+  pub goes_on : FileContinues old new
   pub failures : CountsFailure old.failures new.failures result
   pub still_given : (other : ℕ) (bytes : Sector) → old.gave other bytes → new.gave other bytes
   pub moment : old.honest → old.moment < last_count → new.moment ≡ old.moment + 1
@@ -107,13 +116,15 @@ pub record IsFileSync {E : Type 0} (old new : FileView) (result : Result (Unit {
 
 -- A read at that offset, by whatever reads of the file: Ok gives what the file last gave there with nothing written
 -- there since, and an error comes only where a call of the file failed.
-pub record ReadsFile {E : Type 0} (old new : FileView) (offset : ℕ) (into : Sector) (result : Result (Unit {0}) E) : Type 0 where
+pub record ReadsFile {E : Type 0} (old new : FileView) (offset : ℕ) (into : Sector)
+    (result : Result (Unit {0}) E) : Type 0 where
   pub given : OnOk result (new.gave offset into)
   pub fault : OnErr result (HasRisen old.failures new.failures)
 
 -- A read of one sector at that offset, for which others may have been read as well, or none.
-pub record IsReadThrough {E : Type 0} (old new : FileView) (offset : ℕ) (into : Sector) (result : Result (Unit {0}) E) : Type 0 where
-  pub only : OnlyReads old new
+pub record IsReadThrough {E : Type 0} (old new : FileView) (offset : ℕ) (into : Sector)
+    (result : Result (Unit {0}) E) : Type 0 where
+  pub only : OnlyFileReads old new
   pub file : ReadsFile old new offset into result
   pub found : old.honest → OnOk result (into ≡ take SECTOR_SIZE (drop offset old.bytes))
 

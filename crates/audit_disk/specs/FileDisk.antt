@@ -1,9 +1,9 @@
 -- A device in a file.
 use Rattle.std.specs.Prelude.{◌≡◌, ◌⊎◌, ℕ, ◌<◌, ◌≤◌, Bool, true, false, List, take, IsErr, unwrap_or}
 use Rattle.std.specs.Option.{is_some}
-use Rattle.audit_device.specs.Image.{Image}
-use Rattle.audit_device.specs.View.{View, last_count}
-use Rattle.audit_device.specs.Calls.{Outcome}
+use Rattle.audit_disk_model.specs.Image.{Image}
+use Rattle.audit_disk_model.specs.View.{View, last_count}
+use Rattle.audit_disk_model.specs.Calls.{Outcome}
 use Rattle.audit_disk.specs.File.{FileView, sectors_of}
 use Rattle.audit_disk.specs.FileView.{file_view, sectors_fit}
 use Rattle.audit_disk.specs.declared.file_disk.FileDisk.{FileDisk}
@@ -19,16 +19,19 @@ pub record IsFrontOf (front whole : View) (count : ℕ) : Type 0 where
   pub was_honest : front.honest → whole.honest
   -- a crash leaves the first sectors of what it leaves of the other, and nothing else
   pub left : (moment : ℕ) (image : Image) → whole.left_at moment image → front.left_at moment (take count image)
-  pub no_other : (moment : ℕ) (image : Image) → front.left_at moment image → (full : Image) × whole.left_at moment full × (image ≡ take count full)
+  pub no_other : (moment : ℕ) (image : Image) → front.left_at moment image → (full : Image) × whole.left_at moment full
+      × (image ≡ take count full)
 
 module _ {F : Type 0} {g : files.Ghosts F} where
   -- everything that is known of it as a device
   abbrev pub file_disk_view : FileDisk F g → View
-  file_disk_view disk = file_view (g.file disk.file.inner) disk.sectors (unwrap_or disk.failed_at disk.clock) disk.clock disk.failures (sectors_fit disk.sectors disk.fits) disk.in_order disk.in_range disk.sized
+  file_disk_view disk =
+      file_view (g.file disk.file.inner) disk.sectors (unwrap_or disk.failed_at disk.clock) disk.clock disk.failures
+      (sectors_fit disk.sectors disk.fits) disk.in_order disk.in_range disk.sized
 
   -- its file
-  abbrev pub inner_of : FileDisk F g → F
-  inner_of disk = disk.file.inner
+  abbrev pub file_inside : FileDisk F g → F
+  file_inside disk = disk.file.inner
 
   -- everything that is known of that
   abbrev pub file_of : FileDisk F g → FileView
@@ -39,7 +42,7 @@ module _ {F : Type 0} {g : files.Ghosts F} where
   has_stopped disk = is_some disk.failed_at
 
   -- the next write or sync reaches the file
-  pub record Reaches (disk : FileDisk F g) : Type 0 where
+  pub record PassesCalls (disk : FileDisk F g) : Type 0 where
     pub working : has_stopped disk ≡ false
     pub below_end : (file_disk_view disk).clock < last_count
 
@@ -62,8 +65,10 @@ module _ {F : Type 0} {g : files.Ghosts F} where
     pub honest : (g.file file).honest → (file_disk_view disk).honest
     pub was_honest : (file_disk_view disk).honest → (g.file file).honest
     -- a crash now may leave the sectors of each file that may be left, and nothing else
-    pub left : (g.file file).honest → (bytes : List ℕ) → (g.file file).left_at (g.file file).moment bytes → (file_disk_view disk).left_at 0 (sectors_of count bytes)
-    pub no_other : (image : Image) → (file_disk_view disk).left_at 0 image → (bytes : List ℕ) × (g.file file).left_at (g.file file).moment bytes × (image ≡ sectors_of count bytes)
+    pub left : (g.file file).honest → (bytes : List ℕ) → (g.file file).left_at (g.file file).moment bytes
+        → (file_disk_view disk).left_at 0 (sectors_of count bytes)
+    pub no_other : (image : Image) → (file_disk_view disk).left_at 0 image → (bytes : List ℕ)
+        × (g.file file).left_at (g.file file).moment bytes × (image ≡ sectors_of count bytes)
 
   -- no call was made of it
   pub record IsFreshFile (disk : FileDisk F g) : Type 0 where

@@ -1,9 +1,9 @@
 -- What a fuse shows.
 use Rattle.std.specs.Prelude.{ℕ, Bool, nat_lt}
-use Rattle.audit_device.specs.View.{View}
+use Rattle.audit_disk_model.specs.View.{View}
 use Rattle.audit_disk.specs.Gate.{gate_view}
 use Rattle.audit_disk.specs.declared.fuse.Fuse.{Fuse}
-use Rattle.audit_device.specs.declared.sectors.Sectors as sectors
+use Rattle.audit_disk_model.specs.declared.sectors.Sectors as sectors
 
 module _ {D : Type 0} {g : sectors.Ghosts D} where
   -- the device inside it

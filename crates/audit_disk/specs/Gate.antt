@@ -1,9 +1,9 @@
 -- A device inside a gate.
 use Rattle.std.specs.Prelude.{◌≡◌, ◌+◌, ◌<◌, ◌≤◌}
-use Rattle.audit_device.specs.View.{View, last_count}
+use Rattle.audit_disk_model.specs.View.{View, last_count}
 use Rattle.audit_disk.specs.Shifted.{shifted, MayMiss}
 use Rattle.audit_disk.specs.declared.gate.Gate.{Gate}
-use Rattle.audit_device.specs.declared.sectors.Sectors as sectors
+use Rattle.audit_disk_model.specs.declared.sectors.Sectors as sectors
 
 module _ {D : Type 0} {g : sectors.Ghosts D} where
   abbrev pub gate_view : Gate D g → View

@@ -1,6 +1,6 @@
 -- What the sectors of a device hold: its last synced content, and what was written to it since.
 use Rattle.std.specs.Prelude.{◌≡◌, ℕ, zero, suc, List, [], ◌∷◌, ◌++◌, map}
-use Rattle.audit_device.specs.Image.{Sector, Image}
+use Rattle.audit_disk_model.specs.Image.{Sector, Image}
 use Rattle.audit_disk.specs.declared.block.Block.{Block}
 
 -- one sector: its last synced content, and each content that was written to it since, the oldest first
@@ -9,10 +9,10 @@ pub record Held : Type 0 where
   pub since : List Block
 
 -- the p-th content that was written since, the synced one where p is 0, the last one where p is too large
-abbrev pub chosen : Block → List Block → ℕ → Block
-chosen synced [] p = synced
-chosen synced (block ∷ since) zero = synced
-chosen synced (block ∷ since) (suc p) = chosen block since p
+abbrev pub picked : Block → List Block → ℕ → Block
+picked synced [] p = synced
+picked synced (block ∷ since) zero = synced
+picked synced (block ∷ since) (suc p) = picked block since p
 
 -- the content that was written last
 abbrev pub newest : Block → List Block → Block
@@ -20,8 +20,8 @@ newest synced [] = synced
 newest synced (block ∷ since) = newest block since
 
 -- the bytes of these blocks
-abbrev pub bytes_of : List Block → Image
-bytes_of blocks = map (λ (block : Block). block.bytes) blocks
+abbrev pub bytes_of_blocks : List Block → Image
+bytes_of_blocks blocks = map (λ (block : Block). block.bytes) blocks
 
 -- what reads give
 abbrev pub content_of : List Held → Image
@@ -30,7 +30,7 @@ content_of (held ∷ rest) = (newest held.synced held.since).bytes ∷ content_o
 
 -- a crash leaves in the sector its synced content or any that was written since
 abbrev pub MayHold : Held → Sector → Type 0
-MayHold held bytes = (p : ℕ) × (bytes ≡ (chosen held.synced held.since p).bytes)
+MayHold held bytes = (p : ℕ) × (bytes ≡ (picked held.synced held.since p).bytes)
 
 -- a crash may leave this image: each sector for itself
 abbrev pub IsImageOf : List Held → Image → Type 0
@@ -43,7 +43,7 @@ IsImageOf (held ∷ rest) (bytes ∷ image) = MayHold held bytes × IsImageOf re
 abbrev pub crashed : List Held → List ℕ → Image
 crashed [] pick = []
 crashed (held ∷ rest) [] = held.synced.bytes ∷ crashed rest []
-crashed (held ∷ rest) (p ∷ pick) = (chosen held.synced held.since p).bytes ∷ crashed rest pick
+crashed (held ∷ rest) (p ∷ pick) = (picked held.synced held.since p).bytes ∷ crashed rest pick
 
 -- a sector with nothing pending
 abbrev pub settled : Block → Held

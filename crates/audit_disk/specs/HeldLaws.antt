@@ -1,13 +1,13 @@
 -- Laws of what sectors hold: reads give an image, and each image is a whole device.
 use Rattle.std.specs.Prelude.{◌≡◌, ℕ, zero, suc, ◌<◌, List, [], ◌∷◌, length, refl}
 use Rattle.std.proofs.Common.{sym, ◌∙◌, ap, arith}
-use Rattle.audit_device.specs.Image.{Image, IsWhole, sector_at}
-use Rattle.audit_disk.specs.Held.{Held, chosen, newest, content_of, IsImageOf, after_write, after_sync}
+use Rattle.audit_disk_model.specs.Image.{Image, IsWhole, sector_at}
+use Rattle.audit_disk.specs.Held.{Held, picked, newest, content_of, IsImageOf, after_write, after_sync}
 use Rattle.audit_disk.specs.declared.block.Block.{Block}
 use Rattle.audit_base.specs.declared.limits.TheConstants.{SECTOR_SIZE}
 
 -- a pick after the last content gives the last
-pub chosen_last : (synced : Block) (since : List Block) → (p : ℕ) × (chosen synced since p ≡ newest synced since)
+pub chosen_last : (synced : Block) (since : List Block) → (p : ℕ) × (picked synced since p ≡ newest synced since)
 chosen_last synced [] = (zero, refl)
 chosen_last synced (block ∷ since) = let rest = chosen_last block since in (suc rest.0, rest.1)
 
@@ -36,8 +36,10 @@ whole_image held image is = record { sectors = many held image is; each = each h
     many (sector ∷ rest) [] is = absurd is
     many (sector ∷ rest) (bytes ∷ image) is = ap suc (many rest image is.1)
 
-    each : (held : List Held) (image : Image) → IsImageOf held image → (at : ℕ) → at < length held → length (sector_at image at) ≡ SECTOR_SIZE
+    each : (held : List Held) (image : Image) → IsImageOf held image → (at : ℕ) → at < length held
+        → length (sector_at image at) ≡ SECTOR_SIZE
     each [] image is at lt = absurd (omega arith)
     each (sector ∷ rest) [] is at lt = absurd is
-    each (sector ∷ rest) (bytes ∷ image) is zero lt = ap length is.0.1 ∙ (chosen sector.synced sector.since is.0.0).whole
+    each (sector ∷ rest) (bytes ∷ image) is zero lt = ap length is.0.1
+        ∙ (picked sector.synced sector.since is.0.0).whole
     each (sector ∷ rest) (bytes ∷ image) is (suc at) lt = each rest image is.1 at (omega arith)

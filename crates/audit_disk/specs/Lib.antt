@@ -1,9 +1,9 @@
 -- The crash model.
-pub use Rattle.audit_device.specs.Calls
-pub use Rattle.audit_device.specs.Image
-pub use Rattle.audit_device.specs.Moments
-pub use Rattle.audit_device.specs.View
-pub use Rattle.audit_device.specs.Window
+pub use Rattle.audit_disk_model.specs.Calls
+pub use Rattle.audit_disk_model.specs.Image
+pub use Rattle.audit_disk_model.specs.Moments
+pub use Rattle.audit_disk_model.specs.View
+pub use Rattle.audit_disk_model.specs.Window
 -- What contracts of public calls cite, besides the views below.
 pub mod Countdown
 pub mod FailOnce

@@ -1,17 +1,19 @@
 -- What a device in memory shows.
 use Rattle.std.specs.Prelude.{◌≡◌, ℕ, List, map, length, ◌≤◌, [], ◌∷◌, MatchResult}
-use Rattle.audit_device.specs.Image.{Sector, Image}
-use Rattle.audit_device.specs.View.{View}
-use Rattle.audit_device.specs.Calls.{Outcome}
-use Rattle.audit_device.specs.Moments.{IsSettled}
-use Rattle.audit_disk.specs.Held.{Held, settled, bytes_of, crashed, after_write, after_sync}
+use Rattle.audit_disk_model.specs.Image.{Sector, Image}
+use Rattle.audit_disk_model.specs.View.{View}
+use Rattle.audit_disk_model.specs.Calls.{Outcome}
+use Rattle.audit_disk_model.specs.Moments.{IsSettled}
+use Rattle.audit_disk.specs.Held.{Held, settled, bytes_of_blocks, crashed, after_write, after_sync}
 use Rattle.audit_disk.specs.Memory.{after_calls, memory_view}
 use Rattle.audit_disk.specs.declared.block.Block.{Block}
 use Rattle.audit_disk.specs.declared.mem_disk.MemDisk.{MemDisk}
 
 -- everything that is known of it as a device
 abbrev pub disk_view : MemDisk → View
-disk_view disk = memory_view disk.start.items (bytes_of disk.content.items) disk.log.calls.items disk.log.clock disk.log.failures disk.current disk.log.stamped disk.sized disk.log.in_range
+disk_view disk =
+    memory_view disk.start.items (bytes_of_blocks disk.content.items) disk.log.calls.items disk.log.clock
+    disk.log.failures disk.current disk.log.stamped disk.sized disk.log.in_range
 
 -- what its sectors hold
 abbrev pub disk_held : MemDisk → List Held
@@ -19,11 +21,13 @@ disk_held disk = after_calls disk.log.calls.items (map settled disk.start.items)
 
 -- the sectors hold this image, and nothing was written to them since
 abbrev pub HoldsOnly : List Held → Image → Type 0
-HoldsOnly held image = (blocks : List Block) × (held ≡ map settled blocks) × (bytes_of blocks ≡ image)
+HoldsOnly held image = (blocks : List Block) × (held ≡ map settled blocks) × (bytes_of_blocks blocks ≡ image)
 
 -- a write that succeeded added these bytes to what its sector holds, and one that failed added nothing
 abbrev pub HoldsWrite : List Held → List Held → ℕ → Sector → Outcome → Type 0
-HoldsWrite old new at bytes result = MatchResult result (λ _. (block : Block) × (block.bytes ≡ bytes) × (new ≡ after_write old at block)) (λ _. new ≡ old)
+HoldsWrite old new at bytes result =
+    MatchResult result (λ _. (block : Block) × (block.bytes ≡ bytes) × (new ≡ after_write old at block))
+    (λ _. new ≡ old)
 
 -- a sync that succeeded left each sector its last content alone, and one that failed left all
 abbrev pub HoldsSync : List Held → List Held → Outcome → Type 0
@@ -47,4 +51,5 @@ ArePicks (held ∷ rest) (p ∷ pick) = (p ≤ length held.since) × ArePicks re
 
 -- Each image that a crash now may leave is the one of some picks.
 abbrev pub IsEachPicked : View → List Held → Type 0
-IsEachPicked view held = (image : Image) → view.left_at view.clock image → (pick : List ℕ) × ArePicks held pick × (crashed held pick ≡ image)
+IsEachPicked view held = (image : Image) → view.left_at view.clock image → (pick : List ℕ) × ArePicks held pick
+    × (crashed held pick ≡ image)

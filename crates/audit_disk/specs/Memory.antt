@@ -4,8 +4,8 @@ use Rattle.std.specs.List.{filter}
 use Rattle.std.proofs.Common.{sym, ◌∙◌, ap, subst, arith}
 use Rattle.std.proofs.lemmas.Bool.{le-leb}
 use Rattle.std.proofs.lemmas.List.{length-map}
-use Rattle.audit_device.specs.Image.{Image, IsWhole}
-use Rattle.audit_device.specs.View.{View}
+use Rattle.audit_disk_model.specs.Image.{Image, IsWhole}
+use Rattle.audit_disk_model.specs.View.{View}
 use Rattle.audit_disk.specs.Held.{Held, settled, content_of, IsImageOf, after_write, after_sync}
 use Rattle.audit_disk.specs.HeldLaws.{content_image, whole_image, length-after_write, length-after_sync}
 use Rattle.audit_disk.specs.declared.block.Block.{Block}
@@ -39,7 +39,8 @@ latest (call ∷ calls) = max call.moment (latest calls)
 pub calls_until_all : (calls : List Call) (moment : ℕ) → latest calls ≤ moment → calls_until moment calls ≡ calls
 calls_until_all [] moment le = refl
 calls_until_all (call ∷ calls) moment le =
-    ap (λ b. cond b (call ∷ calls_until moment calls) (calls_until moment calls)) (le-leb call.moment moment (omega arith))
+    ap (λ b. cond b (call ∷ calls_until moment calls) (calls_until moment calls))
+    (le-leb call.moment moment (omega arith))
     ∙ ap (λ (rest : List Call). call ∷ rest) (calls_until_all calls moment (omega arith))
 
 pub length-after_call : (effect : Effect) (held : List Held) → length (after_call effect held) ≡ length held
@@ -48,11 +49,13 @@ length-after_call Sync held = length-after_sync held
 
 pub length-after_calls : (calls : List Call) (held : List Held) → length (after_calls calls held) ≡ length held
 length-after_calls [] held = refl
-length-after_calls (call ∷ calls) held = length-after_calls calls (after_call call.effect held) ∙ length-after_call call.effect held
+length-after_calls (call ∷ calls) held = length-after_calls calls (after_call call.effect held)
+    ∙ length-after_call call.effect held
 
 -- An honest device: the images of each moment are those of the calls up to it.
 abbrev pub memory_view : (start : List Block) (content : Image) (calls : List Call) (clock failures : ℕ)
-    → content ≡ content_of (after_calls calls (map settled start)) → latest calls ≤ clock → length start < 2 ^ 64 → clock < 2 ^ 64 → View
+    → content ≡ content_of (after_calls calls (map settled start)) → latest calls ≤ clock → length start < 2 ^ 64
+    → clock < 2 ^ 64 → View
 memory_view start content calls clock failures is_current is_stamped is_sized is_in_range = record {
   size = length start;
   content = content;
@@ -63,9 +66,12 @@ memory_view start content calls clock failures is_current is_stamped is_sized is
   size_fits = is_sized;
   clock_fits = is_in_range;
   content_left = λ honest.
-      subst (λ (all : List Call). IsImageOf (after_calls all (map settled start)) content) (sym (calls_until_all calls clock is_stamped))
-      (subst (λ (image : Image). IsImageOf (after_calls calls (map settled start)) image) (sym is_current) (content_image (after_calls calls (map settled start))));
+      subst (λ (all : List Call). IsImageOf (after_calls all (map settled start)) content)
+      (sym (calls_until_all calls clock is_stamped))
+      (subst (λ (image : Image). IsImageOf (after_calls calls (map settled start)) image) (sym is_current)
+      (content_image (after_calls calls (map settled start))));
   whole = λ honest moment image is.
-      subst (λ (size : ℕ). IsWhole size image) (length-after_calls (calls_until moment calls) (map settled start) ∙ length-map start settled)
+      subst (λ (size : ℕ). IsWhole size image)
+      (length-after_calls (calls_until moment calls) (map settled start) ∙ length-map start settled)
       (whole_image (held_at start calls moment) image is);
 }

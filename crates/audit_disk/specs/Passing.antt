@@ -1,6 +1,6 @@
 -- Calls that are passed on to an inner device, or not.
 use Rattle.std.specs.Prelude.{◌≡◌, Bool, IsTrue, IsFalse, IsErr}
-use Rattle.audit_device.specs.Calls.{Outcome}
+use Rattle.audit_disk_model.specs.Calls.{Outcome}
 
 -- the inner device's call, or one that fails and that the inner device doesn't see
 pub record PassesOn {D : Type 0} (passes : Bool) (call : Type 0) (old new : D) (result : Outcome) : Type 0 where

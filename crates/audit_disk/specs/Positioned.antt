@@ -1,10 +1,10 @@
 -- A file by its calls at offsets, without a count of those that failed.
 use Rattle.std.specs.Prelude.{◌≡◌, ℕ, ◌*◌, ◌≤◌, List, [], length, Result, IfOk}
 use Rattle.std.specs.Coded.{Unit-prop}
-use Rattle.audit_device.specs.Image.{Sector, Image}
-use Rattle.audit_device.specs.View.{View}
-use Rattle.audit_device.specs.Calls.{CountsFailure}
-use Rattle.audit_disk.specs.File.{FileView, OnlyReads, IsRowRead, IsFileWrite, IsFileSync, sectors_of}
+use Rattle.audit_disk_model.specs.Image.{Sector, Image}
+use Rattle.audit_disk_model.specs.View.{View}
+use Rattle.audit_disk_model.specs.Calls.{CountsFailure}
+use Rattle.audit_disk.specs.File.{FileView, OnlyFileReads, IsRowRead, IsFileWrite, IsFileSync, sectors_of}
 use Rattle.audit_base.specs.declared.limits.TheConstants.{SECTOR_SIZE}
 
 -- what is known of it, as of a `FileView`
@@ -59,12 +59,14 @@ unknown_positioned = record {
 }
 
 -- It is the read of so many sectors in a row, whatever count of failed calls is kept beside the file.
-pub record IsPositionedRead {E : Type 0} (old new : PositionedView) (offset count : ℕ) (sectors : Image) (result : Result (Unit {0}) E) : Type 0 where
+pub record IsPositionedRead {E : Type 0} (old new : PositionedView) (offset count : ℕ) (sectors : Image)
+    (result : Result (Unit {0}) E) : Type 0 where
   pub counted : (failures failures' : ℕ) → CountsFailure failures failures' result
       → IsRowRead (counted_file old failures) (counted_file new failures') offset count sectors result
 
 -- It is the write of one sector, whatever count is kept.
-pub record IsPositionedWrite {E : Type 0} (old new : PositionedView) (offset : ℕ) (bytes : Sector) (result : Result (Unit {0}) E) : Type 0 where
+pub record IsPositionedWrite {E : Type 0} (old new : PositionedView) (offset : ℕ) (bytes : Sector)
+    (result : Result (Unit {0}) E) : Type 0 where
   pub counted : (failures failures' : ℕ) → CountsFailure failures failures' result
       → IsFileWrite (counted_file old failures) (counted_file new failures') offset bytes result
 
@@ -75,7 +77,7 @@ pub record IsPositionedSync {E : Type 0} (old new : PositionedView) (result : Re
 
 -- Nothing changed, and the number is that of its bytes.
 pub record IsMeasured {E : Type 0} (old new : PositionedView) (result : Result ℕ E) : Type 0 where
-  pub only : OnlyReads (counted_file old 0) (counted_file new 0)
+  pub only : OnlyFileReads (counted_file old 0) (counted_file new 0)
   pub found : old.honest → IfOk result (λ bytes. bytes ≡ length old.bytes)
 
 -- no write and no sync was asked of it
@@ -89,5 +91,7 @@ pub record ShowsFront (file : PositionedView) (view : View) : Type 0 where
   pub within : file.honest → SECTOR_SIZE * view.size ≤ length file.bytes
   pub content : file.honest → view.content ≡ sectors_of view.size file.bytes
   -- a crash now may leave the sectors of each file that may be left, and nothing else
-  pub left : file.honest → (bytes : List ℕ) → file.left_at file.moment bytes → view.left_at 0 (sectors_of view.size bytes)
-  pub no_other : (image : Image) → view.left_at 0 image → (bytes : List ℕ) × file.left_at file.moment bytes × (image ≡ sectors_of view.size bytes)
+  pub left : file.honest → (bytes : List ℕ) → file.left_at file.moment bytes
+      → view.left_at 0 (sectors_of view.size bytes)
+  pub no_other : (image : Image) → view.left_at 0 image → (bytes : List ℕ) × file.left_at file.moment bytes
+      × (image ≡ sectors_of view.size bytes)

@@ -1,15 +1,15 @@
 -- A crash replayed call by call.
 use Rattle.std.specs.Prelude.{◌≡◌, ℕ, zero, suc, ◌-◌, nat_lt, if◌then◌else◌, List, [], ◌∷◌, map, length}
-use Rattle.audit_disk.specs.Held.{Held, chosen, newest}
+use Rattle.audit_disk.specs.Held.{Held, picked, newest}
 use Rattle.audit_disk.specs.declared.block.Block.{Block}
 use Rattle.audit_disk.specs.declared.call.Effect.{Effect}
 use Rattle.audit_disk.specs.declared.call.Effect.TheVariants.{Write, Sync}
 use Rattle.audit_disk.specs.declared.progress.Progress.{Progress}
 
 -- the progress of a sector that holds this
-pub record IsProgress (held : Held) (p : ℕ) (progress : Progress) : Type 0 where
+pub record IsSectorProgress (held : Held) (p : ℕ) (progress : Progress) : Type 0 where
   pub newest : progress.newest ≡ newest held.synced held.since
-  pub landed : progress.landed ≡ chosen held.synced held.since p
+  pub landed : progress.landed ≡ picked held.synced held.since p
   pub pick : progress.pick ≡ p
   pub left : progress.left ≡ p - length held.since
 
@@ -18,8 +18,9 @@ abbrev pub AreProgress : List Held → List ℕ → List Progress → Type 0
 AreProgress [] picks [] = Unit {0}
 AreProgress [] picks (progress ∷ others) = ⊥
 AreProgress (held ∷ rest) picks [] = ⊥
-AreProgress (held ∷ rest) [] (progress ∷ others) = IsProgress held 0 progress × AreProgress rest [] others
-AreProgress (held ∷ rest) (pick ∷ picks) (progress ∷ others) = IsProgress held pick progress × AreProgress rest picks others
+AreProgress (held ∷ rest) [] (progress ∷ others) = IsSectorProgress held 0 progress × AreProgress rest [] others
+AreProgress (held ∷ rest) (pick ∷ picks) (progress ∷ others) = IsSectorProgress held pick progress
+    × AreProgress rest picks others
 
 -- after a write
 abbrev pub pushed : Progress → Block → Progress
@@ -37,7 +38,8 @@ written_at (progress ∷ others) (suc at) block = progress ∷ written_at others
 
 -- after a sync
 abbrev pub synced : Progress → Progress
-synced progress = record { newest = progress.newest; landed = progress.newest; pick = progress.pick; left = progress.pick }
+synced progress =
+    record { newest = progress.newest; landed = progress.newest; pick = progress.pick; left = progress.pick }
 
 -- after a call
 abbrev pub after_effect : Effect → List Progress → List Progress

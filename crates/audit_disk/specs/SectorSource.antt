@@ -1,8 +1,8 @@
 -- Sectors that are only read.
 use Rattle.std.specs.Prelude.{◌≡◌, ℕ, ◌^◌, ◌<◌, [], OnOk}
-use Rattle.audit_device.specs.Image.{Sector, Image, IsWhole, sector_at}
-use Rattle.audit_device.specs.View.{View}
-use Rattle.audit_device.specs.Calls.{Outcome}
+use Rattle.audit_disk_model.specs.Image.{Sector, Image, IsWhole, sector_at}
+use Rattle.audit_disk_model.specs.View.{View}
+use Rattle.audit_disk_model.specs.Calls.{Outcome}
 
 -- What is known of them. No call changes it.
 pub record SourceView : Type 1 where

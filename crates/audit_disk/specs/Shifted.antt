@@ -1,7 +1,7 @@
 -- A device inside one that doesn't pass every call on: the outer clock counts the calls that were missed, too.
 use Rattle.std.specs.Prelude.{◌≡◌, ℕ, ◌+◌, ◌-◌, ◌^◌, ◌<◌, ◌≤◌, min, max}
 use Rattle.std.proofs.Common.{sym, subst, arith}
-use Rattle.audit_device.specs.View.{View}
+use Rattle.audit_disk_model.specs.View.{View}
 
 -- The moment of the inner clock: the calls that it missed were made when it stood at that place.
 abbrev pub inner_moment : ℕ → ℕ → ℕ → ℕ
@@ -11,7 +11,8 @@ pub inner_moment_now : (place missed clock : ℕ) → place ≤ clock → inner_
 inner_moment_now place missed clock le = omega arith
 
 -- the inner device, where it missed some calls at a place of its clock, and some calls failed that it didn't see
-abbrev pub shifted : (inner : View) (place missed refused : ℕ) → place ≤ inner.clock → inner.clock + missed < 2 ^ 64 → View
+abbrev pub shifted : (inner : View) (place missed refused : ℕ) → place ≤ inner.clock → inner.clock + missed < 2 ^ 64
+    → View
 shifted inner place missed refused in_step fits = record {
   size = inner.size;
   content = inner.content;
@@ -22,7 +23,8 @@ shifted inner place missed refused in_step fits = record {
   size_fits = inner.size_fits;
   clock_fits = fits;
   content_left = λ honest.
-      subst (λ (moment : ℕ). inner.left_at moment inner.content) (sym (inner_moment_now place missed inner.clock in_step)) (inner.content_left honest);
+      subst (λ (moment : ℕ). inner.left_at moment inner.content)
+      (sym (inner_moment_now place missed inner.clock in_step)) (inner.content_left honest);
   whole = λ honest moment image left. inner.whole honest (inner_moment place missed moment) image left;
 }
 

@@ -17,8 +17,8 @@ pub(crate) struct CallLog {
 
 impl CallLog {
     ghost use Rattle.std.specs.Prelude.{◌+◌, IsOk};
-    ghost use Rattle.audit_device.specs.View.{last_count};
-    ghost use Rattle.audit_disk.specs.CallLog.{Notes, Refuses, spare};
+    ghost use Rattle.audit_disk_model.specs.View.{last_count};
+    ghost use Rattle.audit_disk.specs.CallLog.{Notes, RefusesCall, spare};
 
     pub(crate) fn new(alloc: Global) -> Self
         ensures calls { result.calls.items ≡ [] }
@@ -45,7 +45,7 @@ impl CallLog {
     /// Notes a call that is about to reach the medium. A refused growth is a failed call.
     pub(crate) fn note(&mut self, effect: Effect) -> Result<(), DeviceFault>
         ensures ok { OnOk result (Notes self.old self.new effect) }
-        ensures err { OnErr result (Refuses self.old self.new) }
+        ensures err { OnErr result (RefusesCall self.old self.new) }
         ensures room { 0 < spare self.old → self.old.clock < last_count → IsOk result }
         ensures spare { spare self.old ≤ spare self.new + 1 }
     {

@@ -30,8 +30,8 @@ pub struct FileDisk<F: SectorFile> {
 
 impl<F: SectorFile> FileDisk<F> {
     ghost use Rattle.std.specs.Prelude.{IsTrue, IsFalse, IfOk};
-    ghost use Rattle.audit_disk.specs.FileDisk.{file_disk_view, inner_of, has_stopped};
-    ghost use Rattle.audit_disk.specs.FileDisk.{IsOverFile, IsFrontOf, Reaches, IsShut};
+    ghost use Rattle.audit_disk.specs.FileDisk.{file_disk_view, file_inside, has_stopped};
+    ghost use Rattle.audit_disk.specs.FileDisk.{IsOverFile, IsFrontOf, PassesCalls, IsShut};
 
     /// Makes a device over the first `sectors` sectors of a file that has at least so many. The memory for reading
     /// ahead, 64 KiB, is taken here.
@@ -62,7 +62,7 @@ impl<F: SectorFile> FileDisk<F> {
 
     /// Returns the file, as the calls so far left it.
     pub fn into_file(self) -> F
-        ensures { result ≡ inner_of self }
+        ensures { result ≡ file_inside self }
     {
         self.file.inner
     }
@@ -72,7 +72,7 @@ impl<F: SectorFile> FileDisk<F> {
     pub fn with_sectors(self, sectors: u64) -> Self
         requires { sectors ≤ (file_disk_view self).size }
         ensures front { IsFrontOf (file_disk_view result) (file_disk_view self) sectors }
-        ensures file { inner_of result ≡ inner_of self }
+        ensures file { file_inside result ≡ file_inside self }
         ensures stopped { has_stopped result ≡ has_stopped self }
     {
         FileDisk {
@@ -86,7 +86,7 @@ impl<F: SectorFile> FileDisk<F> {
 
     /// The file, to be looked at.
     pub(crate) fn file(&self) -> &F
-        ensures { result.now ≡ inner_of self.now }
+        ensures { result.now ≡ file_inside self.now }
     {
         &self.file.inner
     }
@@ -94,7 +94,7 @@ impl<F: SectorFile> FileDisk<F> {
     /// Whether a write or a sync would not reach the file.
     fn is_shut(&self) -> bool
         ensures shut { IsTrue result → IsShut self.now }
-        ensures reaches { IsFalse result → Reaches self.now }
+        ensures reaches { IsFalse result → PassesCalls self.now }
     {
         self.failed_at.is_some() || self.clock == u64::MAX
     }
@@ -102,9 +102,9 @@ impl<F: SectorFile> FileDisk<F> {
 
 impl<F: SectorFile> Sectors for FileDisk<F> {
     ghost use Rattle.std.specs.Prelude.{true, false, ◌||◌, is_err};
-    ghost use Rattle.audit_device.specs.Calls.{IsRead, IsWrite, IsSync};
+    ghost use Rattle.audit_disk_model.specs.Calls.{IsRead, IsWrite, IsSync};
     ghost use Rattle.audit_disk.specs.File.{IsFileWrite, IsFileSync, ReadsFile};
-    ghost use Rattle.audit_disk.specs.FileDisk.{file_disk_view, file_of, has_stopped, Reaches, IsShut, IsKeptBack};
+    ghost use Rattle.audit_disk.specs.FileDisk.{file_disk_view, file_of, has_stopped, PassesCalls, IsShut, IsKeptBack};
 
     ghost view = { λ disk. file_view (F.file disk.file.inner) disk.sectors (unwrap_or disk.failed_at disk.clock)
         disk.clock disk.failures (sectors_fit disk.sectors disk.fits) disk.in_order disk.in_range disk.sized };
@@ -140,7 +140,7 @@ impl<F: SectorFile> Sectors for FileDisk<F> {
     fn write(&mut self, at: u64, bytes: &[u8; SECTOR_SIZE]) -> Result<(), DeviceFault>
         requires { at < (file_disk_view self.old).size }
         ensures write { IsWrite (file_disk_view self.old) (file_disk_view self.new) at bytes.now result }
-        ensures file { Reaches self.old
+        ensures file { PassesCalls self.old
             → IsFileWrite (file_of self.old) (file_of self.new) (SECTOR_SIZE * at) bytes.now result }
         ensures kept_back { IsShut self.old → IsKeptBack self.old self.new result }
         ensures stopped { has_stopped self.new ≡ has_stopped self.old }
@@ -158,7 +158,7 @@ impl<F: SectorFile> Sectors for FileDisk<F> {
     /// every call fails.
     fn sync(&mut self) -> Result<(), DeviceFault>
         ensures sync { IsSync (file_disk_view self.old) (file_disk_view self.new) result }
-        ensures file { Reaches self.old → IsFileSync (file_of self.old) (file_of self.new) result }
+        ensures file { PassesCalls self.old → IsFileSync (file_of self.old) (file_of self.new) result }
         ensures kept_back { IsShut self.old → IsKeptBack self.old self.new result }
         ensures stopped { has_stopped self.new ≡ (has_stopped self.old || is_err result) }
     {

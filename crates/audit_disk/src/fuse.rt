@@ -1,7 +1,7 @@
 ghost use Rattle.std.specs.Prelude.{◌≡◌, ◌-◌, ◌<◌};
-ghost use Rattle.audit_device.specs.View.{last_count};
-ghost use Rattle.audit_device.specs.Moments.{IsUnused, LooksLike};
-ghost use Rattle.audit_device.specs.Calls.{IsRead, IsWrite, IsSync};
+ghost use Rattle.audit_disk_model.specs.View.{last_count};
+ghost use Rattle.audit_disk_model.specs.Moments.{IsUnused, LooksLike};
+ghost use Rattle.audit_disk_model.specs.Calls.{IsRead, IsWrite, IsSync};
 ghost use Rattle.audit_disk.specs.Shifted.{shifted, MayMiss};
 
 use crate::gate::Gate;

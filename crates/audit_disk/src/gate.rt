@@ -1,5 +1,5 @@
 ghost use Rattle.std.specs.Prelude.{◌≡◌, ◌+◌, ◌^◌, ◌<◌, ◌≤◌, IsTrue, IsFalse};
-ghost use Rattle.audit_device.specs.Calls.{HasRisen, IsRead, IsWrite, IsSync};
+ghost use Rattle.audit_disk_model.specs.Calls.{HasRisen, IsRead, IsWrite, IsSync};
 ghost use Rattle.audit_disk.specs.Passing.{PassesOn};
 
 use crate::{DeviceFault, SECTOR_SIZE, Sectors};

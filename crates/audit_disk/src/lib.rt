@@ -27,7 +27,7 @@ mod sector_source;
 mod shared_disk;
 mod system_file;
 
-pub use audit_device::{DeviceFault, SECTOR_SIZE, Sectors, publish, write_sectors};
+pub use audit_disk_model::{DeviceFault, SECTOR_SIZE, Sectors, publish, write_sectors};
 pub use counting::counted;
 pub use fail_once::FailOnce;
 pub use file_disk::FileDisk;

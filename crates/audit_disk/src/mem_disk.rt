@@ -1,5 +1,5 @@
 ghost use Rattle.std.specs.Prelude.{◌≡◌, ◌^◌, ◌<◌, length, map};
-ghost use Rattle.audit_disk.specs.Held.{settled, content_of, bytes_of};
+ghost use Rattle.audit_disk.specs.Held.{settled, content_of, bytes_of_blocks};
 ghost use Rattle.audit_disk.specs.Memory.{after_calls, memory_view};
 
 use crate::block::Block;
@@ -16,16 +16,17 @@ pub struct MemDisk {
     start: Vec<Block>,
     content: Vec<Block>,
     log: CallLog,
-    ghost current: { bytes_of content.items ≡ content_of (after_calls log.calls.items (map settled start.items)) },
+    ghost current: { bytes_of_blocks content.items
+        ≡ content_of (after_calls log.calls.items (map settled start.items)) },
     ghost sized: { length start.items < 2 ^ 64 },
 }
 
 impl Sectors for MemDisk {
     ghost use Rattle.std.specs.Prelude.{IsOk};
-    ghost use Rattle.audit_device.specs.Calls.{IsRead, IsWrite, IsSync};
+    ghost use Rattle.audit_disk_model.specs.Calls.{IsRead, IsWrite, IsSync};
     ghost use Rattle.audit_disk.specs.MemDisk.{disk_view, disk_held, HoldsWrite, HoldsSync};
 
-    ghost view = { λ disk. memory_view disk.start.items (bytes_of disk.content.items) disk.log.calls.items
+    ghost view = { λ disk. memory_view disk.start.items (bytes_of_blocks disk.content.items) disk.log.calls.items
         disk.log.clock disk.log.failures disk.current disk.log.stamped disk.sized disk.log.in_range };
 
     fn size(&self) -> u64 {
@@ -96,7 +97,7 @@ impl SectorSource for MemDisk {
 
 impl MemDisk {
     ghost use Rattle.std.specs.Prelude.{ℕ, IfOk, replicate};
-    ghost use Rattle.audit_device.specs.Moments.{IsAfterCrash};
+    ghost use Rattle.audit_disk_model.specs.Moments.{IsAfterCrash};
     ghost use Rattle.audit_disk.specs.Held.{crashed};
     ghost use Rattle.audit_disk.specs.MemDisk.{disk_view, disk_held, IsFresh, HoldsOnly, IsEachPicked};
 
@@ -134,8 +135,8 @@ impl MemDisk {
     }
 
     fn with_content(alloc: Global, content: Vec<Block>) -> Result<MemDisk, AllocError>
-        ensures fresh { IfOk result (λ disk. IsFresh (disk_view disk) (bytes_of content.items)) }
-        ensures held { IfOk result (λ disk. HoldsOnly (disk_held disk) (bytes_of content.items)) }
+        ensures fresh { IfOk result (λ disk. IsFresh (disk_view disk) (bytes_of_blocks content.items)) }
+        ensures held { IfOk result (λ disk. HoldsOnly (disk_held disk) (bytes_of_blocks content.items)) }
     {
         let start = Vec::from_slice(alloc, &content)?;
         Ok(MemDisk {

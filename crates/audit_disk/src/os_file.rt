@@ -1,5 +1,5 @@
 ghost use Rattle.std.specs.Prelude.{◌≡◌};
-ghost use Rattle.audit_device.specs.Calls.{CountsFailure};
+ghost use Rattle.audit_disk_model.specs.Calls.{CountsFailure};
 ghost use Rattle.audit_disk.specs.OsFile.{AnswersAlike};
 ghost use Rattle.audit_disk.specs.Positioned.{counted_file};
 

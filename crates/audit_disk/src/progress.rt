@@ -17,10 +17,10 @@ pub(crate) struct Progress {
 }
 
 impl Progress {
-    ghost use Rattle.audit_disk.specs.Progress.{IsProgress, pushed, synced};
+    ghost use Rattle.audit_disk.specs.Progress.{IsSectorProgress, pushed, synced};
 
     pub(crate) fn new(block: Block, pick: u64) -> Self
-        ensures { IsProgress (settled block) pick result }
+        ensures { IsSectorProgress (settled block) pick result }
     {
         Progress {
             newest: block,

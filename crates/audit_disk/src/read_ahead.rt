@@ -1,7 +1,7 @@
 ghost use Rattle.std.specs.Prelude.{◌≡◌, ◌*◌, ◌%◌, ◌<◌, ◌≤◌, length};
 ghost use Rattle.audit_base.specs.declared.limits.TheConstants.{SECTOR_SIZE};
 ghost use Rattle.audit_disk.specs.declared.read_ahead.TheConstants.{ROWS_FROM};
-ghost use Rattle.audit_disk.specs.File.{HasRow, HasRow-prop, IsRowOffset, OnlyReads};
+ghost use Rattle.audit_disk.specs.File.{HasRow, HasRow-prop, IsRowOffset, OnlyFileReads};
 
 use crate::{DeviceFault, SECTOR_SIZE, SectorFile};
 use std::alloc::{AllocError, Global};
@@ -100,7 +100,7 @@ impl<F: SectorFile> ReadAhead<F> {
     fn fill(&mut self, offset: u64, sectors: u64)
         requires row { IsRowOffset (F.file self.old.inner) offset sectors }
         requires after_headers { ROWS_FROM ≤ offset }
-        ensures { OnlyReads (F.file self.old.inner) (F.file self.new.inner) }
+        ensures { OnlyFileReads (F.file self.old.inner) (F.file self.new.inner) }
     {
         let wanted = self.held.saturating_mul(2).max(2).min(self.row.len());
         let count = sectors.min(wanted as u64) as usize;
@@ -140,7 +140,7 @@ fn read_front<F: SectorFile>(
 ) -> usize
     requires offset { IsRowOffset (F.file file.old) offset count }
     requires count { count ≤ length row.old }
-    ensures only { OnlyReads (F.file file.old) (F.file file.new) }
+    ensures only { OnlyFileReads (F.file file.old) (F.file file.new) }
     ensures length { length row.new ≡ length row.old }
     ensures held { result ≤ length row.new }
     ensures row { HasRow (F.file file.new) offset result row.new }

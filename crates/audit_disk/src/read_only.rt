@@ -1,5 +1,5 @@
 ghost use Rattle.std.specs.Prelude.{◌≡◌, ◌<◌, ◌≤◌};
-ghost use Rattle.audit_device.specs.Calls.{CountsFailure};
+ghost use Rattle.audit_disk_model.specs.Calls.{CountsFailure};
 ghost use Rattle.audit_disk.specs.ReadOnly.{IsReadThrough};
 
 use crate::block::Block;
@@ -24,7 +24,7 @@ pub struct ReadOnly<'a, S: SectorSource> {
 
 impl<'a, S: SectorSource> ReadOnly<'a, S> {
     ghost use Rattle.std.specs.Prelude.{◌≤◌, OnOk};
-    ghost use Rattle.audit_device.specs.Moments.{IsUnused};
+    ghost use Rattle.audit_disk_model.specs.Moments.{IsUnused};
     ghost use Rattle.audit_disk.specs.ReadOnlyView.{read_only_view, source_under, spare_calls, IsFreshOver};
 
     /// Makes a device over a source. It takes no memory.
@@ -51,8 +51,8 @@ impl<'a, S: SectorSource> ReadOnly<'a, S> {
 
 impl<S: SectorSource> Sectors for ReadOnly<'_, S> {
     ghost use Rattle.std.specs.Prelude.{◌+◌, ◌≤◌, IsOk};
-    ghost use Rattle.audit_device.specs.View.{last_count};
-    ghost use Rattle.audit_device.specs.Calls.{IsRead, IsWrite, IsSync};
+    ghost use Rattle.audit_disk_model.specs.View.{last_count};
+    ghost use Rattle.audit_disk_model.specs.Calls.{IsRead, IsWrite, IsSync};
     ghost use Rattle.audit_disk.specs.ReadOnly.{overlay_view};
     ghost use Rattle.audit_disk.specs.ReadOnlyView.{read_only_view, source_under, spare_calls};
 
@@ -79,7 +79,8 @@ impl<S: SectorSource> Sectors for ReadOnly<'_, S> {
     /// It fails only where memory is refused, or at the end of the clock.
     fn write(&mut self, at: u64, bytes: &[u8; SECTOR_SIZE]) -> Result<(), DeviceFault>
         requires { at < (read_only_view S.source self.old).size }
-        ensures write { IsWrite (read_only_view S.source self.old) (read_only_view S.source self.new) at bytes.now result }
+        ensures write { IsWrite (read_only_view S.source self.old)
+            (read_only_view S.source self.new) at bytes.now result }
         ensures room { 0 < spare_calls self.old → (read_only_view S.source self.old).clock < last_count → IsOk result }
         ensures spare { spare_calls self.old ≤ spare_calls self.new + 1 }
     {

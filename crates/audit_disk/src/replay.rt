@@ -1,6 +1,6 @@
 //! What a crash leaves, from the calls that were made.
 ghost use Rattle.std.specs.Prelude.{◌≡◌, ◌≤◌, IfOk, length, map, replicate, take};
-ghost use Rattle.audit_disk.specs.Held.{settled, bytes_of, crashed};
+ghost use Rattle.audit_disk.specs.Held.{settled, bytes_of_blocks, crashed};
 ghost use Rattle.audit_disk.specs.Memory.{after_calls};
 ghost use Rattle.audit_disk.specs.Contents.{newest_of, content_after, EndSynced};
 ghost use Rattle.audit_disk.specs.Progress.{AreProgress, landed_of, after_effect};
@@ -20,7 +20,7 @@ fn zero_block() -> Block
 }
 
 pub(crate) fn zero_blocks(alloc: Global, count: u64) -> Result<Vec<Block>, AllocError>
-    ensures { IfOk result (λ blocks. bytes_of blocks.items ≡ replicate count (replicate SECTOR_SIZE 0)) }
+    ensures { IfOk result (λ blocks. bytes_of_blocks blocks.items ≡ replicate count (replicate SECTOR_SIZE 0)) }
 {
     let mut blocks = Vec::new(alloc);
     for _ in 0..count {
@@ -33,7 +33,7 @@ pub(crate) fn blocks_of(
     alloc: Global,
     sectors: &[[u8; SECTOR_SIZE]],
 ) -> Result<Vec<Block>, AllocError>
-    ensures { IfOk result (λ blocks. bytes_of blocks.items ≡ sectors.now) }
+    ensures { IfOk result (λ blocks. bytes_of_blocks blocks.items ≡ sectors.now) }
 {
     let mut blocks = Vec::new(alloc);
     for sector in sectors {
@@ -86,7 +86,7 @@ fn replayed_blocks(
     calls: &[Call],
     pick: &[u64],
 ) -> Result<Vec<Block>, AllocError>
-    ensures { IfOk result (λ blocks. bytes_of blocks.items
+    ensures { IfOk result (λ blocks. bytes_of_blocks blocks.items
         ≡ crashed (after_calls calls.now (map settled start.now)) pick.now) }
 {
     let mut progress = progress_at(alloc, start, pick)?;
@@ -145,7 +145,7 @@ pub(crate) fn crashed_blocks(
     calls: &[Call],
     pick: &[u64],
 ) -> Result<Vec<Block>, AllocError>
-    ensures { IfOk result (λ blocks. bytes_of blocks.items
+    ensures { IfOk result (λ blocks. bytes_of_blocks blocks.items
         ≡ crashed (after_calls calls.now (map settled start.now)) pick.now) }
 {
     let synced = synced_calls(calls);

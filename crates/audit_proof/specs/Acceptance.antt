@@ -1,6 +1,7 @@
 -- When a proof is accepted under a commitment, over any hash function H: all of its hashes are used,
 -- none is missing, and the computed root or roots are the commitment's.
-use Rattle.std.specs.Prelude.{◌≡◌, ℕ, ◌-◌, ◌<◌, ◌≤◌, List, [], ◌∷◌, Option, None, Some, length, map, take, slice_index_or}
+use Rattle.std.specs.Prelude.{◌≡◌, ℕ, ◌-◌, ◌<◌, ◌≤◌, List, [], ◌∷◌, Option, None, Some, length, map, take}
+use Rattle.std.specs.Prelude.{slice_index_or}
 use Rattle.std.specs.Int.{w64, trailing_zeros}
 use Rattle.sha2.specs.Sha256.{sha256}
 use Rattle.audit_base.specs.declared.limits.TheConstants.{MAX_COUNT}
@@ -34,7 +35,8 @@ abbrev pub roots_from_increment : (List ℕ → List ℕ) → ℕ → ℕ → Li
 roots_from_increment H older newer [] = None
 roots_from_increment H older newer (first ∷ hashes) =
     let layer = trailing_zeros w64 older in
-    whole (climb (two_values H (depth older)) layer (depth newer - layer) (older - 1) newer (record { older = first; newer = first }) hashes)
+    whole (climb (two_values H (depth older)) layer (depth newer - layer) (older - 1) newer
+    (record { older = first; newer = first }) hashes)
 
 -- a membership proof is accepted for a leaf hash, and for a text
 pub record AcceptsLeaf (H : List ℕ → List ℕ) (commitment : Commitment) (place : ℕ) (leaf : List ℕ)
@@ -57,7 +59,8 @@ pub record AcceptsIncrement (H : List ℕ → List ℕ) (older newer : Commitmen
   pub some : 1 ≤ older.count
   pub order : older.count ≤ newer.count
   pub small : newer.count ≤ MAX_COUNT
-  pub roots : roots_from_increment H older.count newer.count hashes ≡ Some (record { older = older.root; newer = newer.root })
+  pub roots : roots_from_increment H older.count newer.count hashes
+      ≡ Some (record { older = older.root; newer = newer.root })
 
 -- an incremental proof between two commitments is accepted, and two membership proofs of one place, the first under
 -- the older commitment and the second under the newer

@@ -1,6 +1,7 @@
 -- The way up from a node of a history tree with the hashes of a proof, from the root down: at each
 -- node into the half that holds the leaf, then the sibling's hash is taken from the list.
-use Rattle.std.specs.Prelude.{ℕ, zero, suc, ◌+◌, ◌-◌, ◌^◌, nat_le, nat_lt, List, [], ◌∷◌, ◌++◌, Option, None, Some, if◌then◌else◌}
+use Rattle.std.specs.Prelude.{ℕ, zero, suc, ◌+◌, ◌-◌, ◌^◌, nat_le, nat_lt, List, [], ◌∷◌, ◌++◌, Option, None, Some}
+use Rattle.std.specs.Prelude.{if◌then◌else◌}
 use Rattle.audit_tree.specs.Subtree.{parent_of}
 use Rattle.audit_proof.specs.declared.side.Side.{Side}
 use Rattle.audit_proof.specs.declared.side.Side.TheVariants.{Left, Right}

@@ -17,7 +17,8 @@ pub record IsApart (lefts rights : List (List ℕ)) (over_left over_right : Clim
   pub different : left.value ≢ right.value
 
 -- two climbs over these hashes have come to this
-abbrev pub IsMeeting : (List ℕ → List ℕ) → List (List ℕ) → List (List ℕ) → Climbed (List ℕ) → Climbed (List ℕ) → Meeting → Type 0
+abbrev pub IsMeeting : (List ℕ → List ℕ) → List (List ℕ) → List (List ℕ) → Climbed (List ℕ) → Climbed (List ℕ)
+    → Meeting → Type 0
 IsMeeting H lefts rights over_left over_right (Met c) = IsCollision H c.left.items c.right.items
 IsMeeting H lefts rights over_left over_right (Apart left right) = IsApart lefts rights over_left over_right left right
 IsMeeting H lefts rights over_left over_right Lost = (over_left ≡ None) ⊎ (over_right ≡ None)

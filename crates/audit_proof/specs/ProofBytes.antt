@@ -1,7 +1,8 @@
 -- The bytes of proofs: a mark, two numbers of 8 bytes with the high byte first, the number of hashes
 -- in one byte, the hashes, and after those of a membership proof its entry. The layout is this
 -- project's own.
-use Rattle.std.specs.Prelude.{ℕ, ◌+◌, ◌*◌, ◌^◌, ◌<◌, ◌≤◌, nat_lt, nat_le, ◌==◌, ◌&&◌, List, [], ◌∷◌, ◌++◌, Option, None, Some, length, drop, slice_index, if◌then◌else◌}
+use Rattle.std.specs.Prelude.{ℕ, ◌+◌, ◌*◌, ◌^◌, ◌<◌, ◌≤◌, nat_lt, nat_le, ◌==◌, ◌&&◌, List, [], ◌∷◌, ◌++◌, Option, None}
+use Rattle.std.specs.Prelude.{Some, length, drop, slice_index, if◌then◌else◌}
 use Rattle.std.specs.List.{concat}
 use Rattle.std.specs.Int.{w64, to_be_bytes}
 use Rattle.audit_proof.specs.declared.bytes.Head.{Head}

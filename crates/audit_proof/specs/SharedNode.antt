@@ -1,6 +1,7 @@
 -- The full node that an increment gives with its value in both of its trees, on the way of an index, and the
 -- siblings on its way up to either root.
-use Rattle.std.specs.Prelude.{◌≡◌, ℕ, ◌+◌, ◌-◌, ◌%◌, ◌^◌, ◌≤◌, List, [], ◌∷◌, ◌++◌, Option, None, Some, length, drop, min}
+use Rattle.std.specs.Prelude.{◌≡◌, ℕ, ◌+◌, ◌-◌, ◌%◌, ◌^◌, ◌≤◌, List, [], ◌∷◌, ◌++◌, Option, None, Some, length, drop}
+use Rattle.std.specs.Prelude.{min}
 use Rattle.audit_proof.specs.declared.climb.Way.{Way}
 use Rattle.audit_proof.specs.declared.shared_node.SharedNode.{SharedNode}
 use Rattle.audit_proof.specs.declared.steps.Versions.{Versions}
@@ -29,7 +30,8 @@ pub record IsShared (H : List ℕ → List ℕ) (top : ℕ) (way : Way) (index :
       node.value node.newer_siblings.items ≡ Some (versions.newer, [])
 
 -- The same from one commitment to another: the node's siblings lead from its value to either root.
-pub record IsSharedByBoth (H : List ℕ → List ℕ) (older newer : Commitment) (index : ℕ) (node : SharedNode) : Type 0 where
+pub record IsSharedByBoth (H : List ℕ → List ℕ) (older newer : Commitment) (index : ℕ)
+    (node : SharedNode) : Type 0 where
   pub inside : node.layer ≤ depth older.count
   pub full : index - index % 2 ^ node.layer + 2 ^ node.layer ≤ older.count
   pub older_root : climb (one_value H) node.layer (depth older.count - node.layer) index older.count
@@ -72,7 +74,8 @@ OverRight hashes node None = drop node.used hashes ≡ []
 OverRight hashes node (Some over) = IsOverRight hashes node over
 
 -- the left half of a node whose right half a climb of both values has reached: its sibling is that half
-pub record IsLeftHalf (half_layer : ℕ) (lower : Climbed Versions) (hashes : List (List ℕ)) (node : SharedNode) : Type 0 where
+pub record IsLeftHalf (half_layer : ℕ) (lower : Climbed Versions) (hashes : List (List ℕ))
+    (node : SharedNode) : Type 0 where
   pub versions : Versions
   pub reached : lower ≡ Some (versions, node.value ∷ drop node.used hashes)
   pub used : node.used ≤ length hashes
@@ -82,5 +85,6 @@ pub record IsLeftHalf (half_layer : ℕ) (lower : Climbed Versions) (hashes : Li
 
 -- the same, or a hash was missing there or above it
 abbrev pub LeftHalf : ℕ → Climbed Versions → List (List ℕ) → Option SharedNode → Type 0
-LeftHalf layer lower hashes None = (versions : Versions) (hash : List ℕ) (rest : List (List ℕ)) → lower ≡ Some (versions, hash ∷ rest) → ⊥
+LeftHalf layer lower hashes None = (versions : Versions) (hash : List ℕ) (rest : List (List ℕ))
+    → lower ≡ Some (versions, hash ∷ rest) → ⊥
 LeftHalf layer lower hashes (Some node) = IsLeftHalf layer lower hashes node

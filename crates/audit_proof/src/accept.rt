@@ -2,7 +2,8 @@ ghost use Rattle.std.specs.Prelude.{◌≡◌, ◌↔◌, ◌+◌, ◌≤◌, �
 ghost use Rattle.sha2.specs.Sha256.{sha256};
 ghost use Rattle.audit_base.specs.declared.limits.TheConstants.{MAX_COUNT};
 ghost use Rattle.audit_tree.specs.Subtree.{depth};
-ghost use Rattle.audit_proof.specs.Acceptance.{AcceptsLeaf, AcceptsMembership, AcceptsIncrement, IsMadeMembership, IsMadeIncrement, way_between};
+ghost use Rattle.audit_proof.specs.Acceptance.{AcceptsLeaf, AcceptsMembership, AcceptsIncrement, IsMadeMembership};
+ghost use Rattle.audit_proof.specs.Acceptance.{IsMadeIncrement, way_between};
 
 use crate::climb::{Way, climb_from};
 use crate::commitment::Commitment;

@@ -1,5 +1,6 @@
 ghost use Rattle.std.specs.Prelude.{◌≡◌, ◌≤◌, ◌↔◌, Some, None, vec_len, IfOk};
-ghost use Rattle.audit_proof.specs.ProofBytes.{member_in, member_bytes, member_of, increment_in, increment_bytes, increment_of};
+ghost use Rattle.audit_proof.specs.ProofBytes.{member_in, member_bytes, member_of, increment_in, increment_bytes};
+ghost use Rattle.audit_proof.specs.ProofBytes.{increment_of};
 
 use crate::bytes::{HEAD_LEN, INCREMENT_MARK, MEMBER_MARK, read_head, write_proof};
 use crate::increment_proof::IncrementProof;
@@ -10,7 +11,7 @@ use thiserror::Error;
 
 /// Why bytes were not read as a proof.
 #[derive(Clone, Copy, Debug, PartialEq, Eq, Error)]
-pub enum ReadFault {
+pub enum ProofError {
     /// The bytes are no proof's.
     #[error("the bytes are not a proof")]
     BadProof,
@@ -19,14 +20,14 @@ pub enum ReadFault {
     Memory,
 }
 
-impl From<AllocError> for ReadFault {
+impl From<AllocError> for ProofError {
     ghost use Rattle.std.specs.Prelude.{◌≡◌};
-    ghost use Rattle.audit_proof.specs.declared.codec.ReadFault.TheVariants.{Memory};
+    ghost use Rattle.audit_proof.specs.declared.codec.ProofError.TheVariants.{Memory};
 
     ghost from_gives = { λ _ fault. fault ≡ Memory };
 
     fn from(_: AllocError) -> Self {
-        ReadFault::Memory
+        ProofError::Memory
     }
 }
 
@@ -52,23 +53,23 @@ pub fn write_member(alloc: Global, proof: &MemberProof) -> Result<Vec<u8>, Alloc
 
 /// Decodes a membership proof. The index and the count aren't judged, since acceptance does it. Bytes that are no
 /// proof's are refused as `BadProof`, before memory is asked for.
-pub fn read_member(alloc: Global, bytes: &[u8]) -> Result<MemberProof, ReadFault>
-    ensures bad { (result ≡ Err ReadFault.BadProof) ↔ (member_of bytes.now ≡ None) }
+pub fn read_member(alloc: Global, bytes: &[u8]) -> Result<MemberProof, ProofError>
+    ensures bad { (result ≡ Err ProofError.BadProof) ↔ (member_of bytes.now ≡ None) }
     ensures ok { IfOk result (λ proof. member_of bytes.now ≡ Some (member_in proof)) }
 
     // They are the bytes that are written for it.
     ensures written { IfOk result (λ proof. bytes.now ≡ member_bytes (member_in proof)) }
 {
     let Some(head) = read_head(MEMBER_MARK, bytes) else {
-        return Err(ReadFault::BadProof);
+        return Err(ProofError::BadProof);
     };
     if MAX_MEMBER_HASHES < head.number {
-        return Err(ReadFault::BadProof);
+        return Err(ProofError::BadProof);
     }
     let body = &bytes[HEAD_LEN..];
     let length = HASH_LEN * head.number;
     if body.len() < length || length + MAX_ENTRY < body.len() {
-        return Err(ReadFault::BadProof);
+        return Err(ProofError::BadProof);
     }
     let hashes = read_hashes(alloc, body, head.number)?;
     let entry = Vec::from_slice(alloc, &body[length..])?;
@@ -100,22 +101,22 @@ pub fn write_increment(alloc: Global, proof: &IncrementProof) -> Result<Vec<u8>,
 
 /// Decodes an incremental proof. The counts aren't judged, since acceptance does it. Bytes that are no proof's are
 /// refused as `BadProof`, before memory is asked for.
-pub fn read_increment(alloc: Global, bytes: &[u8]) -> Result<IncrementProof, ReadFault>
-    ensures bad { (result ≡ Err ReadFault.BadProof) ↔ (increment_of bytes.now ≡ None) }
+pub fn read_increment(alloc: Global, bytes: &[u8]) -> Result<IncrementProof, ProofError>
+    ensures bad { (result ≡ Err ProofError.BadProof) ↔ (increment_of bytes.now ≡ None) }
     ensures ok { IfOk result (λ proof. increment_of bytes.now ≡ Some (increment_in proof)) }
 
     // They are the bytes that are written for it.
     ensures written { IfOk result (λ proof. bytes.now ≡ increment_bytes (increment_in proof)) }
 {
     let Some(head) = read_head(INCREMENT_MARK, bytes) else {
-        return Err(ReadFault::BadProof);
+        return Err(ProofError::BadProof);
     };
     if MAX_INCREMENT_HASHES < head.number {
-        return Err(ReadFault::BadProof);
+        return Err(ProofError::BadProof);
     }
     let body = &bytes[HEAD_LEN..];
     if body.len() != HASH_LEN * head.number {
-        return Err(ReadFault::BadProof);
+        return Err(ProofError::BadProof);
     }
     let hashes = read_hashes(alloc, body, head.number)?;
     Ok(IncrementProof {

@@ -6,7 +6,8 @@ ghost use Rattle.audit_tree.specs.Subtree.{leaf_of, commitment_of};
 ghost use Rattle.audit_proof.specs.Acceptance.{AcceptsBoth, AcceptsThree, commitment_to};
 ghost use Rattle.audit_proof.specs.Collision.{IsCollision};
 ghost use Rattle.audit_base.specs.Bytes.{AreBytes};
-ghost use Rattle.audit_proof.specs.ProofBytes.{Member, Increment, IsMember, IsIncrement, member_bytes, member_of, increment_bytes, increment_of};
+ghost use Rattle.audit_proof.specs.ProofBytes.{Member, Increment, IsMember, IsIncrement, member_bytes, member_of};
+ghost use Rattle.audit_proof.specs.ProofBytes.{increment_bytes, increment_of};
 
 use crate::collision::{CollideFault, Collision, Shown, collide, leaf_text};
 use crate::collision_across::collide_across;

@@ -20,7 +20,7 @@ mod steps;
 
 pub use accept::{accepts_increment, accepts_member};
 pub use audit_base::{MAX_ENTRY, MAX_INCREMENT_HASHES, MAX_MEMBER_HASHES};
-pub use codec::{ReadFault, read_increment, read_member, write_increment, write_member};
+pub use codec::{ProofError, read_increment, read_member, write_increment, write_member};
 pub use collision::{CollideFault, Collision, collide_two};
 pub use collision_across::collide_three;
 pub use commitment::Commitment;

@@ -2,28 +2,28 @@
 use Rattle.std.proofs.Common.{◌≡◌, ◌≢◌, ◌⊎◌, ◌∙◌, inl, inr, ℕ, ◌<◌, ◌≤◌, Bool, true, false, if◌then◌else◌, Result, Ok, Err, List, [], ◌∷◌, ◌++◌, length, map, take, drop, get_or, slice_set, refl, sym, ap, subst}
 use Rattle.std.proofs.lemmas.Bool.{false≢true}
 use Rattle.std.proofs.lemmas.List.{append-nil, set-get_or, take-map, drop-map, take_all, take-append-drop, drop_more}
-use Rattle.audit_device.specs.declared.sectors.Sectors as sectors
+use Rattle.audit_disk_model.specs.declared.sectors.Sectors as sectors
 use Rattle.audit_chain.specs.Event.{EventData}
-use Rattle.audit_layout.specs.Origin.{Origin}
-use Rattle.audit_queue.specs.Waiting.{Append}
-use Rattle.audit_queue.specs.GroupCommit.{ServerState}
-use Rattle.audit_queue.specs.Arrivals.{appends_among}
+use Rattle.audit_store_images.specs.Origin.{Origin}
+use Rattle.audit_server_queue.specs.Waiting.{Append}
+use Rattle.audit_server_queue.specs.GroupCommit.{ServerState}
+use Rattle.audit_server_queue.specs.Arrivals.{appends_among}
 use Rattle.audit_store.specs.Store.{is_broken, Holds}
 use Rattle.audit_store.specs.declared.store_error.StoreError.{StoreError}
 use Rattle.audit_store.specs.declared.store_error.StoreError.TheVariants.{NotAStore, DamagedHeader, HeadersDisagree, DamagedLog, BatchTooLarge, Full, NoSuchVersion, Worn, Broken, Device, Memory, Closed, BadSize, ReservedKind}
-use Rattle.audit_commit.specs.declared.committer.Committer.{Committer}
-use Rattle.audit_commit.specs.Flush.{IsFlush}
-use Rattle.audit_commit.specs.Committer.{store_of, state_of}
-use Rattle.audit_commit.specs.Durable.{IsDurable}
-use Rattle.audit_sessions.specs.Steps.{StepData, a_piece, an_end, a_flush, IsPartOf}
-use Rattle.audit_sessions.specs.Core.{GoesBy, no_bytes}
-use Rattle.audit_run.specs.Sessions.{SessionData, ended_session, sessions_run, arrivals_by_piece, arrivals_run}
-use Rattle.audit_run.specs.Serving.{CoreData, IsDurablyServed}
-use Rattle.audit_run.proofs.Serving.{put_back_none, durably_none, durably_more}
+use Rattle.audit_server_commit.specs.declared.committer.Committer.{Committer}
+use Rattle.audit_server_commit.specs.Flush.{IsFlush}
+use Rattle.audit_server_commit.specs.Committer.{store_of, state_of}
+use Rattle.audit_server_commit.specs.Durable.{IsDurable}
+use Rattle.audit_serve_passes.specs.Steps.{StepData, a_piece, an_end, a_flush, IsPartOf}
+use Rattle.audit_serve_passes.specs.Core.{GoesBy, no_bytes}
+use Rattle.audit_server_model.specs.Sessions.{SessionData, ended_session, sessions_run, arrivals_by_piece, arrivals_run}
+use Rattle.audit_server_model.specs.Serving.{CoreData, IsDurablyServed}
+use Rattle.audit_server_model.proofs.Serving.{put_back_none, durably_none, durably_more}
 use Rattle.audit_server.specs.declared.step.Step.{Step}
 use Rattle.audit_server.specs.declared.feed_fault.FeedFault.{FeedFault}
 use Rattle.audit_server.specs.declared.server_core.Core.{Core}
-use Rattle.audit_server.specs.Core.{committer_of, sessions_of, data_of, session_of, IsSound, IsUntouched, IsPieceEnd, IsEndEnd, HasDone}
+use Rattle.audit_server.specs.Core.{committer_of, sessions_of, data_of, session_of, IsSound, IsCoreUntouched, PieceOutcome, EndOutcome, HasDone}
 use Rattle.audit_server.specs.Driving.{step_data, is_of_broken, part_done, step_done, whole_done, next_done, steps_done}
 use Rattle.audit_server.specs.CoreModel.{core_model}
 use Rattle.audit_server.proofs.Steps.{DoneTo, piece_done, end_done}
@@ -61,7 +61,7 @@ whole_or_none step (Err error) = inl refl
 
 module _ {D : Type 0} {g : sectors.Ghosts D} where
   -- nothing was done
-  pub untouched_durably : {old new : Core D g} → IsUntouched old new → IsDurablyServed (data_of old) (data_of new) [] no_bytes
+  pub untouched_durably : {old new : Core D g} → IsCoreUntouched old new → IsDurablyServed (data_of old) (data_of new) [] no_bytes
   untouched_durably {old = old} {new = new} same =
       let made : Committer D g → List SessionData → CoreData D g = λ committer sessions. record { committer = committer; sessions = sessions } in
       let are : data_of new ≡ data_of old =
@@ -88,7 +88,7 @@ module _ {D : Type 0} {g : sectors.Ghosts D} where
 
   -- ---- one step
 
-  pub piece_durably : (k : ℕ) (piece : List ℕ) (old new : Core D g) (result : Result (Unit {0}) FeedFault) → IsPieceEnd k piece old new result → IsSound old → IsDurablyServed (data_of old) (data_of new) (step_done (a_piece k piece) result) no_bytes
+  pub piece_durably : (k : ℕ) (piece : List ℕ) (old new : Core D g) (result : Result (Unit {0}) FeedFault) → PieceOutcome k piece old new result → IsSound old → IsDurablyServed (data_of old) (data_of new) (step_done (a_piece k piece) result) no_bytes
   piece_durably k piece old new (Ok done) end sound = done_durably old new sound (piece_done k piece old new (Ok done) end sound)
   piece_durably k piece old new (Err fault) end sound =
       let front : List ℕ = take fault.taken piece in
@@ -100,7 +100,7 @@ module _ {D : Type 0} {g : sectors.Ghosts D} where
             (ap appends_among (sym (append-nil (arrivals_by_piece k front (session_of k old))))) one.1.durable,
       )))
 
-  pub end_durably : (k : ℕ) (old new : Core D g) (result : Result (Unit {0}) StoreError) → IsEndEnd k old new result → IsSound old → IsDurablyServed (data_of old) (data_of new) (whole_done (an_end k) result) no_bytes
+  pub end_durably : (k : ℕ) (old new : Core D g) (result : Result (Unit {0}) StoreError) → EndOutcome k old new result → IsSound old → IsDurablyServed (data_of old) (data_of new) (whole_done (an_end k) result) no_bytes
   end_durably k old new (Ok done) end sound = done_durably old new sound (end_done k old new (Ok done) end sound)
   end_durably k old new (Err error) end sound =
       durably_by (data_of old) (data_of new) sound (end.only ∙ ap (slice_set (sessions_of old) k) end.ended.session ∙ set-get_or (sessions_of old) k ended_session) (λ origin events holds.

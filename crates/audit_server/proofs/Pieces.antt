@@ -2,53 +2,53 @@
 use Rattle.std.proofs.Common.{◌≡◌, ◌≢◌, ◌↔◌, ◌∙◌, IsTrue, ℕ, ◌+◌, ◌-◌, ◌≤◌, Bool, true, false, if◌then◌else◌, Option, Some, None, Result, Ok, Err, List, [], ◌∷◌, ◌++◌, length, map, take, drop, refl, sym, ap, subst, append_assoc, arith, length-drop}
 use Rattle.std.proofs.lemmas.List.{append-nil, take-append-drop, map-append}
 use Rattle.std.proofs.Math.Seq.{take-add}
-use Rattle.audit_device.specs.declared.sectors.Sectors as sectors
+use Rattle.audit_disk_model.specs.declared.sectors.Sectors as sectors
 use Rattle.audit_wire.specs.declared.request.Request.{Request}
 use Rattle.audit_wire.specs.declared.fed.Fed.{Fed}
 use Rattle.audit_wire.specs.declared.fed.Fed.TheVariants as fed
 use Rattle.audit_wire.specs.Request.{request_in}
-use Rattle.audit_wire.specs.Stream.{Framed, begun, spoiled, in_front, all_in_front, read_first, framed_requests}
-use Rattle.audit_wire.specs.Progress.{Progress, reading, whole, malformed, closed, rest_of, body_of, is_spoiled, IsFed, PutsBack}
+use Rattle.audit_wire.specs.Stream.{Framed, rest_alone, spoiled, in_front, all_in_front, read_first, framed_requests}
+use Rattle.audit_wire.specs.Progress.{DecoderProgress, reading, whole, malformed, closed, rest_of, body_of, is_spoiled, IsDecoderFed, PutsBack}
 use Rattle.audit_wire.proofs.Framing.{requests_partial}
-use Rattle.audit_queue.specs.Arrivals.{Arrival, arrival_of, malformed_from, arrivals_in}
+use Rattle.audit_server_queue.specs.Arrivals.{Arrival, arrival_of, malformed_from, arrivals_in}
 use Rattle.audit_store.specs.Store.{is_broken}
 use Rattle.audit_store.specs.declared.store_error.StoreError.{StoreError}
-use Rattle.audit_commit.specs.declared.committer.Committer.{Committer}
-use Rattle.audit_commit.specs.Committer.{store_of}
-use Rattle.audit_commit.specs.Entering.{IsArrivalEnd}
+use Rattle.audit_server_commit.specs.declared.committer.Committer.{Committer}
+use Rattle.audit_server_commit.specs.Committer.{store_of}
+use Rattle.audit_server_commit.specs.Entering.{IsArrivalEnd}
 use Rattle.audit_server.specs.Ending.{IsFrameEnd}
 use Rattle.audit_server.specs.declared.feed_fault.FeedFault.{FeedFault}
-use Rattle.audit_run.specs.Sessions.{SessionData, ended_session, framed_after, session_after, with_piece, arrivals_by_piece, arrivals_of_rest, arrivals_by_end}
+use Rattle.audit_server_model.specs.Sessions.{SessionData, ended_session, framed_after, session_after, with_piece, arrivals_by_piece, arrivals_of_rest, arrivals_by_end}
 use Rattle.audit_server.specs.Running.{HaveEntered, IsRefusedAfter, Run}
 use Rattle.audit_server.specs.Entering.{arrival_by, Enters}
-use Rattle.audit_server.specs.Feeding.{session_view, IsLive, place_after, IsPart, IsWhole, IsSpoiled, IsUntaken, IsFedWhole, IsFedInPart}
+use Rattle.audit_server.specs.Feeding.{session_view, IsLive, place_after, IsPart, IsWholeFeed, IsSpoiled, IsUntaken, IsFedWhole, IsFedInPart}
 use Rattle.audit_server.proofs.Sound.{entered_sound, arrival_not_broken, request_not_broken}
 use Rattle.audit_server.proofs.Runs.{run_none, run_more, run_as, run_refused}
 use Rattle.audit_server.proofs.Fronts.{no_request, StaysPart, front_more, EndsFrame, GoesBack, front_undone}
 
 -- ---- a live session by its decoder
 
-pub record Shows (progress : Progress) (ended : Bool) (session : SessionData) : Type 0 where
+pub record Shows (progress : DecoderProgress) (ended : Bool) (session : SessionData) : Type 0 where
   pub view : session_view progress ended ≡ session
   pub live : session.ended ≡ false
   pub inside : IsLive progress ended
 
-not_ended : {progress : Progress} {ended : Bool} {session : SessionData} → Shows progress ended session → ended ≡ false
+not_ended : {progress : DecoderProgress} {ended : Bool} {session : SessionData} → Shows progress ended session → ended ≡ false
 not_ended shows = ap (λ (s : SessionData). s.ended) shows.view ∙ shows.live
 
-pub unspoiled : {progress : Progress} {ended : Bool} {session : SessionData} → Shows progress ended session → is_spoiled progress ≡ false
+pub unspoiled : {progress : DecoderProgress} {ended : Bool} {session : SessionData} → Shows progress ended session → is_spoiled progress ≡ false
 unspoiled shows = shows.inside (not_ended shows)
 
-rest_shown : (progress : Progress) (ended : Bool) → ended ≡ false → (session_view progress ended).rest ≡ rest_of progress
+rest_shown : (progress : DecoderProgress) (ended : Bool) → ended ≡ false → (session_view progress ended).rest ≡ rest_of progress
 rest_shown progress ended is = ap (λ (b : Bool). if b then [] else rest_of progress) is
 
-rest_is : {progress : Progress} {ended : Bool} {session : SessionData} → Shows progress ended session → session.rest ≡ rest_of progress
+rest_is : {progress : DecoderProgress} {ended : Bool} {session : SessionData} → Shows progress ended session → session.rest ≡ rest_of progress
 rest_is {progress = progress} {ended = ended} shows = ap (λ (s : SessionData). s.rest) (sym shows.view) ∙ rest_shown progress ended (not_ended shows)
 
-framed_by : (progress : Progress) (ended : Bool) (bytes : List ℕ) → ended ≡ false → framed_after (session_view progress ended) bytes ≡ framed_requests (rest_of progress ++ bytes)
+framed_by : (progress : DecoderProgress) (ended : Bool) (bytes : List ℕ) → ended ≡ false → framed_after (session_view progress ended) bytes ≡ framed_requests (rest_of progress ++ bytes)
 framed_by progress ended bytes is = ap (λ (rest : List ℕ). framed_requests (rest ++ bytes)) (rest_shown progress ended is)
 
-framed_shown : {progress : Progress} {ended : Bool} {session : SessionData} (bytes : List ℕ) → Shows progress ended session → framed_after session bytes ≡ framed_requests (rest_of progress ++ bytes)
+framed_shown : {progress : DecoderProgress} {ended : Bool} {session : SessionData} (bytes : List ℕ) → Shows progress ended session → framed_after session bytes ≡ framed_requests (rest_of progress ++ bytes)
 framed_shown {progress = progress} {ended = ended} bytes shows = ap (λ (s : SessionData). framed_after s bytes) (sym shows.view) ∙ framed_by progress ended bytes (not_ended shows)
 
 -- ---- the front of a piece
@@ -61,13 +61,13 @@ part_more (fed.Malformed taken) is = absurd (cc is)
 none_some : {P : Type 0} (request : Request) → None ≡ Some request → P
 none_some request is = absurd (cc is)
 
-pub not_spoiled : (progress : Progress) (request : Request) → request_in (body_of progress) ≡ Some request → is_spoiled progress ≡ false
+pub not_spoiled : (progress : DecoderProgress) (request : Request) → request_in (body_of progress) ≡ Some request → is_spoiled progress ≡ false
 not_spoiled (reading held) request is = refl
 not_spoiled (whole body) request is = refl
 not_spoiled (malformed held) request is = none_some request (sym no_request ∙ is)
 not_spoiled closed request is = none_some request (sym no_request ∙ is)
 
-arrivals_first : (k : ℕ) (read : Option Request) → arrivals_in k (read_first read (begun [])) ≡ arrival_by k read ∷ []
+arrivals_first : (k : ℕ) (read : Option Request) → arrivals_in k (read_first read (rest_alone [])) ≡ arrival_by k read ∷ []
 arrivals_first k (Some request) = refl
 arrivals_first k None = refl
 
@@ -106,22 +106,22 @@ some_rest k (byte ∷ rest) some = refl
 by_end : (k : ℕ) (session : SessionData) → session.ended ≡ false → arrivals_by_end k session ≡ arrivals_of_rest k session.rest
 by_end k session live = ap (λ (b : Bool). if b then [] else arrivals_of_rest k session.rest) live
 
-begun_arrives : {progress : Progress} {ended : Bool} {session : SessionData} (k : ℕ) → Shows progress ended session → rest_of progress ≢ [] → arrivals_by_end k session ≡ malformed_from k ∷ []
+begun_arrives : {progress : DecoderProgress} {ended : Bool} {session : SessionData} (k : ℕ) → Shows progress ended session → rest_of progress ≢ [] → arrivals_by_end k session ≡ malformed_from k ∷ []
 begun_arrives {progress = progress} {session = session} k shows some = by_end k session shows.live ∙ ap (arrivals_of_rest k) (rest_is shows) ∙ some_rest k (rest_of progress) some
 
 module _ {D : Type 0} {g : sectors.Ghosts D} where
-  pub part_done : {old : Progress} {ended : Bool} {session : SessionData} (new : Progress) (piece : List ℕ) (answer : Fed) (committer : Committer D g) → Shows old ended session → IsFed old piece answer new → place_after answer ≡ None
+  pub part_done : {old : DecoderProgress} {ended : Bool} {session : SessionData} (new : DecoderProgress) (piece : List ℕ) (answer : Fed) (committer : Committer D g) → Shows old ended session → IsDecoderFed old piece answer new → place_after answer ≡ None
       → IsPart piece session (session_view new ended) committer committer
   part_done {old = old} {ended = ended} new piece answer committer shows h is =
-      let part : StaysPart old new piece = front_more old new piece (unspoiled shows) (subst (λ (a : Fed). IsFed old piece a new) (part_more answer is) h) in
+      let part : StaysPart old new piece = front_more old new piece (unspoiled shows) (subst (λ (a : Fed). IsDecoderFed old piece a new) (part_more answer is) h) in
       record {
         live = not_ended shows;
-        framed = framed_shown piece shows ∙ part.framed ∙ ap begun (sym (rest_shown new ended (not_ended shows)));
+        framed = framed_shown piece shows ∙ part.framed ∙ ap rest_alone (sym (rest_shown new ended (not_ended shows)));
         same = refl;
       }
 
-  pub whole_done : {old : Progress} {ended : Bool} {session : SessionData} (k : ℕ) (new : Progress) (piece : List ℕ) (taken : ℕ) (before after : Committer D g) (request : Request) → Shows old ended session → EndsFrame old new piece taken
-      → request_in (body_of new) ≡ Some request → Enters (arrival_of k request) before after (Ok tt) → IsWhole k piece taken session (session_view new ended) before after
+  pub whole_done : {old : DecoderProgress} {ended : Bool} {session : SessionData} (k : ℕ) (new : DecoderProgress) (piece : List ℕ) (taken : ℕ) (before after : Committer D g) (request : Request) → Shows old ended session → EndsFrame old new piece taken
+      → request_in (body_of new) ≡ Some request → Enters (arrival_of k request) before after (Ok tt) → IsWholeFeed k piece taken session (session_view new ended) before after
   whole_done {old = old} {ended = ended} k new piece taken before after request shows ends is enters = record {
     some = ends.some;
     within = ends.within;
@@ -136,7 +136,7 @@ module _ {D : Type 0} {g : sectors.Ghosts D} where
     enters = enters;
   }
 
-  pub spoiled_done : {old : Progress} {ended : Bool} {session : SessionData} (k : ℕ) (new : Progress) (piece : List ℕ) (taken : ℕ) (before after : Committer D g) → Shows old ended session → EndsFrame old new piece taken
+  pub spoiled_done : {old : DecoderProgress} {ended : Bool} {session : SessionData} (k : ℕ) (new : DecoderProgress) (piece : List ℕ) (taken : ℕ) (before after : Committer D g) → Shows old ended session → EndsFrame old new piece taken
       → request_in (body_of new) ≡ None → Enters (malformed_from k) before after (Ok tt) → IsSpoiled k piece session ended_session before after
   spoiled_done {session = session} k new piece taken before after shows ends is enters = record {
     ended = refl;
@@ -148,8 +148,8 @@ module _ {D : Type 0} {g : sectors.Ghosts D} where
     enters = enters;
   }
 
-  pub untaken_done : {old : Progress} {ended : Bool} {session : SessionData} (k : ℕ) (mid new : Progress) (piece : List ℕ) (answer : Fed) (taken : ℕ) (before after : Committer D g) (error : StoreError) → Shows old ended session → EndsFrame old mid piece taken
-      → IsFed old piece answer mid → place_after answer ≡ Some taken → PutsBack mid new → Enters (arrival_by k (request_in (body_of mid))) before after (Err error)
+  pub untaken_done : {old : DecoderProgress} {ended : Bool} {session : SessionData} (k : ℕ) (mid new : DecoderProgress) (piece : List ℕ) (answer : Fed) (taken : ℕ) (before after : Committer D g) (error : StoreError) → Shows old ended session → EndsFrame old mid piece taken
+      → IsDecoderFed old piece answer mid → place_after answer ≡ Some taken → PutsBack mid new → Enters (arrival_by k (request_in (body_of mid))) before after (Err error)
       → IsUntaken k piece (record { taken = taken - 1; error = error }) session (session_view new ended) before after
   untaken_done {old = old} {ended = ended} {session = session} k mid new piece answer taken before after error shows ends h is back enters =
       let undone : GoesBack old new piece taken = front_undone old mid new piece answer taken (unspoiled shows) h is ends.just back in
@@ -162,7 +162,7 @@ module _ {D : Type 0} {g : sectors.Ghosts D} where
             framed_by new ended [] (not_ended shows)
             ∙ ap framed_requests (append-nil (rest_of new))
             ∙ undone.partial
-            ∙ ap begun (sym (rest_shown new ended (not_ended shows)));
+            ∙ ap rest_alone (sym (rest_shown new ended (not_ended shows)));
         arrival = arrival_by k (request_in (body_of mid));
         next =
             ap (λ (n : ℕ). arrivals_by_piece k (take n piece) session) one_more
@@ -197,10 +197,10 @@ module _ {D : Type 0} {g : sectors.Ghosts D} where
     pub fed_part : IsPart (drop taken piece) now new mid after → IsFedWhole k piece old new before after
     fed_part part = record {
       session =
-          sym (with_live piece old fed.was_live ∙ ap session_after (all_framed (begun new.rest) part.framed) ∙ ap (λ (b : Bool). record { rest = new.rest; ended = b }) (sym part.live));
+          sym (with_live piece old fed.was_live ∙ ap session_after (all_framed (rest_alone new.rest) part.framed) ∙ ap (λ (b : Bool). record { rest = new.rest; ended = b }) (sym part.live));
       run =
           subst (λ (c : Committer D g). Run (arrivals_by_piece k piece old) before c) (sym part.same)
-          (run_as (sym (all_arrivals (begun new.rest) part.framed ∙ append-nil (map (arrival_of k) fed.items))) fed.run);
+          (run_as (sym (all_arrivals (rest_alone new.rest) part.framed ∙ append-nil (map (arrival_of k) fed.items))) fed.run);
     }
 
     pub fed_spoiled : IsSpoiled k (drop taken piece) now new mid after → IsFedWhole k piece old new before after
@@ -209,7 +209,7 @@ module _ {D : Type 0} {g : sectors.Ghosts D} where
       run = run_as (sym (all_arrivals spoiled bad.framed)) (run_more (malformed_from k) fed.run bad.enters);
     }
 
-    pub fed_more : (more : ℕ) → IsWhole k (drop taken piece) more now new mid after → HasFed k piece (taken + more) old new before after
+    pub fed_more : (more : ℕ) → IsWholeFeed k (drop taken piece) more now new mid after → HasFed k piece (taken + more) old new before after
     fed_more more front = record {
       within = omega (arith, fed.within, front.within, length-drop taken piece);
       was_live = fed.was_live;
@@ -230,14 +230,14 @@ module _ {D : Type 0} {g : sectors.Ghosts D} where
     fed_err fault untaken =
         let first : ℕ = fault.taken in
         let rest : List ℕ = drop taken piece in
-        let framed : framed_after old (take (taken + first) piece) ≡ all_in_front fed.items (begun new.rest) =
+        let framed : framed_after old (take (taken + first) piece) ≡ all_in_front fed.items (rest_alone new.rest) =
         ap (framed_after old) (take-add taken first piece ∙ ap (λ (bytes : List ℕ). take taken piece ++ bytes) (sym (append-nil (take first rest))))
         ∙ fed.ahead (take first rest ++ [])
         ∙ ap (all_in_front fed.items) (untaken.framed [] ∙ untaken.partial) in
         let arrivals : arrivals_by_piece k (take (taken + first) piece) old ≡ map (arrival_of k) fed.items =
         by_piece k (take (taken + first) piece) old fed.was_live
         ∙ ap (arrivals_in k) framed
-        ∙ arrivals_all k fed.items (begun new.rest)
+        ∙ arrivals_all k fed.items (rest_alone new.rest)
         ∙ append-nil (map (arrival_of k) fed.items) in
         let one_more : 1 + (taken + first) ≡ taken + (1 + first) = omega (arith) in
         record {
@@ -286,11 +286,11 @@ module _ {D : Type 0} {g : sectors.Ghosts D} where
   pub end_ended : (k : ℕ) (session : SessionData) (committer : Committer D g) → session.ended ≡ true → Run (arrivals_by_end k session) committer committer
   end_ended k session committer ended = run_as (sym (ap (λ (b : Bool). if b then [] else arrivals_of_rest k session.rest) ended)) (run_none committer)
 
-  pub end_idle : {progress : Progress} {ended : Bool} {session : SessionData} (k : ℕ) (committer : Committer D g) → Shows progress ended session → (rest_of progress ≢ [] → ⊥) → Run (arrivals_by_end k session) committer committer
+  pub end_idle : {progress : DecoderProgress} {ended : Bool} {session : SessionData} (k : ℕ) (committer : Committer D g) → Shows progress ended session → (rest_of progress ≢ [] → ⊥) → Run (arrivals_by_end k session) committer committer
   end_idle {progress = progress} {ended = ended} {session = session} k committer shows none =
       run_as (sym (by_end k session shows.live ∙ ap (arrivals_of_rest k) (rest_is shows) ∙ no_rest k (rest_of progress) none)) (run_none committer)
 
-  pub end_begun : {progress : Progress} {ended : Bool} {session : SessionData} (k : ℕ) (before after : Committer D g) (result : Result (Unit {0}) StoreError) → Shows progress ended session → rest_of progress ≢ [] → is_broken (store_of before) ≡ false
+  pub end_begun : {progress : DecoderProgress} {ended : Bool} {session : SessionData} (k : ℕ) (before after : Committer D g) (result : Result (Unit {0}) StoreError) → Shows progress ended session → rest_of progress ≢ [] → is_broken (store_of before) ≡ false
       → Enters (malformed_from k) before after result → IsArrivalEnd (malformed_from k) before after result → IsFrameEnd k session before after result
   end_begun {progress = progress} {session = session} k before after (Ok done) shows some sound enters end =
       run_as (sym (begun_arrives k shows some)) (run_more (malformed_from k) (run_none before) enters)

@@ -1,28 +1,28 @@
 -- What a refusal says of a store, whatever the device.
 use Rattle.std.proofs.Common.{◌≡◌, ◌∙◌, inl, inr, ℕ, ◌≤◌, Bool, true, false, Result, Ok, Err, List, [], ◌∷◌, refl, sym, ap, subst, arith}
 use Rattle.std.specs.Prelude.{IfErr}
-use Rattle.audit_device.specs.declared.sectors.Sectors as sectors
+use Rattle.audit_disk_model.specs.declared.sectors.Sectors as sectors
 use Rattle.audit_chain.specs.Event.{EventData}
-use Rattle.audit_queue.specs.declared.commit_outcome.CommitOutcome.{CommitOutcome}
-use Rattle.audit_queue.specs.declared.commit_outcome.CommitOutcome.TheVariants.{Committed, Worn}
-use Rattle.audit_queue.specs.declared.question.Question.{Question}
-use Rattle.audit_queue.specs.Arrivals.{Arrival, forces_flush}
+use Rattle.audit_server_queue.specs.declared.commit_outcome.CommitOutcome.{CommitOutcome}
+use Rattle.audit_server_queue.specs.declared.commit_outcome.CommitOutcome.TheVariants.{Committed, Worn}
+use Rattle.audit_server_queue.specs.declared.question.Question.{Question}
+use Rattle.audit_server_queue.specs.Arrivals.{Arrival, forces_flush}
 use Rattle.audit_store.specs.Store.{device, is_broken}
 use Rattle.audit_store.specs.declared.store.Store.{Store}
 use Rattle.audit_store.specs.declared.store_error.StoreError.{StoreError}
 use Rattle.audit_store.specs.declared.store_error.StoreError.TheVariants.{NotAStore, DamagedHeader, HeadersDisagree, DamagedLog, BatchTooLarge, Full, NoSuchVersion, Worn as NoGeneration, Broken, Device, Memory, Closed, BadSize, ReservedKind}
-use Rattle.audit_commit.specs.declared.committer.Committer.{Committer}
-use Rattle.audit_commit.specs.Committing.{IsCommitEnd}
-use Rattle.audit_commit.specs.Flush.{IsFlushed, IsFlushEnd}
-use Rattle.audit_commit.specs.Committer.{store_of, waiting_of}
-use Rattle.audit_commit.specs.Entering.{IsReady, HasEntered, IsArrivalEnd}
-use Rattle.audit_run.specs.Serving.{IsRefusedAs}
-use Rattle.audit_run.proofs.Serving.{refused_then}
+use Rattle.audit_server_commit.specs.declared.committer.Committer.{Committer}
+use Rattle.audit_server_commit.specs.Committing.{IsCommitEnd}
+use Rattle.audit_server_commit.specs.Flush.{IsFlushed, FlushOutcome}
+use Rattle.audit_server_commit.specs.Committer.{store_of, waiting_of}
+use Rattle.audit_server_commit.specs.Entering.{IsReady, HasEntered, IsArrivalEnd}
+use Rattle.audit_server_model.specs.Serving.{IsRefusedAs}
+use Rattle.audit_server_model.proofs.Serving.{refused_then}
 use Rattle.audit_server.specs.declared.feed_fault.FeedFault.{FeedFault}
 use Rattle.audit_server.specs.declared.server_core.Core.{Core}
 use Rattle.audit_server.specs.Running.{HaveEntered}
 use Rattle.audit_server.specs.Entering.{IsRequestEnd}
-use Rattle.audit_server.specs.Core.{committer_of, IsSound, Refuses, IsPieceEnd, IsEndEnd}
+use Rattle.audit_server.specs.Core.{committer_of, IsSound, Refuses, PieceOutcome, EndOutcome}
 use Rattle.audit_server.proofs.Sound.{IsUnbroken, flushed_sound, ready_sound, all_sound}
 
 module _ {D : Type 0} {g : sectors.Ghosts D} where
@@ -55,7 +55,7 @@ module _ {D : Type 0} {g : sectors.Ghosts D} where
   abbrev IsRefusedOf : StoreError → Committer D g → Committer D g → Type 0
   IsRefusedOf error old new = IsRefusedAs error (store_of old) (store_of new)
 
-  flush_refused : (old new : Committer D g) (error : StoreError) → IsFlushEnd old new (Err error) → IsUnbroken old → IsRefusedOf error old new
+  flush_refused : (old new : Committer D g) (error : StoreError) → FlushOutcome old new (Err error) → IsUnbroken old → IsRefusedOf error old new
   flush_refused old new Broken end sound = let broken : true ≡ false = sym end.0 ∙ sound in absurd (cc broken)
   flush_refused old new Device end sound = inr (inl (refl, record { sound = sound; broken = end.lost.broken; failures = end.lost.failures }))
   flush_refused old new Memory (inl kept) sound = inr (inr (refl, kept.sound ∙ sym sound))
@@ -88,7 +88,7 @@ module _ {D : Type 0} {g : sectors.Ghosts D} where
 
   -- ---- refusals of a core
 
-  pub piece_refused : (k : ℕ) (piece : List ℕ) (old new : Core D g) (result : Result (Unit {0}) FeedFault) → IsPieceEnd k piece old new result → IsSound old → IfErr result (λ fault. Refuses old new fault.error)
+  pub piece_refused : (k : ℕ) (piece : List ℕ) (old new : Core D g) (result : Result (Unit {0}) FeedFault) → PieceOutcome k piece old new result → IsSound old → IfErr result (λ fault. Refuses old new fault.error)
   piece_refused k piece old new (Ok done) end sound = tt
   piece_refused k piece old new (Err fault) end sound =
       let mid = end.fed.mid in
@@ -96,10 +96,10 @@ module _ {D : Type 0} {g : sectors.Ghosts D} where
       refused_then fault.error (store_of (committer_of old)) (store_of mid) (store_of (committer_of new)) sound still (all_count _ (committer_of old) mid end.fed.entered)
       (request_refused end.fed.arrival mid (committer_of new) fault.error end.fed.end still)
 
-  pub end_refused : (k : ℕ) (old new : Core D g) (result : Result (Unit {0}) StoreError) → IsEndEnd k old new result → IsSound old → IfErr result (Refuses old new)
+  pub end_refused : (k : ℕ) (old new : Core D g) (result : Result (Unit {0}) StoreError) → EndOutcome k old new result → IsSound old → IfErr result (Refuses old new)
   end_refused k old new (Ok done) end sound = tt
   end_refused k old new (Err error) end sound = arrival_refused _ (committer_of old) (committer_of new) error end.ended.frame.end sound
 
-  pub flush_refused_as : (old new : Committer D g) (result : Result (Unit {0}) StoreError) → IsFlushEnd old new result → IsUnbroken old → IfErr result (λ error. IsRefusedOf error old new)
+  pub flush_refused_as : (old new : Committer D g) (result : Result (Unit {0}) StoreError) → FlushOutcome old new result → IsUnbroken old → IfErr result (λ error. IsRefusedOf error old new)
   flush_refused_as old new (Ok done) end sound = tt
   flush_refused_as old new (Err error) end sound = flush_refused old new error end sound

@@ -1,24 +1,24 @@
 -- What calls leave of the outputs, whatever the device; and a fault of the device in one of them.
 use Rattle.std.proofs.Common.{◌≡◌, ◌∙◌, inl, inr, ℕ, Bool, true, false, Result, Ok, Err, List, [], ◌∷◌, ◌++◌, refl, sym, ap, subst}
 use Rattle.std.specs.Prelude.{IfErr, IsErrOf}
-use Rattle.audit_device.specs.declared.sectors.Sectors as sectors
-use Rattle.audit_queue.specs.Arrivals.{Arrival, forces_flush}
-use Rattle.audit_queue.specs.Replies.{all_delivered, append_replies}
-use Rattle.audit_queue.specs.Admission.{admission}
-use Rattle.audit_queue.proofs.Sending.{all_delivered-append}
-use Rattle.audit_queue.specs.declared.question.Question.{Question}
-use Rattle.audit_store.specs.Store.{counting}
+use Rattle.audit_disk_model.specs.declared.sectors.Sectors as sectors
+use Rattle.audit_server_queue.specs.Arrivals.{Arrival, forces_flush}
+use Rattle.audit_server_queue.specs.Replies.{all_delivered, append_replies}
+use Rattle.audit_server_queue.specs.Admission.{append_verdicts}
+use Rattle.audit_server_queue.proofs.Sending.{all_delivered-append}
+use Rattle.audit_server_queue.specs.declared.question.Question.{Question}
+use Rattle.audit_store.specs.Store.{active_header}
 use Rattle.audit_store.specs.declared.store_error.StoreError.{StoreError}
 use Rattle.audit_store.specs.declared.store_error.StoreError.TheVariants.{Device, Memory}
-use Rattle.audit_commit.specs.declared.committer.Committer.{Committer}
-use Rattle.audit_commit.specs.Flush.{IsDropped, IsFlushed, IsFlushEnd}
-use Rattle.audit_commit.specs.Committer.{store_of, waiting_of, outputs_of, free_of, closed_of}
-use Rattle.audit_commit.specs.Entering.{IsReady, HasEntered, IsArrivalEnd}
+use Rattle.audit_server_commit.specs.declared.committer.Committer.{Committer}
+use Rattle.audit_server_commit.specs.Flush.{IsDropped, IsFlushed, FlushOutcome}
+use Rattle.audit_server_commit.specs.Committer.{store_of, waiting_of, outputs_of, free_of, closed_of}
+use Rattle.audit_server_commit.specs.Entering.{IsReady, HasEntered, IsArrivalEnd}
 use Rattle.audit_server.specs.declared.feed_fault.FeedFault.{FeedFault}
 use Rattle.audit_server.specs.declared.server_core.Core.{Core}
 use Rattle.audit_server.specs.Running.{HaveEntered, AddsReplies, IsBrokenByDevice}
 use Rattle.audit_server.specs.Entering.{IsRequestEnd}
-use Rattle.audit_server.specs.Core.{committer_of, IsPieceEnd, IsEndEnd}
+use Rattle.audit_server.specs.Core.{committer_of, PieceOutcome, EndOutcome}
 
 module _ {D : Type 0} {g : sectors.Ghosts D} where
   -- ---- whole replies
@@ -31,7 +31,7 @@ module _ {D : Type 0} {g : sectors.Ghosts D} where
 
   pub flush_adds : (old new : Committer D g) (rest : List Question) → IsFlushed old new rest → AddsReplies old new
   flush_adds old new rest flushed =
-      let replies = append_replies flushed.appends.outcome (counting (store_of old)).count (admission (closed_of old) (free_of old) (waiting_of old).appends) (waiting_of old).appends in (
+      let replies = append_replies flushed.appends.outcome (active_header (store_of old)).count (append_verdicts (closed_of old) (free_of old) (waiting_of old).appends) (waiting_of old).appends in (
         replies ++ flushed.questions.sent,
         flushed.questions.outputs_are
             ∙ ap (λ outputs. all_delivered outputs flushed.questions.sent) flushed.appends.outputs_are
@@ -78,14 +78,14 @@ module _ {D : Type 0} {g : sectors.Ghosts D} where
     | inr memory ↦ let other : Memory ≡ Device = sym memory.0 ∙ is in absurd (cc other)
   ]
 
-  pub piece_broken : (k : ℕ) (piece : List ℕ) (old new : Core D g) (result : Result (Unit {0}) FeedFault) → IsPieceEnd k piece old new result → IfErr result (λ fault. fault.error ≡ Device → IsBrokenByDevice (committer_of old) (committer_of new))
+  pub piece_broken : (k : ℕ) (piece : List ℕ) (old new : Core D g) (result : Result (Unit {0}) FeedFault) → PieceOutcome k piece old new result → IfErr result (λ fault. fault.error ≡ Device → IsBrokenByDevice (committer_of old) (committer_of new))
   piece_broken k piece old new (Ok done) end = tt
   piece_broken k piece old new (Err fault) end = λ is.
       broken_after (committer_of old) end.fed.mid (committer_of new) (all_add _ (committer_of old) end.fed.mid end.fed.entered) (request_broken end.fed.arrival end.fed.mid (committer_of new) fault.error end.fed.end is)
 
-  pub end_broken : (k : ℕ) (old new : Core D g) (result : Result (Unit {0}) StoreError) → IsEndEnd k old new result → IsErrOf result Device → IsBrokenByDevice (committer_of old) (committer_of new)
+  pub end_broken : (k : ℕ) (old new : Core D g) (result : Result (Unit {0}) StoreError) → EndOutcome k old new result → IsErrOf result Device → IsBrokenByDevice (committer_of old) (committer_of new)
   end_broken k old new (Ok done) end is = absurd (cc is)
   end_broken k old new (Err error) end is = arrival_broken _ (committer_of old) (committer_of new) error end.ended.frame.end (cc is)
 
-  pub flush_broken : (old new : Committer D g) (result : Result (Unit {0}) StoreError) → IsFlushEnd old new result → IsErrOf result Device → IsBrokenByDevice old new
-  flush_broken old new result end is = dropped old new (subst (IsFlushEnd old new) is end)
+  pub flush_broken : (old new : Committer D g) (result : Result (Unit {0}) StoreError) → FlushOutcome old new result → IsErrOf result Device → IsBrokenByDevice old new
+  flush_broken old new result end is = dropped old new (subst (FlushOutcome old new) is end)

@@ -1,23 +1,23 @@
 -- Arrivals in turn.
 use Rattle.std.proofs.Common.{◌≡◌, ◌∙◌, inl, inr, Result, Ok, Err, List, [], ◌∷◌, ◌++◌, refl, sym, ap, subst}
 use Rattle.std.proofs.lemmas.List.{append-nil}
-use Rattle.audit_device.specs.declared.sectors.Sectors as sectors
+use Rattle.audit_disk_model.specs.declared.sectors.Sectors as sectors
 use Rattle.audit_chain.specs.Event.{EventData}
-use Rattle.audit_layout.specs.Origin.{Origin}
-use Rattle.audit_queue.specs.Waiting.{Append}
-use Rattle.audit_queue.specs.GroupCommit.{ServerState}
-use Rattle.audit_queue.specs.Arrivals.{Arrival, appends_among, entered}
+use Rattle.audit_store_images.specs.Origin.{Origin}
+use Rattle.audit_server_queue.specs.Waiting.{Append}
+use Rattle.audit_server_queue.specs.GroupCommit.{ServerState}
+use Rattle.audit_server_queue.specs.Arrivals.{Arrival, appends_among, entered}
 use Rattle.audit_store.specs.Store.{Holds}
 use Rattle.audit_store.specs.declared.store_error.StoreError.{StoreError}
 use Rattle.audit_store.specs.declared.store_error.StoreError.TheVariants.{Memory}
 use Rattle.audit_store.proofs.Held.{held_now}
-use Rattle.audit_commit.specs.declared.committer.Committer.{Committer}
-use Rattle.audit_commit.specs.Committer.{store_of, waiting_of, state_of}
-use Rattle.audit_commit.specs.Durable.{IsDurable}
-use Rattle.audit_commit.specs.Entering.{HasEntered, IsArrivalEnd, IsLeftByFlush, IsEntered}
-use Rattle.audit_commit.proofs.Unchanged.{faultless_first, faultless_next}
-use Rattle.audit_commit.proofs.Durability.{durable_trans, durable_queued}
-use Rattle.audit_run.proofs.Steps.{entered-append, appends-append}
+use Rattle.audit_server_commit.specs.declared.committer.Committer.{Committer}
+use Rattle.audit_server_commit.specs.Committer.{store_of, waiting_of, state_of}
+use Rattle.audit_server_commit.specs.Durable.{IsDurable}
+use Rattle.audit_server_commit.specs.Entering.{HasEntered, IsArrivalEnd, IsLeftByFlush, IsEntered}
+use Rattle.audit_server_commit.proofs.Unchanged.{faultless_first, faultless_next}
+use Rattle.audit_server_commit.proofs.Durability.{durable_trans, durable_queued}
+use Rattle.audit_server_model.proofs.Steps.{entered-append, appends-append}
 use Rattle.audit_server.specs.Running.{HaveEntered, AdvancesBy, IsRefusedAfter, Run}
 use Rattle.audit_server.specs.Entering.{Enters}
 

@@ -1,18 +1,18 @@
 -- A core as a core that serves sessions.
 use Rattle.std.proofs.Common.{◌≡◌, ◌∙◌, Bool, true, false, Result, Ok, Err, OnOk, List, refl, sym, subst}
-use Rattle.audit_device.specs.declared.sectors.Sectors as sectors
-use Rattle.audit_queue.specs.GroupCommit.{ServerState}
-use Rattle.audit_queue.specs.Arrivals.{appends_among}
+use Rattle.audit_disk_model.specs.declared.sectors.Sectors as sectors
+use Rattle.audit_server_queue.specs.GroupCommit.{ServerState}
+use Rattle.audit_server_queue.specs.Arrivals.{appends_among}
 use Rattle.audit_store.specs.Store.{is_broken}
-use Rattle.audit_commit.specs.Committer.{store_of, state_of}
-use Rattle.audit_commit.specs.Durable.{IsDurable}
-use Rattle.audit_sessions.specs.Steps.{StepData}
-use Rattle.audit_sessions.specs.Core.{no_bytes}
-use Rattle.audit_run.specs.Sessions.{arrivals_run}
-use Rattle.audit_run.specs.Serving.{HasServed}
-use Rattle.audit_run.proofs.Serving.{put_back_none}
+use Rattle.audit_server_commit.specs.Committer.{store_of, state_of}
+use Rattle.audit_server_commit.specs.Durable.{IsDurable}
+use Rattle.audit_serve_passes.specs.Steps.{StepData}
+use Rattle.audit_serve_passes.specs.Core.{no_bytes}
+use Rattle.audit_server_model.specs.Sessions.{arrivals_run}
+use Rattle.audit_server_model.specs.Serving.{HasServed}
+use Rattle.audit_server_model.proofs.Serving.{put_back_none}
 use Rattle.audit_server.specs.declared.server_core.Core.{Core}
-use Rattle.audit_server.specs.Core.{committer_of, sessions_of, data_of, is_core_broken, IsSound, IsUntouched, HasDone}
+use Rattle.audit_server.specs.Core.{committer_of, sessions_of, data_of, is_core_broken, IsSound, IsCoreUntouched, HasDone}
 
 refused_ok : {E : Type 0} (unit : Unit {0}) (error : E) → Ok unit ≡ Err error → ⊥
 refused_ok unit error is = absurd (cc is)
@@ -38,7 +38,7 @@ module _ {D : Type 0} {g : sectors.Ghosts D} where
   }
 
   -- a call that succeeded did its step
-  pub did_of : {E : Type 0} (steps : List StepData) (old new : Core D g) (result : Result (Unit {0}) E) (error : E) → (is_core_broken old → (result ≡ Err error) × IsUntouched old new) → (IsSound old → OnOk result (HasDone steps old new))
+  pub did_of : {E : Type 0} (steps : List StepData) (old new : Core D g) (result : Result (Unit {0}) E) (error : E) → (is_core_broken old → (result ≡ Err error) × IsCoreUntouched old new) → (IsSound old → OnOk result (HasDone steps old new))
       → OnOk result (HasServed (data_of old) (data_of new) steps no_bytes)
   did_of steps old new (Err fault) error broken done = tt
   did_of steps old new (Ok unit) error broken done = decide (is_broken (store_of (committer_of old))) refl

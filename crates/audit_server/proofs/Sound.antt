@@ -1,20 +1,20 @@
 -- What enters leaves a store unbroken that was.
 use Rattle.std.proofs.Common.{◌≡◌, ◌≢◌, ◌∙◌, inl, inr, Bool, true, false, Ok, Err, List, [], ◌∷◌, sym, ap, subst}
-use Rattle.audit_device.specs.declared.sectors.Sectors as sectors
+use Rattle.audit_disk_model.specs.declared.sectors.Sectors as sectors
 use Rattle.audit_chain.specs.Event.{EventData}
-use Rattle.audit_queue.specs.declared.commit_outcome.CommitOutcome.{CommitOutcome}
-use Rattle.audit_queue.specs.declared.commit_outcome.CommitOutcome.TheVariants.{Committed, Worn}
-use Rattle.audit_queue.specs.Arrivals.{Arrival, forces_flush}
-use Rattle.audit_queue.specs.declared.question.Question.{Question}
+use Rattle.audit_server_queue.specs.declared.commit_outcome.CommitOutcome.{CommitOutcome}
+use Rattle.audit_server_queue.specs.declared.commit_outcome.CommitOutcome.TheVariants.{Committed, Worn}
+use Rattle.audit_server_queue.specs.Arrivals.{Arrival, forces_flush}
+use Rattle.audit_server_queue.specs.declared.question.Question.{Question}
 use Rattle.audit_store.specs.Store.{is_broken}
 use Rattle.audit_store.specs.declared.store.Store.{Store}
 use Rattle.audit_store.specs.declared.store_error.StoreError.{StoreError}
 use Rattle.audit_store.specs.declared.store_error.StoreError.TheVariants.{Broken, Memory}
-use Rattle.audit_commit.specs.declared.committer.Committer.{Committer}
-use Rattle.audit_commit.specs.Committing.{IsCommitEnd}
-use Rattle.audit_commit.specs.Flush.{IsFlushed}
-use Rattle.audit_commit.specs.Committer.{store_of, waiting_of}
-use Rattle.audit_commit.specs.Entering.{IsReady, HasEntered, IsArrivalEnd}
+use Rattle.audit_server_commit.specs.declared.committer.Committer.{Committer}
+use Rattle.audit_server_commit.specs.Committing.{IsCommitEnd}
+use Rattle.audit_server_commit.specs.Flush.{IsFlushed}
+use Rattle.audit_server_commit.specs.Committer.{store_of, waiting_of}
+use Rattle.audit_server_commit.specs.Entering.{IsReady, HasEntered, IsArrivalEnd}
 use Rattle.audit_server.specs.Running.{HaveEntered}
 use Rattle.audit_server.specs.Entering.{IsRequestEnd}
 

@@ -1,32 +1,32 @@
 -- Steps of a core in turn.
 use Rattle.std.proofs.Common.{◌≡◌, ◌∙◌, ℕ, ◌+◌, ◌<◌, ◌≤◌, Bool, true, false, Result, Ok, Err, OnOk, List, [], ◌∷◌, ◌++◌, length, map, take, drop, get_or, slice_set, arith, refl, sym, ap, subst}
 use Rattle.std.proofs.lemmas.List.{append-nil, map-append, take_more, drop_more, take-append-drop, length-map, length-take-le}
-use Rattle.audit_device.specs.declared.sectors.Sectors as sectors
+use Rattle.audit_disk_model.specs.declared.sectors.Sectors as sectors
 use Rattle.audit_chain.specs.Event.{EventData}
-use Rattle.audit_layout.specs.Origin.{Origin}
-use Rattle.audit_queue.specs.GroupCommit.{group_commit}
-use Rattle.audit_queue.specs.Arrivals.{appends_among}
+use Rattle.audit_store_images.specs.Origin.{Origin}
+use Rattle.audit_server_queue.specs.GroupCommit.{group_commit}
+use Rattle.audit_server_queue.specs.Arrivals.{appends_among}
 use Rattle.audit_store.specs.Store.{is_broken, Holds}
 use Rattle.audit_store.specs.declared.store_error.StoreError.{StoreError}
 use Rattle.audit_store.specs.declared.store_error.StoreError.TheVariants.{Broken, Device}
-use Rattle.audit_commit.specs.declared.committer.Committer.{Committer}
-use Rattle.audit_commit.specs.Committer.{store_of}
-use Rattle.audit_commit.specs.Flush.{IsFlushEnd, IsFlush}
-use Rattle.audit_sessions.specs.Steps.{StepData, a_piece, an_end, a_flush}
+use Rattle.audit_server_commit.specs.declared.committer.Committer.{Committer}
+use Rattle.audit_server_commit.specs.Committer.{store_of}
+use Rattle.audit_server_commit.specs.Flush.{FlushOutcome, IsFlush}
+use Rattle.audit_serve_passes.specs.Steps.{StepData, a_piece, an_end, a_flush}
 use Rattle.audit_server.specs.declared.feed_fault.FeedFault.{FeedFault}
 use Rattle.audit_server.specs.declared.server_core.Core.{Core}
-use Rattle.audit_run.specs.Sessions.{SessionData, sessions_after, arrivals_by, state_after, sessions_run, arrivals_run, session_run}
-use Rattle.audit_run.specs.Serving.{IsRefusedAs}
-use Rattle.audit_run.proofs.Serving.{refused_then}
+use Rattle.audit_server_model.specs.Sessions.{SessionData, sessions_after, arrivals_by, state_after, sessions_run, arrivals_run, session_run}
+use Rattle.audit_server_model.specs.Serving.{IsRefusedAs}
+use Rattle.audit_server_model.proofs.Serving.{refused_then}
 use Rattle.audit_server.specs.Running.{AddsReplies, IsBrokenByDevice, AdvancesBy}
-use Rattle.audit_server.specs.Core.{committer_of, sessions_of, is_core_broken, IsSound, IsUntouched, Refuses, IsPieceEnd, IsEndEnd, HasDone}
+use Rattle.audit_server.specs.Core.{committer_of, sessions_of, is_core_broken, IsSound, IsCoreUntouched, Refuses, PieceOutcome, EndOutcome, HasDone}
 use Rattle.audit_server.specs.declared.step.Step.{Step}
 use Rattle.audit_server.specs.declared.drive_fault.DriveFault.{DriveFault}
 use Rattle.audit_server.specs.Driving.{step_data, IsStepRefused, IsDriveStopped}
 use Rattle.audit_server.proofs.Sound.{flushed_sound, all_sound}
 use Rattle.audit_server.proofs.Refusals.{failures_of, flushed_counts, all_count}
 use Rattle.audit_server.proofs.Replies.{adds_none, adds_more, flush_adds, all_add, broken_after}
-use Rattle.audit_run.proofs.Steps.{appends-append, sessions-append, arrivals-append, run-append}
+use Rattle.audit_server_model.proofs.Steps.{appends-append, sessions-append, arrivals-append, run-append}
 use Rattle.audit_server.proofs.Runs.{advances_none, advances_more, advances_as}
 
 abbrev refusal_of : FeedFault → Result (Unit {0}) FeedFault
@@ -49,13 +49,13 @@ module _ {D : Type 0} {g : sectors.Ghosts D} where
     advances = advances_as (ap appends_among (sym (append-nil (arrivals_by step (sessions_of old))))) (λ origin state. refl) advances;
   }
 
-  pub piece_done : (k : ℕ) (piece : List ℕ) (old new : Core D g) (result : Result (Unit {0}) FeedFault) → IsPieceEnd k piece old new result → IsSound old → OnOk result (HasDone (a_piece k piece ∷ []) old new)
+  pub piece_done : (k : ℕ) (piece : List ℕ) (old new : Core D g) (result : Result (Unit {0}) FeedFault) → PieceOutcome k piece old new result → IsSound old → OnOk result (HasDone (a_piece k piece ∷ []) old new)
   piece_done k piece old new (Err fault) end sound = tt
   piece_done k piece old new (Ok done) end sound =
       one_step (a_piece k piece) old new (end.only ∙ ap (slice_set (sessions_of old) k) end.fed.session) (all_sound _ (committer_of old) (committer_of new) end.fed.run.entered sound)
       (all_count _ (committer_of old) (committer_of new) end.fed.run.entered) (all_add _ (committer_of old) (committer_of new) end.fed.run.entered) end.fed.run.advances
 
-  pub end_done : (k : ℕ) (old new : Core D g) (result : Result (Unit {0}) StoreError) → IsEndEnd k old new result → IsSound old → OnOk result (HasDone (an_end k ∷ []) old new)
+  pub end_done : (k : ℕ) (old new : Core D g) (result : Result (Unit {0}) StoreError) → EndOutcome k old new result → IsSound old → OnOk result (HasDone (an_end k ∷ []) old new)
   end_done k old new (Err error) end sound = tt
   end_done k old new (Ok done) end sound =
       one_step (an_end k) old new (end.only ∙ ap (slice_set (sessions_of old) k) end.ended.session) (all_sound _ (committer_of old) (committer_of new) end.ended.frame.entered sound)
@@ -67,7 +67,7 @@ module _ {D : Type 0} {g : sectors.Ghosts D} where
       let one = flush origin events holds in
       (one.0, record { durable = one.1.durable; unbroken = one.1.unbroken; done = one.1.done })
 
-  pub flush_done : (old new : Core D g) (result : Result (Unit {0}) StoreError) → sessions_of new ≡ sessions_of old → IsFlushEnd (committer_of old) (committer_of new) result
+  pub flush_done : (old new : Core D g) (result : Result (Unit {0}) StoreError) → sessions_of new ≡ sessions_of old → FlushOutcome (committer_of old) (committer_of new) result
       → ((origin : Origin) (events : List EventData) → Holds (store_of (committer_of old)) origin events → (after : List EventData) × IsFlush origin (committer_of old) (committer_of new) events after result) → IsSound old → OnOk result (HasDone (a_flush ∷ []) old new)
   flush_done old new (Err error) sessions end flush sound = tt
   flush_done old new (Ok done) sessions end flush sound =
@@ -101,7 +101,7 @@ module _ {D : Type 0} {g : sectors.Ghosts D} where
 
   -- all steps before a place were done, and none by a broken core
   pub record DoneTo (steps : List Step) (number : ℕ) (old now : Core D g) : Type 0 where
-    pub none : is_core_broken old → (number ≡ 0) × IsUntouched old now
+    pub none : is_core_broken old → (number ≡ 0) × IsCoreUntouched old now
     pub done : IsSound old → HasDone (map step_data (take number steps)) old now
 
   pub drive_none : (steps : List Step) (core : Core D g) → DoneTo steps 0 core core
@@ -141,7 +141,7 @@ module _ {D : Type 0} {g : sectors.Ghosts D} where
 
   -- a fault of the device in the step that was refused
   pub drive_broken : {steps : List Step} {number : ℕ} {old now new : Core D g} (fault : FeedFault) → DoneTo steps number old now
-      → (is_core_broken now → (refusal_of fault ≡ refusal_of (record { taken = 0; error = Broken })) × IsUntouched now new) → (fault.error ≡ Device → IsBrokenByDevice (committer_of now) (committer_of new)) → fault.error ≡ Device
+      → (is_core_broken now → (refusal_of fault ≡ refusal_of (record { taken = 0; error = Broken })) × IsCoreUntouched now new) → (fault.error ≡ Device → IsBrokenByDevice (committer_of now) (committer_of new)) → fault.error ≡ Device
       → IsBrokenByDevice (committer_of old) (committer_of new)
   drive_broken {old = old} {now = now} {new = new} fault to refused broken is = decide (is_broken (store_of (committer_of old))) refl
     where
@@ -160,8 +160,8 @@ module _ {D : Type 0} {g : sectors.Ghosts D} where
       decide true broken = subst (λ (c : Committer D g). IsRefusedAs error (store_of c) (store_of (committer_of new))) (to.none broken).1.committer refused
       decide false sound = let done = to.done sound in refused_then error (store_of (committer_of old)) (store_of (committer_of now)) (store_of (committer_of new)) sound done.sound done.failures refused
 
-  pub drive_refused : {steps : List Step} {number : ℕ} {old now new : Core D g} (fault : FeedFault) → DoneTo steps number old now → (is_core_broken now → (refusal_of fault ≡ refusal_of (record { taken = 0; error = Broken })) × IsUntouched now new) → is_core_broken old
-      → (stop_of (record { step = number; taken = fault.taken; error = fault.error }) ≡ stop_of (record { step = 0; taken = 0; error = Broken })) × IsUntouched old new
+  pub drive_refused : {steps : List Step} {number : ℕ} {old now new : Core D g} (fault : FeedFault) → DoneTo steps number old now → (is_core_broken now → (refusal_of fault ≡ refusal_of (record { taken = 0; error = Broken })) × IsCoreUntouched now new) → is_core_broken old
+      → (stop_of (record { step = number; taken = fault.taken; error = fault.error }) ≡ stop_of (record { step = 0; taken = 0; error = Broken })) × IsCoreUntouched old new
   drive_refused {number = number} fault to refused broken =
       let now_refused = refused (still_broken to broken) in
       let is : fault ≡ record { taken = 0; error = Broken } = cc (now_refused.0) in

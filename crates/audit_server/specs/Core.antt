@@ -1,16 +1,16 @@
 -- What contracts see of a core, and what its calls do.
 use Rattle.std.specs.Prelude.{◌≡◌, ℕ, ◌≤◌, true, false, Result, List, slice_set}
-use Rattle.audit_device.specs.declared.sectors.Sectors as sectors
-use Rattle.audit_queue.specs.Arrivals.{appends_among}
+use Rattle.audit_disk_model.specs.declared.sectors.Sectors as sectors
+use Rattle.audit_server_queue.specs.Arrivals.{appends_among}
 use Rattle.audit_store.specs.Store.{device, is_broken}
 use Rattle.audit_store.specs.declared.store_error.StoreError.{StoreError}
-use Rattle.audit_commit.specs.declared.committer.Committer.{Committer}
-use Rattle.audit_commit.specs.Committer.{store_of}
-use Rattle.audit_sessions.specs.Steps.{StepData}
+use Rattle.audit_server_commit.specs.declared.committer.Committer.{Committer}
+use Rattle.audit_server_commit.specs.Committer.{store_of}
+use Rattle.audit_serve_passes.specs.Steps.{StepData}
 use Rattle.audit_server.specs.declared.server_core.Core.{Core}
 use Rattle.audit_server.specs.declared.feed_fault.FeedFault.{FeedFault}
-use Rattle.audit_run.specs.Sessions.{SessionData, session_at, sessions_run, arrivals_run, session_run}
-use Rattle.audit_run.specs.Serving.{CoreData, IsRefusedAs}
+use Rattle.audit_server_model.specs.Sessions.{SessionData, session_at, sessions_run, arrivals_run, session_run}
+use Rattle.audit_server_model.specs.Serving.{CoreData, IsRefusedAs}
 use Rattle.audit_server.specs.Running.{AddsReplies, AdvancesBy}
 use Rattle.audit_server.specs.Feeding.{IsFed}
 use Rattle.audit_server.specs.Ending.{IsEnd}
@@ -40,7 +40,7 @@ module _ {D : Type 0} {g : sectors.Ghosts D} where
   OnlySession k old new = sessions_of new ≡ slice_set (sessions_of old) k (session_of k new)
 
   -- nothing has changed
-  pub record IsUntouched (old new : Core D g) : Type 0 where
+  pub record IsCoreUntouched (old new : Core D g) : Type 0 where
     pub committer : committer_of new ≡ committer_of old
     pub sessions : sessions_of new ≡ sessions_of old
 
@@ -50,11 +50,12 @@ module _ {D : Type 0} {g : sectors.Ghosts D} where
 
   -- ---- a piece, and an end
 
-  pub record IsPieceEnd (k : ℕ) (piece : List ℕ) (old new : Core D g) (result : Result (Unit {0}) FeedFault) : Type 0 where
+  pub record PieceOutcome (k : ℕ) (piece : List ℕ) (old new : Core D g)
+      (result : Result (Unit {0}) FeedFault) : Type 0 where
     pub only : OnlySession k old new
     pub fed : IsFed k piece (session_of k old) (session_of k new) (committer_of old) (committer_of new) result
 
-  pub record IsEndEnd (k : ℕ) (old new : Core D g) (result : Result (Unit {0}) StoreError) : Type 0 where
+  pub record EndOutcome (k : ℕ) (old new : Core D g) (result : Result (Unit {0}) StoreError) : Type 0 where
     pub only : OnlySession k old new
     pub ended : IsEnd k (session_of k old) (session_of k new) (committer_of old) (committer_of new) result
 
@@ -68,4 +69,5 @@ module _ {D : Type 0} {g : sectors.Ghosts D} where
     -- the device's count of failures never falls
     pub failures : (device (store_of (committer_of old))).failures ≤ (device (store_of (committer_of new))).failures
     pub replies : AddsReplies (committer_of old) (committer_of new)
-    pub advances : AdvancesBy (appends_among (arrivals_run steps (sessions_of old))) (λ origin. session_run origin steps (sessions_of old)) (committer_of old) (committer_of new)
+    pub advances : AdvancesBy (appends_among (arrivals_run steps (sessions_of old)))
+        (λ origin. session_run origin steps (sessions_of old)) (committer_of old) (committer_of new)

@@ -1,17 +1,18 @@
 -- A core as a core that serves sessions.
 use Rattle.std.specs.Prelude.{ℕ, Bool, List, [], ◌∷◌, slice_index_or}
 use Rattle.std.proofs.Common.{◌∙◌, sym, ap}
-use Rattle.audit_device.specs.declared.sectors.Sectors as sectors
+use Rattle.audit_disk_model.specs.declared.sectors.Sectors as sectors
 use Rattle.audit_store.specs.declared.store_error.StoreError.{StoreError}
-use Rattle.audit_commit.specs.Committer.{outputs_of}
-use Rattle.audit_sessions.specs.Steps.{StepData}
-use Rattle.audit_sessions.specs.Core.{CoreModel}
+use Rattle.audit_server_commit.specs.Committer.{outputs_of}
+use Rattle.audit_serve_passes.specs.Steps.{StepData}
+use Rattle.audit_serve_passes.specs.Core.{CoreModel}
 use Rattle.audit_server.specs.declared.server_core.Core.{Core}
-use Rattle.audit_run.specs.Sessions.{SessionData, session_at, sessions_run}
+use Rattle.audit_server_model.specs.Sessions.{SessionData, session_at, sessions_run}
 use Rattle.audit_server.specs.Core.{committer_of, sessions_of, data_of, Refuses}
-use Rattle.audit_run.specs.Serving.{HasServed, IsDurablyServed}
-use Rattle.audit_run.proofs.Steps.{sessions-append}
-use Rattle.audit_run.proofs.Serving.{served_none, served_more, served_durably, served_refused, durably_more, stays}
+use Rattle.audit_server_model.specs.Serving.{HasServed, IsDurablyServed}
+use Rattle.audit_server_model.proofs.Steps.{sessions-append}
+use Rattle.audit_server_model.proofs.Serving.{served_none, served_more, served_durably, served_refused, durably_more}
+use Rattle.audit_server_model.proofs.Serving.{stays}
 
 module _ {D : Type 0} {g : sectors.Ghosts D} where
   -- whether a session has ended, once a core has done these steps
@@ -25,20 +26,26 @@ module _ {D : Type 0} {g : sectors.Ghosts D} where
   core_model = record {
     ended = ended_by;
     output = output_of;
-    Did = λ old new. HasServed (data_of old) (data_of new);
-    Reaches = λ old new. IsDurablyServed (data_of old) (data_of new);
+    DidSteps = λ old new. HasServed (data_of old) (data_of new);
+    DidStepsInPart = λ old new. IsDurablyServed (data_of old) (data_of new);
     nothing_done = λ core. served_none (data_of core);
-    more_done = λ old mid new steps later taken more first next. served_more (data_of old) (data_of mid) (data_of new) first next;
+    more_done = λ old mid new steps later taken more first next. served_more (data_of old) (data_of mid)
+        (data_of new) first next;
     ended_by_steps = λ old new steps later taken k did.
         ap (λ (sessions : List SessionData). (session_at k (sessions_run later sessions)).ended) did.sessions
-        ∙ ap (λ (sessions : List SessionData). (session_at k sessions).ended) (sym (sessions-append steps later (sessions_of old)));
+        ∙ ap (λ (sessions : List SessionData). (session_at k sessions).ended)
+        (sym (sessions-append steps later (sessions_of old)));
     ended_alone = λ core steps step k not.
-        ap (λ (sessions : List SessionData). (session_at k sessions).ended) (sessions-append steps (step ∷ []) (sessions_of core))
+        ap (λ (sessions : List SessionData). (session_at k sessions).ended)
+        (sessions-append steps (step ∷ []) (sessions_of core))
         ∙ ap (λ (session : SessionData). session.ended) (stays (sessions_run steps (sessions_of core)) step k not);
-    done_reaches = λ old new steps taken did. served_durably (data_of old) (data_of new) did;
-    reaches_on = λ old mid new steps later taken more first next. durably_more (data_of old) (data_of mid) (data_of new) (served_durably (data_of old) (data_of mid) first) next;
+    done_in_part = λ old new steps taken did. served_durably (data_of old) (data_of new) did;
+    then_in_part = λ old mid new steps later taken more first next. durably_more (data_of old) (data_of mid)
+        (data_of new) (served_durably (data_of old) (data_of mid) first) next;
   }
 
   -- a refusal says it of the steps before it, too
-  pub refuses_after : (old mid new : Core D g) (steps : List StepData) (taken : ℕ → List ℕ) (error : StoreError) → core_model.Did old mid steps taken → Refuses mid new error → Refuses old new error
-  refuses_after old mid new steps taken error did refused = served_refused error (data_of old) (data_of mid) (data_of new) did refused
+  pub refuses_after : (old mid new : Core D g) (steps : List StepData) (taken : ℕ → List ℕ) (error : StoreError)
+      → core_model.DidSteps old mid steps taken → Refuses mid new error → Refuses old new error
+  refuses_after old mid new steps taken error did refused =
+      served_refused error (data_of old) (data_of mid) (data_of new) did refused

@@ -1,21 +1,22 @@
 -- Steps of a core, done in turn.
-use Rattle.std.specs.Prelude.{◌≡◌, ◌<◌, Bool, true, false, if◌then◌else◌, Result, Ok, Err, List, [], ◌∷◌, ◌++◌, length, map, take, drop}
-use Rattle.audit_device.specs.declared.sectors.Sectors as sectors
+use Rattle.std.specs.Prelude.{◌≡◌, ◌<◌, Bool, true, false, if◌then◌else◌, Result, Ok, Err, List, [], ◌∷◌, ◌++◌, length}
+use Rattle.std.specs.Prelude.{map, take, drop}
+use Rattle.audit_disk_model.specs.declared.sectors.Sectors as sectors
 use Rattle.audit_chain.specs.Event.{EventData}
-use Rattle.audit_layout.specs.Origin.{Origin}
+use Rattle.audit_store_images.specs.Origin.{Origin}
 use Rattle.audit_base.specs.declared.limits.TheConstants.{SESSIONS}
 use Rattle.audit_store.specs.Store.{Holds}
 use Rattle.audit_store.specs.declared.store_error.StoreError.{StoreError}
 use Rattle.audit_store.specs.declared.store_error.StoreError.TheVariants.{Broken}
-use Rattle.audit_commit.specs.Committer.{store_of}
-use Rattle.audit_commit.specs.Flush.{IsFlushEnd, IsFlush}
-use Rattle.audit_sessions.specs.Steps.{StepData, a_piece, an_end, a_flush}
+use Rattle.audit_server_commit.specs.Committer.{store_of}
+use Rattle.audit_server_commit.specs.Flush.{FlushOutcome, IsFlush}
+use Rattle.audit_serve_passes.specs.Steps.{StepData, a_piece, an_end, a_flush}
 use Rattle.audit_server.specs.declared.step.Step.{Step}
 use Rattle.audit_server.specs.declared.step.Step.TheVariants.{Feed, End, Flush}
 use Rattle.audit_server.specs.declared.feed_fault.FeedFault.{FeedFault}
 use Rattle.audit_server.specs.declared.drive_fault.DriveFault.{DriveFault}
 use Rattle.audit_server.specs.declared.server_core.Core.{Core}
-use Rattle.audit_server.specs.Core.{committer_of, sessions_of, IsPieceEnd, IsEndEnd, HasDone}
+use Rattle.audit_server.specs.Core.{committer_of, sessions_of, PieceOutcome, EndOutcome, HasDone}
 
 -- what contracts see of a step
 abbrev pub step_data : Step → StepData
@@ -38,7 +39,8 @@ is_of_broken error = false
 
 -- Of a step that was refused: the bytes of its piece that were taken. A core that was broken before does nothing.
 abbrev pub part_done : FeedFault → StepData → List StepData
-part_done fault (a_piece session piece) = if is_of_broken fault.error then [] else a_piece session (take fault.taken piece) ∷ []
+part_done fault (a_piece session piece) = if is_of_broken fault.error then []
+    else a_piece session (take fault.taken piece) ∷ []
 part_done fault (an_end session) = []
 part_done fault a_flush = []
 
@@ -59,7 +61,8 @@ next_done fault (step ∷ later) = part_done fault step
 
 abbrev pub steps_done : List StepData → Result (Unit {0}) DriveFault → List StepData
 steps_done steps (Ok done) = steps
-steps_done steps (Err fault) = take fault.step steps ++ next_done (record { taken = fault.taken; error = fault.error }) (drop fault.step steps)
+steps_done steps (Err fault) = take fault.step steps
+    ++ next_done (record { taken = fault.taken; error = fault.error }) (drop fault.step steps)
 
 -- ---- what stands after them
 
@@ -68,13 +71,14 @@ module _ {D : Type 0} {g : sectors.Ghosts D} where
   pub record IsFlushRefused (fault : FeedFault) (old new : Core D g) : Type 0 where
     pub taken : fault.taken ≡ 0
     pub sessions : sessions_of new ≡ sessions_of old
-    pub end : IsFlushEnd (committer_of old) (committer_of new) (Err fault.error)
-    pub flush : (origin : Origin) (events : List EventData) → Holds (store_of (committer_of old)) origin events → (after : List EventData) × IsFlush origin (committer_of old) (committer_of new) events after (Err fault.error)
+    pub end : FlushOutcome (committer_of old) (committer_of new) (Err fault.error)
+    pub flush : (origin : Origin) (events : List EventData) → Holds (store_of (committer_of old)) origin events
+        → (after : List EventData) × IsFlush origin (committer_of old) (committer_of new) events after (Err fault.error)
 
   -- what stands after a step that was refused
   abbrev pub IsStepRefused : StepData → FeedFault → Core D g → Core D g → Type 0
-  IsStepRefused (a_piece session piece) fault old new = IsPieceEnd session piece old new (Err fault)
-  IsStepRefused (an_end session) fault old new = (fault.taken ≡ 0) × IsEndEnd session old new (Err fault.error)
+  IsStepRefused (a_piece session piece) fault old new = PieceOutcome session piece old new (Err fault)
+  IsStepRefused (an_end session) fault old new = (fault.taken ≡ 0) × EndOutcome session old new (Err fault.error)
   IsStepRefused a_flush fault old new = IsFlushRefused fault old new
 
   -- the steps before this one were done, and this one was refused

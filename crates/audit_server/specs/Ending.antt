@@ -1,17 +1,18 @@
 -- The end of a session.
 use Rattle.std.specs.Prelude.{◌≡◌, ◌≢◌, ℕ, Result, Ok, Err, MatchResult, [], ◌∷◌}
-use Rattle.audit_device.specs.declared.sectors.Sectors as sectors
-use Rattle.audit_queue.specs.Arrivals.{malformed_from}
+use Rattle.audit_disk_model.specs.declared.sectors.Sectors as sectors
+use Rattle.audit_server_queue.specs.Arrivals.{malformed_from}
 use Rattle.audit_store.specs.declared.store_error.StoreError.{StoreError}
 use Rattle.audit_store.specs.declared.store_error.StoreError.TheVariants.{Broken}
-use Rattle.audit_commit.specs.declared.committer.Committer.{Committer}
-use Rattle.audit_commit.specs.Entering.{IsArrivalEnd}
-use Rattle.audit_run.specs.Sessions.{SessionData, ended_session, arrivals_by_end}
+use Rattle.audit_server_commit.specs.declared.committer.Committer.{Committer}
+use Rattle.audit_server_commit.specs.Entering.{IsArrivalEnd}
+use Rattle.audit_server_model.specs.Sessions.{SessionData, ended_session, arrivals_by_end}
 use Rattle.audit_server.specs.Running.{Run, IsRefusedAfter}
 
 module _ {D : Type 0} {g : sectors.Ghosts D} where
   -- a frame that is begun can't be queued as malformed
-  pub record IsEndRefused (k : ℕ) (error : StoreError) (session : SessionData) (before after : Committer D g) : Type 0 where
+  pub record IsEndRefused (k : ℕ) (error : StoreError) (session : SessionData)
+      (before after : Committer D g) : Type 0 where
     pub begun : arrivals_by_end k session ≡ malformed_from k ∷ []
     pub end : IsArrivalEnd (malformed_from k) before after (Err error)
     pub not_broken : error ≢ Broken
@@ -22,6 +23,7 @@ module _ {D : Type 0} {g : sectors.Ghosts D} where
   IsFrameEnd k session before after (Err error) = IsEndRefused k error session before after
 
   -- the session has ended; or else it is as it was
-  pub record IsEnd (k : ℕ) (old new : SessionData) (before after : Committer D g) (result : Result (Unit {0}) StoreError) : Type 0 where
+  pub record IsEnd (k : ℕ) (old new : SessionData) (before after : Committer D g)
+      (result : Result (Unit {0}) StoreError) : Type 0 where
     pub session : MatchResult result (λ done. new ≡ ended_session) (λ error. new ≡ old)
     pub frame : IsFrameEnd k old before after result

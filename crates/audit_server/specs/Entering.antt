@@ -1,17 +1,17 @@
 -- How a request, or a malformed place, of a session enters the queue.
 use Rattle.std.specs.Prelude.{◌≡◌, ◌⊎◌, ℕ, Result, Ok, Err, Option, Some, None, List}
-use Rattle.audit_device.specs.declared.sectors.Sectors as sectors
+use Rattle.audit_disk_model.specs.declared.sectors.Sectors as sectors
 use Rattle.audit_chain.specs.Event.{EventData}
-use Rattle.audit_layout.specs.Origin.{Origin}
+use Rattle.audit_store_images.specs.Origin.{Origin}
 use Rattle.audit_wire.specs.declared.request.Request.{Request}
 use Rattle.audit_wire.specs.Request.{request_in}
-use Rattle.audit_queue.specs.Arrivals.{Arrival, arrival_of, malformed_from}
+use Rattle.audit_server_queue.specs.Arrivals.{Arrival, arrival_of, malformed_from}
 use Rattle.audit_store.specs.Store.{Holds}
 use Rattle.audit_store.specs.declared.store_error.StoreError.{StoreError}
 use Rattle.audit_store.specs.declared.store_error.StoreError.TheVariants.{Memory}
-use Rattle.audit_commit.specs.declared.committer.Committer.{Committer}
-use Rattle.audit_commit.specs.Committer.{store_of}
-use Rattle.audit_commit.specs.Entering.{IsArrivalEnd, IsEntered}
+use Rattle.audit_server_commit.specs.declared.committer.Committer.{Committer}
+use Rattle.audit_server_commit.specs.Committer.{store_of}
+use Rattle.audit_server_commit.specs.Entering.{IsArrivalEnd, IsEntered}
 use Rattle.audit_server.specs.declared.entering.Item.{Item}
 use Rattle.audit_server.specs.declared.entering.Item.TheVariants as item
 
@@ -30,10 +30,12 @@ module _ {D : Type 0} {g : sectors.Ghosts D} where
     -- whatever the device,
     pub end : IsRequestEnd arrival old new result
     -- and on a store that holds events
-    pub entered : (origin : Origin) (events : List EventData) → Holds (store_of old) origin events → (after : List EventData) × IsEntered origin arrival old new events after result
+    pub entered : (origin : Origin) (events : List EventData) → Holds (store_of old) origin events
+        → (after : List EventData) × IsEntered origin arrival old new events after result
 
   -- what was found in a body, and entered
   abbrev pub IsItem : ℕ → List ℕ → Committer D g → Committer D g → Result Item StoreError → Type 0
-  IsItem k body old new (Ok item.Request) = (request : Request) × (request_in body ≡ Some request) × Enters (arrival_of k request) old new (Ok tt)
+  IsItem k body old new (Ok item.Request) = (request : Request) × (request_in body ≡ Some request)
+      × Enters (arrival_of k request) old new (Ok tt)
   IsItem k body old new (Ok item.Malformed) = (request_in body ≡ None) × Enters (malformed_from k) old new (Ok tt)
   IsItem k body old new (Err error) = Enters (arrival_by k (request_in body)) old new (Err error)

@@ -1,27 +1,28 @@
 -- What a piece of its stream does to a session.
-use Rattle.std.specs.Prelude.{◌≡◌, ◌≢◌, ℕ, ◌+◌, ◌<◌, ◌≤◌, Bool, false, if◌then◌else◌, Option, Some, None, Result, Ok, Err, List, [], ◌∷◌, ◌++◌, length, take}
-use Rattle.audit_device.specs.declared.sectors.Sectors as sectors
+use Rattle.std.specs.Prelude.{◌≡◌, ◌≢◌, ℕ, ◌+◌, ◌<◌, ◌≤◌, Bool, false, if◌then◌else◌, Option, Some, None, Result, Ok}
+use Rattle.std.specs.Prelude.{Err, List, [], ◌∷◌, ◌++◌, length, take}
+use Rattle.audit_disk_model.specs.declared.sectors.Sectors as sectors
 use Rattle.audit_wire.specs.declared.request.Request.{Request}
 use Rattle.audit_wire.specs.declared.fed.Fed.{Fed}
 use Rattle.audit_wire.specs.declared.fed.Fed.TheVariants as fed
-use Rattle.audit_wire.specs.Stream.{begun, spoiled, in_front}
-use Rattle.audit_wire.specs.Progress.{Progress, rest_of, is_spoiled}
-use Rattle.audit_queue.specs.Arrivals.{Arrival, arrival_of, malformed_from}
+use Rattle.audit_wire.specs.Stream.{rest_alone, spoiled, in_front}
+use Rattle.audit_wire.specs.Progress.{DecoderProgress, rest_of, is_spoiled}
+use Rattle.audit_server_queue.specs.Arrivals.{Arrival, arrival_of, malformed_from}
 use Rattle.audit_store.specs.declared.store_error.StoreError.TheVariants.{Broken}
-use Rattle.audit_commit.specs.declared.committer.Committer.{Committer}
+use Rattle.audit_server_commit.specs.declared.committer.Committer.{Committer}
 use Rattle.audit_server.specs.declared.feed_fault.FeedFault.{FeedFault}
 use Rattle.audit_server.specs.declared.session.Front.{Front}
 use Rattle.audit_server.specs.declared.session.Front.TheVariants as front
-use Rattle.audit_run.specs.Sessions.{SessionData, ended_session, framed_after, with_piece, arrivals_by_piece}
+use Rattle.audit_server_model.specs.Sessions.{SessionData, ended_session, framed_after, with_piece, arrivals_by_piece}
 use Rattle.audit_server.specs.Running.{HaveEntered, Run, IsRefusedAfter}
 use Rattle.audit_server.specs.Entering.{IsRequestEnd, Enters}
 
 -- a session as contracts see it, by its decoder: of one that has ended nothing is kept
-abbrev pub session_view : Progress → Bool → SessionData
+abbrev pub session_view : DecoderProgress → Bool → SessionData
 session_view progress ended = record { rest = if ended then [] else rest_of progress; ended = ended }
 
 -- a session that has not ended goes on with what it holds of a frame
-abbrev pub IsLive : Progress → Bool → Type 0
+abbrev pub IsLive : DecoderProgress → Bool → Type 0
 IsLive progress ended = ended ≡ false → is_spoiled progress ≡ false
 
 -- how many bytes of a piece there are up to the end of a frame or of a malformed length
@@ -34,16 +35,18 @@ module _ {D : Type 0} {g : sectors.Ghosts D} where
   -- The front of a piece of a live session was no whole frame,
   pub record IsPart (piece : List ℕ) (old new : SessionData) (before after : Committer D g) : Type 0 where
     pub live : new.ended ≡ false
-    pub framed : framed_after old piece ≡ begun new.rest
+    pub framed : framed_after old piece ≡ rest_alone new.rest
     pub same : after ≡ before
 
   -- or a request,
-  pub record IsWhole (k : ℕ) (piece : List ℕ) (taken : ℕ) (old new : SessionData) (before after : Committer D g) : Type 0 where
+  pub record IsWholeFeed (k : ℕ) (piece : List ℕ) (taken : ℕ) (old new : SessionData)
+      (before after : Committer D g) : Type 0 where
     pub some : 0 < taken
     pub within : taken ≤ length piece
     pub live : new.ended ≡ false
     pub request : Request
-    pub framed : (later : List ℕ) → framed_after old (take taken piece ++ later) ≡ in_front request (framed_after new later)
+    pub framed : (later : List ℕ)
+        → framed_after old (take taken piece ++ later) ≡ in_front request (framed_after new later)
     pub enters : Enters (arrival_of k request) before after (Ok tt)
 
   -- or a malformed place.
@@ -53,18 +56,20 @@ module _ {D : Type 0} {g : sectors.Ghosts D} where
     pub enters : Enters (malformed_from k) before after (Ok tt)
 
   -- What stood there didn't enter: the last byte of it counts as not come.
-  pub record IsUntaken (k : ℕ) (piece : List ℕ) (fault : FeedFault) (old new : SessionData) (before after : Committer D g) : Type 0 where
+  pub record IsUntaken (k : ℕ) (piece : List ℕ) (fault : FeedFault) (old new : SessionData)
+      (before after : Committer D g) : Type 0 where
     pub within : fault.taken < length piece
     pub live : new.ended ≡ false
     pub framed : (later : List ℕ) → framed_after old (take fault.taken piece ++ later) ≡ framed_after new later
-    pub partial : framed_after new [] ≡ begun new.rest
+    pub partial : framed_after new [] ≡ rest_alone new.rest
     pub arrival : Arrival
     pub next : arrivals_by_piece k (take (1 + fault.taken) piece) old ≡ arrival ∷ []
     pub enters : Enters arrival before after (Err fault.error)
 
-  abbrev pub IsFront : ℕ → List ℕ → SessionData → SessionData → Committer D g → Committer D g → Result Front FeedFault → Type 0
+  abbrev pub IsFront : ℕ → List ℕ → SessionData → SessionData → Committer D g → Committer D g → Result Front FeedFault
+      → Type 0
   IsFront k piece old new before after (Ok front.Part) = IsPart piece old new before after
-  IsFront k piece old new before after (Ok (front.Request taken)) = IsWhole k piece taken old new before after
+  IsFront k piece old new before after (Ok (front.Request taken)) = IsWholeFeed k piece taken old new before after
   IsFront k piece old new before after (Ok front.Malformed) = IsSpoiled k piece old new before after
   IsFront k piece old new before after (Err fault) = IsUntaken k piece fault old new before after
 
@@ -76,17 +81,20 @@ module _ {D : Type 0} {g : sectors.Ghosts D} where
     pub run : Run (arrivals_by_piece k piece old) before after
 
   -- The first bytes are taken, and all that they bring has entered; the next byte brings something that was refused.
-  pub record IsFedInPart (k : ℕ) (piece : List ℕ) (fault : FeedFault) (old new : SessionData) (before after : Committer D g) : Type 0 where
+  pub record IsFedInPart (k : ℕ) (piece : List ℕ) (fault : FeedFault) (old new : SessionData)
+      (before after : Committer D g) : Type 0 where
     pub within : fault.taken < length piece
     pub session : new ≡ with_piece (take fault.taken piece) old
     pub mid : Committer D g
     pub entered : HaveEntered (arrivals_by_piece k (take fault.taken piece) old) before mid
     pub arrival : Arrival
-    pub next : arrivals_by_piece k (take (1 + fault.taken) piece) old ≡ arrivals_by_piece k (take fault.taken piece) old ++ arrival ∷ []
+    pub next : arrivals_by_piece k (take (1 + fault.taken) piece) old
+        ≡ arrivals_by_piece k (take fault.taken piece) old ++ arrival ∷ []
     pub end : IsRequestEnd arrival mid after (Err fault.error)
     pub not_broken : fault.error ≢ Broken
     pub refused : IsRefusedAfter (arrivals_by_piece k (take fault.taken piece) old) fault.error before after
 
-  abbrev pub IsFed : ℕ → List ℕ → SessionData → SessionData → Committer D g → Committer D g → Result (Unit {0}) FeedFault → Type 0
+  abbrev pub IsFed : ℕ → List ℕ → SessionData → SessionData → Committer D g → Committer D g
+      → Result (Unit {0}) FeedFault → Type 0
   IsFed k piece old new before after (Ok done) = IsFedWhole k piece old new before after
   IsFed k piece old new before after (Err fault) = IsFedInPart k piece fault old new before after

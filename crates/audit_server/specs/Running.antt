@@ -1,26 +1,27 @@
 -- What becomes of a store with its queue and its outputs while requests arrive.
 use Rattle.std.specs.Prelude.{◌≡◌, true, false, List, [], ◌∷◌}
-use Rattle.audit_device.specs.declared.sectors.Sectors as sectors
+use Rattle.audit_disk_model.specs.declared.sectors.Sectors as sectors
 use Rattle.audit_chain.specs.Event.{EventData}
-use Rattle.audit_layout.specs.Origin.{Origin}
-use Rattle.audit_queue.specs.Waiting.{Append, nothing_waits}
-use Rattle.audit_queue.specs.Replies.{Sent, all_delivered}
-use Rattle.audit_queue.specs.GroupCommit.{ServerState}
-use Rattle.audit_queue.specs.Arrivals.{Arrival, appends_among, all_entered}
+use Rattle.audit_store_images.specs.Origin.{Origin}
+use Rattle.audit_server_queue.specs.Waiting.{Append, nothing_waits}
+use Rattle.audit_server_queue.specs.Replies.{Sent, all_delivered}
+use Rattle.audit_server_queue.specs.GroupCommit.{ServerState}
+use Rattle.audit_server_queue.specs.Arrivals.{Arrival, appends_among, all_entered}
 use Rattle.audit_store.specs.Store.{device, is_broken, Holds}
 use Rattle.audit_store.specs.declared.store_error.StoreError.{StoreError}
 use Rattle.audit_store.specs.declared.store_error.StoreError.TheVariants.{Memory}
-use Rattle.audit_commit.specs.declared.committer.Committer.{Committer}
-use Rattle.audit_commit.specs.Faultless.{IsFaultless}
-use Rattle.audit_commit.specs.Committer.{store_of, waiting_of, outputs_of, state_of}
-use Rattle.audit_commit.specs.Durable.{IsDurable}
-use Rattle.audit_commit.specs.Entering.{HasEntered, IsLeftByFlush}
+use Rattle.audit_server_commit.specs.declared.committer.Committer.{Committer}
+use Rattle.audit_server_commit.specs.Faultless.{IsFaultless}
+use Rattle.audit_server_commit.specs.Committer.{store_of, waiting_of, outputs_of, state_of}
+use Rattle.audit_server_commit.specs.Durable.{IsDurable}
+use Rattle.audit_server_commit.specs.Entering.{HasEntered, IsLeftByFlush}
 
 module _ {D : Type 0} {g : sectors.Ghosts D} where
   -- whatever the device: these entered in turn
   abbrev pub HaveEntered : List Arrival → Committer D g → Committer D g → Type 0
   HaveEntered [] old new = new ≡ old
-  HaveEntered (arrival ∷ arrivals) old new = (mid : Committer D g) × HasEntered arrival old mid × HaveEntered arrivals mid new
+  HaveEntered (arrival ∷ arrivals) old new = (mid : Committer D g) × HasEntered arrival old mid
+      × HaveEntered arrivals mid new
 
   -- whatever the device: the outputs are those before, and whole replies after them
   abbrev pub AddsReplies : Committer D g → Committer D g → Type 0
@@ -35,22 +36,30 @@ module _ {D : Type 0} {g : sectors.Ghosts D} where
 
   -- From a store that holds the events, to one that holds those after: acknowledgements are durable, and where the
   -- device counted no failure the state is what this makes of it.
-  pub record Advances (origin : Origin) (arrived : List Append) (made : ServerState → ServerState) (old new : Committer D g) (events after : List EventData) : Type 0 where
+  pub record Advances (origin : Origin) (arrived : List Append) (made : ServerState → ServerState)
+      (old new : Committer D g) (events after : List EventData) : Type 0 where
     pub durable : IsDurable origin (store_of old) (store_of new) (state_of old events) (state_of new after) arrived
     pub unbroken : is_broken (store_of new) ≡ false
-    pub done : IsFaultless (device (store_of old)) (device (store_of new)) → state_of new after ≡ made (state_of old events)
+    pub done : IsFaultless (device (store_of old)) (device (store_of new))
+        → state_of new after ≡ made (state_of old events)
 
   -- The same where it was refused after these arrivals: for memory the state is as they leave it, or a flush after
   -- them.
-  pub record IsRefused (origin : Origin) (arrivals : List Arrival) (error : StoreError) (old new : Committer D g) (events after : List EventData) : Type 0 where
-    pub durable : IsDurable origin (store_of old) (store_of new) (state_of old events) (state_of new after) (appends_among arrivals)
-    pub refused : IsFaultless (device (store_of old)) (device (store_of new)) → error ≡ Memory → IsLeftByFlush origin (all_entered origin arrivals (state_of old events)) (state_of new after)
+  pub record IsRefused (origin : Origin) (arrivals : List Arrival) (error : StoreError) (old new : Committer D g)
+      (events after : List EventData) : Type 0 where
+    pub durable : IsDurable origin (store_of old) (store_of new) (state_of old events) (state_of new after)
+        (appends_among arrivals)
+    pub refused : IsFaultless (device (store_of old)) (device (store_of new)) → error ≡ Memory
+        → IsLeftByFlush origin (all_entered origin arrivals (state_of old events)) (state_of new after)
 
   abbrev pub AdvancesBy : List Append → (Origin → ServerState → ServerState) → Committer D g → Committer D g → Type 0
-  AdvancesBy arrived made old new = (origin : Origin) (events : List EventData) → Holds (store_of old) origin events → (after : List EventData) × Advances origin arrived (made origin) old new events after
+  AdvancesBy arrived made old new = (origin : Origin) (events : List EventData) → Holds (store_of old) origin events
+      → (after : List EventData) × Advances origin arrived (made origin) old new events after
 
   abbrev pub IsRefusedAfter : List Arrival → StoreError → Committer D g → Committer D g → Type 0
-  IsRefusedAfter arrivals error old new = (origin : Origin) (events : List EventData) → Holds (store_of old) origin events → (after : List EventData) × IsRefused origin arrivals error old new events after
+  IsRefusedAfter arrivals error old new = (origin : Origin) (events : List EventData)
+      → Holds (store_of old) origin events → (after : List EventData)
+      × IsRefused origin arrivals error old new events after
 
   -- both, where these entered and all succeeded
   pub record Run (arrivals : List Arrival) (old new : Committer D g) : Type 0 where

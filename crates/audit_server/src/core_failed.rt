@@ -1,4 +1,4 @@
-use audit_device::Sectors;
+use audit_disk_model::Sectors;
 use audit_store::Store;
 
 /// A core couldn't be made, since memory was refused.

@@ -13,6 +13,7 @@ mod session;
 mod session_core;
 mod step;
 
+pub use audit_serve_passes::{ServeEnd, ServeFault, SessionStream, serve};
 pub use core_failed::CoreFailed;
 pub use drive_fault::DriveFault;
 pub use driving::drive;

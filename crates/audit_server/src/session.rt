@@ -3,9 +3,9 @@ ghost use Rattle.audit_server.specs.Feeding.{place_after};
 
 use crate::entering::{Item, enter_body};
 use crate::feed_fault::FeedFault;
-use audit_commit::Committer;
-use audit_device::Sectors;
-use audit_queue::{Query, Question};
+use audit_disk_model::Sectors;
+use audit_server_commit::Committer;
+use audit_server_queue::{Query, Question};
 use audit_store::StoreError;
 use audit_wire::{Decoder, Fed};
 use std::alloc::{AllocError, Global};
@@ -40,7 +40,7 @@ fn place_after(fed: Fed) -> Option<usize>
 }
 
 impl Model for Session {
-    ghost use Rattle.audit_run.specs.Sessions.{SessionData};
+    ghost use Rattle.audit_server_model.specs.Sessions.{SessionData};
     ghost use Rattle.audit_server.specs.Feeding.{session_view, IsLive};
 
     ghost Value = { SessionData };
@@ -54,8 +54,8 @@ impl Session {
     ghost use Rattle.std.specs.Prelude.{◌≡◌, ◌<◌, ℕ, false, IfOk};
     ghost use Rattle.audit_base.specs.declared.limits.TheConstants.{SESSIONS};
     ghost use Rattle.audit_store.specs.Store.{is_broken};
-    ghost use Rattle.audit_commit.specs.Committer.{store_of};
-    ghost use Rattle.audit_run.specs.Sessions.{new_session, ended_session};
+    ghost use Rattle.audit_server_commit.specs.Committer.{store_of};
+    ghost use Rattle.audit_server_model.specs.Sessions.{new_session, ended_session};
     ghost use Rattle.audit_server.specs.Feeding.{IsFront, IsFed};
     ghost use Rattle.audit_server.specs.Ending.{IsFrameEnd, IsEnd};
 

@@ -1,6 +1,6 @@
 use crate::server_core::Core;
-use audit_device::Sectors;
-use audit_sessions::SessionCore;
+use audit_disk_model::Sectors;
+use audit_serve_passes::SessionCore;
 use audit_store::StoreError;
 
 impl<D: Sectors> SessionCore for Core<D> {

@@ -8,7 +8,7 @@ use Rattle.audit_wire.specs.declared.limits.TheConstants.{MAX_BODY}
 use Rattle.audit_wire.specs.declared.request.Request.{Request}
 use Rattle.audit_wire.specs.Frame.{frame, size_of, IsBodySize, is_body_size, IsPartial}
 use Rattle.audit_wire.specs.Request.{request_in}
-use Rattle.audit_wire.specs.Stream.{Framed, begun, spoiled, in_front, all_in_front, bodies_within, framed_bodies, read_first, requests_in, framed_requests, continued}
+use Rattle.audit_wire.specs.Stream.{Framed, rest_alone, spoiled, in_front, all_in_front, bodies_within, framed_bodies, read_first, requests_in, framed_requests, continued}
 
 -- ---- the test of a size
 
@@ -25,7 +25,7 @@ size_fails size h = elim (cases_Bool (is_body_size size)) [ inl e ↦ absurd (h 
 
 -- ---- at most so many bodies
 
-within_partial : (count : ℕ) (bytes : List ℕ) → IsPartial bytes → bodies_within count bytes ≡ begun bytes
+within_partial : (count : ℕ) (bytes : List ℕ) → IsPartial bytes → bodies_within count bytes ≡ rest_alone bytes
 unfolding bodies_within
 within_partial zero bytes h = refl
 within_partial (suc count) [] h = refl
@@ -33,7 +33,7 @@ within_partial (suc count) (high ∷ []) h = refl
 within_partial (suc count) (high ∷ low ∷ bytes) h =
     let size = size_of high low in
     let goes_on = in_front (take size bytes) (bodies_within count (drop size bytes)) in
-    let stays : Framed (List ℕ) = begun (high ∷ low ∷ bytes) in
+    let stays : Framed (List ℕ) = rest_alone (high ∷ low ∷ bytes) in
     cond-true (is_body_size size) (cond (leb size (length bytes)) goes_on stays) spoiled (size_passes size h.0)
     ∙ cond-false (leb size (length bytes)) goes_on stays (lt-leb size (length bytes) h.1)
 
@@ -41,7 +41,7 @@ within_bad : (count high low : ℕ) (bytes : List ℕ) → (IsBodySize (size_of 
 unfolding bodies_within
 within_bad count high low bytes h =
     let size = size_of high low in
-    let stays : Framed (List ℕ) = begun (high ∷ low ∷ bytes) in
+    let stays : Framed (List ℕ) = rest_alone (high ∷ low ∷ bytes) in
     cond-false (is_body_size size) (cond (leb size (length bytes)) (in_front (take size bytes) (bodies_within count (drop size bytes))) stays) spoiled (size_fails size h)
 
 within_whole : (count high low : ℕ) (bytes : List ℕ) → IsBodySize (size_of high low) → size_of high low ≤ length bytes
@@ -50,7 +50,7 @@ unfolding bodies_within
 within_whole count high low bytes h le =
     let size = size_of high low in
     let goes_on = in_front (take size bytes) (bodies_within count (drop size bytes)) in
-    let stays : Framed (List ℕ) = begun (high ∷ low ∷ bytes) in
+    let stays : Framed (List ℕ) = rest_alone (high ∷ low ∷ bytes) in
     cond-true (is_body_size size) (cond (leb size (length bytes)) goes_on stays) spoiled (size_passes size h)
     ∙ cond-true (leb size (length bytes)) goes_on stays (le-leb size (length bytes) le)
 
@@ -66,13 +66,13 @@ within_enough (suc count) (suc other) [] h k = refl
 within_enough (suc count) (suc other) (high ∷ []) h k = refl
 within_enough (suc count) (suc other) (high ∷ low ∷ bytes) h k =
     let size = size_of high low in
-    let stays : Framed (List ℕ) = begun (high ∷ low ∷ bytes) in
+    let stays : Framed (List ℕ) = rest_alone (high ∷ low ∷ bytes) in
     ap (λ (after : Framed (List ℕ)). cond (is_body_size size) (cond (leb size (length bytes)) (in_front (take size bytes) after) stays) spoiled)
     (within_enough count other (drop size bytes) (omega (arith, length-drop size bytes)) (omega (arith, length-drop size bytes)))
 
 -- ---- the bodies of a stream
 
-pub bodies_partial : (bytes : List ℕ) → IsPartial bytes → framed_bodies bytes ≡ begun bytes
+pub bodies_partial : (bytes : List ℕ) → IsPartial bytes → framed_bodies bytes ≡ rest_alone bytes
 unfolding framed_bodies
 bodies_partial bytes h = within_partial (length bytes) bytes h
 
@@ -100,7 +100,7 @@ bodies_frame body more h = bodies_whole _ _ body more h (frame_size (length body
 
 -- ---- the requests of a stream
 
-pub requests_partial : (bytes : List ℕ) → IsPartial bytes → framed_requests bytes ≡ begun bytes
+pub requests_partial : (bytes : List ℕ) → IsPartial bytes → framed_requests bytes ≡ rest_alone bytes
 unfolding framed_requests
 requests_partial bytes h = ap requests_in (bodies_partial bytes h)
 

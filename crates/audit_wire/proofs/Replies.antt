@@ -14,7 +14,7 @@ use Rattle.audit_wire.specs.declared.refusal.Refusal.TheVariants as refusal
 use Rattle.audit_wire.specs.declared.reply.Reply.{Reply}
 use Rattle.audit_wire.specs.declared.reply.Reply.TheVariants as reply
 use Rattle.audit_wire.specs.Frame.{frame}
-use Rattle.audit_wire.specs.Reply.{IsWholeReply, reply_frame, reply_body, refusal_code, hash_list, IsReply, HasReplyFields, refusal_of, refused_with, acknowledgement_in, commitment_reply_in, membership_reply_in, increment_reply_in, entry_reply_in, refused_in, reply_in}
+use Rattle.audit_wire.specs.Reply.{IsWholeReply, reply_frame, reply_body, refusal_code, hash_list, IsReply, HasReplyFields, refusal_with_code, refused_with, acknowledgement_in, commitment_reply_in, membership_reply_in, increment_reply_in, entry_reply_in, refused_in, reply_in}
 
 -- the hashes of a reply, one after the other
 joined : (hashes : List (List ℕ)) (entry : List ℕ) → flat_map (λ (hash : List ℕ). hash) hashes ++ entry ≡ concat hashes ++ entry
@@ -94,7 +94,7 @@ entry_again tag entry within fits =
     (and_from (leb 4 (length fields)) (leb (length fields) (4 + MAX_ENTRY)) (le-leb 4 (length fields) (omega arith)) (le-leb (length fields) (4 + MAX_ENTRY) (omega (arith, within))))
     ∙ ap (λ (n : ℕ). Some (reply.Entry n entry)) (from_be_bytes-to_be_bytes_4 tag fits)
 
-refusal_again : (code : Refusal) → refusal_of (refusal_code code) ≡ Some code
+refusal_again : (code : Refusal) → refusal_with_code (refusal_code code) ≡ Some code
 refusal_again refusal.DamagedLog = refl
 refusal_again refusal.Full = refl
 refusal_again refusal.NoSuchVersion = refl

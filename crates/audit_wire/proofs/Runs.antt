@@ -7,11 +7,11 @@ use Rattle.audit_wire.specs.declared.request.Request.{Request}
 use Rattle.audit_wire.specs.Frame.{frame, IsPartial, IsBadLength}
 use Rattle.audit_wire.specs.Request.{request_in}
 use Rattle.audit_wire.specs.Stream.{Framed, spoiled, all_in_front, framed_bodies, read_first, requests_of, requests_in, framed_requests}
-use Rattle.audit_wire.specs.Progress.{Progress, reading, whole, malformed, closed, rest_of, taken_of, is_spoiled, HasJustTaken, IsProgress, IsAnswer, Spoils, taken_by, left_by, handed_out, requests_ahead, IsTaken, IsFed, Feeding, IsRun, bytes_taken, bodies_given, progress_after}
+use Rattle.audit_wire.specs.Progress.{DecoderProgress, reading, whole, malformed, closed, rest_of, taken_of, is_spoiled, HasJustTaken, IsDecoderProgress, IsDecoderAnswer, Spoils, taken_by, untaken, handed_out, requests_ahead, IsPieceTaken, IsDecoderFed, Feeding, IsRun, bytes_taken, bodies_given, progress_after}
 use Rattle.audit_wire.proofs.Framing.{bodies_partial, bodies_bad, bodies_frame, requests_bad, requests_frame}
 
 -- the bodies that the stream holds from here on, when these bytes come
-abbrev pub bodies_ahead : Progress → List ℕ → Framed (List ℕ)
+abbrev pub bodies_ahead : DecoderProgress → List ℕ → Framed (List ℕ)
 bodies_ahead progress bytes = if is_spoiled progress then spoiled else framed_bodies (rest_of progress ++ bytes)
 
 bad-append : (bytes more : List ℕ) → IsBadLength bytes → framed_bodies (bytes ++ more) ≡ spoiled
@@ -22,23 +22,23 @@ bad-append (high ∷ low ∷ next ∷ bytes) more h = absurd h
 
 -- ---- one piece
 
-taken_step : (held piece more : List ℕ) (answer : Fed) (new : Progress) → IsTaken held piece answer new
+taken_step : (held piece more : List ℕ) (answer : Fed) (new : DecoderProgress) → IsPieceTaken held piece answer new
     → framed_bodies (held ++ (taken_by answer piece ++ more)) ≡ all_in_front (handed_out new) (bodies_ahead new more)
 taken_step held piece more fed.More new t =
-    subst (λ (after : Progress). framed_bodies (held ++ (piece ++ more)) ≡ all_in_front (handed_out after) (bodies_ahead after more)) (sym t.1)
+    subst (λ (after : DecoderProgress). framed_bodies (held ++ (piece ++ more)) ≡ all_in_front (handed_out after) (bodies_ahead after more)) (sym t.1)
     (ap framed_bodies (sym (append_assoc held piece more)))
 taken_step held piece more (fed.Body taken) new t =
-    subst (λ (after : Progress). framed_bodies (held ++ (take taken piece ++ more)) ≡ all_in_front (handed_out after) (bodies_ahead after more)) (sym t.2.3)
+    subst (λ (after : DecoderProgress). framed_bodies (held ++ (take taken piece ++ more)) ≡ all_in_front (handed_out after) (bodies_ahead after more)) (sym t.2.3)
     (ap framed_bodies (sym (append_assoc held (take taken piece) more)) ∙ ap (λ (front : List ℕ). framed_bodies (front ++ more)) t.2.2 ∙ bodies_frame t.2.0 more t.2.1)
 taken_step held piece more (fed.Malformed taken) new t =
-    subst (λ (after : Progress). framed_bodies (held ++ (take taken piece ++ more)) ≡ all_in_front (handed_out after) (bodies_ahead after more)) (sym t.3)
+    subst (λ (after : DecoderProgress). framed_bodies (held ++ (take taken piece ++ more)) ≡ all_in_front (handed_out after) (bodies_ahead after more)) (sym t.3)
     (ap framed_bodies (sym (append_assoc held (take taken piece) more)) ∙ bad-append (held ++ take taken piece) more t.2)
 
-dropped : (new : Progress) (more : List ℕ) → new ≡ closed → spoiled ≡ all_in_front (handed_out new) (bodies_ahead new more)
-dropped new more e = subst (λ (after : Progress). spoiled ≡ all_in_front (handed_out after) (bodies_ahead after more)) (sym e) refl
+dropped : (new : DecoderProgress) (more : List ℕ) → new ≡ closed → spoiled ≡ all_in_front (handed_out new) (bodies_ahead new more)
+dropped new more e = subst (λ (after : DecoderProgress). spoiled ≡ all_in_front (handed_out after) (bodies_ahead after more)) (sym e) refl
 
 -- the bodies ahead before a piece are those that it brings and those ahead after it
-pub fed_bodies : (old : Progress) (piece more : List ℕ) (answer : Fed) (new : Progress) → IsFed old piece answer new
+pub fed_bodies : (old : DecoderProgress) (piece more : List ℕ) (answer : Fed) (new : DecoderProgress) → IsDecoderFed old piece answer new
     → bodies_ahead old (taken_by answer piece ++ more) ≡ all_in_front (handed_out new) (bodies_ahead new more)
 fed_bodies (reading held) piece more answer new f = taken_step held piece more answer new f
 fed_bodies (whole body) piece more answer new f = taken_step [] piece more answer new f
@@ -51,20 +51,20 @@ requests_in-front : (bodies : List (List ℕ)) (framed : Framed (List ℕ)) → 
 requests_in-front [] framed = refl
 requests_in-front (body ∷ bodies) framed = ap (λ (following : Framed Request). read_first (request_in body) following) (requests_in-front bodies framed)
 
-ahead_in : (progress : Progress) (bytes : List ℕ) → requests_ahead progress bytes ≡ requests_in (bodies_ahead progress bytes)
+ahead_in : (progress : DecoderProgress) (bytes : List ℕ) → requests_ahead progress bytes ≡ requests_in (bodies_ahead progress bytes)
 unfolding framed_requests
 ahead_in (reading held) bytes = refl
 ahead_in (whole body) bytes = refl
 ahead_in (malformed held) bytes = refl
 ahead_in closed bytes = refl
 
-parts : (answer : Fed) (piece later : List ℕ) → piece ++ later ≡ taken_by answer piece ++ (left_by answer piece ++ later)
+parts : (answer : Fed) (piece later : List ℕ) → piece ++ later ≡ taken_by answer piece ++ (untaken answer piece ++ later)
 parts fed.More piece later = refl
 parts (fed.Body taken) piece later = sym (sym (append_assoc (take taken piece) (drop taken piece) later) ∙ ap (λ (all : List ℕ). all ++ later) (take-append-drop taken piece))
 parts (fed.Malformed taken) piece later = sym (sym (append_assoc (take taken piece) (drop taken piece) later) ∙ ap (λ (all : List ℕ). all ++ later) (take-append-drop taken piece))
 
 -- what is ahead before a piece is what it hands out and what is ahead after the bytes that were taken
-pub fed_ahead : (old : Progress) (piece : List ℕ) (answer : Fed) (new : Progress) (later : List ℕ) → IsFed old piece answer new
+pub fed_ahead : (old : DecoderProgress) (piece : List ℕ) (answer : Fed) (new : DecoderProgress) (later : List ℕ) → IsDecoderFed old piece answer new
     → requests_ahead old (taken_by answer piece ++ later) ≡ requests_of (handed_out new) (requests_ahead new later)
 fed_ahead old piece answer new later f =
     ahead_in old (taken_by answer piece ++ later)
@@ -72,23 +72,23 @@ fed_ahead old piece answer new later f =
     ∙ requests_in-front (handed_out new) (bodies_ahead new later)
     ∙ ap (λ (following : Framed Request). requests_of (handed_out new) following) (sym (ahead_in new later))
 
-pub fed_requests : (old : Progress) (piece : List ℕ) (answer : Fed) (new : Progress) (later : List ℕ) → IsFed old piece answer new
-    → requests_ahead old (piece ++ later) ≡ requests_of (handed_out new) (requests_ahead new (left_by answer piece ++ later))
+pub fed_requests : (old : DecoderProgress) (piece : List ℕ) (answer : Fed) (new : DecoderProgress) (later : List ℕ) → IsDecoderFed old piece answer new
+    → requests_ahead old (piece ++ later) ≡ requests_of (handed_out new) (requests_ahead new (untaken answer piece ++ later))
 fed_requests old piece answer new later f =
     ap (λ (bytes : List ℕ). requests_ahead old bytes) (parts answer piece later)
-    ∙ fed_ahead old piece answer new (left_by answer piece ++ later) f
+    ∙ fed_ahead old piece answer new (untaken answer piece ++ later) f
 
 -- ---- how much of a piece is taken
 
-answer_taken : (held piece : List ℕ) (answer : Fed) (new : Progress) → IsTaken held piece answer new → IsAnswer answer (length piece) new
+answer_taken : (held piece : List ℕ) (answer : Fed) (new : DecoderProgress) → IsPieceTaken held piece answer new → IsDecoderAnswer answer (length piece) new
 answer_taken held piece fed.More new t = tt
 answer_taken held piece (fed.Body taken) new t = (t.0, t.1, subst HasJustTaken (sym t.2.3) tt)
 answer_taken held piece (fed.Malformed taken) new t = (t.0, t.1, subst HasJustTaken (sym t.3) tt)
 
-answer_dropped : (answer : Fed) (size : ℕ) (new : Progress) → answer ≡ fed.More → IsAnswer answer size new
-answer_dropped answer size new e = subst (λ (given : Fed). IsAnswer given size new) (sym e) tt
+answer_dropped : (answer : Fed) (size : ℕ) (new : DecoderProgress) → answer ≡ fed.More → IsDecoderAnswer answer size new
+answer_dropped answer size new e = subst (λ (given : Fed). IsDecoderAnswer given size new) (sym e) tt
 
-pub fed_answer : (old : Progress) (piece : List ℕ) (answer : Fed) (new : Progress) → IsFed old piece answer new → IsAnswer answer (length piece) new
+pub fed_answer : (old : DecoderProgress) (piece : List ℕ) (answer : Fed) (new : DecoderProgress) → IsDecoderFed old piece answer new → IsDecoderAnswer answer (length piece) new
 fed_answer (reading held) piece answer new f = answer_taken held piece answer new f
 fed_answer (whole body) piece answer new f = answer_taken [] piece answer new f
 fed_answer (malformed bytes) piece answer new f = answer_dropped answer (length piece) new f.0
@@ -96,27 +96,27 @@ fed_answer closed piece answer new f = answer_dropped answer (length piece) new 
 
 -- ---- what has come of a frame, and whether the stream is spoiled
 
-so_far_taken : (held piece : List ℕ) (answer : Fed) (new : Progress) → IsTaken held piece answer new → taken_of new ≡ held ++ taken_by answer piece
+so_far_taken : (held piece : List ℕ) (answer : Fed) (new : DecoderProgress) → IsPieceTaken held piece answer new → taken_of new ≡ held ++ taken_by answer piece
 so_far_taken held piece fed.More new t = ap taken_of t.1
 so_far_taken held piece (fed.Body taken) new t = ap taken_of t.2.3 ∙ sym t.2.2
 so_far_taken held piece (fed.Malformed taken) new t = ap taken_of t.3
 
-pub fed_so_far : (old : Progress) (piece : List ℕ) (answer : Fed) (new : Progress) → IsFed old piece answer new → is_spoiled old ≡ false
+pub fed_so_far : (old : DecoderProgress) (piece : List ℕ) (answer : Fed) (new : DecoderProgress) → IsDecoderFed old piece answer new → is_spoiled old ≡ false
     → taken_of new ≡ rest_of old ++ taken_by answer piece
 fed_so_far (reading held) piece answer new f live = so_far_taken held piece answer new f
 fed_so_far (whole body) piece answer new f live = so_far_taken [] piece answer new f
 fed_so_far (malformed bytes) piece answer new f live = absurd cc
 fed_so_far closed piece answer new f live = absurd cc
 
-spoils_taken : (held piece : List ℕ) (answer : Fed) (new : Progress) → IsTaken held piece answer new → Spoils answer false (is_spoiled new)
+spoils_taken : (held piece : List ℕ) (answer : Fed) (new : DecoderProgress) → IsPieceTaken held piece answer new → Spoils answer false (is_spoiled new)
 spoils_taken held piece fed.More new t = ap is_spoiled t.1
 spoils_taken held piece (fed.Body taken) new t = (refl, ap is_spoiled t.2.3)
 spoils_taken held piece (fed.Malformed taken) new t = (refl, ap is_spoiled t.3)
 
-spoils_dropped : (answer : Fed) (new : Progress) → answer ≡ fed.More → new ≡ closed → Spoils answer true (is_spoiled new)
+spoils_dropped : (answer : Fed) (new : DecoderProgress) → answer ≡ fed.More → new ≡ closed → Spoils answer true (is_spoiled new)
 spoils_dropped answer new none e = subst (λ (given : Fed). Spoils given true (is_spoiled new)) (sym none) (ap is_spoiled e)
 
-pub fed_spoils : (old : Progress) (piece : List ℕ) (answer : Fed) (new : Progress) → IsFed old piece answer new → Spoils answer (is_spoiled old) (is_spoiled new)
+pub fed_spoils : (old : DecoderProgress) (piece : List ℕ) (answer : Fed) (new : DecoderProgress) → IsDecoderFed old piece answer new → Spoils answer (is_spoiled old) (is_spoiled new)
 fed_spoils (reading held) piece answer new f = spoils_taken held piece answer new f
 fed_spoils (whole body) piece answer new f = spoils_taken [] piece answer new f
 fed_spoils (malformed bytes) piece answer new f = spoils_dropped answer new f.0 f.1
@@ -134,45 +134,45 @@ bad_requests (high ∷ low ∷ next ∷ bytes) more h = absurd h
 again : (held taken later : List ℕ) (byte : ℕ) → taken ≡ held ++ byte ∷ [] → held ++ byte ∷ later ≡ taken ++ later
 again held taken later byte e = sym (append_assoc held (byte ∷ []) later) ∙ ap (λ (bytes : List ℕ). bytes ++ later) (sym e)
 
-given_back : (old : Progress) (held : List ℕ) (byte : ℕ) (later : List ℕ) → IsProgress old → HasJustTaken old → taken_of old ≡ held ++ byte ∷ []
+given_back : (old : DecoderProgress) (held : List ℕ) (byte : ℕ) (later : List ℕ) → IsDecoderProgress old → HasJustTaken old → taken_of old ≡ held ++ byte ∷ []
     → framed_requests (held ++ byte ∷ later) ≡ requests_of (handed_out old) (requests_ahead old later)
 given_back (reading bytes) held byte later p h e = absurd h
 given_back (whole body) held byte later p h e = ap framed_requests (again held (frame body) later byte e) ∙ requests_frame body later p
 given_back (malformed bytes) held byte later p h e = ap framed_requests (again held bytes later byte e) ∙ bad_requests bytes later p
 given_back closed held byte later p h e = absurd h
 
-pub put_back_requests : (old new : Progress) (byte : ℕ) (later : List ℕ) → IsProgress old → HasJustTaken old → new ≡ reading (rest_of new) → taken_of old ≡ rest_of new ++ byte ∷ []
+pub put_back_requests : (old new : DecoderProgress) (byte : ℕ) (later : List ℕ) → IsDecoderProgress old → HasJustTaken old → new ≡ reading (rest_of new) → taken_of old ≡ rest_of new ++ byte ∷ []
     → requests_ahead new (byte ∷ later) ≡ requests_of (handed_out old) (requests_ahead old later)
 put_back_requests old new byte later p h n e =
-    ap (λ (after : Progress). requests_ahead after (byte ∷ later)) n ∙ given_back old (rest_of new) byte later p h e
+    ap (λ (after : DecoderProgress). requests_ahead after (byte ∷ later)) n ∙ given_back old (rest_of new) byte later p h e
 
 -- ---- many pieces
 
-kept_taken : (held piece : List ℕ) (answer : Fed) (new : Progress) → IsTaken held piece answer new → IsProgress new
-kept_taken held piece fed.More new t = subst IsProgress (sym t.1) t.0
-kept_taken held piece (fed.Body taken) new t = subst IsProgress (sym t.2.3) t.2.1
-kept_taken held piece (fed.Malformed taken) new t = subst IsProgress (sym t.3) t.2
+kept_taken : (held piece : List ℕ) (answer : Fed) (new : DecoderProgress) → IsPieceTaken held piece answer new → IsDecoderProgress new
+kept_taken held piece fed.More new t = subst IsDecoderProgress (sym t.1) t.0
+kept_taken held piece (fed.Body taken) new t = subst IsDecoderProgress (sym t.2.3) t.2.1
+kept_taken held piece (fed.Malformed taken) new t = subst IsDecoderProgress (sym t.3) t.2
 
-pub kept : (old : Progress) (piece : List ℕ) (answer : Fed) (new : Progress) → IsFed old piece answer new → IsProgress new
+pub kept : (old : DecoderProgress) (piece : List ℕ) (answer : Fed) (new : DecoderProgress) → IsDecoderFed old piece answer new → IsDecoderProgress new
 kept (reading held) piece answer new f = kept_taken held piece answer new f
 kept (whole body) piece answer new f = kept_taken [] piece answer new f
-kept (malformed bytes) piece answer new f = subst IsProgress (sym f.1) tt
-kept closed piece answer new f = subst IsProgress (sym f.1) tt
+kept (malformed bytes) piece answer new f = subst IsDecoderProgress (sym f.1) tt
+kept closed piece answer new f = subst IsDecoderProgress (sym f.1) tt
 
 -- what is held back is less than a whole frame
-pub rest_partial : (progress : Progress) → IsProgress progress → IsPartial (rest_of progress)
+pub rest_partial : (progress : DecoderProgress) → IsDecoderProgress progress → IsPartial (rest_of progress)
 rest_partial (reading bytes) h = h
 rest_partial (whole body) h = tt
 rest_partial (malformed bytes) h = tt
 rest_partial closed h = tt
 
-ahead_at_end : (progress : Progress) → IsProgress progress → bodies_ahead progress [] ≡ record { items = []; malformed = is_spoiled progress; rest = rest_of progress }
+ahead_at_end : (progress : DecoderProgress) → IsDecoderProgress progress → bodies_ahead progress [] ≡ record { items = []; malformed = is_spoiled progress; rest = rest_of progress }
 ahead_at_end (reading bytes) h = ap framed_bodies (append-nil bytes) ∙ bodies_partial bytes h
 ahead_at_end (whole body) h = bodies_partial [] tt
 ahead_at_end (malformed bytes) h = refl
 ahead_at_end closed h = refl
 
-pub run_reads : (start : Progress) (run : List Feeding) → IsProgress start → IsRun start run
+pub run_reads : (start : DecoderProgress) (run : List Feeding) → IsDecoderProgress start → IsRun start run
     → bodies_ahead start (bytes_taken run) ≡ record { items = bodies_given run; malformed = is_spoiled (progress_after start run); rest = rest_of (progress_after start run) }
 run_reads start [] h r = ahead_at_end start h
 run_reads start (feeding ∷ later) h r =

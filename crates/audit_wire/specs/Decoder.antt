@@ -4,9 +4,9 @@ use Rattle.audit_wire.specs.declared.limits.TheConstants.{MAX_FRAME}
 use Rattle.audit_wire.specs.declared.decoder.State.{State}
 use Rattle.audit_wire.specs.declared.decoder.State.TheVariants as state
 use Rattle.audit_wire.specs.Frame.{frame, IsBodySize, IsPartial, IsBadLength}
-use Rattle.audit_wire.specs.Progress.{Progress, reading, whole, malformed, closed}
+use Rattle.audit_wire.specs.Progress.{DecoderProgress, reading, whole, malformed, closed}
 
-abbrev pub progress_of : State → List ℕ → Progress
+abbrev pub progress_of : State → List ℕ → DecoderProgress
 progress_of state.Reading bytes = reading bytes
 progress_of state.Whole bytes = whole (drop 2 bytes)
 progress_of state.Malformed bytes = malformed bytes
@@ -20,6 +20,6 @@ IsState state.Malformed bytes = IsBadLength bytes
 IsState state.Closed bytes = Unit {0}
 
 -- what the bytes and the room of a decoder are
-pub record IsKept (current : State) (bytes : List ℕ) (capacity : ℕ) : Type 0 where
+pub record IsDecoderKept (current : State) (bytes : List ℕ) (capacity : ℕ) : Type 0 where
   pub state : IsState current bytes
   pub room : MAX_FRAME ≤ capacity

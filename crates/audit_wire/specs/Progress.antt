@@ -1,62 +1,63 @@
 -- Where a decoder stands in its stream, and what one piece does to it.
-use Rattle.std.specs.Prelude.{◌≡◌, ℕ, ◌-◌, ◌<◌, ◌≤◌, Bool, true, false, List, [], ◌∷◌, ◌++◌, length, take, drop, if◌then◌else◌}
+use Rattle.std.specs.Prelude.{◌≡◌, ℕ, ◌-◌, ◌<◌, ◌≤◌, Bool, true, false, List, [], ◌∷◌, ◌++◌, length, take, drop}
+use Rattle.std.specs.Prelude.{if◌then◌else◌}
 use Rattle.audit_wire.specs.declared.fed.Fed.{Fed}
 use Rattle.audit_wire.specs.declared.fed.Fed.TheVariants as fed
 use Rattle.audit_wire.specs.Frame.{frame, IsBodySize, IsPartial, IsBadLength}
 use Rattle.audit_wire.specs.declared.request.Request.{Request}
 use Rattle.audit_wire.specs.Stream.{Framed, spoiled, framed_requests}
 
-pub data Progress : Type 0 where
+pub data DecoderProgress : Type 0 where
   -- these bytes of a frame have come: none, or less than all
-  reading : List ℕ → Progress
+  reading : List ℕ → DecoderProgress
   -- the frame of this body has just become whole
-  whole : List ℕ → Progress
+  whole : List ℕ → DecoderProgress
   -- this malformed length has just come
-  malformed : List ℕ → Progress
+  malformed : List ℕ → DecoderProgress
   -- all that comes after a malformed length is dropped
-  closed : Progress
+  closed : DecoderProgress
 
 -- what is held back: what has come of the next frame
-abbrev pub rest_of : Progress → List ℕ
+abbrev pub rest_of : DecoderProgress → List ℕ
 rest_of (reading bytes) = bytes
 rest_of (whole body) = []
 rest_of (malformed bytes) = []
 rest_of closed = []
 
 -- the bytes since the end of the frame before
-abbrev pub taken_of : Progress → List ℕ
+abbrev pub taken_of : DecoderProgress → List ℕ
 taken_of (reading bytes) = bytes
 taken_of (whole body) = frame body
 taken_of (malformed bytes) = bytes
 taken_of closed = []
 
 -- the body that is lent
-abbrev pub body_of : Progress → List ℕ
+abbrev pub body_of : DecoderProgress → List ℕ
 body_of (reading bytes) = []
 body_of (whole body) = body
 body_of (malformed bytes) = []
 body_of closed = []
 
 -- a malformed length has come
-abbrev pub is_spoiled : Progress → Bool
+abbrev pub is_spoiled : DecoderProgress → Bool
 is_spoiled (reading bytes) = false
 is_spoiled (whole body) = false
 is_spoiled (malformed bytes) = true
 is_spoiled closed = true
 
 -- a body or a malformed length has just come
-abbrev pub HasJustTaken : Progress → Type 0
+abbrev pub HasJustTaken : DecoderProgress → Type 0
 HasJustTaken (reading bytes) = ⊥
 HasJustTaken (whole body) = Unit {0}
 HasJustTaken (malformed bytes) = Unit {0}
 HasJustTaken closed = ⊥
 
 -- what each decoder's progress is like
-abbrev pub IsProgress : Progress → Type 0
-IsProgress (reading bytes) = IsPartial bytes
-IsProgress (whole body) = IsBodySize (length body)
-IsProgress (malformed bytes) = IsBadLength bytes
-IsProgress closed = Unit {0}
+abbrev pub IsDecoderProgress : DecoderProgress → Type 0
+IsDecoderProgress (reading bytes) = IsPartial bytes
+IsDecoderProgress (whole body) = IsBodySize (length body)
+IsDecoderProgress (malformed bytes) = IsBadLength bytes
+IsDecoderProgress closed = Unit {0}
 
 -- the bytes of a piece that were taken
 abbrev pub taken_by : Fed → List ℕ → List ℕ
@@ -65,26 +66,27 @@ taken_by (fed.Body taken) piece = take taken piece
 taken_by (fed.Malformed taken) piece = take taken piece
 
 -- a piece after the bytes that are held back: the frame goes on, or its body is whole, or its length is malformed
-abbrev pub IsTaken : List ℕ → List ℕ → Fed → Progress → Type 0
-IsTaken held piece fed.More new = IsPartial (held ++ piece) × (new ≡ reading (held ++ piece))
-IsTaken held piece (fed.Body taken) new =
+abbrev pub IsPieceTaken : List ℕ → List ℕ → Fed → DecoderProgress → Type 0
+IsPieceTaken held piece fed.More new = IsPartial (held ++ piece) × (new ≡ reading (held ++ piece))
+IsPieceTaken held piece (fed.Body taken) new =
     (0 < taken) × (taken ≤ length piece)
     × ((body : List ℕ) × IsBodySize (length body) × (held ++ take taken piece ≡ frame body) × (new ≡ whole body))
-IsTaken held piece (fed.Malformed taken) new =
-    (0 < taken) × (taken ≤ length piece) × IsBadLength (held ++ take taken piece) × (new ≡ malformed (held ++ take taken piece))
+IsPieceTaken held piece (fed.Malformed taken) new =
+    (0 < taken) × (taken ≤ length piece) × IsBadLength (held ++ take taken piece)
+    × (new ≡ malformed (held ++ take taken piece))
 
 -- what a piece does at each progress
-abbrev pub IsFed : Progress → List ℕ → Fed → Progress → Type 0
-IsFed (reading bytes) piece answer new = IsTaken bytes piece answer new
-IsFed (whole body) piece answer new = IsTaken [] piece answer new
-IsFed (malformed bytes) piece answer new = (answer ≡ fed.More) × (new ≡ closed)
-IsFed closed piece answer new = (answer ≡ fed.More) × (new ≡ closed)
+abbrev pub IsDecoderFed : DecoderProgress → List ℕ → Fed → DecoderProgress → Type 0
+IsDecoderFed (reading bytes) piece answer new = IsPieceTaken bytes piece answer new
+IsDecoderFed (whole body) piece answer new = IsPieceTaken [] piece answer new
+IsDecoderFed (malformed bytes) piece answer new = (answer ≡ fed.More) × (new ≡ closed)
+IsDecoderFed closed piece answer new = (answer ≡ fed.More) × (new ≡ closed)
 
 -- how many bytes of a piece of so many an answer says were taken, and what may follow it
-abbrev pub IsAnswer : Fed → ℕ → Progress → Type 0
-IsAnswer fed.More size new = Unit {0}
-IsAnswer (fed.Body taken) size new = (0 < taken) × (taken ≤ size) × HasJustTaken new
-IsAnswer (fed.Malformed taken) size new = (0 < taken) × (taken ≤ size) × HasJustTaken new
+abbrev pub IsDecoderAnswer : Fed → ℕ → DecoderProgress → Type 0
+IsDecoderAnswer fed.More size new = Unit {0}
+IsDecoderAnswer (fed.Body taken) size new = (0 < taken) × (taken ≤ size) × HasJustTaken new
+IsDecoderAnswer (fed.Malformed taken) size new = (0 < taken) × (taken ≤ size) × HasJustTaken new
 
 -- whether the stream is spoiled before a piece and after it
 abbrev pub Spoils : Fed → Bool → Bool → Type 0
@@ -99,24 +101,24 @@ taken_but_one (fed.Body taken) piece = take (taken - 1) piece
 taken_but_one (fed.Malformed taken) piece = take (taken - 1) piece
 
 -- the bytes of a piece that were not taken
-abbrev pub left_by : Fed → List ℕ → List ℕ
-left_by fed.More piece = []
-left_by (fed.Body taken) piece = drop taken piece
-left_by (fed.Malformed taken) piece = drop taken piece
+abbrev pub untaken : Fed → List ℕ → List ℕ
+untaken fed.More piece = []
+untaken (fed.Body taken) piece = drop taken piece
+untaken (fed.Malformed taken) piece = drop taken piece
 
 -- the bodies that were handed out
-abbrev pub handed_out : Progress → List (List ℕ)
+abbrev pub handed_out : DecoderProgress → List (List ℕ)
 handed_out (reading bytes) = []
 handed_out (whole body) = body ∷ []
 handed_out (malformed bytes) = []
 handed_out closed = []
 
 -- the requests that the stream holds from here on, when these bytes come
-abbrev pub requests_ahead : Progress → List ℕ → Framed Request
+abbrev pub requests_ahead : DecoderProgress → List ℕ → Framed Request
 requests_ahead progress bytes = if is_spoiled progress then spoiled else framed_requests (rest_of progress ++ bytes)
 
 -- the progress before the last byte that was taken, and what that byte did
-pub record PutsBack (old new : Progress) : Type 0 where
+pub record PutsBack (old new : DecoderProgress) : Type 0 where
   pub byte : ℕ
   pub taken : taken_of old ≡ rest_of new ++ byte ∷ []
   pub begun : new ≡ reading (rest_of new)
@@ -128,12 +130,13 @@ pub record PutsBack (old new : Progress) : Type 0 where
 pub record Feeding : Type 0 where
   pub piece : List ℕ
   pub answer : Fed
-  pub after : Progress
+  pub after : DecoderProgress
 
 -- each piece is fed after the one before it
-abbrev pub IsRun : Progress → List Feeding → Type 0
+abbrev pub IsRun : DecoderProgress → List Feeding → Type 0
 IsRun start [] = Unit {0}
-IsRun start (feeding ∷ later) = IsFed start feeding.piece feeding.answer feeding.after × IsRun feeding.after later
+IsRun start (feeding ∷ later) = IsDecoderFed start feeding.piece feeding.answer feeding.after
+    × IsRun feeding.after later
 
 -- the bytes that were taken, the bodies that were handed out, and the progress at the end
 abbrev pub bytes_taken : List Feeding → List ℕ
@@ -144,6 +147,6 @@ abbrev pub bodies_given : List Feeding → List (List ℕ)
 bodies_given [] = []
 bodies_given (feeding ∷ later) = handed_out feeding.after ++ bodies_given later
 
-abbrev pub progress_after : Progress → List Feeding → Progress
+abbrev pub progress_after : DecoderProgress → List Feeding → DecoderProgress
 progress_after start [] = start
 progress_after start (feeding ∷ later) = progress_after feeding.after later

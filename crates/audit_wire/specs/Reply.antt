@@ -1,13 +1,14 @@
 -- The body of a reply: the kind in one byte, the request tag in four, and the fields of its kind.
-use Rattle.std.specs.Prelude.{◌≡◌, ℕ, ◌+◌, ◌*◌, ◌^◌, ◌<◌, ◌≤◌, ◌&&◌, ◌==◌, nat_le, if◌then◌else◌, List, [], ◌∷◌, ◌++◌, length, take, drop, slice_index, Option, Some, None, Result, Ok, Err, MatchOption}
+use Rattle.std.specs.Prelude.{◌≡◌, ℕ, ◌+◌, ◌*◌, ◌^◌, ◌<◌, ◌≤◌, ◌&&◌, ◌==◌, nat_le, if◌then◌else◌, List, [], ◌∷◌, ◌++◌}
+use Rattle.std.specs.Prelude.{length, take, drop, slice_index, Option, Some, None, Result, Ok, Err, MatchOption}
 use Rattle.std.specs.List.{flat_map}
 use Rattle.std.specs.Int.{w32, w64, to_be_bytes}
 use Rattle.audit_base.specs.Bytes.{number_at}
 use Rattle.audit_base.specs.Hashes.{AreHashes, first_hashes}
 use Rattle.audit_base.specs.declared.limits.TheConstants.{HASH_LEN, MAX_MEMBER_HASHES, MAX_INCREMENT_HASHES, MAX_ENTRY}
 use Rattle.audit_wire.specs.Frame.{frame}
-use Rattle.audit_wire.specs.declared.reply_fault.ReplyFault.{ReplyFault}
-use Rattle.audit_wire.specs.declared.reply_fault.ReplyFault.TheVariants as fault
+use Rattle.audit_wire.specs.declared.reply_fault.ReplyError.{ReplyError}
+use Rattle.audit_wire.specs.declared.reply_fault.ReplyError.TheVariants as fault
 use Rattle.audit_wire.specs.declared.refusal.Refusal.{Refusal}
 use Rattle.audit_wire.specs.declared.refusal.Refusal.TheVariants as refusal
 use Rattle.audit_wire.specs.declared.reply_kind.ReplyKind.{ReplyKind}
@@ -40,9 +41,12 @@ hash_list hashes = length hashes ∷ flat_map (λ hash. hash) hashes
 
 -- the body of each reply
 abbrev pub reply_body : Reply → List ℕ
-reply_body (reply.Acknowledgement tag index count root) = reply_byte kind.Acknowledgement ∷ (to_be_bytes w32 tag ++ to_be_bytes w64 index ++ to_be_bytes w64 count ++ root)
-reply_body (reply.Commitment tag count root) = reply_byte kind.Commitment ∷ (to_be_bytes w32 tag ++ to_be_bytes w64 count ++ root)
-reply_body (reply.Membership tag hashes entry) = reply_byte kind.Membership ∷ (to_be_bytes w32 tag ++ hash_list hashes ++ entry)
+reply_body (reply.Acknowledgement tag index count root) =
+    reply_byte kind.Acknowledgement ∷ (to_be_bytes w32 tag ++ to_be_bytes w64 index ++ to_be_bytes w64 count ++ root)
+reply_body (reply.Commitment tag count root) =
+    reply_byte kind.Commitment ∷ (to_be_bytes w32 tag ++ to_be_bytes w64 count ++ root)
+reply_body (reply.Membership tag hashes entry) =
+    reply_byte kind.Membership ∷ (to_be_bytes w32 tag ++ hash_list hashes ++ entry)
 reply_body (reply.Incremental tag hashes) = reply_byte kind.Incremental ∷ (to_be_bytes w32 tag ++ hash_list hashes)
 reply_body (reply.Entry tag entry) = reply_byte kind.Entry ∷ (to_be_bytes w32 tag ++ entry)
 reply_body (reply.Refused tag code) = reply_byte kind.Refused ∷ (to_be_bytes w32 tag ++ refusal_code code ∷ [])
@@ -58,7 +62,8 @@ IsReply (reply.Refused tag code) = Unit {0}
 
 -- the parts of a reply are as its fields hold them: numbers of their widths, and whole hashes
 abbrev pub HasReplyFields : Reply → Type 0
-HasReplyFields (reply.Acknowledgement tag index count root) = (tag < 2 ^ 32) × (index < 2 ^ 64) × (count < 2 ^ 64) × (length root ≡ HASH_LEN)
+HasReplyFields (reply.Acknowledgement tag index count root) = (tag < 2 ^ 32) × (index < 2 ^ 64) × (count < 2 ^ 64)
+    × (length root ≡ HASH_LEN)
 HasReplyFields (reply.Commitment tag count root) = (tag < 2 ^ 32) × (count < 2 ^ 64) × (length root ≡ HASH_LEN)
 HasReplyFields (reply.Membership tag hashes entry) = (tag < 2 ^ 32) × AreHashes hashes
 HasReplyFields (reply.Incremental tag hashes) = (tag < 2 ^ 32) × AreHashes hashes
@@ -86,8 +91,8 @@ reply_kind_at byte =
     if byte == 255 then Some kind.Refused else None
 
 -- the refusal of a code
-abbrev pub refusal_of : ℕ → Option Refusal
-refusal_of code =
+abbrev pub refusal_with_code : ℕ → Option Refusal
+refusal_with_code code =
     if code == 4 then Some refusal.DamagedLog else
     if code == 7 then Some refusal.Full else
     if code == 8 then Some refusal.NoSuchVersion else
@@ -100,11 +105,14 @@ refusal_of code =
 unfoldable pub acknowledgement_in : List ℕ → Option Reply
 acknowledgement_in fields =
     if length fields == 52
-    then Some (reply.Acknowledgement (number_at w32 0 fields) (number_at w64 4 fields) (number_at w64 12 fields) (take HASH_LEN (drop 20 fields))) else None
+    then Some (reply.Acknowledgement (number_at w32 0 fields) (number_at w64 4 fields) (number_at w64 12 fields)
+    (take HASH_LEN (drop 20 fields))) else None
 
 unfoldable pub commitment_reply_in : List ℕ → Option Reply
 commitment_reply_in fields =
-    if length fields == 44 then Some (reply.Commitment (number_at w32 0 fields) (number_at w64 4 fields) (take HASH_LEN (drop 12 fields))) else None
+    if length fields == 44
+    then Some (reply.Commitment (number_at w32 0 fields) (number_at w64 4 fields) (take HASH_LEN (drop 12 fields)))
+    else None
 
 -- the number of hashes, the hashes, and what follows them
 unfoldable pub membership_reply_in : List ℕ → Option Reply
@@ -112,7 +120,8 @@ membership_reply_in fields =
     let number = slice_index fields 4 in
     if nat_le 5 (length fields) && nat_le number MAX_MEMBER_HASHES
     && nat_le (5 + HASH_LEN * number) (length fields) && nat_le (length fields) (5 + HASH_LEN * number + MAX_ENTRY)
-    then Some (reply.Membership (number_at w32 0 fields) (first_hashes number (drop 5 fields)) (drop (HASH_LEN * number) (drop 5 fields))) else None
+    then Some (reply.Membership (number_at w32 0 fields) (first_hashes number (drop 5 fields))
+    (drop (HASH_LEN * number) (drop 5 fields))) else None
 
 unfoldable pub increment_reply_in : List ℕ → Option Reply
 increment_reply_in fields =
@@ -122,14 +131,16 @@ increment_reply_in fields =
 
 unfoldable pub entry_reply_in : List ℕ → Option Reply
 entry_reply_in fields =
-    if nat_le 4 (length fields) && nat_le (length fields) (4 + MAX_ENTRY) then Some (reply.Entry (number_at w32 0 fields) (drop 4 fields)) else None
+    if nat_le 4 (length fields) && nat_le (length fields) (4 + MAX_ENTRY)
+    then Some (reply.Entry (number_at w32 0 fields) (drop 4 fields)) else None
 
 abbrev pub refused_with : ℕ → Option Refusal → Option Reply
 refused_with tag None = None
 refused_with tag (Some code) = Some (reply.Refused tag code)
 
 unfoldable pub refused_in : List ℕ → Option Reply
-refused_in fields = if length fields == 5 then refused_with (number_at w32 0 fields) (refusal_of (slice_index fields 4)) else None
+refused_in fields = if length fields == 5
+    then refused_with (number_at w32 0 fields) (refusal_with_code (slice_index fields 4)) else None
 
 abbrev pub reply_fields_in : Option ReplyKind → List ℕ → Option Reply
 reply_fields_in None fields = None
@@ -155,7 +166,7 @@ HasParts (reply.Entry tag entry) = Unit {0}
 HasParts (reply.Refused tag code) = ⊥
 
 -- what reading a body as a reply has come to: the reply that the body is, or none, or memory was refused for one
-abbrev pub IsReadAs : Option Reply → Result Reply ReplyFault → Type 0
+abbrev pub IsReadAs : Option Reply → Result Reply ReplyError → Type 0
 IsReadAs said (Ok given) = said ≡ Some given
 IsReadAs said (Err fault.Malformed) = said ≡ None
 IsReadAs said (Err fault.Memory) = MatchOption said ⊥ HasParts

@@ -1,5 +1,6 @@
 -- The body of a request: the kind in one byte, the request tag in four, and the fields of its kind.
-use Rattle.std.specs.Prelude.{◌≢◌, ℕ, ◌+◌, ◌<◌, ◌≤◌, ◌^◌, not, ◌&&◌, ◌==◌, nat_le, if◌then◌else◌, List, [], ◌∷◌, ◌++◌, length, drop, Option, Some, None}
+use Rattle.std.specs.Prelude.{◌≢◌, ℕ, ◌+◌, ◌<◌, ◌≤◌, ◌^◌, not, ◌&&◌, ◌==◌, nat_le, if◌then◌else◌, List, [], ◌∷◌, ◌++◌}
+use Rattle.std.specs.Prelude.{length, drop, Option, Some, None}
 use Rattle.std.specs.Int.{w32, w64, to_be_bytes}
 use Rattle.audit_base.specs.Bytes.{number_at}
 use Rattle.audit_base.specs.declared.limits.TheConstants.{MAX_PAYLOAD, RESERVED_KIND}
@@ -10,16 +11,20 @@ use Rattle.audit_wire.specs.declared.request_kind.RequestKind.TheVariants as kin
 
 -- the body of each request
 abbrev pub request_body : Request → List ℕ
-request_body (request.Append tag event_kind payload) = 1 ∷ (to_be_bytes w32 tag ++ to_be_bytes w32 event_kind ++ payload)
+request_body (request.Append tag event_kind payload) =
+    1 ∷ (to_be_bytes w32 tag ++ to_be_bytes w32 event_kind ++ payload)
 request_body (request.Commitment tag) = 2 ∷ to_be_bytes w32 tag
-request_body (request.Membership tag index count) = 3 ∷ (to_be_bytes w32 tag ++ to_be_bytes w64 index ++ to_be_bytes w64 count)
-request_body (request.Incremental tag older newer) = 4 ∷ (to_be_bytes w32 tag ++ to_be_bytes w64 older ++ to_be_bytes w64 newer)
+request_body (request.Membership tag index count) =
+    3 ∷ (to_be_bytes w32 tag ++ to_be_bytes w64 index ++ to_be_bytes w64 count)
+request_body (request.Incremental tag older newer) =
+    4 ∷ (to_be_bytes w32 tag ++ to_be_bytes w64 older ++ to_be_bytes w64 newer)
 request_body (request.Entry tag index) = 5 ∷ (to_be_bytes w32 tag ++ to_be_bytes w64 index)
 request_body (request.Close tag) = 6 ∷ to_be_bytes w32 tag
 
 -- a request that has a body: its numbers fit their fields, and an append has a kind and a payload that it may have
 abbrev pub IsRequest : Request → Type 0
-IsRequest (request.Append tag event_kind payload) = (tag < 2 ^ 32) × (event_kind < 2 ^ 32) × (event_kind ≢ RESERVED_KIND) × (length payload ≤ MAX_PAYLOAD)
+IsRequest (request.Append tag event_kind payload) = (tag < 2 ^ 32) × (event_kind < 2 ^ 32)
+    × (event_kind ≢ RESERVED_KIND) × (length payload ≤ MAX_PAYLOAD)
 IsRequest (request.Commitment tag) = tag < 2 ^ 32
 IsRequest (request.Membership tag index count) = (tag < 2 ^ 32) × (index < 2 ^ 64) × (count < 2 ^ 64)
 IsRequest (request.Incremental tag older newer) = (tag < 2 ^ 32) × (older < 2 ^ 64) × (newer < 2 ^ 64)
@@ -39,7 +44,8 @@ kind_at byte =
 -- what the bytes after the first one say, for each kind
 unfoldable pub append_in : List ℕ → Option Request
 append_in fields =
-    if (nat_le 8 (length fields) && nat_le (length fields) (8 + MAX_PAYLOAD)) && not (number_at w32 4 fields == RESERVED_KIND)
+    if (nat_le 8 (length fields) && nat_le (length fields) (8 + MAX_PAYLOAD)) && not
+    (number_at w32 4 fields == RESERVED_KIND)
     then Some (request.Append (number_at w32 0 fields) (number_at w32 4 fields) (drop 8 fields)) else None
 
 unfoldable pub commitment_in : List ℕ → Option Request
@@ -53,10 +59,12 @@ membership_in fields =
 unfoldable pub incremental_in : List ℕ → Option Request
 incremental_in fields =
     if length fields == 20
-    then Some (request.Incremental (number_at w32 0 fields) (number_at w64 4 fields) (number_at w64 12 fields)) else None
+    then Some (request.Incremental (number_at w32 0 fields) (number_at w64 4 fields) (number_at w64 12 fields))
+    else None
 
 unfoldable pub entry_in : List ℕ → Option Request
-entry_in fields = if length fields == 12 then Some (request.Entry (number_at w32 0 fields) (number_at w64 4 fields)) else None
+entry_in fields = if length fields == 12 then Some (request.Entry (number_at w32 0 fields) (number_at w64 4 fields))
+    else None
 
 unfoldable pub close_in : List ℕ → Option Request
 close_in fields = if length fields == 4 then Some (request.Close (number_at w32 0 fields)) else None

@@ -1,6 +1,7 @@
 -- What a byte stream holds so far: the whole frames at its front, then one malformed place where the
 -- next is, and nothing after it; and the rest that is no whole frame.
-use Rattle.std.specs.Prelude.{◌≡◌, ◌≢◌, ℕ, zero, suc, ◌≤◌, Bool, true, false, nat_le, if◌then◌else◌, List, [], ◌∷◌, ◌++◌, length, take, drop, Option, Some, None}
+use Rattle.std.specs.Prelude.{◌≡◌, ◌≢◌, ℕ, zero, suc, ◌≤◌, Bool, true, false, nat_le, if◌then◌else◌, List, [], ◌∷◌}
+use Rattle.std.specs.Prelude.{◌++◌, length, take, drop, Option, Some, None}
 use Rattle.std.specs.List.{flat_map, AllByRecursion}
 use Rattle.audit_wire.specs.declared.request.Request.{Request}
 use Rattle.audit_wire.specs.Frame.{frame, size_of, IsBodySize, is_body_size, IsPartial}
@@ -12,8 +13,8 @@ pub record Framed (Item : Type 0) : Type 0 where
   pub rest : List ℕ
 
 -- nothing but a rest
-abbrev pub begun : {Item : Type 0} → List ℕ → Framed Item
-begun bytes = record { items = []; malformed = false; rest = bytes }
+abbrev pub rest_alone : {Item : Type 0} → List ℕ → Framed Item
+rest_alone bytes = record { items = []; malformed = false; rest = bytes }
 
 -- nothing but a malformed place
 abbrev pub spoiled : {Item : Type 0} → Framed Item
@@ -30,14 +31,14 @@ all_in_front items framed = record { items = items ++ framed.items; malformed = 
 
 -- at most so many bodies of a stream
 unfoldable pub bodies_within : ℕ → List ℕ → Framed (List ℕ)
-bodies_within zero bytes = begun bytes
-bodies_within (suc count) [] = begun []
-bodies_within (suc count) (high ∷ []) = begun (high ∷ [])
+bodies_within zero bytes = rest_alone bytes
+bodies_within (suc count) [] = rest_alone []
+bodies_within (suc count) (high ∷ []) = rest_alone (high ∷ [])
 bodies_within (suc count) (high ∷ low ∷ bytes) =
     if is_body_size (size_of high low)
     then (if nat_le (size_of high low) (length bytes)
     then in_front (take (size_of high low) bytes) (bodies_within count (drop (size_of high low) bytes))
-    else begun (high ∷ low ∷ bytes))
+    else rest_alone (high ∷ low ∷ bytes))
     else spoiled
 
 -- the bodies of a stream, of which it has no more than bytes
@@ -64,7 +65,8 @@ framed_requests bytes = requests_in (framed_bodies bytes)
 
 -- what a stream holds when more bytes come, from what it held before
 abbrev pub continued : Framed Request → List ℕ → Framed Request
-continued framed more = if framed.malformed then framed else all_in_front framed.items (framed_requests (framed.rest ++ more))
+continued framed more = if framed.malformed then framed
+    else all_in_front framed.items (framed_requests (framed.rest ++ more))
 
 -- ---- the same as a relation, which says nothing of how a stream is read
 

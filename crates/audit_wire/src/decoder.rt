@@ -1,6 +1,9 @@
-ghost use Rattle.std.specs.Prelude.{◌≡◌, ◌≢◌, ◌↔◌, ◌+◌, ◌-◌, ◌<◌, ◌≤◌, ℕ, List, [], ◌∷◌, ◌++◌, length, take, drop, min, IsTrue, false, IfOk, vec_len, vec_capacity};
+ghost use Rattle.std.specs.Prelude.{◌≡◌, ◌≢◌, ◌↔◌, ◌+◌, ◌-◌, ◌<◌, ◌≤◌, ℕ, List, [], ◌∷◌, ◌++◌, length, take, drop, min};
+ghost use Rattle.std.specs.Prelude.{IsTrue, false, IfOk, vec_len, vec_capacity};
 ghost use Rattle.audit_wire.specs.Frame.{IsPartial};
-ghost use Rattle.audit_wire.specs.Progress.{reading, rest_of, body_of, HasJustTaken, IsProgress, IsFed, IsAnswer, PutsBack, Spoils, taken_of, taken_by, handed_out, left_by, is_spoiled, requests_ahead};
+ghost use Rattle.audit_wire.specs.Progress.{reading, rest_of, body_of, HasJustTaken, IsDecoderProgress, IsDecoderFed};
+ghost use Rattle.audit_wire.specs.Progress.{IsDecoderAnswer, PutsBack, Spoils, taken_of, taken_by, handed_out, untaken};
+ghost use Rattle.audit_wire.specs.Progress.{is_spoiled, requests_ahead};
 ghost use Rattle.audit_wire.specs.Stream.{requests_of};
 ghost use Rattle.audit_wire.specs.Filled.{IsFilled};
 
@@ -38,15 +41,15 @@ pub struct Decoder {
 
 impl Model for Decoder {
     ghost use Rattle.std.specs.Prelude.{vec_capacity};
-    ghost use Rattle.audit_wire.specs.Progress.{Progress};
+    ghost use Rattle.audit_wire.specs.Progress.{DecoderProgress};
 
-    ghost Value = { Progress };
+    ghost Value = { DecoderProgress };
 
-    ghost use Rattle.audit_wire.specs.Decoder.{progress_of, IsKept};
+    ghost use Rattle.audit_wire.specs.Decoder.{progress_of, IsDecoderKept};
 
     ghost view = { λ decoder. progress_of decoder.state decoder.frame.items };
 
-    ghost invariant = { λ decoder. IsKept decoder.state decoder.frame.items (vec_capacity decoder.frame) };
+    ghost invariant = { λ decoder. IsDecoderKept decoder.state decoder.frame.items (vec_capacity decoder.frame) };
 }
 
 impl Decoder {
@@ -65,12 +68,12 @@ impl Decoder {
     /// malformed. After a malformed length every piece is taken and dropped.
     pub fn feed(&mut self, piece: &[u8]) -> Fed
         // What the piece does: where the frame that is begun goes on, becomes whole or is malformed.
-        ensures fed { IsFed self.old piece.now result self.new }
+        ensures fed { IsDecoderFed self.old piece.now result self.new }
         // A body or a malformed length takes at least one byte, which may be given back.
-        ensures taken { IsAnswer result (length piece.now) self.new }
+        ensures taken { IsDecoderAnswer result (length piece.now) self.new }
         // The requests of the stream are those of the body that is handed out, and those ahead after it.
         ensures requests { (later : List ℕ) → requests_ahead self.old (piece.now ++ later)
-            ≡ requests_of (handed_out self.new) (requests_ahead self.new (left_by result piece.now ++ later)) }
+            ≡ requests_of (handed_out self.new) (requests_ahead self.new (untaken result piece.now ++ later)) }
         ensures rest { IsPartial (rest_of self.new) }
         // The same of the bytes that were taken, whatever comes after them.
         ensures ahead { (later : List ℕ) → requests_ahead self.old (taken_by result piece.now ++ later)
@@ -85,7 +88,7 @@ impl Decoder {
     }
 
     fn advance(&mut self, piece: &[u8]) -> Fed
-        ensures { IsFed self.old piece.now result self.new }
+        ensures { IsDecoderFed self.old piece.now result self.new }
     {
         match self.state {
             State::Malformed | State::Closed => {
@@ -107,7 +110,7 @@ impl Decoder {
     /// The body that the last feed made whole, and nothing where it made none.
     pub fn body(&self) -> &[u8]
         ensures body { result.now ≡ body_of self.now }
-        ensures progress { IsProgress self.now }
+        ensures progress { IsDecoderProgress self.now }
     {
         match self.state {
             State::Whole => &self.frame[LENGTH_BYTES..],
@@ -131,7 +134,7 @@ impl Decoder {
     fn undo(&mut self)
         requires { HasJustTaken self.old }
         ensures before { PutsBack self.old self.new }
-        ensures progress { IsProgress self.old }
+        ensures progress { IsDecoderProgress self.old }
     {
         let _ = self.frame.pop();
         self.state = State::Reading;
@@ -142,7 +145,7 @@ impl Decoder {
         ensures pending { IsTrue result ↔ (rest_of self.now ≢ []) }
         ensures rest { IsPartial (rest_of self.now) }
         // It stands in one of four places of its stream, with what holds there.
-        ensures progress { IsProgress self.now }
+        ensures progress { IsDecoderProgress self.now }
     {
         self.state == State::Reading && !self.frame.is_empty()
     }

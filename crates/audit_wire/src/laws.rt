@@ -3,7 +3,8 @@
 ghost use Rattle.std.specs.Prelude.{◌≡◌, ◌<◌, ◌^◌, ℕ, length, List, [], ◌∷◌, ◌++◌, Some};
 ghost use Rattle.audit_wire.specs.declared.request.Request.{Request};
 ghost use Rattle.audit_base.specs.declared.limits.TheConstants.{HASH_LEN};
-ghost use Rattle.audit_wire.specs.declared.limits.TheConstants.{LENGTH_BYTES, MAX_BODY, MAX_FRAME, ACKNOWLEDGEMENT_FRAME, REFUSAL_FRAME};
+ghost use Rattle.audit_wire.specs.declared.limits.TheConstants.{LENGTH_BYTES, MAX_BODY, MAX_FRAME};
+ghost use Rattle.audit_wire.specs.declared.limits.TheConstants.{ACKNOWLEDGEMENT_FRAME, REFUSAL_FRAME};
 ghost use Rattle.audit_wire.specs.declared.refusal.Refusal.{Refusal};
 ghost use Rattle.audit_wire.specs.declared.reply.Reply.{Reply};
 ghost use Rattle.audit_wire.specs.declared.reply.Reply.TheVariants as reply;
@@ -12,9 +13,12 @@ ghost use Rattle.std.specs.List.{flat_map, AllByRecursion};
 ghost use Rattle.audit_base.specs.Bytes.{AreBytes};
 ghost use Rattle.audit_wire.specs.Frame.{IsPartial};
 ghost use Rattle.audit_wire.specs.Request.{request_body, request_in, IsRequest};
-ghost use Rattle.audit_wire.specs.Stream.{Framed, begun, in_front, framed_bodies, framed_requests, continued, request_frame, IsReading};
+ghost use Rattle.audit_wire.specs.Stream.{Framed, rest_alone, in_front, framed_bodies, framed_requests, continued};
+ghost use Rattle.audit_wire.specs.Stream.{request_frame, IsReading};
 ghost use Rattle.audit_wire.specs.declared.fed.Fed.{Fed};
-ghost use Rattle.audit_wire.specs.Progress.{Progress, Feeding, reading, rest_of, is_spoiled, IsFed, taken_by, taken_but_one, requests_ahead, HasJustTaken, PutsBack, IsRun, bytes_taken, bodies_given, progress_after};
+ghost use Rattle.audit_wire.specs.Progress.{DecoderProgress, Feeding, reading, rest_of, is_spoiled, IsDecoderFed};
+ghost use Rattle.audit_wire.specs.Progress.{taken_by, taken_but_one, requests_ahead, HasJustTaken, PutsBack, IsRun};
+ghost use Rattle.audit_wire.specs.Progress.{bytes_taken, bodies_given, progress_after};
 
 /// A stream is read in one way only: two readings of one byte stream are the same requests, the same
 /// malformed place or none, and the same rest.
@@ -35,10 +39,10 @@ pub fn every_request_is_read_back()
 {}
 
 /// More bytes keep the requests that were there, and what was no whole frame is read together with
-/// them. A begun frame is such a rest.
+/// them. A rest_alone frame is such a rest.
 pub fn more_bytes_keep_the_requests()
     ensures more { (bytes later : List ℕ) → framed_requests (bytes ++ later) ≡ continued (framed_requests bytes) later }
-    ensures rest { (bytes : List ℕ) → IsPartial bytes → framed_requests bytes ≡ begun bytes }
+    ensures rest { (bytes : List ℕ) → IsPartial bytes → framed_requests bytes ≡ rest_alone bytes }
 {}
 
 /// However a stream is cut into pieces, what a decoder handed out and what it holds back are a
@@ -84,15 +88,16 @@ pub fn one_reading_of_replies()
 /// piece it is where feeding the bytes that were taken but for the last one leaves it, and so the stream has the same
 /// requests ahead.
 pub fn a_byte_given_back_never_came()
-    ensures whole { (old taken new : Progress) (piece : List ℕ) (byte : ℕ) (answer : Fed)
-        → IsFed old (piece ++ byte ∷ []) answer taken
+    ensures whole { (old taken new : DecoderProgress) (piece : List ℕ) (byte : ℕ) (answer : Fed)
+        → IsDecoderFed old (piece ++ byte ∷ []) answer taken
         → taken_by answer (piece ++ byte ∷ []) ≡ piece ++ byte ∷ [] → HasJustTaken taken → PutsBack taken new
-        → IsFed old piece Fed.More new }
-    ensures any { (old taken new : Progress) (piece : List ℕ) (answer : Fed) → IsFed old piece answer taken
+        → IsDecoderFed old piece Fed.More new }
+    ensures any { (old taken new : DecoderProgress) (piece : List ℕ) (answer : Fed)
+        → IsDecoderFed old piece answer taken
         → HasJustTaken taken
-        → PutsBack taken new → IsFed old (taken_but_one answer piece) Fed.More new }
-    ensures ahead { (old taken new : Progress) (piece : List ℕ) (answer : Fed) (later : List ℕ)
-        → IsFed old piece answer taken
+        → PutsBack taken new → IsDecoderFed old (taken_but_one answer piece) Fed.More new }
+    ensures ahead { (old taken new : DecoderProgress) (piece : List ℕ) (answer : Fed) (later : List ℕ)
+        → IsDecoderFed old piece answer taken
         → HasJustTaken taken → PutsBack taken new → requests_ahead old (taken_but_one answer piece ++ later)
         ≡ requests_ahead new later }
 {}

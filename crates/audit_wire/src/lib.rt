@@ -42,7 +42,7 @@ pub use malformed::Malformed;
 pub use reading::read_request;
 pub use refusal::Refusal;
 pub use reply::Reply;
-pub use reply_fault::ReplyFault;
+pub use reply_fault::ReplyError;
 pub use reply_reading::{first_reply, read_reply};
 pub use request::Request;
 pub use view::RequestView;

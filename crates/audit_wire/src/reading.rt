@@ -2,7 +2,8 @@ ghost use Rattle.std.specs.Prelude.{◌≡◌, ◌+◌, ◌≤◌, length, IfOk,
 ghost use Rattle.std.specs.Int.{w32, w64};
 ghost use Rattle.audit_wire.specs.declared.request.Request.{Request};
 ghost use Rattle.audit_base.specs.Bytes.{number_at};
-ghost use Rattle.audit_wire.specs.Request.{request_body, request_in, IsRequest, append_in, commitment_in, membership_in, incremental_in, entry_in, close_in};
+ghost use Rattle.audit_wire.specs.Request.{request_body, request_in, IsRequest, append_in, commitment_in};
+ghost use Rattle.audit_wire.specs.Request.{membership_in, incremental_in, entry_in, close_in};
 ghost use Rattle.audit_wire.specs.View.{request_shown, request_read};
 
 use crate::fields::{AFTER_ONE_NUMBER, AFTER_TAG, AFTER_TWO_NUMBERS, PAYLOAD_AT, TAG_AT};

@@ -20,7 +20,7 @@ pub enum Refusal {
 }
 
 impl Refusal {
-    ghost use Rattle.audit_wire.specs.Reply.{refusal_code, refusal_of};
+    ghost use Rattle.audit_wire.specs.Reply.{refusal_code, refusal_with_code};
 
     /// The code on the wire.
     pub fn code(self) -> u8
@@ -31,7 +31,7 @@ impl Refusal {
 
     /// The refusal of a code on the wire, where it has one.
     pub fn from_code(code: u8) -> Option<Refusal>
-        ensures { result ≡ refusal_of code }
+        ensures { result ≡ refusal_with_code code }
     {
         match code {
             4 => Some(Refusal::DamagedLog),

@@ -2,7 +2,7 @@ use thiserror::Error;
 
 /// Why bytes weren't read as a reply.
 #[derive(Clone, Copy, Debug, Drop, Error, PartialEq, Eq)]
-pub enum ReplyFault {
+pub enum ReplyError {
     /// The bytes aren't a reply.
     #[error("malformed reply")]
     Malformed,

@@ -1,7 +1,8 @@
 //! Replies, as a client reads them.
 ghost use Rattle.std.specs.Prelude.{◌≡◌, ◌^◌, ◌<◌, ℕ, List, ◌++◌, length, IfSome, MatchOption};
 ghost use Rattle.audit_wire.specs.Frame.{frame};
-ghost use Rattle.audit_wire.specs.Reply.{acknowledgement_in, commitment_reply_in, membership_reply_in, increment_reply_in, entry_reply_in, refused_in, reply_in, IsReadAs};
+ghost use Rattle.audit_wire.specs.Reply.{acknowledgement_in, commitment_reply_in, membership_reply_in};
+ghost use Rattle.audit_wire.specs.Reply.{increment_reply_in, entry_reply_in, refused_in, reply_in, IsReadAs};
 
 use crate::byte_list::ByteList;
 use crate::fields::{AFTER_ONE_BYTE, AFTER_ONE_NUMBER, AFTER_TAG, AFTER_TWO_NUMBERS, TAG_AT};
@@ -9,7 +10,7 @@ use crate::hash_list::HashList;
 use crate::limits::LENGTH_BYTES;
 use crate::refusal::Refusal;
 use crate::reply::Reply;
-use crate::reply_fault::ReplyFault;
+use crate::reply_fault::ReplyError;
 use crate::reply_kind::ReplyKind;
 use audit_base::{
     HASH_LEN, MAX_ENTRY, MAX_INCREMENT_HASHES, MAX_MEMBER_HASHES, array_at, read_hashes, u32_at,
@@ -37,21 +38,21 @@ pub fn first_reply(output: &[u8]) -> Option<(&[u8], &[u8])>
 
 /// Reads the body of a frame as a reply: `Malformed` exactly where it is no reply's, and `Memory` where memory is
 /// refused for the hashes or the entry of one.
-pub fn read_reply(alloc: Global, body: &[u8]) -> Result<Reply, ReplyFault>
+pub fn read_reply(alloc: Global, body: &[u8]) -> Result<Reply, ReplyError>
     ensures { IsReadAs (reply_in body.now) result }
 {
     read_by_kind(alloc, body)
 }
 
 #[tactic(auto, unfolding(crate::specs::Reply::reply_in))]
-fn read_by_kind(alloc: Global, body: &[u8]) -> Result<Reply, ReplyFault>
+fn read_by_kind(alloc: Global, body: &[u8]) -> Result<Reply, ReplyError>
     ensures { IsReadAs (reply_in body.now) result }
 {
     let [first, fields @ ..] = body else {
-        return Err(ReplyFault::Malformed);
+        return Err(ReplyError::Malformed);
     };
     let Some(kind) = ReplyKind::from_byte(*first) else {
-        return Err(ReplyFault::Malformed);
+        return Err(ReplyError::Malformed);
     };
     match kind {
         ReplyKind::Acknowledgement => acknowledgement_of(fields),
@@ -64,11 +65,11 @@ fn read_by_kind(alloc: Global, body: &[u8]) -> Result<Reply, ReplyFault>
 }
 
 #[tactic(auto, unfolding(crate::specs::Reply::acknowledgement_in))]
-fn acknowledgement_of(fields: &[u8]) -> Result<Reply, ReplyFault>
+fn acknowledgement_of(fields: &[u8]) -> Result<Reply, ReplyError>
     ensures { IsReadAs (acknowledgement_in fields.now) result }
 {
     if fields.len() != AFTER_TWO_NUMBERS + HASH_LEN {
-        return Err(ReplyFault::Malformed);
+        return Err(ReplyError::Malformed);
     }
     Ok(Reply::Acknowledgement {
         tag: u32_at(fields, TAG_AT),
@@ -79,11 +80,11 @@ fn acknowledgement_of(fields: &[u8]) -> Result<Reply, ReplyFault>
 }
 
 #[tactic(auto, unfolding(crate::specs::Reply::commitment_reply_in))]
-fn commitment_of(fields: &[u8]) -> Result<Reply, ReplyFault>
+fn commitment_of(fields: &[u8]) -> Result<Reply, ReplyError>
     ensures { IsReadAs (commitment_reply_in fields.now) result }
 {
     if fields.len() != AFTER_ONE_NUMBER + HASH_LEN {
-        return Err(ReplyFault::Malformed);
+        return Err(ReplyError::Malformed);
     }
     Ok(Reply::Commitment {
         tag: u32_at(fields, TAG_AT),
@@ -93,26 +94,26 @@ fn commitment_of(fields: &[u8]) -> Result<Reply, ReplyFault>
 }
 
 #[tactic(auto, unfolding(crate::specs::Reply::membership_reply_in))]
-fn membership_of(alloc: Global, fields: &[u8]) -> Result<Reply, ReplyFault>
+fn membership_of(alloc: Global, fields: &[u8]) -> Result<Reply, ReplyError>
     ensures { IsReadAs (membership_reply_in fields.now) result }
 {
     if fields.len() < AFTER_ONE_BYTE {
-        return Err(ReplyFault::Malformed);
+        return Err(ReplyError::Malformed);
     }
     let number = fields[AFTER_TAG] as usize;
     let (_, after) = fields.split_at(AFTER_ONE_BYTE);
     if number > MAX_MEMBER_HASHES || after.len() < HASH_LEN * number {
-        return Err(ReplyFault::Malformed);
+        return Err(ReplyError::Malformed);
     }
     let (_, entry) = after.split_at(HASH_LEN * number);
     if entry.len() > MAX_ENTRY {
-        return Err(ReplyFault::Malformed);
+        return Err(ReplyError::Malformed);
     }
     let Ok(hashes) = read_hashes(alloc, after, number) else {
-        return Err(ReplyFault::Memory);
+        return Err(ReplyError::Memory);
     };
     let Ok(entry) = Vec::from_slice(alloc, entry) else {
-        return Err(ReplyFault::Memory);
+        return Err(ReplyError::Memory);
     };
     Ok(Reply::Membership {
         tag: u32_at(fields, TAG_AT),
@@ -122,19 +123,19 @@ fn membership_of(alloc: Global, fields: &[u8]) -> Result<Reply, ReplyFault>
 }
 
 #[tactic(auto, unfolding(crate::specs::Reply::increment_reply_in))]
-fn increment_of(alloc: Global, fields: &[u8]) -> Result<Reply, ReplyFault>
+fn increment_of(alloc: Global, fields: &[u8]) -> Result<Reply, ReplyError>
     ensures { IsReadAs (increment_reply_in fields.now) result }
 {
     if fields.len() < AFTER_ONE_BYTE {
-        return Err(ReplyFault::Malformed);
+        return Err(ReplyError::Malformed);
     }
     let number = fields[AFTER_TAG] as usize;
     let (_, after) = fields.split_at(AFTER_ONE_BYTE);
     if number > MAX_INCREMENT_HASHES || after.len() != HASH_LEN * number {
-        return Err(ReplyFault::Malformed);
+        return Err(ReplyError::Malformed);
     }
     let Ok(hashes) = read_hashes(alloc, after, number) else {
-        return Err(ReplyFault::Memory);
+        return Err(ReplyError::Memory);
     };
     Ok(Reply::Incremental {
         tag: u32_at(fields, TAG_AT),
@@ -143,15 +144,15 @@ fn increment_of(alloc: Global, fields: &[u8]) -> Result<Reply, ReplyFault>
 }
 
 #[tactic(auto, unfolding(crate::specs::Reply::entry_reply_in))]
-fn entry_of(alloc: Global, fields: &[u8]) -> Result<Reply, ReplyFault>
+fn entry_of(alloc: Global, fields: &[u8]) -> Result<Reply, ReplyError>
     ensures { IsReadAs (entry_reply_in fields.now) result }
 {
     if fields.len() < AFTER_TAG || fields.len() > AFTER_TAG + MAX_ENTRY {
-        return Err(ReplyFault::Malformed);
+        return Err(ReplyError::Malformed);
     }
     let (_, entry) = fields.split_at(AFTER_TAG);
     let Ok(entry) = Vec::from_slice(alloc, entry) else {
-        return Err(ReplyFault::Memory);
+        return Err(ReplyError::Memory);
     };
     Ok(Reply::Entry {
         tag: u32_at(fields, TAG_AT),
@@ -160,17 +161,17 @@ fn entry_of(alloc: Global, fields: &[u8]) -> Result<Reply, ReplyFault>
 }
 
 #[tactic(auto, unfolding(crate::specs::Reply::refused_in))]
-fn refused_of(fields: &[u8]) -> Result<Reply, ReplyFault>
+fn refused_of(fields: &[u8]) -> Result<Reply, ReplyError>
     ensures { IsReadAs (refused_in fields.now) result }
 {
     if fields.len() != AFTER_ONE_BYTE {
-        return Err(ReplyFault::Malformed);
+        return Err(ReplyError::Malformed);
     }
     match Refusal::from_code(fields[AFTER_TAG]) {
         Some(refusal) => Ok(Reply::Refused {
             tag: u32_at(fields, TAG_AT),
             refusal,
         }),
-        None => Err(ReplyFault::Malformed),
+        None => Err(ReplyError::Malformed),
     }
 }

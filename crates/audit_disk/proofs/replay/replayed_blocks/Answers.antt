@@ -1,7 +1,7 @@
 use Rattle.std.proofs.Common.{◌≡◌, ◌+◌, List, map, take, length, ap, sym, ◌∙◌, subst, arith}
 use Rattle.std.proofs.lemmas.List.{take_all, with_items_is}
 use Rattle.std.proofs.lemmas.Result.{IfOk-weaker}
-use Rattle.audit_disk.specs.Held.{settled, bytes_of}
+use Rattle.audit_disk.specs.Held.{settled, bytes_of_blocks}
 use Rattle.audit_disk.specs.Memory.{after_calls}
 use Rattle.audit_disk.specs.Progress.{AreProgress, landed_of, after_effect}
 use Rattle.audit_disk.specs.declared.call.Call.{Call}
@@ -23,4 +23,4 @@ pub returns : goal.returns
 returns c =
     let all : take c.loop-call.call-index c.args.calls.now ≡ c.args.calls.now = take_all c.loop-call.call-index c.args.calls.now (omega arith) in
     let are = subst (λ (calls : List Call). AreProgress (after_calls calls (map settled c.args.start.now)) c.args.pick.now c.loop-call.progress.items) all c.loop-call.invariant in
-    IfOk-weaker c.landed_blocks.result _ _ (λ blocks is. ap bytes_of is ∙ ap (λ (p : List Progress). bytes_of (landed_of p)) c.deref.ensures.value ∙ landed-crashed (after_calls c.args.calls.now (map settled c.args.start.now)) c.args.pick.now c.loop-call.progress.items are) c.landed_blocks.ensures
+    IfOk-weaker c.landed_blocks.result _ _ (λ blocks is. ap bytes_of_blocks is ∙ ap (λ (p : List Progress). bytes_of_blocks (landed_of p)) c.deref.ensures.value ∙ landed-crashed (after_calls c.args.calls.now (map settled c.args.start.now)) c.args.pick.now c.loop-call.progress.items are) c.landed_blocks.ensures

@@ -1,5 +1,5 @@
 use Rattle.std.proofs.Common.{refl, sym, ◌∙◌, ap, take}
-use Rattle.audit_device.specs.Image.{Image}
+use Rattle.audit_disk_model.specs.Image.{Image}
 use Rattle.audit_disk.specs.File.{sectors_of}
 use Rattle.audit_disk.proofs.FileSectors.{take-sectors_of}
 use Rattle.audit_disk.proofs.file_disk.FileDisk.with_sectors.Goals as goal

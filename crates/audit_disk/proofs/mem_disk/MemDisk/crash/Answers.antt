@@ -1,4 +1,4 @@
-use Rattle.audit_disk.specs.Held.{bytes_of}
+use Rattle.audit_disk.specs.Held.{bytes_of_blocks}
 use Rattle.audit_disk.proofs.FreshDisks.{crash_image, crash_every, after_crash_if}
 use Rattle.audit_disk.proofs.mem_disk.MemDisk.crash.Goals as goal
 
@@ -16,4 +16,4 @@ returns-clause-every c = crash_every c.args.self.now
 
 pub returns-clause-after : goal.returns-clause-after
 returns-clause-after c =
-    after_crash_if c.args.self.now c.args.pick.now (bytes_of c.in_ok-left.left.items) c.with_content.result c.with_content.ensures.fresh (rw (← c.deref.ensures.value, ← c.deref-2.ensures.value) c.in_ok-left.ensures)
+    after_crash_if c.args.self.now c.args.pick.now (bytes_of_blocks c.in_ok-left.left.items) c.with_content.result c.with_content.ensures.fresh (rw (← c.deref.ensures.value, ← c.deref-2.ensures.value) c.in_ok-left.ensures)

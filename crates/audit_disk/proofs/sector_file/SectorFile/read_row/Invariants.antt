@@ -1,5 +1,5 @@
 use Rattle.std.proofs.Common.{◌≡◌, Ok, length}
-use Rattle.audit_device.specs.declared.fault.DeviceFault.{DeviceFault}
+use Rattle.audit_disk_model.specs.declared.fault.DeviceFault.{DeviceFault}
 use Rattle.audit_disk.specs.File.{IsRowRead}
 use Rattle.audit_disk.proofs.sector_file.SectorFile.read_row.Given as goal
 

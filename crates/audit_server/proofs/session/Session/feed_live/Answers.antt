@@ -2,7 +2,7 @@ use Rattle.std.proofs.Common.{ℕ, ◌≡◌, ◌-◌, ◌≤◌, Ok, Err, List,
 use Rattle.std.proofs.lemmas.List.{take_all}
 use Rattle.audit_server.specs.declared.session.Front.{Front}
 use Rattle.audit_server.specs.declared.session.Front.TheVariants as front
-use Rattle.audit_server.specs.Feeding.{IsFront, IsWhole}
+use Rattle.audit_server.specs.Feeding.{IsFront, IsWholeFeed}
 use Rattle.audit_server.proofs.Pieces.{fed_start, fed_more, fed_part, fed_spoiled, fed_err}
 use Rattle.audit_server.proofs.session.Session.feed_live.Goals as goal
 
@@ -18,8 +18,8 @@ take_front-requires-clause-live g c = c.loop-more.invariant.live
 pub loop-more-smaller : goal.loop-more-smaller
 loop-more-smaller g c =
     let within : c.loop-more.taken ≤ length c.args.piece.now = c.loop-more.invariant.within in
-    let front : IsWhole c.args.session (drop c.loop-more.taken c.args.piece.now) c.in-Ok-Request.more c.loop-more.self c.take_front.new.self c.loop-more.committer c.take_front.new.committer =
-    subst (λ (tail : List ℕ). IsWhole c.args.session tail c.in-Ok-Request.more c.loop-more.self c.take_front.new.self c.loop-more.committer c.take_front.new.committer) (tail_is c.loop-more.taken c.args.piece.now within)
+    let front : IsWholeFeed c.args.session (drop c.loop-more.taken c.args.piece.now) c.in-Ok-Request.more c.loop-more.self c.take_front.new.self c.loop-more.committer c.take_front.new.committer =
+    subst (λ (tail : List ℕ). IsWholeFeed c.args.session tail c.in-Ok-Request.more c.loop-more.self c.take_front.new.self c.loop-more.committer c.take_front.new.committer) (tail_is c.loop-more.taken c.args.piece.now within)
     (subst (λ (it : Front). IsFront c.args.session (take (length c.args.piece.now - c.loop-more.taken) (drop c.loop-more.taken c.args.piece.now)) c.loop-more.self c.take_front.new.self c.loop-more.committer c.take_front.new.committer (Ok it))
     c.in-Ok-Request.field-0-is c.in-Ok-Request.ensures) in
     omega (arith, front.some, front.within, within, length-drop c.loop-more.taken c.args.piece.now)
@@ -27,8 +27,8 @@ loop-more-smaller g c =
 pub loop-more-preserved : goal.loop-more-preserved
 loop-more-preserved g c =
     let within : c.loop-more.taken ≤ length c.args.piece.now = c.loop-more.invariant.within in
-    let front : IsWhole c.args.session (drop c.loop-more.taken c.args.piece.now) c.in-Ok-Request.more c.loop-more.self c.take_front.new.self c.loop-more.committer c.take_front.new.committer =
-    subst (λ (tail : List ℕ). IsWhole c.args.session tail c.in-Ok-Request.more c.loop-more.self c.take_front.new.self c.loop-more.committer c.take_front.new.committer) (tail_is c.loop-more.taken c.args.piece.now within)
+    let front : IsWholeFeed c.args.session (drop c.loop-more.taken c.args.piece.now) c.in-Ok-Request.more c.loop-more.self c.take_front.new.self c.loop-more.committer c.take_front.new.committer =
+    subst (λ (tail : List ℕ). IsWholeFeed c.args.session tail c.in-Ok-Request.more c.loop-more.self c.take_front.new.self c.loop-more.committer c.take_front.new.committer) (tail_is c.loop-more.taken c.args.piece.now within)
     (subst (λ (it : Front). IsFront c.args.session (take (length c.args.piece.now - c.loop-more.taken) (drop c.loop-more.taken c.args.piece.now)) c.loop-more.self c.take_front.new.self c.loop-more.committer c.take_front.new.committer (Ok it))
     c.in-Ok-Request.field-0-is c.in-Ok-Request.ensures) in
     fed_more c.args.session c.args.piece.now c.loop-more.taken c.args.self.now c.loop-more.self c.take_front.new.self c.args.committer.now c.loop-more.committer c.take_front.new.committer c.loop-more.invariant c.in-Ok-Request.more front

@@ -1,4 +1,0 @@
-use Rattle.audit_chain_tests.proofs.tree.plain.+add_siblings.Given as goal
-
-abbrev pub decreases-add_siblings : goal.decreases-add_siblings
-decreases-add_siblings l = l.width

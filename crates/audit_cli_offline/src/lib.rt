@@ -1,0 +1,13 @@
+//! What an auditor asks without a store, over readers and writers: an export verified, a proof checked, and the words
+//! that spell commitments.
+#![tactic(auto)]
+
+mod checking;
+mod commitment_word;
+mod fault;
+mod verifying;
+
+pub use checking::{Proof, judge_proof, read_proof, write_judgment};
+pub use commitment_word::commitment_in_word;
+pub use fault::OfflineError;
+pub use verifying::{push_state, verify_export, write_report};

@@ -1,0 +1,142 @@
+-- Serving a store by a new core.
+use Rattle.std.proofs.Common.{◌≡◌, ◌⊎◌, ◌∙◌, inl, inr, ℕ, Option, Some, Result, Ok, Err, List, [], ◌∷◌, ◌++◌, length, map, refl, sym, ap, subst}
+use Rattle.std.proofs.lemmas.List.{length-map}
+use Rattle.std.specs.Prelude.{OnOk}
+use Rattle.audit_disk_model.specs.declared.sectors.Sectors as sectors
+use Rattle.audit_store.specs.declared.store.Store.{Store}
+use Rattle.audit_store.specs.Store.{is_broken}
+use Rattle.audit_store.specs.declared.store_error.StoreError.{StoreError}
+use Rattle.audit_store.specs.declared.store_error.StoreError.TheVariants.{Memory}
+use Rattle.audit_server_commit.specs.Committer.{store_of}
+use Rattle.audit_server_model.specs.Serving.{IsDurablyServed, IsRefusedAs, StoreKeepsOn}
+use Rattle.audit_server_model.proofs.Serving.{kept_none, durably_keeps}
+use Rattle.audit_server.specs.declared.server_core.Core.{Core}
+use Rattle.audit_server.specs.Core.{committer_of, data_of, Refuses}
+use Rattle.audit_server.specs.CoreModel.{core_model}
+use Rattle.audit_serve_passes.specs.Steps.{StepData}
+use Rattle.audit_serve_passes.specs.Streams.{StreamView}
+use Rattle.audit_serve_passes.specs.declared.serve_end.ServeFault.{ServeFault}
+use Rattle.audit_serve_passes.specs.declared.serve_end.ServeFault.TheVariants as serving
+use Rattle.audit_serve_passes.specs.Transition.{Transition, EndsAs, Reached, IsServed, IsCut}
+use Rattle.audit_serve_sockets.specs.Looping.{BringsLines, LoopTransition, LoopReached}
+use Rattle.audit_serve_sockets.specs.declared.loop_fault.LoopError.{LoopError}
+use Rattle.audit_serve_sockets.specs.declared.loop_fault.LoopError.TheVariants as looping
+use Rattle.audit_text.specs.declared.fault.LinesError.{LinesError}
+use Rattle.audit_text.specs.declared.fault.LinesError.TheVariants as lines
+use Rattle.audit_cli_store.specs.declared.fault.CommandError.TheVariants.{File, Lines, Refused}
+use Rattle.audit_cli_serve.specs.declared.fault.ServingError.{ServingError}
+use Rattle.audit_cli_serve.specs.declared.fault.ServingError.TheVariants.{Command, BadFrameLine}
+use Rattle.audit_cli_serve.specs.Faults.{of_serving, of_loop}
+use Rattle.audit_cli_serve.specs.Served.{IsNewCore, LoopsOver, ServesRound, ServesRounds, LoopReachesOver, ReachesByRound, IsLineLost, HasRefused, StopsRound, StopsLoop}
+
+-- no other fault is reported as a line that spells no bytes
+pub bad_of_loop : (fault : LoopError StoreError) (number : ℕ) → of_loop fault ≡ BadFrameLine number → fault ≡ looping.BadLine number
+bad_of_loop looping.Connection number is = absurd (cc is)
+bad_of_loop (looping.Lines fault) number is = absurd (cc is)
+bad_of_loop (looping.BadLine line) number is = cc is
+bad_of_loop (looping.Core error) number is = absurd (cc is)
+
+-- what holds of an answer that is Ok, and of one that isn't
+pub on_ok : {A F P : Type 0} (outcome : Result A F) (value : A) → outcome ≡ Ok value → P → OnOk outcome P
+on_ok {A = A} {F = F} {P = P} outcome value is has = subst (λ (answer : Result A F). OnOk answer P) (sym is) has
+
+pub on_err : {A F : Type 0} (P : Type 0) (outcome : Result A F) (fault : F) → outcome ≡ Err fault → OnOk outcome P
+on_err {A = A} {F = F} P outcome fault is = subst (λ (answer : Result A F). OnOk answer P) (sym is) tt
+
+-- the line of a round wasn't written
+pub line_lost : (cause : LinesError) (fault : ServingError) → fault ≡ Command (Lines cause) → (cause ≡ lines.Write) ⊎ (cause ≡ lines.Memory) → IsLineLost fault
+line_lost cause fault is (inl write) = inl (is ∙ ap (λ (of : LinesError). Command (Lines of)) write)
+line_lost cause fault is (inr memory) = inr (is ∙ ap (λ (of : LinesError). Command (Lines of)) memory)
+
+module _ {D : Type 0} {g : sectors.Ghosts D} where
+  -- a store that is as it was
+  pub kept_as : (old new : Store D g) → new ≡ old → StoreKeepsOn old new
+  kept_as old new same = subst (StoreKeepsOn old) (sym same) (kept_none old)
+
+  -- the stores of a core that was made and of what became of it
+  pub kept_by : {steps : List StepData} {taken : ℕ → List ℕ} (old new : Store D g) (core last : Core D g) → store_of (committer_of core) ≡ old → new ≡ store_of (committer_of last) → IsDurablyServed (data_of core) (data_of last) steps taken
+      → StoreKeepsOn old new
+  kept_by old new core last made left durably =
+      subst (StoreKeepsOn old) (sym left) (subst (λ (store : Store D g). StoreKeepsOn store (store_of (committer_of last))) made (durably_keeps (data_of core) (data_of last) durably))
+
+  -- a round more
+  pub rounds_more : (sessions turns : ℕ) (before : List ℕ) (old mid new : Store D g) → ServesRounds sessions before old mid → ServesRound sessions turns mid new → ServesRounds sessions (before ++ turns ∷ []) old new
+  rounds_more sessions turns [] old mid new same round = (new, subst (λ (store : Store D g). ServesRound sessions turns store new) same round, refl)
+  rounds_more sessions turns (first ∷ before) old mid new h round = (h.0, h.1, rounds_more sessions turns before h.0 mid new h.2 round)
+
+  pub looped : (old new : Store D g) (core last : Core D g) {before after : Option (List ℕ)} {Shape : List StepData → Type 0} → IsNewCore old core → new ≡ store_of (committer_of last) → LoopTransition core_model core last before after Shape
+      → LoopsOver old new before after Shape
+  looped old new core last made left run = record { core = core; made = made; last = last; left = left; run = run }
+
+  pub round_served : (old new : Store D g) (core last : Core D g) (sessions turns : ℕ) {S : Type 0} (view : S → StreamView) (streams later : List S) → IsNewCore old core → new ≡ store_of (committer_of last) → length streams ≡ sessions
+      → Transition core_model core last (map view streams) (map view later) (IsServed core_model (length streams) turns core last) → ServesRound sessions turns old new
+  round_served old new core last sessions turns view streams later made left each run = record {
+    core = core;
+    made = made;
+    last = last;
+    left = left;
+    streams = map view streams;
+    later = map view later;
+    each = length-map streams view ∙ each;
+    run = subst (λ (count : ℕ). Transition core_model core last (map view streams) (map view later) (IsServed core_model count turns core last)) each run;
+  }
+
+  -- whatever stopped it
+  pub loop_reached : (old new : Store D g) (core last : Core D g) {known : Option (List ℕ)} → IsNewCore old core → new ≡ store_of (committer_of last) → LoopReached core_model core last (BringsLines known) → LoopReachesOver old new known
+  loop_reached old new core last made left run = record { core = core; made = made; last = last; left = left; run = run }
+
+  pub round_reached : (old new : Store D g) (core last : Core D g) (sessions : ℕ) {S : Type 0} (view : S → StreamView) (streams later : List S) → IsNewCore old core → new ≡ store_of (committer_of last) → length streams ≡ sessions
+      → Reached core_model core last (map view streams) (map view later) → ReachesByRound sessions old new
+  round_reached old new core last sessions view streams later made left each run = record {
+    core = core;
+    made = made;
+    last = last;
+    left = left;
+    streams = map view streams;
+    later = map view later;
+    each = length-map streams view ∙ each;
+    run = run;
+  }
+
+  -- ---- why it stopped
+
+  -- memory was refused, and the store is as it was
+  pub no_memory_for : (old new : Store D g) (fault : ServingError) → fault ≡ Command (Refused Memory) → new ≡ old → HasRefused old new fault
+  no_memory_for old new fault is same = (Memory, is, inr (inr (refl, ap is_broken same)))
+
+  -- no stream was had for a session
+  pub streams_refused : (sessions : ℕ) (store : Store D g) (fault : ServingError) → (fault ≡ Command (Refused Memory)) ⊎ (fault ≡ Command File) → StopsRound sessions store store fault
+  streams_refused sessions store fault (inl memory) = inl (no_memory_for store store fault memory refl)
+  streams_refused sessions store fault (inr file) = inr (inl (file, refl))
+
+  -- what a core refused
+  core_refused : (old new : Store D g) (core last : Core D g) (error : StoreError) → IsNewCore old core → new ≡ store_of (committer_of last) → Refuses core last error → IsRefusedAs error old new
+  core_refused old new core last error made left refused =
+      subst (λ (store : Store D g). IsRefusedAs error old store) (sym left) (subst (λ (store : Store D g). IsRefusedAs error store (store_of (committer_of last))) made.store_is refused)
+
+  pub round_stopped : (old new : Store D g) (core last : Core D g) (sessions : ℕ) {S : Type 0} (view : S → StreamView) (streams later : List S) (fault : ServeFault StoreError) → IsNewCore old core → new ≡ store_of (committer_of last)
+      → length streams ≡ sessions
+      → ((error : StoreError) → Some fault ≡ Some (serving.Core error) → Refuses core last error)
+      → (Some fault ≡ Some serving.ReadFault → EndsAs core_model core last (map view streams) (map view later) (IsCut core_model (length streams) core last))
+      → StopsRound sessions old new (of_serving fault)
+  round_stopped old new core last sessions view streams later (serving.Core error) made left each refused cut = inl (error, refl, core_refused old new core last error made left (refused error refl))
+  round_stopped old new core last sessions view streams later serving.ReadFault made left each refused cut = inr (inr (
+    refl,
+    record {
+      core = core;
+      made = made;
+      last = last;
+      left = left;
+      streams = map view streams;
+      later = map view later;
+      each = length-map streams view ∙ each;
+      run = subst (λ (count : ℕ). EndsAs core_model core last (map view streams) (map view later) (IsCut core_model count core last)) each (cut refl);
+    },
+  ))
+
+  pub loop_stopped : (old new : Store D g) (core last : Core D g) (fault : LoopError StoreError) → IsNewCore old core → new ≡ store_of (committer_of last)
+      → ((error : StoreError) → fault ≡ looping.Core error → Refuses core last error) → StopsLoop old new (of_loop fault)
+  loop_stopped old new core last looping.Connection made left refused = inr (inl refl)
+  loop_stopped old new core last (looping.Lines cause) made left refused = inr (inr (inl (cause, refl)))
+  loop_stopped old new core last (looping.BadLine number) made left refused = inr (inr (inr (number, refl)))
+  loop_stopped old new core last (looping.Core error) made left refused = inl (error, refl, core_refused old new core last error made left (refused error refl))

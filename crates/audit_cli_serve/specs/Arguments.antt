@@ -1,0 +1,22 @@
+-- Arguments that are judged by hand.
+use Rattle.std.specs.Prelude.{ℕ, nat_le, ◌&&◌, Option, Some, None, Result, Ok, Err, List, if◌then◌else◌}
+use Rattle.audit_text.specs.Number.{number_in_text}
+use Rattle.audit_base.specs.declared.limits.TheConstants.{SESSIONS}
+use Rattle.audit_cli_store.specs.declared.fault.CommandError.{CommandError}
+use Rattle.audit_cli_store.specs.declared.fault.CommandError.TheVariants.{BadArgument}
+
+-- any number
+abbrev pub or_bad : Option ℕ → Result ℕ CommandError
+or_bad None = Err BadArgument
+or_bad (Some rounds) = Ok rounds
+
+abbrev pub rounds_asked : List ℕ → Result ℕ CommandError
+rounds_asked word = or_bad (number_in_text word)
+
+-- a number of sessions that a core can have, and one at least
+abbrev pub judged_sessions : Option ℕ → Result ℕ CommandError
+judged_sessions None = Err BadArgument
+judged_sessions (Some sessions) = if nat_le 1 sessions && nat_le sessions SESSIONS then Ok sessions else Err BadArgument
+
+abbrev pub sessions_asked : List ℕ → Result ℕ CommandError
+sessions_asked word = judged_sessions (number_in_text word)

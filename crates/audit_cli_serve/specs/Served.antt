@@ -1,0 +1,124 @@
+-- Serving a store by a new core: what was done, and the store that is left.
+use Rattle.std.specs.Prelude.{◌≡◌, ◌⊎◌, ℕ, Option, List, [], ◌∷◌, length, replicate}
+use Rattle.audit_disk_model.specs.declared.sectors.Sectors as sectors
+use Rattle.audit_store.specs.declared.store.Store.{Store}
+use Rattle.audit_store.specs.declared.store_error.StoreError.{StoreError}
+use Rattle.audit_base.specs.declared.limits.TheConstants.{SESSIONS}
+use Rattle.audit_server_queue.specs.Waiting.{nothing_waits}
+use Rattle.audit_server_commit.specs.Committer.{store_of, waiting_of, outputs_of}
+use Rattle.audit_serve_passes.specs.Steps.{StepData}
+use Rattle.audit_serve_passes.specs.Streams.{StreamView}
+use Rattle.audit_serve_passes.specs.Transition.{Transition, EndsAs, Reached, IsServed, IsCut}
+use Rattle.audit_server_model.specs.Sessions.{new_session}
+use Rattle.audit_server_model.specs.Serving.{IsRefusedAs}
+use Rattle.audit_server.specs.declared.server_core.Core.{Core}
+use Rattle.audit_server.specs.Core.{committer_of, sessions_of}
+use Rattle.audit_server.specs.CoreModel.{core_model}
+use Rattle.audit_text.specs.declared.fault.LinesError.{LinesError}
+use Rattle.audit_text.specs.declared.fault.LinesError.TheVariants.{Write, Memory}
+use Rattle.audit_serve_sockets.specs.Looping.{BringsLines, LoopTransition, LoopReached}
+use Rattle.audit_cli_store.specs.declared.fault.CommandError.TheVariants.{File, Lines, Refused}
+use Rattle.audit_cli_serve.specs.declared.fault.ServingError.{ServingError}
+use Rattle.audit_cli_serve.specs.declared.fault.ServingError.TheVariants.{Command, BadFrameLine, TooManyPasses}
+
+-- the line of a round couldn't be made for want of memory, or couldn't be written whole
+abbrev pub IsLineLost : ServingError → Type 0
+IsLineLost fault = (fault ≡ Command (Lines Write)) ⊎ (fault ≡ Command (Lines Memory))
+
+module _ {D : Type 0} {g : sectors.Ghosts D} where
+  -- a core over the store, with nothing that waits and every session at the front of its stream
+  pub record IsNewCore (store : Store D g) (core : Core D g) : Type 0 where
+    pub store_is : store_of (committer_of core) ≡ store
+    pub waiting : waiting_of (committer_of core) ≡ nothing_waits
+    pub outputs : outputs_of (committer_of core) ≡ replicate SESSIONS []
+    pub sessions : sessions_of core ≡ replicate SESSIONS new_session
+
+  -- a session over lines, of this shape
+  pub record LoopsOver (old new : Store D g) (before after : Option (List ℕ))
+      (Shape : List StepData → Type 0) : Type 0 where
+    pub core : Core D g
+    pub made : IsNewCore old core
+    pub last : Core D g
+    pub left : new ≡ store_of (committer_of last)
+    pub run : LoopTransition core_model core last before after Shape
+
+  -- a round of so many sessions, of whose streams nothing is known, with so many turns
+  pub record ServesRound (sessions turns : ℕ) (old new : Store D g) : Type 0 where
+    pub core : Core D g
+    pub made : IsNewCore old core
+    pub last : Core D g
+    pub left : new ≡ store_of (committer_of last)
+    pub streams : List StreamView
+    pub later : List StreamView
+    pub each : length streams ≡ sessions
+    pub run : Transition core_model core last streams later (IsServed core_model sessions turns core last)
+
+  -- rounds in turn, each by a new core over the store that the one before left
+  abbrev pub ServesRounds : ℕ → List ℕ → Store D g → Store D g → Type 0
+  ServesRounds sessions [] old new = new ≡ old
+  ServesRounds sessions (turns ∷ later) old new = (mid : Store D g) × ServesRound sessions turns old mid
+      × ServesRounds sessions later mid new
+
+  -- ---- whatever stopped it
+
+  -- a session over lines, of which the reader held these, went by some steps
+  pub record LoopReachesOver (old new : Store D g) (known : Option (List ℕ)) : Type 0 where
+    pub core : Core D g
+    pub made : IsNewCore old core
+    pub last : Core D g
+    pub left : new ≡ store_of (committer_of last)
+    pub run : LoopReached core_model core last (BringsLines known)
+
+  -- a round of so many sessions, of whose streams nothing is known, went by some steps
+  pub record ReachesByRound (sessions : ℕ) (old new : Store D g) : Type 0 where
+    pub core : Core D g
+    pub made : IsNewCore old core
+    pub last : Core D g
+    pub left : new ≡ store_of (committer_of last)
+    pub streams : List StreamView
+    pub later : List StreamView
+    pub each : length streams ≡ sessions
+    pub run : Reached core_model core last streams later
+
+  -- rounds in turn, and then a part of one, or nothing
+  pub record ReachesByRounds (sessions : ℕ) (turns : List ℕ) (old new : Store D g) : Type 0 where
+    pub mid : Store D g
+    pub served : ServesRounds sessions turns old mid
+    pub last : (new ≡ mid) ⊎ ReachesByRound sessions mid new
+
+  -- ---- why it stopped
+
+  -- a round of so many sessions had as many turns as may be, and those that were live then were ended
+  pub record CutsRound (sessions : ℕ) (old new : Store D g) : Type 0 where
+    pub core : Core D g
+    pub made : IsNewCore old core
+    pub last : Core D g
+    pub left : new ≡ store_of (committer_of last)
+    pub streams : List StreamView
+    pub later : List StreamView
+    pub each : length streams ≡ sessions
+    pub run : EndsAs core_model core last streams later (IsCut core_model sessions core last)
+
+  -- what was refused: by the core, or for want of memory before there was one
+  abbrev pub HasRefused : Store D g → Store D g → ServingError → Type 0
+  HasRefused old new fault = (error : StoreError) × (fault ≡ Command (Refused error)) × IsRefusedAs error old new
+
+  -- A round stopped for this: something was refused, a connection couldn't be accepted, or it had as many turns as may
+  -- be.
+  abbrev pub StopsRound : ℕ → Store D g → Store D g → ServingError → Type 0
+  StopsRound sessions old new fault = HasRefused old new fault
+      ⊎ (((fault ≡ Command File) × (new ≡ old)) ⊎ ((fault ≡ TooManyPasses) × CutsRound sessions old new))
+
+  -- Rounds were served, and then one stopped for this, or the line of the last one wasn't written.
+  pub record StopsRounds (sessions : ℕ) (old new : Store D g) (fault : ServingError) : Type 0 where
+    pub turns : List ℕ
+    pub mid : Store D g
+    pub served : ServesRounds sessions turns old mid
+    pub stops : StopsRound sessions mid new fault ⊎ (IsLineLost fault × (new ≡ mid))
+
+  -- A session over lines stopped for this: something was refused, the connection or the lines failed, or a line spells
+  -- no bytes.
+  abbrev pub StopsLoop : Store D g → Store D g → ServingError → Type 0
+  StopsLoop old new fault = HasRefused old new fault
+      ⊎ ((fault ≡ Command File)
+      ⊎ (((cause : LinesError) × (fault ≡ Command (Lines cause))) ⊎ ((number : ℕ) × (fault ≡ BadFrameLine number))))

@@ -1,0 +1,58 @@
+//! A session over lines, by a core over a store.
+ghost use Rattle.std.specs.Prelude.{◌≡◌, ◌⊎◌, ◌+◌, List, ℕ, length, IfSome, IfErr, OnOk, Err};
+ghost use Rattle.audit_server_model.specs.Serving.{StoreKeepsOn};
+ghost use Rattle.audit_serve_sockets.specs.Input.{SpellsInput, SpellsUpToBad};
+ghost use Rattle.audit_serve_sockets.specs.Looping.{AreLinePasses, IsWholeLoop};
+ghost use Rattle.audit_cli_serve.specs.declared.fault.ServingError.TheVariants.{BadFrameLine};
+ghost use Rattle.audit_cli_serve.specs.Served.{LoopsOver, LoopReachesOver, StopsLoop};
+
+use crate::fault::{ServingError, fault_of_loop, no_memory};
+use audit_disk_model::Sectors;
+use audit_serve_sockets::{Link, run_lines};
+use audit_server::Core;
+use audit_store::Store;
+use std::alloc::Global;
+use std::io::{BufRead, Read, Write};
+
+/// Serves a session whose bytes come as lines of hex digits, through a connection, by a core over the store, and
+/// writes each frame of its replies as a line. The store is handed back, as the session left it.
+pub fn loop_over<D, A, B, R, W>(
+    alloc: Global,
+    store: Store<D>,
+    link: &mut Link<A, B>,
+    reader: &mut R,
+    writer: &mut W,
+) -> (Store<D>, Result<(), ServingError>)
+where
+    D: Sectors + Drop,
+    A: Read + Write + Drop,
+    B: Read + Write + Drop,
+    R: BufRead,
+    W: Write,
+    // Whatever happens, a stop at any moment leaves the events that the store held, and so does the end.
+    ensures kept { StoreKeepsOn store result.0 }
+    // A new core over the store, where one was made, went by steps that bring the first of what the first lines spell.
+    ensures reached { (result.0 ≡ store) ⊎ LoopReachesOver store result.0 (R.remaining reader.old) }
+    // Without a fault each line was fed to a new core over the store and flushed in turn, then the session was ended;
+    // and the replies were written. Where the reader's bytes are known, these are what all their lines spell.
+    ensures done { OnOk result.1 ((lines : List (List ℕ))
+        × LoopsOver store result.0 (W.contents writer.old) (W.contents writer.new) (IsWholeLoop lines)
+        × IfSome (R.remaining reader.old) (SpellsInput lines)) }
+    // A line that spells no bytes comes after the replies to all lines before it.
+    ensures bad { (number : ℕ) → result.1 ≡ Err (BadFrameLine number)
+        → (lines : List (List ℕ)) × (length lines + 1 ≡ number)
+        × LoopsOver store result.0 (W.contents writer.old) (W.contents writer.new) (AreLinePasses lines)
+        × IfSome (R.remaining reader.old) (SpellsUpToBad lines) }
+    // The fault is what stopped it: of a refusal the store is left as it says.
+    ensures fault { IfErr result.1 (StopsLoop store result.0) }
+{
+    let mut core = match Core::new(alloc, store) {
+        Ok(core) => core,
+        Err(failed) => return (failed.store, Err(no_memory())),
+    };
+    let done = match run_lines(alloc, &mut core, link, reader, writer) {
+        Ok(()) => Ok(()),
+        Err(fault) => Err(fault_of_loop(fault)),
+    };
+    (core.into_store(), done)
+}

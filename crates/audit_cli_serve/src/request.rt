@@ -1,0 +1,207 @@
+//! What the program is asked to serve, and serving it.
+ghost use Rattle.std.specs.Prelude.{◌≤◌};
+ghost use Rattle.audit_base.specs.declared.limits.TheConstants.{SESSIONS};
+
+use crate::arguments::{rounds_asked, sessions_asked};
+use crate::fault::ServingError;
+use crate::looping::loop_over;
+use crate::rounds::serve_rounds;
+use audit_cli_store::{CommandError, OWNER_ONLY, Status, mode_asked, open_store};
+use audit_disk::SystemFile;
+use audit_serve_sockets::{Link, SocketFile};
+use audit_text::LinesError;
+use std::alloc::Global;
+use std::fs::{self, Files};
+use std::io::{self, BufReader, Read, Write};
+use std::net::Net;
+use std::os::unix::net::UnixStream;
+use std::time::Duration;
+
+// The random text by which the program knows its own connection, in bytes.
+const TEXT_LEN: usize = 32;
+
+// How many connections of others are closed before the program gives up.
+const STRANGERS: usize = 64;
+
+/// What the program is asked to serve, with the words of the command line as they were given.
+#[derive(Clone, Copy, Debug)]
+pub enum Request<'a> {
+    /// Serve rounds of sessions of the store in a file over a socket.
+    Serve {
+        /// The file.
+        file: &'a str,
+        /// The path of the socket's file.
+        socket: &'a str,
+        /// How many rounds.
+        rounds: &'a str,
+        /// How many sessions each round has: one where there is no word.
+        sessions: Option<&'a str>,
+        /// The permissions of the socket's file, in three octal digits: its owner's alone where there is no word.
+        socket_mode: Option<&'a str>,
+    },
+    /// Serve a session of the store in a file, whose bytes are the lines of the input, over a socket.
+    Loop {
+        /// The file.
+        file: &'a str,
+        /// The path of the socket's file.
+        socket: &'a str,
+        /// The permissions of the socket's file, as above.
+        socket_mode: Option<&'a str>,
+    },
+}
+
+/// Does what is asked. Lines that begin with `audit: ` go to `messages`, and every other one to `output`, which is
+/// flushed after each round, after the replies to each line, and at the end. It returns the status with which the
+/// program ends.
+pub fn run<F: Files + Net, R: Read, W: Write, M: Write>(
+    rt: &F,
+    alloc: Global,
+    request: Request<'_>,
+    input: &mut R,
+    output: &mut W,
+    messages: &mut M,
+) -> Status
+where
+    F::File: SystemFile,
+{
+    let done = perform(rt, alloc, request, input, output);
+    let flushed = output.flush();
+    let status = match done {
+        Ok(()) => Status::Done,
+        Err(fault) => fault.report(messages),
+    };
+    if flushed.is_ok() || status == Status::Device {
+        return status;
+    }
+    ServingError::Command(CommandError::File).report(messages)
+}
+
+// The words are judged before the store is opened, and that before the socket's file is made, which is removed in the
+// end.
+fn perform<F: Files + Net, R: Read, W: Write>(
+    rt: &F,
+    alloc: Global,
+    request: Request<'_>,
+    input: &mut R,
+    output: &mut W,
+) -> Result<(), ServingError>
+where
+    F::File: SystemFile,
+{
+    match request {
+        Request::Serve {
+            file,
+            socket,
+            rounds,
+            sessions,
+            socket_mode,
+        } => {
+            let rounds = rounds_asked(rounds)?;
+            let sessions = match sessions {
+                Some(word) => sessions_asked(word)?,
+                None => 1,
+            };
+            let mode = socket_mode_asked(socket_mode)?;
+            serve_file(rt, alloc, file, socket, mode, rounds, sessions, output)
+        }
+        Request::Loop {
+            file,
+            socket,
+            socket_mode,
+        } => {
+            let mode = socket_mode_asked(socket_mode)?;
+            loop_file(rt, alloc, file, socket, mode, input, output)
+        }
+    }
+}
+
+// The permissions of a socket that a word asks for.
+fn socket_mode_asked(word: Option<&str>) -> Result<u32, CommandError> {
+    match word {
+        Some(word) => mode_asked(word),
+        None => Ok(OWNER_ONLY),
+    }
+}
+
+fn serve_file<F: Files + Net, W: Write>(
+    rt: &F,
+    alloc: Global,
+    file: &str,
+    socket: &str,
+    mode: u32,
+    rounds: u64,
+    sessions: usize,
+    output: &mut W,
+) -> Result<(), ServingError>
+where
+    F::File: SystemFile,
+    requires { sessions ≤ SESSIONS }
+{
+    let store = open_store(rt, alloc, file)?.content;
+    let bound = SocketFile::bind(rt, alloc, socket, mode)?;
+    let (_, served) = serve_rounds(alloc, store, &bound, rounds, sessions, output);
+    let removed = bound.remove(rt, socket);
+    served?;
+    Ok(removed?)
+}
+
+fn loop_file<F: Files + Net, R: Read, W: Write>(
+    rt: &F,
+    alloc: Global,
+    file: &str,
+    socket: &str,
+    mode: u32,
+    input: &mut R,
+    output: &mut W,
+) -> Result<(), ServingError>
+where
+    F::File: SystemFile,
+{
+    let store = open_store(rt, alloc, file)?.content;
+    // Room for the input is taken first: whatever is refused later, the socket's file is removed.
+    let Ok(mut reader) = BufReader::new(alloc, input) else {
+        return Err(LinesError::Memory.into());
+    };
+    let bound = SocketFile::bind(rt, alloc, socket, mode)?;
+    let served = match connect(rt, &bound, socket) {
+        Ok(mut link) => loop_over(alloc, store, &mut link, &mut reader, output).1,
+        Err(fault) => Err(fault),
+    };
+    let removed = bound.remove(rt, socket);
+    served?;
+    Ok(removed?)
+}
+
+// The two ends of a connection through the socket. Somebody else may connect first: the other end is the one at which a
+// random text arrives that was sent from this one.
+fn connect<F: Files + Net>(
+    rt: &F,
+    bound: &SocketFile,
+    socket: &str,
+) -> Result<Link<UnixStream, UnixStream>, ServingError> {
+    let mut client = UnixStream::connect(rt, socket)?;
+    let text = random_text(rt)?;
+    client.write_all(&text)?;
+    for _ in 0..STRANGERS {
+        let mut server = bound.accept()?;
+        if is_other_end(&mut server, &text)? {
+            return Ok(Link::new(client, server));
+        }
+    }
+    Err(ServingError::Command(CommandError::File))
+}
+
+fn random_text<F: Files>(rt: &F) -> io::Result<[u8; TEXT_LEN]> {
+    let mut text = [0; TEXT_LEN];
+    fs::open(rt, "/dev/urandom")?.read_exact(&mut text)?;
+    Ok(text)
+}
+
+// Whether this text arrives at a stream before a second has passed.
+fn is_other_end(stream: &mut UnixStream, text: &[u8; TEXT_LEN]) -> io::Result<bool> {
+    let mut arrived = [0; TEXT_LEN];
+    stream.set_read_timeout(Some(Duration::from_secs(1)))?;
+    let read = stream.read_exact(&mut arrived);
+    stream.set_read_timeout(None)?;
+    Ok(read.is_ok() && arrived == *text)
+}

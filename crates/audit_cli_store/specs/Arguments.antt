@@ -1,0 +1,42 @@
+-- Arguments that are judged by hand.
+use Rattle.std.specs.Prelude.{ℕ, nat_lt, ◌||◌, Option, Some, None, Result, Ok, Err, List, codes, if◌then◌else◌}
+use Rattle.std.specs.Str.{bytes_eq}
+use Rattle.audit_text.specs.Number.{number_in_text}
+use Rattle.audit_log.specs.declared.header.TheConstants.{MIN_SECTORS, MAX_SECTORS}
+use Rattle.audit_cli_offline.specs.CommitmentWord.{commitment_in_word}
+use Rattle.audit_proof.specs.declared.commitment.Commitment.{Commitment}
+use Rattle.audit_store.specs.declared.store_error.StoreError.TheVariants.{BadSize}
+use Rattle.audit_cli_store.specs.declared.fault.CommandError.{CommandError}
+use Rattle.audit_cli_store.specs.declared.fault.CommandError.TheVariants.{BadArgument, Refused}
+use Rattle.audit_cli_store.specs.declared.arguments.ProofRequest.{ProofRequest}
+use Rattle.audit_cli_store.specs.declared.arguments.ProofRequest.TheVariants.{Member, Increment}
+
+-- a number of sectors that a store can have
+abbrev pub judged_sectors : Option ℕ → Result ℕ CommandError
+judged_sectors None = Err BadArgument
+judged_sectors (Some sectors) =
+    if nat_lt sectors MIN_SECTORS || nat_lt MAX_SECTORS sectors then Err (Refused BadSize) else Ok sectors
+
+-- its form is judged before its range
+abbrev pub sectors_asked : List ℕ → Result ℕ CommandError
+sectors_asked text = judged_sectors (number_in_text text)
+
+abbrev pub proof_of : List ℕ → Option ℕ → Option ℕ → Option ProofRequest
+proof_of kind None second = None
+proof_of kind (Some first) None = None
+proof_of kind (Some first) (Some second) =
+    if bytes_eq kind (codes "member") then Some (Member first second)
+    else if bytes_eq kind (codes "increment") then Some (Increment first second)
+    else None
+
+-- a word for the kind, and two numbers
+abbrev pub proof_asked : List ℕ → List ℕ → List ℕ → Option ProofRequest
+proof_asked kind first second = proof_of kind (number_in_text first) (number_in_text second)
+
+-- a commitment in a word
+abbrev pub asked_or_bad : Option Commitment → Result Commitment CommandError
+asked_or_bad None = Err BadArgument
+asked_or_bad (Some commitment) = Ok commitment
+
+abbrev pub commitment_asked : List ℕ → Result Commitment CommandError
+commitment_asked word = asked_or_bad (commitment_in_word word)

@@ -1,0 +1,115 @@
+-- What checking a proof finds in the bytes of a file, under one commitment or two.
+use Rattle.std.specs.Prelude.{◌≡◌, ◌≢◌, ◌⊎◌, Bool, true, false, Option, Some, None, Result, Ok, Err, List, ℕ, codes}
+use Rattle.std.specs.Io.KnownBytes.{Appends, Keeps}
+use Rattle.sha2.specs.Sha256.{sha256}
+use Rattle.audit_text.specs.Writing.{WritesInPart}
+use Rattle.audit_text.specs.declared.fault.LinesError.TheVariants as lines
+use Rattle.audit_proof.specs.declared.commitment.Commitment.{Commitment}
+use Rattle.audit_proof.specs.Acceptance.{AcceptsMembership, AcceptsIncrement}
+use Rattle.audit_proof.specs.ProofBytes.{Member, Increment, member_of, increment_of}
+use Rattle.audit_store.specs.declared.store_error.StoreError.TheVariants as store
+use Rattle.audit_cli_store.specs.declared.fault.CommandError.{CommandError}
+use Rattle.audit_cli_store.specs.declared.fault.CommandError.TheVariants.{BadArgument, FileExists, File, InUse}
+use Rattle.audit_cli_store.specs.declared.fault.CommandError.TheVariants.{TooSmall, Salvaged, Lines, Refused, Export}
+use Rattle.audit_cli_store.specs.declared.fault.CommandError.TheVariants.{BadProof, NotAccepted}
+
+-- the bytes are a membership proof of the commitment's count, and it is accepted
+pub record IsAcceptedMember (bytes : List ℕ) (commitment : Commitment) : Type 0 where
+  pub proof : Member
+  pub spelled : member_of bytes ≡ Some proof
+  pub count : proof.count ≡ commitment.count
+  pub accepted : AcceptsMembership sha256 commitment proof.index proof.entry proof.hashes
+
+-- the bytes are an incremental proof between the commitments' counts, and it is accepted
+pub record IsAcceptedIncrement (bytes : List ℕ) (older newer : Commitment) : Type 0 where
+  pub proof : Increment
+  pub spelled : increment_of bytes ≡ Some proof
+  pub older_count : proof.older ≡ older.count
+  pub newer_count : proof.newer ≡ newer.count
+  pub accepted : AcceptsIncrement sha256 older newer proof.hashes
+
+-- under one commitment the one, under two the other
+abbrev pub IsAccepted : List ℕ → Commitment → Option Commitment → Type 0
+IsAccepted bytes older None = IsAcceptedMember bytes older
+IsAccepted bytes older (Some newer) = IsAcceptedIncrement bytes older newer
+
+-- the bytes are a proof of the kind that is checked under so many commitments
+abbrev pub IsProofKind : List ℕ → Option Commitment → Type 0
+IsProofKind bytes None = member_of bytes ≢ None
+IsProofKind bytes (Some newer) = increment_of bytes ≢ None
+
+-- they are such a proof, and it isn't accepted
+pub record IsNotAccepted (bytes : List ℕ) (older : Commitment) (newer : Option Commitment) : Type 0 where
+  pub kind : IsProofKind bytes newer
+  pub refused : ¬ IsAccepted bytes older newer
+
+-- they are a proof of the other kind
+pub record IsOfOtherKind (bytes : List ℕ) (newer : Option Commitment) : Type 0 where
+  pub proof : (member_of bytes ≢ None) ⊎ (increment_of bytes ≢ None)
+  pub other : ¬ IsProofKind bytes newer
+
+-- they are no proof
+pub record IsNoProof (bytes : List ℕ) : Type 0 where
+  pub member : member_of bytes ≡ None
+  pub increment : increment_of bytes ≡ None
+
+-- why no proof was read
+abbrev pub IsUnread : CommandError → List ℕ → Type 0
+IsUnread BadProof bytes = IsNoProof bytes
+IsUnread (Lines cause) bytes = (cause ≡ lines.Read) ⊎ (cause ≡ lines.Memory)
+IsUnread (Refused error) bytes = error ≡ store.Memory
+IsUnread BadArgument bytes = ⊥
+IsUnread FileExists bytes = ⊥
+IsUnread File bytes = ⊥
+IsUnread InUse bytes = ⊥
+IsUnread (TooSmall sectors) bytes = ⊥
+IsUnread Salvaged bytes = ⊥
+IsUnread (Export fault) bytes = ⊥
+IsUnread NotAccepted bytes = ⊥
+
+-- what the judgment on them says
+abbrev pub IsProofJudged : Result Bool CommandError → List ℕ → Commitment → Option Commitment → Type 0
+IsProofJudged (Ok true) bytes older newer = IsAccepted bytes older newer
+IsProofJudged (Ok false) bytes older newer = IsNotAccepted bytes older newer
+IsProofJudged (Err fault) bytes older newer = IsUnread fault bytes ⊎ ((fault ≡ BadArgument) × IsOfOtherKind bytes newer)
+
+-- a part of the line of the judgment was written
+abbrev pub WritesLineInPart : List ℕ → Commitment → Option Commitment → Option (List ℕ) → Option (List ℕ) → Type 0
+WritesLineInPart bytes older newer old new =
+    (IsAccepted bytes older newer × WritesInPart old new (codes "accepted\n"))
+    ⊎ (IsNotAccepted bytes older newer × WritesInPart old new (codes "not accepted\n"))
+
+-- what a check's result says of the bytes, and what was written
+abbrev pub IsChecked : Result Unit CommandError → List ℕ → Commitment → Option Commitment → Option (List ℕ)
+    → Option (List ℕ) → Type 0
+IsChecked (Ok _) bytes older newer old new = IsAccepted bytes older newer × Appends old new (codes "accepted\n")
+IsChecked (Err NotAccepted) bytes older newer old new = IsNotAccepted bytes older newer
+    × Appends old new (codes "not accepted\n")
+IsChecked (Err BadArgument) bytes older newer old new = IsOfOtherKind bytes newer × Keeps old new
+IsChecked (Err BadProof) bytes older newer old new = IsNoProof bytes × Keeps old new
+IsChecked (Err (Lines lines.Read)) bytes older newer old new = Keeps old new
+IsChecked (Err (Lines lines.Memory)) bytes older newer old new = Keeps old new
+IsChecked (Err (Lines lines.Write)) bytes older newer old new = WritesLineInPart bytes older newer old new
+IsChecked (Err (Lines lines.InputTooLong)) bytes older newer old new = ⊥
+IsChecked (Err (Lines (lines.Line line cause))) bytes older newer old new = ⊥
+IsChecked (Err (Refused error)) bytes older newer old new = (error ≡ store.Memory) × Keeps old new
+IsChecked (Err FileExists) bytes older newer old new = ⊥
+IsChecked (Err File) bytes older newer old new = ⊥
+IsChecked (Err InUse) bytes older newer old new = ⊥
+IsChecked (Err (TooSmall sectors)) bytes older newer old new = ⊥
+IsChecked (Err Salvaged) bytes older newer old new = ⊥
+IsChecked (Err (Export fault)) bytes older newer old new = ⊥
+
+-- the fault isn't in the bytes: reading or writing failed, or memory was refused
+abbrev pub IsFailure : CommandError → Type 0
+IsFailure (Lines cause) = (cause ≡ lines.Read) ⊎ ((cause ≡ lines.Write) ⊎ (cause ≡ lines.Memory))
+IsFailure (Refused error) = error ≡ store.Memory
+IsFailure BadArgument = ⊥
+IsFailure FileExists = ⊥
+IsFailure File = ⊥
+IsFailure InUse = ⊥
+IsFailure (TooSmall sectors) = ⊥
+IsFailure Salvaged = ⊥
+IsFailure (Export fault) = ⊥
+IsFailure BadProof = ⊥
+IsFailure NotAccepted = ⊥

@@ -1,0 +1,102 @@
+-- How the program ends with each fault of a command.
+use Rattle.std.specs.Prelude.{◌≡◌, ◌⊎◌, ℕ, Result, Ok, Err}
+use Rattle.audit_store.specs.declared.store_error.StoreError.{StoreError}
+use Rattle.audit_store.specs.declared.store_error.StoreError.TheVariants as store
+use Rattle.audit_disk.specs.declared.file_fault.FileFault.{FileFault}
+use Rattle.audit_disk.specs.declared.file_fault.FileFault.TheVariants as file
+use Rattle.audit_text.specs.declared.fault.LinesError.{LinesError}
+use Rattle.audit_text.specs.declared.fault.LinesError.TheVariants as lines
+use Rattle.audit_proof.specs.declared.codec.ProofError.{ProofError}
+use Rattle.audit_proof.specs.declared.codec.ProofError.TheVariants as reading
+use Rattle.audit_verify.specs.declared.fault.Cause.{Cause}
+use Rattle.audit_verify.specs.declared.fault.Cause.TheVariants as cause
+use Rattle.audit_cli_offline.specs.declared.fault.OfflineError.{OfflineError}
+use Rattle.audit_cli_offline.specs.declared.fault.OfflineError.TheVariants as auditor
+use Rattle.audit_cli_store.specs.declared.status.Status.{Status}
+use Rattle.audit_cli_store.specs.declared.status.Status.TheVariants as ends
+use Rattle.audit_cli_store.specs.declared.fault.CommandError.{CommandError}
+use Rattle.audit_cli_store.specs.declared.fault.CommandError.TheVariants.{BadArgument, FileExists, File, InUse}
+use Rattle.audit_cli_store.specs.declared.fault.CommandError.TheVariants.{TooSmall, Salvaged, Lines, Refused, Export}
+use Rattle.audit_cli_store.specs.declared.fault.CommandError.TheVariants.{BadProof, NotAccepted}
+
+-- the number that the program ends with
+abbrev pub exit_status_of : Status → ℕ
+exit_status_of ends.Done = 0
+exit_status_of ends.Refused = 1
+exit_status_of ends.Usage = 2
+exit_status_of ends.Device = 3
+exit_status_of ends.Memory = 4
+
+-- how it ends with faults of lines
+abbrev pub status_of_lines : LinesError → Status
+status_of_lines lines.InputTooLong = ends.Refused
+status_of_lines (lines.Line line cause) = ends.Refused
+status_of_lines lines.Read = ends.Device
+status_of_lines lines.Write = ends.Device
+status_of_lines lines.Memory = ends.Memory
+
+-- of a store
+abbrev pub status_of_refusal : StoreError → Status
+status_of_refusal store.NotAStore = ends.Refused
+status_of_refusal store.DamagedHeader = ends.Refused
+status_of_refusal store.HeadersDisagree = ends.Refused
+status_of_refusal (store.DamagedLog index) = ends.Refused
+status_of_refusal store.BatchTooLarge = ends.Refused
+status_of_refusal store.Full = ends.Refused
+status_of_refusal store.NoSuchVersion = ends.Refused
+status_of_refusal store.Worn = ends.Refused
+status_of_refusal store.Broken = ends.Refused
+status_of_refusal store.Device = ends.Device
+status_of_refusal store.Memory = ends.Memory
+status_of_refusal store.Closed = ends.Refused
+status_of_refusal store.BadSize = ends.Refused
+status_of_refusal store.ReservedKind = ends.Refused
+
+-- of an export that isn't verified
+abbrev pub status_of_cause : Cause → Status
+status_of_cause cause.Short = ends.Refused
+status_of_cause cause.BadLength = ends.Refused
+status_of_cause cause.BadLink = ends.Refused
+status_of_cause cause.BadMac = ends.Refused
+status_of_cause cause.WrongCommitment = ends.Refused
+status_of_cause cause.ReadFault = ends.Device
+status_of_cause cause.BadClose = ends.Refused
+status_of_cause cause.Memory = ends.Memory
+
+abbrev pub status_of : CommandError → Status
+status_of BadArgument = ends.Usage
+status_of FileExists = ends.Refused
+status_of File = ends.Device
+status_of InUse = ends.Device
+status_of (TooSmall sectors) = ends.Refused
+status_of Salvaged = ends.Refused
+status_of (Lines cause) = status_of_lines cause
+status_of (Refused error) = status_of_refusal error
+status_of (Export fault) = status_of_cause fault.cause
+status_of BadProof = ends.Refused
+status_of NotAccepted = ends.Refused
+
+-- how it ends where its output was written whole
+abbrev pub status_of_end : Result (Unit {0}) CommandError → Status
+status_of_end (Ok done) = ends.Done
+status_of_end (Err fault) = status_of fault
+
+-- the fault of the same meaning
+abbrev pub of_auditor : OfflineError → CommandError
+of_auditor (auditor.Export fault) = Export fault
+of_auditor (auditor.Lines fault) = Lines fault
+
+abbrev pub of_reading : ProofError → CommandError
+of_reading reading.BadProof = BadProof
+of_reading reading.Memory = Refused store.Memory
+
+abbrev pub of_file : FileFault → CommandError
+of_file file.Io = File
+of_file file.Length = File
+of_file file.InUse = InUse
+of_file (file.TooSmall sectors) = TooSmall sectors
+of_file file.Memory = Refused store.Memory
+
+-- a line couldn't be made for want of memory, or couldn't be written whole
+abbrev pub IsUnwritten : CommandError → Type 0
+IsUnwritten fault = (fault ≡ Lines lines.Write) ⊎ (fault ≡ Refused store.Memory)

@@ -1,0 +1,15 @@
+-- What a store shows of itself.
+use Rattle.std.specs.Prelude.{ℕ, List, ◌++◌, codes}
+use Rattle.std.specs.Fmt.{decimal}
+use Rattle.audit_log.specs.declared.header.Header.{Header}
+use Rattle.audit_text.specs.NumberedLine.{numbered_line}
+use Rattle.audit_cli_offline.specs.ReportLines.{state_word}
+
+-- the commitment; then the sectors of the device, the end of the log, the generation, the version of the format, and
+-- whether the log is closed
+unfoldable pub shown_lines : Header → List ℕ
+shown_lines header =
+    numbered_line (codes "commit ") header.count header.root
+    ++ codes "sectors " ++ decimal header.sectors ++ codes " end " ++ decimal header.end
+    ++ codes " generation " ++ decimal header.generation ++ codes " version " ++ decimal header.version
+    ++ codes " state " ++ state_word header.closed ++ codes "\n"

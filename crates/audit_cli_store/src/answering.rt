@@ -1,0 +1,226 @@
+//! Commands that answer for the store in a file.
+use crate::arguments::ProofRequest;
+use crate::exporting::{write_entries, write_exported};
+use crate::fault::CommandError;
+use crate::files::{open_device_to_read, open_store, store_to_read};
+use crate::output_file::OutputFile;
+use crate::proving::proof_bytes;
+use crate::request::Access;
+use crate::salvaging::{Salvaged, write_salvage_line, write_salvaged};
+use crate::showing::show;
+use crate::text::write_number;
+use audit_disk::{FileIdentity, SharedDisk, SystemFile};
+use audit_disk_model::Sectors;
+use audit_store::{Store, StoreError};
+use std::alloc::Global;
+use std::fs::Files;
+use std::io::{BufWriter, Write};
+
+// Room for entries of an export that weren't written yet, in bytes.
+const EXPORT_ROOM: usize = 1 << 16;
+
+// The word for the output in place of a file. Nothing else is written there then.
+const STANDARD_OUTPUT: &str = "-";
+
+// The output by its path. It may lead to a file, in whose place no other may be put.
+const OUTPUT_DEVICE: &str = "/dev/stdout";
+
+/// Writes the commitment of the store in a file, and where it stands.
+pub fn show_file<F: Files, W: Write>(
+    rt: &F,
+    alloc: Global,
+    file: &str,
+    access: Access,
+    output: &mut W,
+) -> Result<(), CommandError>
+where
+    F::File: SystemFile,
+{
+    match access {
+        Access::Repair => show(alloc, &open_store(rt, alloc, file)?.content, output),
+        Access::ReadOnly | Access::Salvage => {
+            let source = SharedDisk::new(open_device_to_read(rt, alloc, file)?.content);
+            show(alloc, &store_to_read(alloc, &source)?, output)
+        }
+    }
+}
+
+/// Writes the entries of the store in a file to another one, which isn't that of the store. The store is opened before
+/// that file is made.
+pub fn export_file<F: Files, W: Write>(
+    rt: &F,
+    alloc: Global,
+    file: &str,
+    access: Access,
+    out: &str,
+    output: &mut W,
+) -> Result<(), CommandError>
+where
+    F::File: SystemFile,
+{
+    if access == Access::Repair {
+        let mut opened = open_store(rt, alloc, file)?;
+        return export_store(rt, alloc, &mut opened.content, opened.identity, out, output);
+    }
+    let opened = open_device_to_read(rt, alloc, file)?;
+    let mut source = SharedDisk::new(opened.content);
+    match store_to_read(alloc, &source) {
+        Ok(mut store) => export_store(rt, alloc, &mut store, opened.identity, out, output),
+        Err(CommandError::Refused(error)) if access == Access::Salvage && is_damage(error) => {
+            salvage_device(rt, alloc, source.get_mut(), opened.identity, out, output)
+        }
+        Err(fault) => Err(fault),
+    }
+}
+
+// Whether an opening was refused for what the device holds.
+fn is_damage(error: StoreError) -> bool {
+    matches!(
+        error,
+        StoreError::NotAStore
+            | StoreError::DamagedHeader
+            | StoreError::HeadersDisagree
+            | StoreError::Worn
+            | StoreError::DamagedLog { .. }
+    )
+}
+
+fn export_store<F: Files, D: Sectors, W: Write>(
+    rt: &F,
+    alloc: Global,
+    store: &mut Store<D>,
+    identity: FileIdentity,
+    out: &str,
+    output: &mut W,
+) -> Result<(), CommandError> {
+    if out == STANDARD_OUTPUT {
+        let _ = write_entries(store, output)?;
+        return Ok(());
+    }
+    if out == OUTPUT_DEVICE {
+        let size = write_entries(store, output)?;
+        return write_exported(alloc, store.commitment().count, size, output);
+    }
+    let mut made = OutputFile::create(rt, alloc, identity, out)?;
+    let size = match write_export(alloc, store, &mut made) {
+        Ok(size) => size,
+        Err(fault) => {
+            made.discard(rt);
+            return Err(fault);
+        }
+    };
+    made.publish(rt)?;
+    write_exported(alloc, store.commitment().count, size, output)
+}
+
+// Writes the entries of a store to a file, and returns how many bytes they have.
+fn write_export<D: Sectors, W: Write>(
+    alloc: Global,
+    store: &mut Store<D>,
+    file: &mut W,
+) -> Result<u64, CommandError> {
+    let Ok(mut export) = BufWriter::with_capacity(alloc, EXPORT_ROOM, file) else {
+        return Err(CommandError::Refused(StoreError::Memory));
+    };
+    let size = write_entries(store, &mut export)?;
+    export.flush()?;
+    Ok(size)
+}
+
+// Writes the entries that can still be read of a damaged store.
+fn salvage_device<F: Files, D: Sectors, W: Write>(
+    rt: &F,
+    alloc: Global,
+    disk: &mut D,
+    identity: FileIdentity,
+    out: &str,
+    output: &mut W,
+) -> Result<(), CommandError> {
+    if out == STANDARD_OUTPUT || out == OUTPUT_DEVICE {
+        let salvaged = write_salvaged(alloc, disk, output)?;
+        if out == OUTPUT_DEVICE {
+            write_salvage_line(alloc, &salvaged, output)?;
+        }
+        return Err(CommandError::Salvaged);
+    }
+    let mut made = OutputFile::create(rt, alloc, identity, out)?;
+    let salvaged = match salvage_to(alloc, disk, &mut made) {
+        Ok(salvaged) => salvaged,
+        Err(fault) => {
+            made.discard(rt);
+            return Err(fault);
+        }
+    };
+    made.publish(rt)?;
+    write_salvage_line(alloc, &salvaged, output)?;
+    Err(CommandError::Salvaged)
+}
+
+// Writes what can be salvaged of a device to a file.
+fn salvage_to<D: Sectors, W: Write>(
+    alloc: Global,
+    disk: &mut D,
+    file: &mut W,
+) -> Result<Salvaged, CommandError> {
+    let Ok(mut export) = BufWriter::with_capacity(alloc, EXPORT_ROOM, file) else {
+        return Err(CommandError::Refused(StoreError::Memory));
+    };
+    let salvaged = write_salvaged(alloc, disk, &mut export)?;
+    export.flush()?;
+    Ok(salvaged)
+}
+
+/// Writes a proof of the store in a file to another one, which isn't that of the store. The store is opened, and the
+/// proof made, before that file is.
+pub fn prove_file<F: Files, W: Write>(
+    rt: &F,
+    alloc: Global,
+    file: &str,
+    access: Access,
+    asked: ProofRequest,
+    out: &str,
+    output: &mut W,
+) -> Result<(), CommandError>
+where
+    F::File: SystemFile,
+{
+    let (proof, identity) = proof_of(rt, alloc, file, access, asked)?;
+    if out == STANDARD_OUTPUT {
+        return Ok(output.write_all(&proof)?);
+    }
+    if out == OUTPUT_DEVICE {
+        output.write_all(&proof)?;
+        return write_number(alloc, b"proof ", proof.len() as u64, output);
+    }
+    let mut made = OutputFile::create(rt, alloc, identity, out)?;
+    if let Err(error) = made.write_all(&proof) {
+        made.discard(rt);
+        return Err(error.into());
+    }
+    made.publish(rt)?;
+    write_number(alloc, b"proof ", proof.len() as u64, output)
+}
+
+// The bytes of a proof of the store in a file, and which file that is.
+fn proof_of<F: Files>(
+    rt: &F,
+    alloc: Global,
+    file: &str,
+    access: Access,
+    asked: ProofRequest,
+) -> Result<(Vec<u8>, FileIdentity), CommandError>
+where
+    F::File: SystemFile,
+{
+    if access == Access::Repair {
+        let mut opened = open_store(rt, alloc, file)?;
+        return Ok((
+            proof_bytes(alloc, &mut opened.content, asked)?,
+            opened.identity,
+        ));
+    }
+    let opened = open_device_to_read(rt, alloc, file)?;
+    let source = SharedDisk::new(opened.content);
+    let mut store = store_to_read(alloc, &source)?;
+    Ok((proof_bytes(alloc, &mut store, asked)?, opened.identity))
+}

@@ -1,0 +1,76 @@
+//! Arguments that are judged here, not by the parser of the command line.
+ghost use Rattle.std.specs.Prelude.{◌≡◌};
+ghost use Rattle.audit_cli_store.specs.Arguments.{sectors_asked, proof_asked, commitment_asked};
+
+use crate::fault::CommandError;
+use audit_cli_offline::commitment_in_word;
+use audit_log::{MAX_SECTORS, MIN_SECTORS};
+use audit_proof::Commitment;
+use audit_store::StoreError;
+use audit_text::number_in_text;
+
+/// The proof that is asked for.
+#[derive(Clone, Copy, Debug, PartialEq, Eq)]
+pub enum ProofRequest {
+    /// A membership (inclusion) proof: the event of this index is one of the first `count` events.
+    Member {
+        /// The event's number, from 0 on.
+        index: u64,
+        /// How many events.
+        count: u64,
+    },
+    /// An incremental (consistency) proof: the first `newer` events begin with the first `older` events.
+    Increment {
+        /// The count of the older commitment.
+        older: u64,
+        /// The count of the newer one.
+        newer: u64,
+    },
+}
+
+/// The number of sectors that a word asks for: 1 to 20 decimal digits, and a number of sectors that a store can have.
+/// A word of another form is `BadArgument`, and a number that no store has is refused as `BadSize`.
+pub fn sectors_asked(text: &str) -> Result<u64, CommandError>
+    ensures { result ≡ sectors_asked text.now }
+{
+    let Some(sectors) = number_in_text(text.as_bytes()) else {
+        return Err(CommandError::BadArgument);
+    };
+    if sectors < MIN_SECTORS || sectors > MAX_SECTORS {
+        return Err(CommandError::Refused(StoreError::BadSize));
+    }
+    Ok(sectors)
+}
+
+/// The proof that three words ask for: `member` with an index and a count, or `increment` with an older and a newer
+/// count, each of 1 to 20 decimal digits and below 2^64. The counts aren't judged here.
+pub fn proof_request(kind: &str, first: &str, second: &str) -> Option<ProofRequest>
+    ensures { result ≡ proof_asked kind.now first.now second.now }
+{
+    let first = number_in_text(first.as_bytes())?;
+    let second = number_in_text(second.as_bytes())?;
+    if kind == "member" {
+        return Some(ProofRequest::Member {
+            index: first,
+            count: second,
+        });
+    }
+    if kind == "increment" {
+        return Some(ProofRequest::Increment {
+            older: first,
+            newer: second,
+        });
+    }
+    None
+}
+
+/// The commitment that a word asks for: a count, a colon and the 64 hex digits of a root. A word of another form is
+/// `BadArgument`.
+pub fn commitment_asked(word: &str) -> Result<Commitment, CommandError>
+    ensures { result ≡ commitment_asked word.now }
+{
+    match commitment_in_word(word.as_bytes()) {
+        Some(commitment) => Ok(commitment),
+        None => Err(CommandError::BadArgument),
+    }
+}

@@ -1,0 +1,91 @@
+//! Proofs in files, checked under commitments.
+ghost use Rattle.std.specs.Prelude.{◌≡◌, ◌⊎◌, ℕ, List, IfOk, IfErr, IfSome, MatchResult};
+ghost use Rattle.audit_cli_offline.specs.Judgment.{SpellsProof};
+ghost use Rattle.audit_cli_store.specs.Checks.{IsAccepted, IsNotAccepted, IsOfOtherKind, IsNoProof, IsUnread};
+ghost use Rattle.audit_cli_store.specs.Checks.{IsProofJudged, IsChecked, IsFailure};
+
+use crate::fault::CommandError;
+use audit_cli_offline::{Proof, judge_proof, read_proof, write_judgment};
+use audit_proof::Commitment;
+use audit_text::{LinesError, read_input};
+use std::alloc::Global;
+use std::io::{Read, Write};
+
+/// Checks a proof under one commitment or two, and writes whether it is accepted.
+///
+/// | The bytes are | Result | Written |
+/// |---|---|---|
+/// | no proof | `BadProof` | nothing |
+/// | a membership proof, and there are two commitments, or an incremental proof and one | `BadArgument` | nothing |
+/// | a proof of other counts than the commitments', or one that isn't accepted | `NotAccepted` | `not accepted` |
+/// | another proof | Ok | `accepted` |
+///
+/// Other faults come only where reading, writing or memory failed. Where the line couldn't be written whole, a part of
+/// the one that is due was.
+pub fn check_proof<R: Read, W: Write>(
+    alloc: Global,
+    reader: &mut R,
+    older: &Commitment,
+    newer: Option<Commitment>,
+    writer: &mut W,
+) -> Result<(), CommandError>
+    ensures found { IfSome (R.remaining reader.old) (λ bytes. IsChecked result bytes older.now newer
+        (W.contents writer.old) (W.contents writer.new)) }
+
+    // And the other way round: what the bytes are is what is said, or reading, writing or memory failed.
+    ensures accepted { IfSome (R.remaining reader.old) (λ bytes. IsAccepted bytes older.now newer
+        → IfErr result IsFailure) }
+    ensures not_accepted { IfSome (R.remaining reader.old) (λ bytes. IsNotAccepted bytes older.now newer
+        → MatchResult result (λ _. ⊥) (λ fault. (fault ≡ CommandError.NotAccepted) ⊎ IsFailure fault)) }
+    ensures other_kind { IfSome (R.remaining reader.old) (λ bytes. IsOfOtherKind bytes newer
+        → MatchResult result (λ _. ⊥) (λ fault. (fault ≡ CommandError.BadArgument) ⊎ IsFailure fault)) }
+    ensures no_proof { IfSome (R.remaining reader.old) (λ bytes. IsNoProof bytes
+        → MatchResult result (λ _. ⊥) (λ fault. (fault ≡ CommandError.BadProof) ⊎ IsFailure fault)) }
+{
+    let accepted = judged_in(alloc, reader, older, newer)?;
+    write_judgment(accepted, writer)?;
+    if accepted {
+        Ok(())
+    } else {
+        Err(CommandError::NotAccepted)
+    }
+}
+
+// Whether the proof that a file holds is accepted.
+fn judged_in<R: Read>(
+    alloc: Global,
+    reader: &mut R,
+    older: &Commitment,
+    newer: Option<Commitment>,
+) -> Result<bool, CommandError>
+    ensures { IfSome (R.remaining reader.old) (λ bytes. IsProofJudged result bytes older.now newer) }
+{
+    let proof = proof_in(alloc, reader)?;
+    is_accepted(&proof, older, newer)
+}
+
+// Whether a proof is accepted.
+fn is_accepted(
+    proof: &Proof,
+    older: &Commitment,
+    newer: Option<Commitment>,
+) -> Result<bool, CommandError>
+    ensures { (bytes : List ℕ) → SpellsProof bytes proof.now → IsProofJudged result bytes older.now newer }
+{
+    match judge_proof(proof, older, newer) {
+        Some(accepted) => Ok(accepted),
+        None => Err(CommandError::BadArgument),
+    }
+}
+
+// The proof that a file holds, all of it: an input that is too long is none.
+fn proof_in<R: Read>(alloc: Global, reader: &mut R) -> Result<Proof, CommandError>
+    ensures spelled { IfOk result (λ proof. IfSome (R.remaining reader.old) (λ bytes. SpellsProof bytes proof)) }
+    ensures unread { IfErr result (λ fault. IfSome (R.remaining reader.old) (λ bytes. IsUnread fault bytes)) }
+{
+    match read_input(alloc, reader) {
+        Ok(bytes) => Ok(read_proof(alloc, &bytes)?),
+        Err(LinesError::InputTooLong) => Err(CommandError::BadProof),
+        Err(fault) => Err(CommandError::Lines(fault)),
+    }
+}

@@ -1,0 +1,42 @@
+//! Key files.
+ghost use Rattle.std.specs.Prelude.{◌≡◌, Some, None, IfOk, IfErr, IfSome};
+ghost use Rattle.audit_text.specs.Reading.{TakesAtMost};
+ghost use Rattle.audit_cli_store.specs.KeyFile.{key_of_file, without_line_feed};
+
+use crate::fault::CommandError;
+use audit_chain::{KEY_LEN, Key};
+use audit_text::{INPUT_LIMIT, LinesError, read_input};
+use hex::FromHex;
+use std::alloc::Global;
+use std::io::Read;
+
+/// Decodes the key that a key file holds: 64 hex digits of either case, with or without a line feed after them.
+pub fn key_of_file(text: &[u8]) -> Option<Key>
+    ensures { result ≡ key_of_file text.now }
+{
+    match <[u8; KEY_LEN]>::from_hex(without_line_feed(text)) {
+        Ok(bytes) => Some(Key::from_bytes(bytes)),
+        Err(_) => None,
+    }
+}
+
+// The text without the line feed that may end it.
+fn without_line_feed(text: &[u8]) -> &[u8]
+    ensures { result.now ≡ without_line_feed text.now }
+{
+    match text.strip_suffix(b"\n") {
+        Some(front) => front,
+        None => text,
+    }
+}
+
+/// Reads the key that a key file holds; `BadArgument` where it holds none.
+pub fn read_key<R: Read>(alloc: Global, reader: &mut R) -> Result<Key, CommandError>
+    ensures key { IfOk result (λ key. IfSome (R.remaining reader.old) (λ text. key_of_file text ≡ Some key)) }
+{
+    match read_input(alloc, reader) {
+        Ok(text) => key_of_file(&text).ok_or(CommandError::BadArgument),
+        Err(LinesError::InputTooLong) => Err(CommandError::BadArgument),
+        Err(fault) => Err(CommandError::Lines(fault)),
+    }
+}

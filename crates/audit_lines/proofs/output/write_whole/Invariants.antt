@@ -1,6 +1,0 @@
-use Rattle.audit_lines.proofs.Writing.{IsWrittenUpTo}
-use Rattle.audit_lines.proofs.output.write_whole.Given as goal
-
--- of the text, all was written but the rest
-abbrev pub invariant-loop : goal.invariant-loop
-invariant-loop g l = record { written : IsWrittenUpTo (g.W.Write.contents l.fn.writer) (g.W.Write.contents l.writer) l.rest l.text }

@@ -1,0 +1,64 @@
+-- For the tests: a core whose sessions end by `end` alone.
+use Rattle.std.specs.Prelude.{◌≡◌, ℕ, Bool, true, false, ◌||◌, List, [], ◌∷◌, ◌++◌, slice_index_or}
+use Rattle.std.proofs.Common.{refl, sym, ap, ◌∙◌}
+use Rattle.std.proofs.lemmas.Bool.{ne_eqb}
+use Rattle.audit_serve_passes.specs.Steps.{StepData, a_piece, an_end, a_flush, IsAbout, is_end, has_end}
+use Rattle.audit_serve_passes.specs.Core.{CoreModel}
+
+-- which sessions have ended, and what waits for them
+pub record RecorderData : Type 0 where
+  pub ended : List Bool
+  pub outputs : List (List ℕ)
+
+abbrev pub has_ended : RecorderData → ℕ → Bool
+has_ended core k = slice_index_or core.ended k false
+
+abbrev pub recorded_output : RecorderData → ℕ → List ℕ
+recorded_output core k = slice_index_or core.outputs k []
+
+-- the sessions that have ended are those that had, and those of which there is an end among the steps
+abbrev pub EndedBy : RecorderData → RecorderData → List StepData → Type 0
+EndedBy old new steps = (k : ℕ) → has_ended new k ≡ (has_ended old k || has_end k steps)
+
+pub or_none : (x : Bool) → x ≡ (x || false)
+or_none true = refl
+or_none false = refl
+
+or_assoc : (x y z : Bool) → (x || (y || z)) ≡ ((x || y) || z)
+or_assoc true y z = refl
+or_assoc false y z = refl
+
+ends_joined : (k : ℕ) (steps later : List StepData) → (has_end k steps || has_end k later) ≡ has_end k (steps ++ later)
+ends_joined k [] later = refl
+ends_joined k (step ∷ steps) later = sym (or_assoc (is_end k step) (has_end k steps) (has_end k later))
+    ∙ ap (λ (more : Bool). is_end k step || more) (ends_joined k steps later)
+
+pub no_end : (k : ℕ) (step : StepData) → (IsAbout k step → ⊥) → is_end k step ≡ false
+no_end k (a_piece session piece) other = refl
+no_end k (an_end session) other = ne_eqb session k other
+no_end k a_flush other = refl
+
+-- a session had ended, or ends among these steps, or among those after them
+pub ended_then : (had : Bool) (k : ℕ) (steps later : List StepData)
+    → ((had || has_end k steps) || has_end k later) ≡ (had || has_end k (steps ++ later))
+ended_then had k steps later = sym (or_assoc had (has_end k steps) (has_end k later))
+    ∙ ap (λ (more : Bool). had || more) (ends_joined k steps later)
+
+abbrev pub recorder_model : CoreModel RecorderData
+recorder_model = record {
+  ended = λ core steps k. has_ended core k || has_end k steps;
+  output = recorded_output;
+  DidSteps = λ old new steps taken. EndedBy old new steps;
+  DidStepsInPart = λ old new steps taken. Unit {0};
+  nothing_done = λ core k. or_none (has_ended core k);
+  more_done = λ old mid new steps later taken more first second k. second k
+      ∙ ap (λ (had : Bool). had || has_end k later) (first k) ∙ ended_then (has_ended old k) k steps later;
+  ended_by_steps = λ old new steps later taken k did. ap (λ (had : Bool). had || has_end k later) (did k)
+      ∙ ended_then (has_ended old k) k steps later;
+  ended_alone = λ core steps step k other.
+      sym (ended_then (has_ended core k) k steps (step ∷ []))
+      ∙ ap (λ (last : Bool). (has_ended core k || has_end k steps) || (last || false)) (no_end k step other)
+      ∙ sym (or_none (has_ended core k || has_end k steps));
+  done_in_part = λ old new steps taken did. tt;
+  then_in_part = λ old mid new steps later taken more first second. tt;
+}

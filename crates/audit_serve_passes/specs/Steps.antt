@@ -1,0 +1,47 @@
+-- The steps of a core that serves sessions, and what they bring of the stream of one session.
+use Rattle.std.specs.Prelude.{◌≡◌, ◌⊎◌, ℕ, Bool, false, ◌||◌, ◌==◌, if◌then◌else◌, List, [], ◌∷◌, ◌++◌}
+
+pub data StepData : Type 0 where
+  -- the next bytes of a session
+  a_piece : ℕ → List ℕ → StepData
+  -- the end of a session
+  an_end : ℕ → StepData
+  -- what waits is committed and answered
+  a_flush : StepData
+
+-- a step, and each of several steps, is of session k
+abbrev pub IsAbout : ℕ → StepData → Type 0
+IsAbout k (a_piece session piece) = session ≡ k
+IsAbout k (an_end session) = session ≡ k
+IsAbout k a_flush = ⊥
+
+abbrev pub AreAbout : ℕ → List StepData → Type 0
+AreAbout k [] = Unit {0}
+AreAbout k (step ∷ steps) = IsAbout k step × AreAbout k steps
+
+-- what is taken of a step that may be refused: all of it, of a piece its first bytes, or nothing
+abbrev pub IsPartOf : StepData → List StepData → Type 0
+IsPartOf (a_piece k piece) part = (part ≡ [])
+    ⊎ ((front : List ℕ) × (rest : List ℕ) × (piece ≡ front ++ rest) × (part ≡ a_piece k front ∷ []))
+IsPartOf (an_end k) part = (part ≡ []) ⊎ (part ≡ an_end k ∷ [])
+IsPartOf a_flush part = (part ≡ []) ⊎ (part ≡ a_flush ∷ [])
+
+-- the bytes of a session that a step brings, and that steps bring in turn
+abbrev pub bytes_in : ℕ → StepData → List ℕ
+bytes_in k (a_piece session piece) = if session == k then piece else []
+bytes_in k (an_end session) = []
+bytes_in k a_flush = []
+
+abbrev pub bytes_fed : ℕ → List StepData → List ℕ
+bytes_fed k [] = []
+bytes_fed k (step ∷ steps) = bytes_in k step ++ bytes_fed k steps
+
+-- whether a session ends by a step, and by one of several
+abbrev pub is_end : ℕ → StepData → Bool
+is_end k (a_piece session piece) = false
+is_end k (an_end session) = session == k
+is_end k a_flush = false
+
+abbrev pub has_end : ℕ → List StepData → Bool
+has_end k [] = false
+has_end k (step ∷ steps) = is_end k step || has_end k steps

@@ -1,0 +1,31 @@
+//! Sessions that are served in passes over streams.
+//!
+//! In each pass every live session has one read of its stream, then the core flushes, and then what waits for each
+//! session is written to its stream: [`serve`]. A stream is a [`SessionStream`], and what decides on the bytes of the
+//! sessions is a [`SessionCore`].
+#![tactic(auto)]
+
+mod duplex_stream;
+mod health;
+mod limits;
+mod reading;
+mod rounds;
+mod serve_end;
+mod serving;
+mod session_core;
+mod session_stream;
+mod stream_fault;
+mod stream_pair;
+mod writing;
+
+pub use duplex_stream::DuplexStream;
+pub use limits::{MAX_PIECE, MAX_TURNS};
+pub use serve_end::{ServeEnd, ServeFault};
+pub use serving::serve;
+pub use session_core::SessionCore;
+pub use session_stream::SessionStream;
+pub use stream_fault::StreamError;
+pub use stream_pair::StreamPair;
+
+#[cfg(test)]
+mod tests;

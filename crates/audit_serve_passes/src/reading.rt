@@ -1,0 +1,51 @@
+ghost use Rattle.std.specs.Prelude.{◌≡◌, ◌<◌, ◌≤◌, [], length, map, IfErr, OnOk};
+ghost use Rattle.audit_base.specs.declared.limits.TheConstants.{SESSIONS};
+ghost use Rattle.audit_serve_passes.specs.declared.limits.TheConstants.{MAX_PIECE};
+ghost use Rattle.audit_serve_passes.specs.Transition.{Transition, SessionTransition, Reached, SessionReached};
+ghost use Rattle.audit_serve_passes.specs.Transition.{IsOneVisit, AreVisitsBelow};
+
+use crate::session_core::SessionCore;
+use crate::session_stream::SessionStream;
+
+/// One visit of a session: what one read of its stream gave is fed, and its end, or a fault, ends the session.
+fn read_turn<C: SessionCore, S: SessionStream>(
+    core: &mut C,
+    session: usize,
+    stream: &mut S,
+    buffer: &mut [u8],
+) -> Result<(), C::Error>
+    requires session { session < SESSIONS }
+    requires room { 0 < length buffer.old }
+    requires most { length buffer.old ≤ MAX_PIECE }
+    ensures reaches { SessionReached C.model session core.old core.new (S.view stream.old) (S.view stream.new) }
+    ensures refused { IfErr result (C.refuses core.old core.new) }
+    ensures done { OnOk result (SessionTransition C.model session core.old core.new
+        (S.view stream.old) (S.view stream.new) (IsOneVisit session)) }
+{
+    match stream.read(buffer) {
+        Ok(count) if count > 0 => core.feed(session, &buffer[..count]),
+        _ => core.end(session),
+    }
+}
+
+/// A visit of each live session, in rising order.
+pub fn read_turns<C: SessionCore, S: SessionStream>(
+    core: &mut C,
+    streams: &mut [S],
+    buffer: &mut [u8],
+) -> Result<(), C::Error>
+    requires count { length streams.old ≤ SESSIONS }
+    requires room { 0 < length buffer.old }
+    requires most { length buffer.old ≤ MAX_PIECE }
+    ensures reaches { Reached C.model core.old core.new (map S.view streams.old) (map S.view streams.new) }
+    ensures refused { IfErr result (C.refuses core.old core.new) }
+    ensures done { OnOk result (Transition C.model core.old core.new (map S.view streams.old) (map S.view streams.new)
+        (AreVisitsBelow (length streams.old) (C.model.ended core.old []))) }
+{
+    for session in 0..streams.len() {
+        if !core.ended(session) {
+            read_turn(core, session, &mut streams[session], buffer)?;
+        }
+    }
+    Ok(())
+}

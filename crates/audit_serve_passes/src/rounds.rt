@@ -1,0 +1,90 @@
+ghost use Rattle.std.specs.Prelude.{◌≡◌, ◌≢◌, ◌<◌, ◌≤◌, ◌+◌, ℕ, [], true, false, length, map, IfErr, OnOk};
+ghost use Rattle.audit_base.specs.declared.limits.TheConstants.{SESSIONS};
+ghost use Rattle.audit_serve_passes.specs.declared.limits.TheConstants.{MAX_PIECE, MAX_TURNS};
+ghost use Rattle.audit_serve_passes.specs.Rounds.{live_below, IsPass, ArePasses};
+ghost use Rattle.audit_serve_passes.specs.Transition.{Transition, CoreTransition, Reached, CoreReached, BringNothing};
+ghost use Rattle.audit_serve_passes.specs.Transition.{AreEndsBelow};
+
+use crate::limits::MAX_TURNS;
+use crate::reading::read_turns;
+use crate::session_core::SessionCore;
+use crate::session_stream::SessionStream;
+use crate::writing::flush_and_write;
+
+/// Whether one of the first `count` sessions is still live.
+pub fn has_live<C: SessionCore>(core: &C, count: usize) -> bool
+    requires { count ≤ SESSIONS }
+    ensures live { result ≡ true → live_below count (C.model.ended core.now []) ≢ [] }
+    ensures none { result ≡ false → live_below count (C.model.ended core.now []) ≡ [] }
+{
+    for session in 0..count {
+        if !core.ended(session) {
+            return true;
+        }
+    }
+    false
+}
+
+/// Ends each of the first `count` sessions that is still live.
+pub fn end_live<C: SessionCore>(core: &mut C, count: usize) -> Result<(), C::Error>
+    requires { count ≤ SESSIONS }
+    ensures reaches { CoreReached C.model core.old core.new BringNothing }
+    ensures refused { IfErr result (C.refuses core.old core.new) }
+    ensures done { OnOk result (CoreTransition C.model core.old core.new
+        (AreEndsBelow count (C.model.ended core.old []))) }
+{
+    for session in 0..count {
+        if !core.ended(session) {
+            core.end(session)?;
+        }
+    }
+    Ok(())
+}
+
+/// A visit of each live session, a flush, and what waits for each session is written to its stream.
+fn serve_round<C: SessionCore, S: SessionStream>(
+    core: &mut C,
+    streams: &mut [S],
+    buffer: &mut [u8],
+) -> Result<(), C::Error>
+    requires count { length streams.old ≤ SESSIONS }
+    requires room { 0 < length buffer.old }
+    requires most { length buffer.old ≤ MAX_PIECE }
+    ensures reaches { Reached C.model core.old core.new (map S.view streams.old) (map S.view streams.new) }
+    ensures refused { IfErr result (C.refuses core.old core.new) }
+    ensures done { OnOk result (Transition C.model core.old core.new (map S.view streams.old) (map S.view streams.new)
+        (IsPass (length streams.old) (C.model.ended core.old []))) }
+{
+    read_turns(core, streams, buffer)?;
+    flush_and_write(core, streams)
+}
+
+/// Serves passes as long as sessions are live, up to the limit of passes.
+pub fn serve_passes<C: SessionCore, S: SessionStream>(
+    core: &mut C,
+    streams: &mut [S],
+    buffer: &mut [u8],
+    turns: &mut u64,
+) -> Result<(), C::Error>
+    requires count { length streams.old ≤ SESSIONS }
+    requires room { 0 < length buffer.old }
+    requires most { length buffer.old ≤ MAX_PIECE }
+    ensures most { turns.new ≤ MAX_TURNS }
+    ensures reaches { Reached C.model core.old core.new (map S.view streams.old) (map S.view streams.new) }
+    ensures refused { IfErr result (C.refuses core.old core.new) }
+    ensures done { OnOk result (Transition C.model core.old core.new (map S.view streams.old) (map S.view streams.new)
+        (ArePasses (length streams.old) (C.model.ended core.old) turns.new)) }
+    // Only where there were as many passes as may be are sessions left live.
+    ensures all { OnOk result (turns.new < MAX_TURNS
+        → live_below (length streams.old) (C.model.ended core.new []) ≡ []) }
+{
+    *turns = 0;
+    for round in 0..MAX_TURNS {
+        if !has_live(core, streams.len()) {
+            return Ok(());
+        }
+        *turns = round + 1;
+        serve_round(core, streams, buffer)?;
+    }
+    Ok(())
+}

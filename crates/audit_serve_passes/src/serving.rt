@@ -1,0 +1,81 @@
+ghost use Rattle.std.specs.Prelude.{◌≡◌, ◌<◌, ◌≤◌, [], true, false, length, map, IfOk, IfErr, OnOk, None, Some};
+ghost use Rattle.audit_base.specs.declared.limits.TheConstants.{SESSIONS};
+ghost use Rattle.audit_serve_passes.specs.declared.limits.TheConstants.{MAX_PIECE, MAX_TURNS};
+ghost use Rattle.audit_serve_passes.specs.declared.serve_end.ServeFault.TheVariants as fault;
+ghost use Rattle.audit_serve_passes.specs.Transition.{Transition, EndsAs, Reached, IsServed, IsCut};
+
+use crate::limits::MAX_PIECE;
+use crate::rounds::{end_live, has_live, serve_passes};
+use crate::serve_end::{ServeEnd, ServeFault};
+use crate::session_core::SessionCore;
+use crate::session_stream::SessionStream;
+use crate::writing::flush_and_write;
+
+/// Serves the sessions of these streams, the first of which is session 0, in passes up to the end of the last one.
+///
+/// In each pass every live session has one read of at most [`MAX_PIECE`] bytes, in rising order; then the core
+/// flushes, and then what waits for each session is written whole. The end of a stream, or a fault of a read, ends its
+/// session. A fault of a write does too, and what was to be written to it is dropped, now and later. After the last
+/// session has ended there is one flush more, and what waits is written. Where sessions are live after
+/// [`MAX_TURNS`](crate::MAX_TURNS) passes, each of them is ended, with one flush more, and the fault is `ReadFault`.
+/// A refusal of the core ends it at once. Whatever happens, the core went by steps that bring the bytes read, of which
+/// a refused call may have lost some.
+pub fn serve<C: SessionCore, S: SessionStream>(
+    core: &mut C,
+    streams: &mut [S],
+) -> ServeEnd<C::Error>
+    requires { length streams.old ≤ SESSIONS }
+    ensures most { result.turns ≤ MAX_TURNS }
+    // Whatever happens, the core went by steps and `take_output` alone. Of each stream that reports its bytes and
+    // didn't fail, the steps bring what was read, but for what a refused call lost; and what was taken was written to
+    // it.
+    ensures reaches { Reached C.model core.old core.new (map S.view streams.old) (map S.view streams.new) }
+    // A refusal is the one that ended it: what the core says by it is so.
+    ensures refused { (error : C.Error) → result.fault ≡ Some (fault.Core error) → C.refuses core.old core.new error }
+    // Without a fault it did, where no stream failed, whole passes up to the end of the last session, and a flush; and
+    // each stream that reports its bytes and didn't fail was read and written as the steps say.
+    ensures served { result.fault ≡ None → Transition C.model core.old core.new
+        (map S.view streams.old) (map S.view streams.new)
+        (IsServed C.model (length streams.old) result.turns core.old core.new) }
+    ensures cut { result.fault ≡ Some fault.ReadFault → (result.turns ≡ MAX_TURNS)
+        × EndsAs C.model core.old core.new (map S.view streams.old) (map S.view streams.new)
+        (IsCut C.model (length streams.old) core.old core.new) }
+{
+    let mut turns = 0;
+    let mut buffer = [0; MAX_PIECE];
+    let fault = match serve_all(core, streams, &mut buffer, &mut turns) {
+        Ok(false) => None,
+        Ok(true) => Some(ServeFault::ReadFault),
+        Err(error) => Some(ServeFault::Core(error)),
+    };
+    ServeEnd { turns, fault }
+}
+
+/// Serves up to the end, and reports whether sessions were still live when the limit of passes was reached.
+fn serve_all<C: SessionCore, S: SessionStream>(
+    core: &mut C,
+    streams: &mut [S],
+    buffer: &mut [u8],
+    turns: &mut u64,
+) -> Result<bool, C::Error>
+    requires count { length streams.old ≤ SESSIONS }
+    requires room { 0 < length buffer.old }
+    requires most { length buffer.old ≤ MAX_PIECE }
+    ensures most { turns.new ≤ MAX_TURNS }
+    ensures reaches { Reached C.model core.old core.new (map S.view streams.old) (map S.view streams.new) }
+    ensures refused { IfErr result (C.refuses core.old core.new) }
+    ensures served { IfOk result (λ cut. cut ≡ false → Transition C.model core.old core.new
+        (map S.view streams.old) (map S.view streams.new)
+        (IsServed C.model (length streams.old) turns.new core.old core.new)) }
+    ensures cut { IfOk result (λ cut. cut ≡ true → (turns.new ≡ MAX_TURNS)
+        × EndsAs C.model core.old core.new (map S.view streams.old) (map S.view streams.new)
+        (IsCut C.model (length streams.old) core.old core.new)) }
+{
+    serve_passes(core, streams, buffer, turns)?;
+    let cut = has_live(core, streams.len());
+    if cut {
+        end_live(core, streams.len())?;
+    }
+    flush_and_write(core, streams)?;
+    Ok(cut)
+}

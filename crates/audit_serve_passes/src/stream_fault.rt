@@ -1,0 +1,3 @@
+/// A call of a session's stream failed.
+#[derive(Clone, Copy, Debug, PartialEq, Eq)]
+pub struct StreamError;

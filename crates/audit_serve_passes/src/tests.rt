@@ -1,0 +1,276 @@
+// What a stream gives and takes is set by each test; the steps that the core is asked for, in order, are the promise.
+mod recorder;
+
+use crate::{DuplexStream, MAX_TURNS, ServeEnd, ServeFault, SessionCore, StreamPair, serve};
+use recorder::{Asked, Recorder};
+use std::alloc::{AllocError, Global};
+use std::io::{self, ErrorKind, Read, Write};
+use std::test::Fail;
+
+/// A reader of a few bytes a read, which fails after so many reads.
+#[derive(Drop)]
+struct Source<'a> {
+    bytes: &'a [u8],
+    most: usize,
+    reads: usize,
+}
+
+impl Read for Source<'_> {
+    fn read(&mut self, buf: &mut [u8]) -> io::Result<usize> {
+        if self.reads == 0 {
+            return Err(io::Error::from(ErrorKind::Other));
+        }
+        self.reads -= 1;
+        let most = buf.len().min(self.most);
+        self.bytes.read(&mut buf[..most])
+    }
+}
+
+/// A writer of one byte a write, which fails after so many bytes.
+#[derive(Drop)]
+struct Sink {
+    bytes: Vec<u8>,
+    room: usize,
+}
+
+impl Write for Sink {
+    fn write(&mut self, buf: &[u8]) -> io::Result<usize> {
+        if self.room == 0 || buf.is_empty() {
+            return Err(io::Error::from(ErrorKind::Other));
+        }
+        self.room -= 1;
+        self.bytes.write(&buf[..1])
+    }
+
+    fn flush(&mut self) -> io::Result<()> {
+        Ok(())
+    }
+}
+
+type Stream<'a> = StreamPair<Source<'a>, Sink>;
+
+const ANY: usize = usize::MAX;
+
+fn stream(alloc: Global, bytes: &[u8], most: usize, reads: usize, room: usize) -> Stream<'_> {
+    let source = Source { bytes, most, reads };
+    let sink = Sink {
+        bytes: Vec::new(alloc),
+        room,
+    };
+    StreamPair::new(source, sink)
+}
+
+fn feed(session: usize, size: usize) -> Asked {
+    Asked::Feed { session, size }
+}
+
+fn end(session: usize) -> Asked {
+    Asked::End { session }
+}
+
+// The bytes that were written to a stream are these.
+fn wrote(stream: &Stream, bytes: &[u8]) -> bool {
+    stream.writer().bytes.as_slice() == bytes
+}
+
+// With no stream there is no pass, and one flush.
+#[test]
+fn no_stream(rt: HostRuntime) -> Result<(), Fail> {
+    let alloc = rt.alloc();
+    let mut core = Recorder::new(alloc, ANY)?;
+    let mut streams: [Stream; 0] = [];
+    let end = serve(&mut core, &mut streams);
+    assert!(rt;
+        end == ServeEnd {
+            turns: 0,
+            fault: None
+        }
+    );
+    assert!(rt; core.was_asked(&[Asked::Flush]));
+    Ok(())
+}
+
+// One stream gives a byte a read, the other all at once: each live session has one read a pass.
+#[test]
+fn streams_are_read_in_turns(rt: HostRuntime) -> Result<(), Fail> {
+    let alloc = rt.alloc();
+    let mut core = Recorder::new(alloc, ANY)?;
+    let mut streams = [
+        stream(alloc, b"ab", 1, ANY, ANY),
+        stream(alloc, b"cde", 4_096, ANY, ANY),
+    ];
+    let done = serve(&mut core, &mut streams);
+    assert!(rt;
+        done == ServeEnd {
+            turns: 3,
+            fault: None
+        }
+    );
+    assert!(rt;
+        core.was_asked(&[
+            feed(0, 1),
+            feed(1, 3),
+            Asked::Flush,
+            feed(0, 1),
+            end(1),
+            Asked::Flush,
+            end(0),
+            Asked::Flush,
+            Asked::Flush,
+        ])
+    );
+    assert!(rt; wrote(&streams[0], &[4, 5]));
+    assert!(rt; wrote(&streams[1], &[4]));
+    Ok(())
+}
+
+// A read that fails ends its session, and a write that fails ends its own and drops what comes later.
+#[test]
+fn faults_end_their_session(rt: HostRuntime) -> Result<(), Fail> {
+    let alloc = rt.alloc();
+    let mut core = Recorder::new(alloc, ANY)?;
+    let mut streams = [
+        stream(alloc, b"abcd", 1, 2, ANY),
+        stream(alloc, b"efgh", 1, ANY, 1),
+    ];
+    let done = serve(&mut core, &mut streams);
+    assert!(rt;
+        done == ServeEnd {
+            turns: 3,
+            fault: None
+        }
+    );
+    assert!(rt;
+        core.was_asked(&[
+            feed(0, 1),
+            feed(1, 1),
+            Asked::Flush,
+            feed(0, 1),
+            feed(1, 1),
+            Asked::Flush,
+            end(1),
+            end(0),
+            Asked::Flush,
+            Asked::Flush,
+        ])
+    );
+    assert!(rt; wrote(&streams[0], &[2, 4]));
+    assert!(rt; wrote(&streams[1], &[2]));
+    Ok(())
+}
+
+// The core refuses its fourth step, and that is the end.
+#[test]
+fn a_refusal_of_the_core(rt: HostRuntime) -> Result<(), Fail> {
+    let alloc = rt.alloc();
+    let mut core = Recorder::new(alloc, 3)?;
+    let mut streams = [stream(alloc, b"ab", 1, ANY, ANY)];
+    let done = serve(&mut core, &mut streams);
+    assert!(rt;
+        done == ServeEnd {
+            turns: 2,
+            fault: Some(ServeFault::Core(AllocError))
+        }
+    );
+    assert!(rt; core.was_asked(&[feed(0, 1), Asked::Flush, feed(0, 1)]));
+    Ok(())
+}
+
+/// A client that sends two bytes, the second of them once it got a reply to the first.
+#[derive(Drop)]
+struct Polite {
+    sent: usize,
+    replies: usize,
+}
+
+impl Read for Polite {
+    fn read(&mut self, buf: &mut [u8]) -> io::Result<usize> {
+        if self.replies < self.sent {
+            return Err(io::Error::from(ErrorKind::Other));
+        }
+        if self.sent >= 2 {
+            return Ok(0);
+        }
+        self.sent += 1;
+        Ok(buf.len().min(1))
+    }
+}
+
+impl Write for Polite {
+    fn write(&mut self, buf: &[u8]) -> io::Result<usize> {
+        self.replies = self.replies.saturating_add(buf.len());
+        Ok(buf.len())
+    }
+
+    fn flush(&mut self) -> io::Result<()> {
+        Ok(())
+    }
+}
+
+// What waits is written before the next pass's reads.
+#[test]
+fn replies_are_written_in_their_round(rt: HostRuntime) -> Result<(), Fail> {
+    let alloc = rt.alloc();
+    let mut core = Recorder::new(alloc, ANY)?;
+    let client = Polite {
+        sent: 0,
+        replies: 0,
+    };
+    let mut streams = [DuplexStream::new(client)];
+    let done = serve(&mut core, &mut streams);
+    assert!(rt;
+        done == ServeEnd {
+            turns: 3,
+            fault: None
+        }
+    );
+    assert!(rt;
+        core.was_asked(&[
+            feed(0, 1),
+            Asked::Flush,
+            feed(0, 1),
+            Asked::Flush,
+            end(0),
+            Asked::Flush,
+            Asked::Flush,
+        ])
+    );
+    Ok(())
+}
+
+/// A client that goes on forever, and takes whatever it is sent.
+#[derive(Drop)]
+struct Endless;
+
+impl Read for Endless {
+    fn read(&mut self, buf: &mut [u8]) -> io::Result<usize> {
+        Ok(buf.len().min(1))
+    }
+}
+
+impl Write for Endless {
+    fn write(&mut self, buf: &[u8]) -> io::Result<usize> {
+        Ok(buf.len())
+    }
+
+    fn flush(&mut self) -> io::Result<()> {
+        Ok(())
+    }
+}
+
+// After as many passes as may be the session is ended.
+#[test]
+fn as_many_rounds_as_may_be(rt: HostRuntime) -> Result<(), Fail> {
+    let alloc = rt.alloc();
+    let mut core = Recorder::new(alloc, ANY)?;
+    let mut streams = [DuplexStream::new(Endless)];
+    let done = serve(&mut core, &mut streams);
+    assert!(rt;
+        done == ServeEnd {
+            turns: MAX_TURNS,
+            fault: Some(ServeFault::ReadFault)
+        }
+    );
+    assert!(rt; core.ended(0));
+    Ok(())
+}

@@ -1,0 +1,148 @@
+//! A core that keeps a record of the steps asked of it.
+ghost use Rattle.std.specs.Prelude.{◌≡◌, ◌<◌, ℕ, [], ◌∷◌, IfOk, OnOk, length, map};
+ghost use Rattle.audit_base.specs.declared.limits.TheConstants.{SESSIONS};
+ghost use Rattle.audit_serve_passes.specs.Steps.{a_piece, an_end, a_flush};
+ghost use Rattle.audit_serve_passes.specs.Core.{CoreModel, no_bytes, bytes_for};
+ghost use Rattle.audit_serve_passes.specs.Recorder.{recorder_model};
+
+use crate::SessionCore;
+use audit_base::SESSIONS;
+use std::alloc::{AllocError, Global};
+use std::marker::Model;
+use std::mem;
+
+/// A step that was asked of a core.
+#[derive(Clone, Copy, Debug, PartialEq, Eq)]
+pub enum Asked {
+    Feed { session: usize, size: usize },
+    End { session: usize },
+    Flush,
+}
+
+// So many steps are recorded.
+const MOST: usize = 64;
+
+/// A core whose sessions end by `end` alone. A flush replies to each session of which bytes came since the one before,
+/// with one byte: how many bytes have come in all.
+#[derive(Drop)]
+pub struct Recorder {
+    alloc: Global,
+    asked: Vec<Asked>,
+    refused: usize,
+    ended: [bool; SESSIONS],
+    fed: [bool; SESSIONS],
+    total: u8,
+    outputs: Vec<Vec<u8>>,
+}
+
+impl Model for Recorder {
+    ghost use Rattle.std.specs.Prelude.{◌≡◌, length, map};
+    ghost use Rattle.audit_serve_passes.specs.Recorder.{RecorderData};
+    ghost use Rattle.audit_base.specs.declared.limits.TheConstants.{SESSIONS};
+
+    ghost Value = { RecorderData };
+
+    ghost view = { λ core. record { ended = core.ended; outputs = map (λ output. output.items) core.outputs.items } };
+
+    ghost invariant = { λ core. length core.outputs.items ≡ SESSIONS };
+}
+
+fn no_outputs(alloc: Global) -> Result<Vec<Vec<u8>>, AllocError>
+    ensures { IfOk result (λ outputs. length outputs.items ≡ SESSIONS) }
+{
+    let mut outputs = Vec::with_capacity(alloc, SESSIONS)?;
+    for _ in 0..SESSIONS {
+        outputs.push(Vec::new(alloc))?;
+    }
+    Ok(outputs)
+}
+
+impl Recorder {
+    /// A core that refuses the step after so many.
+    pub fn new(alloc: Global, refused: usize) -> Result<Recorder, AllocError> {
+        let outputs = no_outputs(alloc)?;
+        let asked = Vec::with_capacity(alloc, MOST)?;
+        Ok(Recorder {
+            alloc,
+            asked,
+            refused,
+            ended: [false; SESSIONS],
+            fed: [false; SESSIONS],
+            total: 0,
+            outputs,
+        })
+    }
+
+    /// Whether these are the first of the steps that were asked of it.
+    pub fn was_asked(&self, steps: &[Asked]) -> bool {
+        self.asked.as_slice() == steps
+    }
+}
+
+impl Recorder {
+    // Room for the first steps was taken in the beginning.
+    fn ask(&mut self, step: Asked) -> Result<(), AllocError>
+        ensures { self.new ≡ self.old }
+    {
+        if self.refused == 0 {
+            return Err(AllocError);
+        }
+        self.refused -= 1;
+        if self.asked.len() < MOST {
+            self.asked.push(step)?;
+        }
+        Ok(())
+    }
+
+    fn reply(&mut self) -> Result<(), AllocError>
+        ensures { self.new.ended ≡ self.old.ended }
+    {
+        for (session, output) in self.outputs.iter_mut().enumerate() {
+            if session < SESSIONS && self.fed[session] {
+                output.push(self.total)?;
+            }
+        }
+        self.fed = [false; SESSIONS];
+        Ok(())
+    }
+}
+
+impl SessionCore for Recorder {
+    type Error = AllocError;
+
+    ghost model = { recorder_model };
+
+    // Its refusals say nothing.
+    ghost refuses = { λ old new error. Unit {0} };
+
+    fn feed(&mut self, session: usize, piece: &[u8]) -> Result<(), AllocError> {
+        self.ask(Asked::Feed {
+            session,
+            size: piece.len(),
+        })?;
+        self.fed[session] = true;
+        self.total = self.total.wrapping_add((piece.len() % 256) as u8);
+        Ok(())
+    }
+
+    fn end(&mut self, session: usize) -> Result<(), AllocError> {
+        self.ask(Asked::End { session })?;
+        self.ended[session] = true;
+        Ok(())
+    }
+
+    fn flush(&mut self) -> Result<(), AllocError> {
+        self.ask(Asked::Flush)?;
+        self.reply()
+    }
+
+    fn take_output(&mut self, session: usize) -> Vec<u8> {
+        mem::replace(&mut self.outputs[session], Vec::new(self.alloc))
+    }
+
+    fn ended(&self, session: usize) -> bool {
+        self.ended[session]
+    }
+
+    ghost refuses_after = { λ old mid new steps taken error did refused. tt };
+}

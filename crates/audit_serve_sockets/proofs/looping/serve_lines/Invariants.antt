@@ -1,0 +1,14 @@
+use Rattle.std.proofs.Common.{◌≡◌, ◌+◌, ℕ, List, length}
+use Rattle.audit_serve_passes.specs.declared.limits.TheConstants.{MAX_PIECE}
+use Rattle.audit_serve_sockets.specs.Looping.{AreLinePasses, LoopTransition}
+use Rattle.audit_serve_sockets.proofs.Inputs.{HasSpelled}
+use Rattle.audit_serve_sockets.proofs.looping.serve_lines.Given as goal
+
+-- the lines before this one were served
+abbrev pub invariant-loop-number : goal.invariant-loop-number
+invariant-loop-number g l = record {
+  served : (lines : List (List ℕ)) × (length lines + 1 ≡ l.number)
+      × LoopTransition g.C.SessionCore.model l.fn.core l.core (g.W.Write.contents l.fn.writer) (g.W.Write.contents l.writer) (AreLinePasses lines)
+      × HasSpelled (g.R.Read.remaining l.fn.reader) (g.R.Read.remaining l.reader) lines;
+  room : length l.buffer ≡ MAX_PIECE;
+}

@@ -1,0 +1,45 @@
+ghost use Rattle.std.specs.Prelude.{◌≡◌, ◌⊎◌, ◌≤◌, ◌+◌, true, false, vec_len, IfOk, IfErr, Ok};
+ghost use Rattle.std.specs.Io.KnownBytes.{IsAtEnd};
+ghost use Rattle.audit_text.specs.declared.fault.LinesError.TheVariants as fault;
+ghost use Rattle.audit_serve_sockets.specs.declared.limits.TheConstants.{MAX_DIGITS};
+ghost use Rattle.audit_serve_sockets.specs.Input.{ReadsLine, TakesByte};
+
+use crate::limits::MAX_DIGITS;
+use audit_text::LinesError;
+use std::io::{BufRead, Read};
+
+/// Reads the next line into the buffer, in place of what it holds, without its line feed, and reports whether there
+/// was one. Of a line that is longer than [`MAX_DIGITS`] only the front is read, which is one byte longer than that.
+///
+/// The faults are `Read` and `Memory`: the buffer then holds what was read of the line.
+pub fn next_line<R: BufRead>(reader: &mut R, line: &mut Vec<u8>) -> Result<bool, LinesError>
+    // At any reader.
+    ensures within { vec_len line.new ≤ MAX_DIGITS + 1 }
+    ensures fault { IfErr result (λ cause. (cause ≡ fault.Read) ⊎ (cause ≡ fault.Memory)) }
+    // Where its bytes are known.
+    ensures none { result ≡ Ok false → IsAtEnd (R.remaining reader.old) }
+    ensures read { result ≡ Ok true → ReadsLine (R.remaining reader.old) (R.remaining reader.new) line.new.items }
+{
+    line.clear();
+    for _ in 0..MAX_DIGITS + 1 {
+        match next_byte(reader)? {
+            None => return Ok(!line.is_empty()),
+            Some(b'\n') => return Ok(true),
+            Some(byte) => line.push(byte)?,
+        }
+    }
+    Ok(true)
+}
+
+// The next byte, or none at the end.
+fn next_byte<R: BufRead>(reader: &mut R) -> Result<Option<u8>, LinesError>
+    ensures taken { IfOk result (λ byte. TakesByte (R.remaining reader.old) (R.remaining reader.new) byte) }
+    ensures fault { IfErr result (λ cause. cause ≡ fault.Read) }
+{
+    let mut byte = [0];
+    match reader.read(&mut byte) {
+        Ok(0) => Ok(None),
+        Ok(_) => Ok(Some(byte[0])),
+        Err(_) => Err(LinesError::Read),
+    }
+}

@@ -1,0 +1,25 @@
+//! Sockets on which sessions arrive, and a session whose client is in the same process: lines of hex digits go to it,
+//! and its replies come back as lines.
+#![tactic(auto)]
+
+mod carrying;
+mod frame_line;
+mod input_line;
+mod limits;
+mod link;
+mod loop_fault;
+mod looping;
+mod owner_only;
+mod replying;
+mod round_line;
+mod socket_file;
+
+pub use frame_line::bytes_of_line;
+pub use input_line::next_line;
+pub use limits::MAX_DIGITS;
+pub use link::Link;
+pub use loop_fault::LoopError;
+pub use looping::run_lines;
+pub use replying::write_frames;
+pub use round_line::write_round;
+pub use socket_file::{OWNER_ONLY, SocketFile};

@@ -1,0 +1,184 @@
+ghost use Rattle.std.specs.Prelude.{◌≡◌, ◌∷◌, [], ◌+◌, List, ℕ, length, IfOk, IfErr, IfSome, OnOk, Err};
+ghost use Rattle.audit_serve_passes.specs.declared.limits.TheConstants.{MAX_PIECE};
+ghost use Rattle.audit_serve_passes.specs.Steps.{a_flush, IsPartOf};
+ghost use Rattle.audit_serve_passes.specs.Transition.{CoreTransition};
+ghost use Rattle.audit_serve_sockets.specs.declared.loop_fault.LoopError.TheVariants as fault;
+ghost use Rattle.audit_serve_sockets.specs.Input.{SpellsInput, SpellsUpToBad};
+ghost use Rattle.audit_serve_sockets.specs.Looping.{Brings, BringsFront, BringsLines, AreLinePasses, IsWholeLoop};
+ghost use Rattle.audit_serve_sockets.specs.Looping.{LoopTransition, LoopReached};
+ghost use Rattle.audit_serve_sockets.specs.LoopFaults.{IsNoLinesError};
+
+use crate::frame_line::bytes_of_line;
+use crate::input_line::next_line;
+use crate::link::Link;
+use crate::loop_fault::{LoopError, RelayError};
+use crate::replying::write_frames;
+use audit_serve_passes::{MAX_PIECE, SessionCore};
+use audit_text::LinesError;
+use std::alloc::Global;
+use std::io::{BufRead, Read, Write};
+
+// The session that lines are for.
+const SESSION: usize = 0;
+
+/// Serves a session whose bytes come as lines of hex digits, through a connection. The bytes of each line are sent
+/// from the client's end, and what arrives at the server's is fed; then the core flushes, its replies go back, and
+/// each frame that arrives is written as a line. After the last line the session is ended, with one flush more.
+///
+/// A line that isn't hex digits is `BadLine`, after the replies to those before it.
+pub fn run_lines<C, A, B, R, W>(
+    alloc: Global,
+    core: &mut C,
+    link: &mut Link<A, B>,
+    reader: &mut R,
+    writer: &mut W,
+) -> Result<(), LoopError<C::Error>>
+where
+    C: SessionCore,
+    A: Read + Write + Drop,
+    B: Read + Write + Drop,
+    R: BufRead,
+    W: Write,
+    // Whatever happens, the core went by steps that bring the first of what the first lines spell, in order.
+    ensures reaches { LoopReached C.model core.old core.new (BringsLines (R.remaining reader.old)) }
+    // A refusal of the core is the one that ended it: what the core says by it is so.
+    ensures refused { (error : C.Error) → result ≡ Err (fault.Core error) → C.refuses core.old core.new error }
+    // Without a fault each line was fed and flushed in turn, then the session was ended; and the replies were written.
+    // Where the reader's bytes are known, these are what all their lines spell.
+    ensures done { OnOk result ((lines : List (List ℕ)) × LoopTransition C.model core.old core.new
+        (W.contents writer.old) (W.contents writer.new) (IsWholeLoop lines)
+        × IfSome (R.remaining reader.old) (SpellsInput lines)) }
+    // A line that spells no bytes comes after the replies to all lines before it.
+    ensures bad { (number : ℕ) → result ≡ Err (fault.BadLine number)
+        → (lines : List (List ℕ)) × (length lines + 1 ≡ number) × LoopTransition C.model core.old core.new
+        (W.contents writer.old) (W.contents writer.new) (AreLinePasses lines)
+        × IfSome (R.remaining reader.old) (SpellsUpToBad lines) }
+{
+    let mut buffer = [0; MAX_PIECE];
+    serve_lines(alloc, core, link, &mut buffer, reader, writer)?;
+    if let Err(error) = core.end(SESSION) {
+        return Err(LoopError::Core(error));
+    }
+    reply(alloc, core, link, &mut buffer, writer)
+}
+
+// Serves each line, up to the end of the input.
+fn serve_lines<C, A, B, R, W>(
+    alloc: Global,
+    core: &mut C,
+    link: &mut Link<A, B>,
+    buffer: &mut [u8],
+    reader: &mut R,
+    writer: &mut W,
+) -> Result<(), LoopError<C::Error>>
+where
+    C: SessionCore,
+    A: Read + Write + Drop,
+    B: Read + Write + Drop,
+    R: BufRead,
+    W: Write,
+    requires room { length buffer.old ≡ MAX_PIECE }
+    ensures reaches { LoopReached C.model core.old core.new (BringsLines (R.remaining reader.old)) }
+    ensures refused { (error : C.Error) → result ≡ Err (fault.Core error) → C.refuses core.old core.new error }
+    ensures done { OnOk result ((lines : List (List ℕ)) × LoopTransition C.model core.old core.new
+        (W.contents writer.old) (W.contents writer.new) (AreLinePasses lines)
+        × IfSome (R.remaining reader.old) (SpellsInput lines)) }
+    ensures bad { (number : ℕ) → result ≡ Err (fault.BadLine number)
+        → (lines : List (List ℕ)) × (length lines + 1 ≡ number) × LoopTransition C.model core.old core.new
+        (W.contents writer.old) (W.contents writer.new) (AreLinePasses lines)
+        × IfSome (R.remaining reader.old) (SpellsUpToBad lines) }
+{
+    let mut line = Vec::new(alloc);
+    for number in 1..u64::MAX {
+        if !next_line(reader, &mut line)? {
+            return Ok(());
+        }
+        let Some(bytes) = bytes_of_line(alloc, &line)? else {
+            return Err(LoopError::BadLine(number));
+        };
+        send(core, link, &bytes, buffer)?;
+        reply(alloc, core, link, buffer, writer)?;
+    }
+    Err(LoopError::Lines(LinesError::Read))
+}
+
+// Sends bytes from the client's end, in pieces, and feeds what arrives at the server's.
+fn send<C, A, B>(
+    core: &mut C,
+    link: &mut Link<A, B>,
+    bytes: &[u8],
+    buffer: &mut [u8],
+) -> Result<(), LoopError<C::Error>>
+where
+    C: SessionCore,
+    A: Read + Write + Drop,
+    B: Read + Write + Drop,
+    requires room { length buffer.old ≡ MAX_PIECE }
+    ensures reaches { LoopReached C.model core.old core.new (BringsFront bytes.now) }
+    ensures refused { (error : C.Error) → result ≡ Err (fault.Core error) → C.refuses core.old core.new error }
+    ensures done { OnOk result (CoreTransition C.model core.old core.new (Brings bytes.now [])) }
+    ensures fault { IfErr result IsNoLinesError }
+{
+    let mut rest = bytes;
+    while !rest.is_empty() {
+        let (piece, after) = rest.split_at(rest.len().min(MAX_PIECE));
+        let arrived = link.to_server(piece, buffer)?;
+        if let Err(error) = core.feed(SESSION, arrived) {
+            return Err(LoopError::Core(error));
+        }
+        rest = after;
+    }
+    Ok(())
+}
+
+// Flushes, sends the replies back, and writes the frames that arrive as lines.
+fn reply<C, A, B, W>(
+    alloc: Global,
+    core: &mut C,
+    link: &mut Link<A, B>,
+    buffer: &mut [u8],
+    writer: &mut W,
+) -> Result<(), LoopError<C::Error>>
+where
+    C: SessionCore,
+    A: Read + Write + Drop,
+    B: Read + Write + Drop,
+    W: Write,
+    requires room { length buffer.old ≡ MAX_PIECE }
+    ensures reaches { LoopReached C.model core.old core.new (IsPartOf a_flush) }
+    ensures refused { (error : C.Error) → result ≡ Err (fault.Core error) → C.refuses core.old core.new error }
+    ensures done { OnOk result (LoopTransition C.model core.old core.new (W.contents writer.old) (W.contents writer.new)
+        (λ steps. steps ≡ a_flush ∷ [])) }
+    ensures fault { IfErr result IsNoLinesError }
+{
+    if let Err(error) = core.flush() {
+        return Err(LoopError::Core(error));
+    }
+    let output = core.take_output(SESSION);
+    let replies = send_back(alloc, link, &output, buffer)?;
+    write_frames(alloc, &replies, writer)?;
+    if writer.flush().is_err() {
+        return Err(LoopError::Lines(LinesError::Write));
+    }
+    Ok(())
+}
+
+// Sends bytes from the server's end, in pieces, and returns all that arrive at the client's.
+fn send_back<A: Read + Write + Drop, B: Read + Write + Drop>(
+    alloc: Global,
+    link: &mut Link<A, B>,
+    bytes: &[u8],
+    buffer: &mut [u8],
+) -> Result<Vec<u8>, RelayError>
+    requires room { length buffer.old ≡ MAX_PIECE }
+    ensures { IfOk result (λ arrived. arrived.items ≡ bytes.now) }
+{
+    let mut arrived = Vec::with_capacity(alloc, bytes.len())?;
+    let mut rest = bytes;
+    while !rest.is_empty() {
+        let (piece, after) = rest.split_at(rest.len().min(MAX_PIECE));
+        arrived.extend_from_slice(link.to_client(piece, buffer)?)?;
+        rest = after;
+    }
+    Ok(arrived)
+}

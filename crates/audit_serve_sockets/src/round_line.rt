@@ -1,0 +1,38 @@
+ghost use Rattle.std.specs.Prelude.{◌≡◌, ◌⊎◌, OnOk, IfOk, IfErr};
+ghost use Rattle.std.specs.Io.KnownBytes.{Appends};
+ghost use Rattle.audit_text.specs.declared.fault.LinesError.TheVariants as fault;
+ghost use Rattle.audit_serve_sockets.specs.RoundLine.{round_line};
+
+use audit_text::{LinesError, push_number, write_whole};
+use std::alloc::{AllocError, Global};
+use std::io::Write;
+
+/// Writes the line of a round, which has a number and had so many turns, and flushes the writer. The faults are
+/// `Write` and `Memory`: a part of the line may then be written.
+pub fn write_round<W: Write>(
+    alloc: Global,
+    round: u64,
+    turns: u64,
+    writer: &mut W,
+) -> Result<(), LinesError>
+    ensures written { OnOk result (Appends (W.contents writer.old) (W.contents writer.new) (round_line round turns)) }
+    ensures fault { IfErr result (λ cause. (cause ≡ fault.Write) ⊎ (cause ≡ fault.Memory)) }
+{
+    let line = line_of(alloc, round, turns)?;
+    write_whole(writer, &line)?;
+    if writer.flush().is_err() {
+        return Err(LinesError::Write);
+    }
+    Ok(())
+}
+
+#[tactic(auto, unfolding(crate::specs::RoundLine::round_line))]
+fn line_of(alloc: Global, round: u64, turns: u64) -> Result<Vec<u8>, AllocError>
+    ensures { IfOk result (λ line. line.items ≡ round_line round turns) }
+{
+    let mut line = Vec::new(alloc);
+    push_number(&mut line, b"round ", round)?;
+    push_number(&mut line, b" turns ", turns)?;
+    line.extend_from_slice(b"\n")?;
+    Ok(line)
+}

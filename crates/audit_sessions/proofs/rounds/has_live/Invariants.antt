@@ -1,6 +1,0 @@
-use Rattle.std.proofs.Common.{◌≡◌, []}
-use Rattle.audit_sessions.specs.Rounds.{live_below}
-use Rattle.audit_sessions.proofs.rounds.has_live.Given as goal
-
-abbrev pub invariant-loop-session : goal.invariant-loop-session
-invariant-loop-session g l = live_below l.session (g.C.SessionCore.model.ended l.core []) ≡ []

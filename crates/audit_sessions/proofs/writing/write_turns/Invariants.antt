@@ -1,8 +1,0 @@
-use Rattle.std.proofs.Common.{map}
-use Rattle.audit_sessions.specs.Transition.{Transition, AreTaken}
-use Rattle.audit_sessions.proofs.writing.write_turns.Given as goal
-
-abbrev pub invariant-loop-session : goal.invariant-loop-session
-invariant-loop-session g l =
-    Transition g.C.SessionCore.model l.fn.core l.core (map g.S.SessionStream.view l.fn.streams) (map g.S.SessionStream.view l.streams)
-    (AreTaken g.C.SessionCore.model l.session l.core)

@@ -1,0 +1,491 @@
+ghost use Rattle.audit_wire.specs.Reply.{IsReply};
+
+use audit_base::MAX_ENTRY;
+use audit_wire::*;
+use std::alloc::{AllocError, Global};
+use std::process::Abort;
+use std::test::Fail;
+
+mod streams;
+mod vectors;
+
+use vectors::*;
+
+/// The frames of one request each, and the requests.
+const REQUESTS: [(&[u8], RequestView<'static>); 6] = [
+    (
+        &APPEND,
+        RequestView::Append {
+            tag: 7,
+            kind: 1,
+            payload: b"hi",
+        },
+    ),
+    (&COMMITMENT, RequestView::Commitment { tag: 9 }),
+    (&GET_ENTRY, RequestView::Entry { tag: 4, index: 0 }),
+    (&CLOSE, RequestView::Close { tag: 3 }),
+    (
+        &GET_MEMBERSHIP,
+        RequestView::Membership {
+            tag: 5,
+            index: 0,
+            count: 1,
+        },
+    ),
+    (
+        &GET_INCREMENT,
+        RequestView::Incremental {
+            tag: 6,
+            older: 1,
+            newer: 1,
+        },
+    ),
+];
+
+// Whether a decoder takes the whole piece, and the frame goes on.
+fn waits(decoder: &mut Decoder, piece: &[u8]) -> bool {
+    decoder.feed(piece) == Fed::More && decoder.pending()
+}
+
+// Whether a decoder takes the whole piece, which ends the frame of this request.
+fn gives(decoder: &mut Decoder, piece: &[u8], request: &RequestView) -> bool {
+    let taken = piece.len();
+    decoder.feed(piece) == Fed::Body { taken } && read_request(decoder.body()) == Ok(*request)
+}
+
+fn check_cuts(rt: &impl Abort, decoder: &mut Decoder, frame: &[u8], request: &RequestView) {
+    for cut in 1..frame.len() {
+        let (front, back) = frame.split_at(cut);
+        assert!(rt;
+            waits(decoder, front) && gives(decoder, back, request),
+            "cut after {cut}"
+        );
+    }
+}
+
+fn check_bytes(rt: &impl Abort, decoder: &mut Decoder, frame: &[u8], request: &RequestView) {
+    let mut bodies = 0u8;
+    for byte in frame {
+        if decoder.feed(&[*byte]) != Fed::More {
+            assert!(rt; read_request(decoder.body()) == Ok(*request));
+            bodies = bodies.saturating_add(1);
+        }
+    }
+    assert!(rt; bodies == 1 && !decoder.pending());
+}
+
+fn check_request(rt: &impl Abort, decoder: &mut Decoder, frame: &[u8], request: &RequestView) {
+    assert!(rt; gives(decoder, frame, request));
+    check_cuts(rt, decoder, frame, request);
+    check_bytes(rt, decoder, frame, request);
+}
+
+#[test]
+fn requests_are_read_whole_cut_anywhere_and_byte_by_byte(rt: HostRuntime) -> Result<(), Fail> {
+    for (frame, request) in &REQUESTS {
+        check_request(&rt, &mut Decoder::new(rt.alloc())?, frame, request);
+    }
+    Ok(())
+}
+
+// The view that an owned request gives again.
+fn view_of(request: &Request) -> RequestView<'_> {
+    match request {
+        Request::Append { tag, kind, payload } => RequestView::Append {
+            tag: *tag,
+            kind: *kind,
+            payload: payload.as_slice(),
+        },
+        Request::Commitment { tag } => RequestView::Commitment { tag: *tag },
+        Request::Membership { tag, index, count } => RequestView::Membership {
+            tag: *tag,
+            index: *index,
+            count: *count,
+        },
+        Request::Incremental { tag, older, newer } => RequestView::Incremental {
+            tag: *tag,
+            older: *older,
+            newer: *newer,
+        },
+        Request::Entry { tag, index } => RequestView::Entry {
+            tag: *tag,
+            index: *index,
+        },
+        Request::Close { tag } => RequestView::Close { tag: *tag },
+    }
+}
+
+#[test]
+fn an_owned_request_is_what_its_view_shows(rt: HostRuntime) -> Result<(), Fail> {
+    for (_, request) in &REQUESTS {
+        assert!(rt; view_of(&request.own(rt.alloc())?) == *request);
+    }
+    Ok(())
+}
+
+#[test]
+fn a_list_is_the_vector_that_it_was_made_of(rt: HostRuntime) -> Result<(), Fail> {
+    let payload = ByteList::from_vec(Vec::from_slice(rt.alloc(), b"hi")?);
+    assert!(rt; payload.into_vec().as_slice() == b"hi".as_slice());
+    let hashes = HashList::from_vec(Vec::from_slice(rt.alloc(), &[ROOT])?);
+    assert!(rt; hashes.as_slice() == [ROOT].as_slice());
+    assert!(rt; hashes.into_vec().len() == 1);
+    Ok(())
+}
+
+// Lengths, and whether a frame may have them.
+const LENGTHS: [([u8; 2], bool); 7] = [
+    ([0x00, 0x00], false),
+    ([0x00, 0x01], true),
+    ([0x0f, 0xc2], true),
+    ([0x7f, 0xc1], true),
+    ([0x7f, 0xc2], false),
+    ([0x80, 0x00], false),
+    ([0xff, 0xff], false),
+];
+
+// Whether a decoder judges a length so at its second byte.
+fn judges(decoder: &mut Decoder, first: u8, second: u8, allowed: bool) -> bool {
+    let expected = if allowed {
+        Fed::More
+    } else {
+        Fed::Malformed { taken: 1 }
+    };
+    decoder.feed(&[first]) == Fed::More
+        && decoder.feed(&[second]) == expected
+        && decoder.pending() == allowed
+}
+
+fn drops_all(decoder: &mut Decoder) -> bool {
+    decoder.feed(&APPEND) == Fed::More
+        && decoder.feed(&[]) == Fed::More
+        && decoder.body().is_empty()
+}
+
+#[test]
+fn a_length_is_judged_at_its_second_byte(rt: HostRuntime) -> Result<(), Fail> {
+    for ([first, second], allowed) in LENGTHS {
+        let mut decoder = Decoder::new(rt.alloc())?;
+        assert!(rt;
+            judges(&mut decoder, first, second, allowed),
+            "length {first} {second}"
+        );
+        assert!(rt; allowed || drops_all(&mut decoder));
+    }
+    Ok(())
+}
+
+// An append's frame of so many bytes, whose length says that it is the longest one.
+fn frame_of(alloc: Global, size: usize) -> Result<Vec<u8>, AllocError> {
+    let mut frame = Vec::from_slice(alloc, &[0x7f, 0xc1])?;
+    frame.extend_from_slice(&APPEND[2..11])?;
+    frame.resize(size, 0xab)?;
+    Ok(frame)
+}
+
+fn is_append_of(body: &[u8], len: usize) -> bool {
+    match read_request(body) {
+        Ok(RequestView::Append { payload, .. }) => payload.len() == len,
+        _ => false,
+    }
+}
+
+#[test]
+fn the_longest_frame_is_read(rt: HostRuntime) -> Result<(), Fail> {
+    let frame = frame_of(rt.alloc(), MAX_FRAME)?;
+    let mut decoder = Decoder::new(rt.alloc())?;
+    assert!(rt; decoder.feed(&frame) == Fed::Body { taken: 32_707 });
+    assert!(rt; is_append_of(decoder.body(), 32_696));
+    Ok(())
+}
+
+#[test]
+fn the_longest_body_and_one_byte_more_is_not_read(rt: HostRuntime) -> Result<(), Fail> {
+    let frame = frame_of(rt.alloc(), MAX_FRAME + 1)?;
+    assert!(rt; frame.len() == MAX_FRAME + 1);
+    assert!(rt; read_request(&frame[2..]) == Err(Malformed));
+    Ok(())
+}
+
+const NO_REQUESTS: [&[u8]; 18] = [
+    b"",
+    b"\x00\x00\x00\x00\x09",
+    b"\x07\x00\x00\x00\x09",
+    b"\x81\x00\x00\x00\x09",
+    b"\x01",
+    b"\x01\x00\x00\x00\x07\x00\x00\x00",
+    b"\x01\x00\x00\x00\x01\xff\xff\xff\xff",
+    b"\x01\x00\x00\x00\x01\xff\xff\xff\xffhi",
+    b"\x02\x00\x00\x00",
+    b"\x02\x00\x00\x00\x09\x00",
+    b"\x03\x00\x00\x00\x05\x00\x00\x00\x00\x00\x00\x00\x00\x00\x00\x00\x00\x00\x00\x00",
+    b"\x03\x00\x00\x00\x05\x00\x00\x00\x00\x00\x00\x00\x00\x00\x00\x00\x00\x00\x00\x00\x01\x00",
+    b"\x04\x00\x00\x00\x06\x00\x00\x00\x00\x00\x00\x00\x00\x00\x00\x00\x00\x00\x00\x00",
+    b"\x04\x00\x00\x00\x06\x00\x00\x00\x00\x00\x00\x00\x00\x00\x00\x00\x00\x00\x00\x00\x01\x00",
+    b"\x05\x00\x00\x00\x04\x00\x00\x00\x00\x00\x00\x00",
+    b"\x05\x00\x00\x00\x04\x00\x00\x00\x00\x00\x00\x00\x00\x00",
+    b"\x06\x00\x00\x00\x03\x00",
+    b"\x06\x00\x00\x00\x03\xff\xff\xff\xff",
+];
+
+#[test]
+fn bodies_that_are_no_requests(rt: HostRuntime) {
+    for (place, body) in NO_REQUESTS.iter().enumerate() {
+        assert!(rt; read_request(body) == Err(Malformed), "body {place}");
+    }
+}
+
+#[test]
+fn a_close_that_is_cut_short_is_no_request(rt: HostRuntime) {
+    let (_, body) = CLOSE.split_at(2);
+    assert!(rt; read_request(body) == Ok(RequestView::Close { tag: 3 }));
+    for size in 0..body.len() {
+        assert!(rt;
+            read_request(&body[..size]) == Err(Malformed),
+            "size {size}"
+        );
+    }
+}
+
+#[test]
+fn an_append_of_the_greatest_kind_and_no_payload(rt: HostRuntime) {
+    let append = RequestView::Append {
+        tag: 7,
+        kind: 0xFFFF_FFFE,
+        payload: b"",
+    };
+    assert!(rt; read_request(b"\x01\x00\x00\x00\x07\xff\xff\xff\xfe") == Ok(append));
+}
+
+// Whether a last byte gives the request, and puts back as if it had not come.
+fn gives_and_puts_back(decoder: &mut Decoder, last: &[u8], request: &RequestView) -> bool {
+    match decoder.feed(last) {
+        Fed::Body { taken } => {
+            let read = taken == 1 && read_request(decoder.body()) == Ok(*request);
+            decoder.put_back();
+            read && decoder.pending() && decoder.body().is_empty()
+        }
+        _ => false,
+    }
+}
+
+fn check_again(rt: &impl Abort, decoder: &mut Decoder, frame: &[u8], request: &RequestView) {
+    let (front, last) = frame.split_at(frame.len().saturating_sub(1));
+    assert!(rt; decoder.feed(front) == Fed::More);
+    for _ in 0..3 {
+        assert!(rt; gives_and_puts_back(decoder, last, request));
+    }
+}
+
+#[test]
+fn a_byte_that_is_put_back_comes_again(rt: HostRuntime) -> Result<(), Fail> {
+    for (frame, request) in &REQUESTS {
+        check_again(&rt, &mut Decoder::new(rt.alloc())?, frame, request);
+    }
+    Ok(())
+}
+
+// Whether a malformed length is judged, and its last byte is put back.
+fn puts_back_length(decoder: &mut Decoder) -> bool {
+    match decoder.feed(b"\x7f\xc2\x01") {
+        Fed::Malformed { taken } => {
+            decoder.put_back();
+            taken == 2 && decoder.pending()
+        }
+        _ => false,
+    }
+}
+
+// The byte after it makes a length that is allowed.
+#[test]
+fn a_malformed_length_that_is_put_back_comes_again(rt: HostRuntime) -> Result<(), Fail> {
+    let mut decoder = Decoder::new(rt.alloc())?;
+    assert!(rt; puts_back_length(&mut decoder));
+    assert!(rt; waits(&mut decoder, b"\xc1"));
+    Ok(())
+}
+
+/// The frame of a reply after these bytes, in what had room for so many bytes.
+fn written(alloc: Global, reply: &Reply, before: &[u8], room: usize) -> Result<Vec<u8>, AllocError>
+    requires { IsReply reply.now }
+{
+    let mut out = Vec::with_capacity(alloc, room)?;
+    out.extend_from_slice(before)?;
+    write_reply(alloc, reply, &mut out)?;
+    Ok(out)
+}
+
+/// The frame of a reply comes after what stands there, also where the room is exactly its size.
+fn check_reply(
+    rt: &impl Abort,
+    alloc: Global,
+    reply: &Reply,
+    frame: &[u8],
+) -> Result<(), AllocError>
+    requires { IsReply reply.now }
+{
+    let room = frame.len().saturating_add(1);
+    let after = written(alloc, reply, &[0xaa], room)?;
+    assert!(rt; after.capacity() == room && is_after_a_byte(&after, frame));
+    let out = written(alloc, reply, &[], 0)?;
+    assert!(rt; out.as_slice() == frame && is_read_back(alloc, &out));
+    Ok(())
+}
+
+fn is_after_a_byte(out: &[u8], frame: &[u8]) -> bool {
+    match out {
+        [first, rest @ ..] => *first == 0xaa && rest == frame,
+        [] => false,
+    }
+}
+
+/// Whether the first frame of an output is read as a reply and is all of it, and nothing less is read.
+fn is_read_back(alloc: Global, output: &[u8]) -> bool {
+    match first_reply(output) {
+        Some((body, [])) => {
+            body.len() > 4
+                && body.len() + 2 == output.len()
+                && read_reply(alloc, body).is_ok()
+                && is_malformed(alloc, &body[..4])
+                && first_reply(&output[..output.len() - 1]).is_none()
+                && first_reply(&output[..1]).is_none()
+        }
+        _ => false,
+    }
+}
+
+fn is_malformed(alloc: Global, body: &[u8]) -> bool {
+    read_reply(alloc, body).err() == Some(ReplyError::Malformed)
+}
+
+#[test]
+fn bodies_that_are_no_replies(rt: HostRuntime) {
+    assert!(rt; is_malformed(rt.alloc(), b""));
+    assert!(rt; is_malformed(rt.alloc(), b"\x80\0\0\0\0"));
+}
+
+#[test]
+fn an_acknowledgement_has_the_bytes_of_the_formats(rt: HostRuntime) -> Result<(), Fail> {
+    let acknowledgement = Reply::Acknowledgement {
+        tag: 7,
+        index: 0,
+        count: 1,
+        root: ROOT,
+    };
+    check_reply(&rt, rt.alloc(), &acknowledgement, &ACKNOWLEDGED)?;
+    Ok(())
+}
+
+#[test]
+fn a_commitment_has_the_bytes_of_the_formats(rt: HostRuntime) -> Result<(), Fail> {
+    let commitment = Reply::Commitment {
+        tag: 9,
+        count: 0,
+        root: [0; 32],
+    };
+    check_reply(&rt, rt.alloc(), &commitment, &EMPTY_COMMITMENT)?;
+    Ok(())
+}
+
+const REFUSALS: [(u8, Refusal, u8); 7] = [
+    (0, Refusal::Malformed, 20),
+    (2, Refusal::Full, 7),
+    (3, Refusal::DamagedLog, 4),
+    (4, Refusal::NoSuchVersion, 8),
+    (5, Refusal::Worn, 9),
+    (6, Refusal::Device, 11),
+    (7, Refusal::Closed, 13),
+];
+
+#[test]
+fn refusals_have_the_bytes_of_the_formats(rt: HostRuntime) -> Result<(), Fail> {
+    for (tag, refusal, code) in REFUSALS {
+        let frame = [0x00, 0x06, 0xff, 0x00, 0x00, 0x00, tag, code];
+        let refused = Reply::Refused {
+            tag: u32::from(tag),
+            refusal,
+        };
+        check_reply(&rt, rt.alloc(), &refused, &frame)?;
+    }
+    Ok(())
+}
+
+// A reply of the greatest length of its kind.
+fn check_longest(
+    rt: &impl Abort,
+    alloc: Global,
+    reply: &Reply,
+    len: usize,
+    begins: &[u8],
+) -> Result<(), AllocError>
+    requires { IsReply reply.now }
+{
+    let out = written(alloc, reply, &[], 0)?;
+    assert!(rt; out.len() == len && out.starts_with(begins) && out.ends_with(&[7; 32]));
+    Ok(())
+}
+
+#[test]
+fn the_longest_increment(rt: HostRuntime) -> Result<(), Fail> {
+    let increment = Reply::Incremental {
+        tag: 6,
+        hashes: HashList::from_vec(vec![in rt.alloc(); [7; 32]; 25]?),
+    };
+    let begins = [0x03, 0x26, 0x84, 0x00, 0x00, 0x00, 0x06, 25];
+    check_longest(&rt, rt.alloc(), &increment, 808, &begins)?;
+    Ok(())
+}
+
+#[test]
+fn the_longest_membership(rt: HostRuntime) -> Result<(), Fail> {
+    let membership = Reply::Membership {
+        tag: 5,
+        hashes: HashList::from_vec(vec![in rt.alloc(); [7; 32]; 24]?),
+        entry: ByteList::from_vec(vec![in rt.alloc(); 7; MAX_ENTRY]?),
+    };
+    let begins = [0x83, 0x06, 0x83, 0x00, 0x00, 0x00, 0x05, 24];
+    check_longest(&rt, rt.alloc(), &membership, 33_544, &begins)?;
+    Ok(())
+}
+
+#[test]
+fn the_longest_entry(rt: HostRuntime) -> Result<(), Fail> {
+    let entry = Reply::Entry {
+        tag: 4,
+        entry: ByteList::from_vec(vec![in rt.alloc(); 7; MAX_ENTRY]?),
+    };
+    let begins = [0x80, 0x05, 0x85, 0x00, 0x00, 0x00, 0x04, 7];
+    check_longest(&rt, rt.alloc(), &entry, 32_775, &begins)?;
+    Ok(())
+}
+
+#[test]
+fn an_increment_has_the_bytes_of_the_formats(rt: HostRuntime) -> Result<(), Fail> {
+    let increment = Reply::Incremental {
+        tag: 6,
+        hashes: HashList::from_vec(Vec::from_slice(rt.alloc(), &[ROOT])?),
+    };
+    check_reply(&rt, rt.alloc(), &increment, &INCREMENT)?;
+    Ok(())
+}
+
+#[test]
+fn a_membership_has_the_bytes_of_the_formats(rt: HostRuntime) -> Result<(), Fail> {
+    let membership = Reply::Membership {
+        tag: 5,
+        hashes: HashList::from_vec(Vec::new(rt.alloc())),
+        entry: ByteList::from_vec(Vec::from_slice(rt.alloc(), &ENTRY)?),
+    };
+    check_reply(&rt, rt.alloc(), &membership, &MEMBERSHIP)?;
+    Ok(())
+}
+
+#[test]
+fn an_entry_has_the_bytes_of_the_formats(rt: HostRuntime) -> Result<(), Fail> {
+    let entry = Reply::Entry {
+        tag: 4,
+        entry: ByteList::from_vec(Vec::from_slice(rt.alloc(), &ENTRY)?),
+    };
+    check_reply(&rt, rt.alloc(), &entry, &ENTRY_REPLY)?;
+    Ok(())
+}

@@ -1,0 +1,161 @@
+// Whole command lines over files. What is printed is that of an independent model.
+use audit_cli_store::{Access, CommandError, Request, Site, Status, mode_asked, report_end, run};
+use std::fs::{self, OpenOptions};
+use std::io::{self, ErrorKind};
+use std::path::PathBuf;
+use std::test::Fail;
+use std::{env, process};
+
+// A file in the folder for such files, which isn't there.
+fn unused(rt: &HostRuntime, name: &str) -> Result<PathBuf, Fail> {
+    let mut path = env::temp_dir(rt)?;
+    path.push(format!(in rt.alloc();
+        "audit_commands_{name}_{}",
+        process::id(rt.process())
+    )?.as_str())?;
+    let _ = fs::remove_file(rt, path.as_str());
+    Ok(path)
+}
+
+// Whether a command prints this and ends with that status.
+fn prints(
+    rt: &HostRuntime,
+    request: Request<'_>,
+    input: &[u8],
+    printed: &str,
+    status: Status,
+) -> bool {
+    let mut input = input;
+    let mut output = Vec::new(rt.alloc());
+    let mut messages = Vec::new(rt.alloc());
+    let found = run(
+        rt,
+        rt.alloc(),
+        request,
+        &mut input,
+        &mut output,
+        &mut messages,
+    );
+    let written = if status == Status::Done {
+        &output
+    } else {
+        &messages
+    };
+    written.as_slice() == printed.as_bytes() && found == status
+}
+
+fn format<'a>(file: &'a str, sectors: &'a str, key_file: &'a str) -> Request<'a> {
+    Request::Format {
+        file,
+        site: Site::NewFile { mode: None },
+        sectors,
+        key_file,
+    }
+}
+
+// A key file of zeros.
+const KEY_TEXT: &str = "0000000000000000000000000000000000000000000000000000000000000000\n";
+
+const SHOWN: &str = "\
+commit 3 14f62f94f894a0899217375286c3fc9aff843acaf2f9244791534711b20d0109\n\
+sectors 10 end 5 generation 4 version 2 state open\n";
+
+const ACK: &str = "ack 0 3 14f62f94f894a0899217375286c3fc9aff843acaf2f9244791534711b20d0109\n";
+
+const THREE: &[u8] = b"event 1 6869\nevent 7 -\nevent 4294967294 DEadBEef";
+
+#[test]
+fn a_store_in_a_file(rt: HostRuntime) -> Result<(), Fail> {
+    let (file, key, out) = (
+        unused(&rt, "store")?,
+        unused(&rt, "key")?,
+        unused(&rt, "out")?,
+    );
+    fs::write(&rt, key.as_str(), KEY_TEXT)?;
+    fs::write(
+        &rt,
+        out.as_str(),
+        "what stood there before, longer than the proof that comes to stand there: it has 113 bytes, this text more of them, for it goes on and on",
+    )?;
+    let file = file.as_str();
+    assert!(rt;
+        prints(
+            &rt,
+            format(file, "10", key.as_str()),
+            b"",
+            "formatted 10\n",
+            Status::Done
+        )
+    );
+    assert!(rt;
+        prints(
+            &rt,
+            format(file, "10", key.as_str()),
+            b"",
+            "audit: file exists\n",
+            Status::Refused
+        )
+    );
+    assert!(rt; prints(&rt, Request::Append { file }, THREE, ACK, Status::Done));
+    for access in [Access::Repair, Access::ReadOnly] {
+        assert!(rt;
+            prints(
+                &rt,
+                Request::Show { file, access },
+                b"",
+                SHOWN,
+                Status::Done
+            )
+        );
+    }
+    let prove = Request::Prove {
+        file,
+        kind: "increment",
+        first: "1",
+        second: "3",
+        out: out.as_str(),
+        access: Access::Repair,
+    };
+    assert!(rt; prints(&rt, prove, b"", "proof 114\n", Status::Done));
+    assert!(rt; fs::metadata(&rt, out.as_str())?.len() == 114);
+    for path in [file, key.as_str(), out.as_str()] {
+        fs::remove_file(&rt, path)?;
+    }
+    Ok(())
+}
+
+// Words, and the permissions that they ask for: as POSIX's chmod reads them, where the owner reads and writes.
+const MODES: [(&str, Option<u32>); 12] = [
+    ("600", Some(384)),
+    ("640", Some(416)),
+    ("666", Some(438)),
+    ("677", Some(447)),
+    ("", None),
+    ("60", None),
+    ("0600", None),
+    ("700", None),
+    ("400", None),
+    ("680", None),
+    ("608", None),
+    ("6a0", None),
+];
+
+#[test]
+fn modes_are_three_octal_digits(rt: HostRuntime) -> Result<(), Fail> {
+    for (word, mode) in MODES {
+        assert!(rt; mode_asked(word).ok() == mode);
+    }
+    Ok(())
+}
+
+#[test]
+fn output_that_is_lost_is_reported_last(rt: HostRuntime) -> Result<(), Fail> {
+    let mut messages = Vec::new(rt.alloc());
+    let lost = || Err(io::Error::from(ErrorKind::StorageFull));
+    assert!(rt; report_end(Err(CommandError::BadProof), lost(), &mut messages) == Status::Device);
+    assert!(rt; report_end(Ok(()), lost(), &mut messages) == Status::Device);
+    assert!(rt; report_end(Err(CommandError::File), lost(), &mut messages) == Status::Device);
+    let wanted = "audit: 32 BadProof\naudit: file fault\naudit: file fault\naudit: file fault\n";
+    assert!(rt; messages.as_slice() == wanted.as_bytes());
+    Ok(())
+}

@@ -1,0 +1,229 @@
+// What is printed is that of an independent model, which shares no code with the program.
+use audit_chain::Key;
+use audit_cli_store::{
+    CommandError, ProofRequest, append_lines, close_log, format_device, proof_bytes, show,
+};
+use audit_disk::{FailOnce, MemDisk};
+use audit_store::{Store, StoreError};
+use audit_text::{LineError, LinesError};
+use std::alloc::{AllocError, Global};
+use std::test::Fail;
+
+// A store of no events on a device of so many sectors, whose first key is zeros.
+fn empty_store(alloc: Global, sectors: u64) -> Result<Store<MemDisk>, Fail> {
+    let key = Key::from_bytes([0; 32]);
+    match Store::format(alloc, MemDisk::new(alloc, sectors)?, key) {
+        Ok(store) => Ok(store),
+        Err(failed) => Err(failed.error.into()),
+    }
+}
+
+// So many lines of events of kind 1, each with a payload of so many zero digits.
+type Rows = [(usize, usize); 3];
+
+fn lines_of(alloc: Global, rows: Rows) -> Result<Vec<u8>, AllocError> {
+    let mut lines = Vec::new(alloc);
+    for (count, digits) in rows {
+        push_lines(alloc, &mut lines, count, digits)?;
+    }
+    Ok(lines)
+}
+
+fn push_lines(
+    alloc: Global,
+    lines: &mut Vec<u8>,
+    count: usize,
+    digits: usize,
+) -> Result<(), AllocError> {
+    let payload = if digits == 0 {
+        vec![in alloc; b'-'; 1]?
+    } else {
+        vec![in alloc; b'0'; digits]?
+    };
+    for _ in 0..count {
+        lines.extend_from_slice(b"event 1 ")?;
+        lines.extend_from_slice(&payload)?;
+        lines.push(b'\n')?;
+    }
+    Ok(())
+}
+
+// The sectors of a device and the lines, and what is printed for them.
+const RUNS: [(u64, Rows, &str); 6] = [
+    (10, [(0, 0), (0, 0), (0, 0)], ""),
+    (
+        70,
+        [(65, 0), (0, 0), (0, 0)],
+        "ack 0 64 a83418fd433e7f04e15aa90e18627e4ef5c2345ea331ea929a36f93bf3b55e06\n\
+ack 64 65 276b24f885af75371f2be0febfc0b399b0b354621bd11f303d42960c0a0afc34\n",
+    ),
+    (
+        200,
+        [(9, 8048), (0, 0), (0, 0)],
+        "ack 0 8 5cc63d12ddd341876232b2bdde1144e83d5dbdf564b3431fdd75a23c14142a27\n\
+ack 8 9 c42b338d70585ebd5103532fca6e925fc541f63a83cfe96196c5c65908ee88ae\n",
+    ),
+    (
+        200,
+        [(7, 8048), (7, 0), (1, 8048)],
+        "ack 0 14 2219d788e047e8dc6a8899797fa472206575196d2886bdd50742c4feb38029e1\n\
+ack 14 15 4f31e5941ec6309ab975657a62a2bf85b9ac9d9984fe8249d446067d07e3e718\n",
+    ),
+    (
+        200,
+        [(1, 65_392), (1, 0), (1, 65_392)],
+        "ack 0 1 e81559087dd12378f4ba472d6a973da2d1f0fc70f4b6c73bba8031a829e7e221\n\
+ack 1 2 ad833e0554dabe63ac1de1413ea5fe98b70b0f70859cccf759f69a62df2aeb1f\n\
+ack 2 3 dc010a46503a45547bd96cf56749cd4b16149bd3a8b8ce478fddf32113bc5167\n",
+    ),
+    (
+        200,
+        [(1, 0), (1, 64_368), (1, 0)],
+        "ack 0 2 200a37761515ff00ab32816ea9931730f8aaee1f575526c3b3c3a2bea4ceb9d6\n\
+ack 2 3 26ac92625465d3f5576712c88cfacee43ce807767b5e3d341559a8643817d2d3\n",
+    ),
+];
+
+#[test]
+fn lines_are_gathered_into_batches(rt: HostRuntime) -> Result<(), Fail> {
+    for (sectors, rows, printed) in RUNS {
+        let mut store = empty_store(rt.alloc(), sectors)?;
+        let lines = lines_of(rt.alloc(), rows)?;
+        let mut output = Vec::new(rt.alloc());
+        append_lines(rt.alloc(), &mut store, &mut lines.as_slice(), &mut output)?;
+        assert!(rt; output.as_slice() == printed.as_bytes());
+    }
+    Ok(())
+}
+
+// What was appended before the refusal is printed, and is there.
+#[test]
+fn a_device_that_gets_full(rt: HostRuntime) -> Result<(), Fail> {
+    let mut store = empty_store(rt.alloc(), 66)?;
+    let lines = lines_of(rt.alloc(), [(65, 0), (0, 0), (0, 0)])?;
+    let mut output = Vec::new(rt.alloc());
+    let fault = append_lines(rt.alloc(), &mut store, &mut lines.as_slice(), &mut output).err();
+    assert!(rt; fault == Some(CommandError::Refused(StoreError::Full)));
+    show(rt.alloc(), &store, &mut output)?;
+    assert!(rt; output.as_slice() == FULL);
+    Ok(())
+}
+
+const FULL: &[u8] = b"\
+ack 0 64 a83418fd433e7f04e15aa90e18627e4ef5c2345ea331ea929a36f93bf3b55e06\n\
+commit 64 a83418fd433e7f04e15aa90e18627e4ef5c2345ea331ea929a36f93bf3b55e06\n\
+sectors 66 end 66 generation 4 version 2 state open\n";
+
+const CLOSED: &[u8] = b"\
+closed 1 2d575e5b39c1814e3d248ecf4d9cde1d3c9577c0c4900494c66ebaca6f5809f2\n\
+commit 1 2d575e5b39c1814e3d248ecf4d9cde1d3c9577c0c4900494c66ebaca6f5809f2\n\
+sectors 3 end 3 generation 4 version 2 state closed\n";
+
+// What is closed stays as it is.
+#[test]
+fn a_log_of_no_event_is_closed(rt: HostRuntime) -> Result<(), Fail> {
+    let mut store = empty_store(rt.alloc(), 3)?;
+    let mut output = Vec::new(rt.alloc());
+    close_log(rt.alloc(), &mut store, &mut output)?;
+    let fault = close_log(rt.alloc(), &mut store, &mut output).err();
+    assert!(rt; fault == Some(CommandError::Refused(StoreError::Closed)));
+    show(rt.alloc(), &store, &mut output)?;
+    assert!(rt; output.as_slice() == CLOSED);
+    Ok(())
+}
+
+// The last line is bad, so that nothing is appended.
+#[test]
+fn all_lines_are_judged_first(rt: HostRuntime) -> Result<(), Fail> {
+    let mut store = empty_store(rt.alloc(), 10)?;
+    let mut input = b"event 1 6869\nevent 1 6\n".as_slice();
+    let mut output = Vec::new(rt.alloc());
+    let fault = append_lines(rt.alloc(), &mut store, &mut input, &mut output).err();
+    assert!(rt; fault == Some(CommandError::Lines(BAD_SECOND_LINE)));
+    assert!(rt; output.is_empty() && store.commitment().count == 0);
+    Ok(())
+}
+
+const BAD_SECOND_LINE: LinesError = LinesError::Line {
+    line: 2,
+    cause: LineError::BadEventLine,
+};
+
+const THREE: &[u8] = b"event 1 6869\nevent 7 -\nevent 4294967294 DEadBEef";
+
+fn store_of_three(alloc: Global) -> Result<Store<MemDisk>, Fail> {
+    let mut store = empty_store(alloc, 10)?;
+    let mut input = THREE;
+    append_lines(alloc, &mut store, &mut input, &mut Vec::new(alloc))?;
+    Ok(store)
+}
+
+// What is asked for, and the proof in hex digits.
+const PROOFS: [(ProofRequest, &str); 2] = [
+    (
+        ProofRequest::Member { index: 1, count: 3 },
+        "0100000000000000010000000000000003021adb768b1a8442d111228c6b4ee67325246d75c87ac4a45dce6d4ed7a0cba265\
+9b7db49b5cc99cb1b3c6018368ff15082e8b1014c3da2d9a8510af16fcacab26000000070000000020a9b1a0481bc38a4d1e\
+724fe1b9ca85332df9534e1aa7f5d3f459a7c570fdce03063d909ba97cf23efe6becf67cf968c0a1db480ddaa99ebc6fc7d7\
+c12d3d40",
+    ),
+    (
+        ProofRequest::Increment { older: 1, newer: 3 },
+        "0200000000000000010000000000000003031adb768b1a8442d111228c6b4ee67325246d75c87ac4a45dce6d4ed7a0cba265\
+9cc88c842d5443515dc61f2315273824a5b4c565884825a40642f9e632449a3f9b7db49b5cc99cb1b3c6018368ff15082e8b\
+1014c3da2d9a8510af16fcacab26",
+    ),
+];
+
+#[test]
+fn proofs_of_a_store(rt: HostRuntime) -> Result<(), Fail> {
+    let mut store = store_of_three(rt.alloc())?;
+    for (asked, digits) in PROOFS {
+        let proof = proof_bytes(rt.alloc(), &mut store, asked)?;
+        assert!(rt; hex::encode(rt.alloc(), &proof)?.as_str() == digits);
+    }
+    Ok(())
+}
+
+const NO_PROOFS: [ProofRequest; 4] = [
+    ProofRequest::Member { index: 3, count: 3 },
+    ProofRequest::Member { index: 0, count: 4 },
+    ProofRequest::Increment { older: 0, newer: 1 },
+    ProofRequest::Increment { older: 3, newer: 2 },
+];
+
+#[test]
+fn no_proof_beyond_the_store(rt: HostRuntime) -> Result<(), Fail> {
+    let mut store = store_of_three(rt.alloc())?;
+    for asked in NO_PROOFS {
+        let refused = proof_bytes(rt.alloc(), &mut store, asked).err();
+        assert!(rt; refused == Some(CommandError::Refused(StoreError::NoSuchVersion)));
+    }
+    Ok(())
+}
+
+#[test]
+fn a_device_is_formatted(rt: HostRuntime) -> Result<(), Fail> {
+    let alloc = rt.alloc();
+    let mut output = Vec::new(alloc);
+    let key = Key::from_bytes([0; 32]);
+    format_device(alloc, MemDisk::new(alloc, 3)?, key, &mut output)?;
+    assert!(rt; output.as_slice() == b"formatted 3\n".as_slice());
+    Ok(())
+}
+
+// A device whose every call fails once in turn: a format of three sectors makes eight.
+#[test]
+fn a_device_that_fails(rt: HostRuntime) -> Result<(), Fail> {
+    for calls in 0..9 {
+        assert!(rt; format_fails(rt.alloc(), calls)? == (calls < 8));
+    }
+    Ok(())
+}
+
+fn format_fails(alloc: Global, calls: u64) -> Result<bool, Fail> {
+    let disk = FailOnce::new(MemDisk::new(alloc, 3)?, calls);
+    let key = Key::from_bytes([0; 32]);
+    let fault = format_device(alloc, disk, key, &mut Vec::new(alloc)).err();
+    Ok(fault == Some(CommandError::Refused(StoreError::Device)))
+}

@@ -1,0 +1,21 @@
+//! Lines of text: the events that lines spell, a log's first key before them, input that is read whole and
+//! judged, and lines that are written.
+#![tactic(auto)]
+
+mod event_line;
+mod events;
+mod fault;
+mod input;
+mod number;
+mod output;
+mod script;
+mod split;
+
+pub use event_line::event_of_line;
+pub use events::read_events;
+pub use fault::{LineError, LinesError, ParseError};
+pub use input::{INPUT_LIMIT, read_input};
+pub use number::number_in_text;
+pub use output::{push_hex, push_number, put_line, write_whole};
+pub use script::{Script, read_script};
+pub use split::split_at_first;
