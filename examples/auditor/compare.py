@@ -67,7 +67,7 @@ def read(name):
 
 
 def turned(data, step):
-    """Copies with one bit flipped in one byte of every so many: one copy for each such byte."""
+    """Copies with one flipped bit: one copy for each byte at a multiple of the given step."""
     for at in range(0, len(data), step):
         yield data[:at] + bytes([data[at] ^ 1 << at % 8]) + data[at + 1:]
 
