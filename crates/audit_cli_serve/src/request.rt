@@ -6,7 +6,7 @@ use crate::arguments::{rounds_asked, sessions_asked};
 use crate::fault::ServingError;
 use crate::looping::loop_over;
 use crate::rounds::serve_rounds;
-use audit_cli_store::{CommandError, OWNER_ONLY, Status, mode_asked, open_store};
+use audit_cli_store::{CommandError, OWNER_ONLY, Status, mode_asked, open_store, report_flush};
 use audit_disk::SystemFile;
 use audit_serve_sockets::{Link, SocketFile};
 use audit_text::LinesError;
@@ -70,10 +70,7 @@ where
         Ok(()) => Status::Done,
         Err(fault) => fault.report(messages),
     };
-    if flushed.is_ok() || status == Status::Device {
-        return status;
-    }
-    ServingError::Command(CommandError::File).report(messages)
+    report_flush(status, flushed, messages)
 }
 
 // The words are judged before the store is opened, and that before the socket's file is made, which is removed in the

@@ -41,7 +41,7 @@ pub use mode::{OWNER_ONLY, mode_asked};
 pub use output_file::OutputFile;
 pub use proving::proof_bytes;
 pub use replaying::replay;
-pub use reporting::{report, report_end};
+pub use reporting::{report, report_end, report_flush};
 pub use request::{Access, Request, Site, run};
 pub use salvaging::{Salvaged, write_salvage_line, write_salvaged};
 pub use showing::show;

@@ -32,8 +32,7 @@ pub fn report<M: Write>(fault: CommandError, messages: &mut M) -> Status
 }
 
 /// Prints how a command ended, after its output was flushed for the last time, and returns the status with which the
-/// program ends. A flush that failed is a fault of its own, in a line after that of the command's fault, unless that is
-/// one of files already.
+/// program ends, as [`report_flush`] has it.
 pub fn report_end<M: Write>(
     done: Result<(), CommandError>,
     flushed: io::Result<()>,
@@ -46,6 +45,19 @@ pub fn report_end<M: Write>(
         Ok(()) => Status::Done,
         Err(fault) => report(fault, messages),
     };
+    report_flush(status, flushed, messages)
+}
+
+/// Prints that the last flush of a command's output failed, if it did, in a line after that of the command's own error,
+/// unless that is one of files already. It returns the status with which the program ends.
+pub fn report_flush<M: Write>(
+    status: Status,
+    flushed: io::Result<()>,
+    messages: &mut M,
+) -> Status
+    ensures whole { IsOk flushed → result ≡ status }
+    ensures failed { IsErr flushed → result ≡ Status.Device }
+{
     if flushed.is_ok() || status == Status::Device {
         return status;
     }

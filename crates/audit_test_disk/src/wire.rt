@@ -341,14 +341,14 @@ fn is_after_a_byte(out: &[u8], frame: &[u8]) -> bool {
 
 /// Whether the first frame of an output is read as a reply and is all of it, and nothing less is read.
 fn is_read_back(alloc: Global, output: &[u8]) -> bool {
-    match first_reply(output) {
+    match first_frame(output) {
         Some((body, [])) => {
             body.len() > 4
                 && body.len() + 2 == output.len()
                 && read_reply(alloc, body).is_ok()
                 && is_malformed(alloc, &body[..4])
-                && first_reply(&output[..output.len() - 1]).is_none()
-                && first_reply(&output[..1]).is_none()
+                && first_frame(&output[..output.len() - 1]).is_none()
+                && first_frame(&output[..1]).is_none()
         }
         _ => false,
     }

@@ -8,7 +8,7 @@ use audit_base::SESSIONS;
 use audit_disk::{Sectors, SystemFile};
 use audit_server::Core;
 use audit_store::Store;
-use audit_wire::first_reply;
+use audit_wire::first_frame;
 use std::alloc::Global;
 use std::fs::Files;
 use std::rt::Clock;
@@ -130,7 +130,7 @@ fn count_replies(output: &[u8], first: u8) -> usize {
     let mut count = 0usize;
     let mut rest = output;
     for _ in 0..output.len() {
-        let Some((body, after)) = first_reply(rest) else {
+        let Some((body, after)) = first_frame(rest) else {
             return count;
         };
         if body.first() == Some(&first) {

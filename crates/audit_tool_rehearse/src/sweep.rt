@@ -9,6 +9,7 @@ use audit_chain::{Event, Key};
 use audit_proof::Commitment;
 use audit_store::Store;
 use audit_verify::verify;
+use audit_wire::first_frame;
 use sha2::{Digest, Sha256};
 use std::alloc::Global;
 
@@ -162,13 +163,6 @@ fn add_session<'a>(
         }
     }
     Ok(())
-}
-
-// The body of the first frame, and what stands after it.
-fn first_frame(bytes: &[u8]) -> Option<(&[u8], &[u8])> {
-    let length = bytes.first_chunk::<2>()?;
-    let end = usize::from(u16::from_be_bytes(*length)).saturating_add(2);
-    Some((bytes.get(2..end)?, bytes.get(end..)?))
 }
 
 // The kind and payload of the next append with the tag of the reply, and what stands after it.

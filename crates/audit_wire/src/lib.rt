@@ -43,7 +43,7 @@ pub use reading::read_request;
 pub use refusal::Refusal;
 pub use reply::Reply;
 pub use reply_fault::ReplyError;
-pub use reply_reading::{first_reply, read_reply};
+pub use reply_reading::{first_frame, read_reply};
 pub use request::Request;
 pub use view::RequestView;
 pub use writing::write_reply;

@@ -18,18 +18,19 @@ use audit_base::{
 };
 use std::alloc::Global;
 
-/// The body of the first frame of a session's output, and what follows that frame: nothing where the first frame
-/// isn't whole yet. It takes no memory.
-pub fn first_reply(output: &[u8]) -> Option<(&[u8], &[u8])>
-    ensures found { IfSome result (λ parts. output.now ≡ frame parts.0.now ++ parts.1.now) }
-    ensures only { (body rest : List ℕ) → length body < 2 ^ 16 → output.now ≡ frame body ++ rest
+/// The body of the first frame, and the bytes after that frame, or nothing if no whole frame is there yet. It takes no
+/// memory.
+pub fn first_frame(bytes: &[u8]) -> Option<(&[u8], &[u8])>
+    ensures found { IfSome result (λ parts. bytes.now ≡ frame parts.0.now ++ parts.1.now) }
+    ensures size { IfSome result (λ parts. length parts.0.now < 2 ^ 16) }
+    ensures only { (body rest : List ℕ) → length body < 2 ^ 16 → bytes.now ≡ frame body ++ rest
         → MatchOption result ⊥ (λ parts. (parts.0.now ≡ body) × (parts.1.now ≡ rest)) }
 {
-    if output.len() < LENGTH_BYTES {
+    if bytes.len() < LENGTH_BYTES {
         return None;
     }
-    let size = u16::from_be_bytes([output[0], output[1]]) as usize;
-    let (_, after) = output.split_at(LENGTH_BYTES);
+    let size = u16::from_be_bytes([bytes[0], bytes[1]]) as usize;
+    let (_, after) = bytes.split_at(LENGTH_BYTES);
     if after.len() < size {
         return None;
     }
