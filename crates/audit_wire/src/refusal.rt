@@ -1,6 +1,6 @@
 ghost use Rattle.std.specs.Prelude.{◌≡◌};
 
-/// Why a request was refused, by its code on the wire.
+/// Why a request was refused, with its code on the wire.
 #[derive(Clone, Copy, Debug, PartialEq, Eq)]
 pub enum Refusal {
     /// An entry on the device is damaged.
@@ -9,13 +9,13 @@ pub enum Refusal {
     Full = 7,
     /// The log has no such index or count.
     NoSuchVersion = 8,
-    /// The generations of the device are used up.
+    /// No generation is left on the device.
     Worn = 9,
     /// The device failed.
     Device = 11,
     /// The log is closed.
     Closed = 13,
-    /// The bytes were no request.
+    /// The bytes weren't a request.
     Malformed = 20,
 }
 
@@ -29,7 +29,7 @@ impl Refusal {
         self as u8
     }
 
-    /// The refusal of a code on the wire, where it has one.
+    /// The refusal with this code on the wire, if there is one.
     pub fn from_code(code: u8) -> Option<Refusal>
         ensures { result ≡ refusal_with_code code }
     {
