@@ -79,7 +79,8 @@ pub fn write_whole<W: Write>(writer: &mut W, text: &[u8]) -> Result<(), LinesErr
     Err(LinesError::Write)
 }
 
-// Writes once, again if interrupted. A writer that accepts nothing has failed.
+// Writes once. An interrupted write counts as no bytes, so the caller tries again; a writer that accepts nothing has
+// failed.
 fn write_once<W: Write>(writer: &mut W, text: &[u8]) -> Result<usize, LinesError>
     ensures within { IfOk result (λ written. written ≤ length text.now) }
     ensures written { IfOk result (λ written. Appends (W.contents writer.old) (W.contents writer.new)
