@@ -9,7 +9,7 @@ pub enum Refusal {
     Full = 7,
     /// The log has no such index or count.
     NoSuchVersion = 8,
-    /// No generation is left on the device.
+    /// The generations of the device are used up.
     Worn = 9,
     /// The device failed.
     Device = 11,
