@@ -1,4 +1,4 @@
-# Completion of the words of `audit` in bash: `source examples/completion.bash`.
+# Bash completion for `audit`: `source examples/completion.bash`.
 _audit() {
     local word=${COMP_WORDS[COMP_CWORD]} command=${COMP_WORDS[1]}
     local commands="replay format append close show prove check export verify serve loop"

@@ -109,14 +109,14 @@ def compare_damaged_proofs(comparison, older, newer):
         for size in [0, 16, 17, 18, len(proof) - 33, len(proof) - 1]:
             comparison.check_bytes(proof[:size], *commitments)
         comparison.check_bytes(proof + b"x", *commitments)
-        # A hash too many, and one too few.
+        # One hash too many, and one too few.
         end = 18 + 32 * proof[17]
         comparison.check_bytes(proof[:17] + bytes([proof[17] + 1]) + proof[18:end] + bytes(32) + proof[end:], *commitments)
         comparison.check_bytes(proof[:17] + bytes([proof[17] - 1]) + proof[18:end - 32] + proof[end:], *commitments)
         comparison.check(name, *commitments[::-1])
         comparison.check(name, *[older for _ in commitments])
         comparison.check(name, *([newer] if len(commitments) == 2 else [older, newer]))
-    # At the limits of the hashes and of the entry, and one past them.
+    # The numbers of hashes and the entry at their limits, and one past them.
     for kind, commitments in [(b"\1", [newer]), (b"\2", [older, newer])]:
         numbers = b"".join(int(word.split(":")[0]).to_bytes(8, "big") for word in (older, newer))
         for hashes in [0, 24, 25, 26]:

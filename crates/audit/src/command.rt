@@ -5,26 +5,26 @@ use clap::{ArgMatches, Error};
 use std::alloc::Global;
 use std::convert::AsStr;
 
-/// What the words of a command line ask for, and how it is reported.
+/// The command that a command line requests, and how it is reported.
 #[derive(Clone, Copy)]
 pub struct CommandLine<'a> {
     /// The command with its arguments.
     pub asked: Asked<'a>,
-    /// Whether causes and warnings are printed where there is no terminal, too.
+    /// Whether causes and warnings are printed even without a terminal.
     pub explain: bool,
 }
 
-/// What the program is asked for.
+/// The requested command.
 #[derive(Clone, Copy)]
 pub enum Asked<'a> {
     /// A command that serves no sessions.
     Plain(Request<'a>),
-    /// One that does.
+    /// A command that serves sessions.
     Serving(Serving<'a>),
 }
 
-/// Parses the words of a command line, the first of which is the program's name, into what they ask for. Without a
-/// command it is `Replay`. The error prints help or usage, or says that memory ran out.
+/// Parses the words of a command line, of which the first is the program's name. Without a command the request is
+/// `Replay`. The error prints help or usage, or reports that memory ran out.
 pub fn request_of<'a, S: AsStr>(alloc: Global, words: &'a [S]) -> Result<CommandLine<'a>, Error> {
     let matches = command_line(alloc)?.try_get_matches_from(words)?;
     match matches.subcommand() {
@@ -39,7 +39,7 @@ pub fn request_of<'a, S: AsStr>(alloc: Global, words: &'a [S]) -> Result<Command
     }
 }
 
-// What a command asks for with the arguments that it was given.
+// The request of a command with these arguments.
 fn asked_by<'a>(name: &str, given: &ArgMatches<'a>) -> Asked<'a> {
     match name {
         "serve" => Asked::Serving(Serving::Serve {
@@ -129,7 +129,7 @@ fn site<'a>(given: &ArgMatches<'a>) -> Site<'a> {
     }
 }
 
-// The value of an argument that its command requires: a command line without one is refused before.
+// The value of a required argument. The parser has already refused command lines without it.
 fn word<'a>(given: &ArgMatches<'a>, id: &str) -> &'a str {
     given.get_str(id).unwrap_or("")
 }

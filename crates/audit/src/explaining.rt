@@ -1,4 +1,4 @@
-//! Causes and warnings, in lines of their own.
+//! Printing causes and warnings, in separate lines.
 use crate::command::Asked;
 use crate::notes::Notes;
 use audit_cli_serve::Request as Serving;
@@ -7,21 +7,21 @@ use std::fs::{self, Files};
 use std::io::{self, Write};
 use std::os::unix::fs::PermissionsExt;
 
-// The permissions of a file for anybody but its owner.
+// The permissions of a file for everyone but its owner.
 const OTHERS: u32 = 0o077;
 
-// The bytes of a sector: a store's file has whole ones.
+// The bytes of a sector: a store's file has whole sectors.
 const SECTOR_LEN: u64 = 512;
 
-/// The files of a command in which keys may stand.
+/// The files of a command that may contain keys.
 #[derive(Clone, Copy)]
 struct KeyPlaces<'a> {
     store: Option<&'a str>,
     key_file: Option<&'a str>,
 }
 
-/// Prints the cause of a fault of a file or a device, where one is known, and a warning for each file with a key that
-/// others than its owner can reach.
+/// Prints the cause of a file or device fault, if it is known, and a warning for each file with a key that others than
+/// its owner can access.
 pub fn explain<F: Files, M: Write>(
     rt: &F,
     asked: Asked<'_>,
@@ -60,7 +60,7 @@ fn print_cause<F: Files, M: Write>(
     }
 }
 
-// Warns where others than the owner can reach a file.
+// Warns if others than the owner can access a file.
 fn warn<F: Files, M: Write>(rt: &F, file: Option<&str>, messages: &mut M) -> io::Result<()> {
     let Some(file) = file else {
         return Ok(());

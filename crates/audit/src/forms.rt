@@ -1,36 +1,36 @@
-//! The commands as a command line and its help have them.
+//! The commands, as the command line and its help show them.
 use audit_base::{MAX_PAYLOAD, SESSIONS};
 use audit_log::{MAX_SECTORS, MIN_SECTORS, VERSION as FORMAT_VERSION};
 use audit_text::INPUT_LIMIT;
 use clap::{Arg, ArgAction, Command};
 use std::alloc::{AllocError, Global};
 
-/// The option that every command has.
+/// The option of every command.
 pub const EXPLAIN: &str = "explain";
 
 /// What `--version` prints after the name: the newest version of the format.
 const VERSION: &str = "2";
 
-// What the help of the commands that read events says of their input.
+// The input limits, in the help of the commands that read events.
 const LIMITS: &str =
     "An event has a payload of at most 32696 bytes, and the input has at most 16777216 bytes.";
 
-// What that option does.
+// The help of that option.
 const EXPLAINS: &str =
     "Prints the cause of a fault and warnings in lines of their own, as on a terminal";
 
-// The numbers in what this file prints are those of the code.
+// The numbers in this file's texts are those of the code.
 const _: () = prove!(FORMAT_VERSION == 2);
 
 const _: () = prove!(MAX_PAYLOAD == 32_696 && INPUT_LIMIT == 16_777_216);
 
 const _: () = prove!(MIN_SECTORS == 3 && MAX_SECTORS == 16_777_216 && SESSIONS == 16);
 
-/// A command: its name, what its help says, the words that follow it, and its options.
+/// A command: its name, its help, the words that follow it, and its options.
 struct Form {
     name: &'static str,
     about: &'static str,
-    // What its help ends with.
+    // The end of its help.
     after: Option<&'static str>,
     words: &'static [Word],
     options: &'static [Choice],
@@ -46,12 +46,12 @@ struct Word {
 /// An option of a command.
 struct Choice {
     name: &'static str,
-    // What its value is called. Without one it is a flag.
+    // The name of its value. An option without one is a flag.
     value: Option<&'static str>,
     help: &'static str,
-    // The option without which it is refused.
+    // The option that it requires.
     needs: Option<&'static str>,
-    // The option beside which it is refused.
+    // The option that it can't be combined with.
     excludes: Option<&'static str>,
 }
 

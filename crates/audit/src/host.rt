@@ -8,7 +8,7 @@ use std::os::fd::{BorrowedFd, OwnedFd};
 use std::os::unix::net::{self as unix, UnixStream};
 use std::path::PathBuf;
 
-/// The operating system's files and sockets, of which each failure is noted for the line that explains it.
+/// The operating system's files and sockets. Each failure is noted for the line that explains it.
 #[derive(Drop)]
 pub struct Host<'n, 'w, R> {
     rt: &'n R,
@@ -16,12 +16,12 @@ pub struct Host<'n, 'w, R> {
 }
 
 impl<'n, 'w, R> Host<'n, 'w, R> {
-    /// The runtime, with a place for notes.
+    /// Wraps the runtime, with a place for notes.
     pub fn new(rt: &'n R, notes: &'n Notes<'w>) -> Host<'n, 'w, R> {
         Host { rt, notes }
     }
 
-    // The result of a call about a path, whose error is noted.
+    // Returns the result of a call about a path, after noting its error.
     fn noted<T>(&self, path: &str, outcome: io::Result<T>) -> io::Result<T> {
         self.notes.watch(self.notes.subject_of(path), &outcome);
         outcome
@@ -79,7 +79,7 @@ impl<'n, 'w, R: Files> Files for Host<'n, 'w, R> {
         self.noted(path, self.rt.canonicalize(alloc, path))
     }
 
-    // What is no link is no failure.
+    // It isn't a failure if the path isn't a link.
     fn read_link<B: Allocator>(&self, alloc: B, path: &str) -> io::Result<PathBuf<B>> {
         self.rt.read_link(alloc, path)
     }

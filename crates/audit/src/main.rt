@@ -23,7 +23,7 @@ use std::process::ExitCode;
 use streams::hold_standard_streams;
 use words::words;
 
-// Room for output that wasn't written yet, in bytes.
+// The size in bytes of the buffer for output.
 const OUTPUT_ROOM: usize = 1 << 16;
 
 fn main(rt: HostRuntime) -> ExitCode {
@@ -66,7 +66,7 @@ fn run_noted(rt: &HostRuntime, words: &[String], notes: &Notes<'_>) -> io::Resul
     ))
 }
 
-// Prints why the program couldn't begin: memory was refused, or a word is no text.
+// Prints why the program couldn't start: memory was refused, or a word isn't text.
 fn explain_start(rt: &HostRuntime, error: &io::Error) -> Status {
     let fault = if error.kind() == ErrorKind::OutOfMemory {
         CommandError::Refused(StoreError::Memory)

@@ -3,7 +3,7 @@ use audit_disk::{PositionedFile, SECTOR_SIZE, SystemFile};
 use std::fs::{Metadata, OpenFile, Permissions, TryLockError};
 use std::io::{self, Read, Seek, SeekFrom, Write};
 
-/// An open file, or a standard stream, of which each failure is noted.
+/// An open file or standard stream whose failures are noted.
 #[derive(Drop)]
 pub struct NotedFile<'n, 'w, F> {
     inner: F,
@@ -12,7 +12,7 @@ pub struct NotedFile<'n, 'w, F> {
 }
 
 impl<'n, 'w, F> NotedFile<'n, 'w, F> {
-    /// The file, with what it is and a place for notes.
+    /// Wraps a file, with its description and a place for notes.
     pub fn new(inner: F, subject: Subject, notes: &'n Notes<'w>) -> NotedFile<'n, 'w, F> {
         NotedFile {
             inner,

@@ -1,28 +1,28 @@
 use std::cell::Cell;
 use std::io;
 
-/// What a call of the operating system was about.
+/// The subject of a call of the operating system.
 #[derive(Clone, Copy)]
 pub enum Subject {
-    /// The file that a word of the command line names, by the word's place in it.
+    /// The file named by a word of the command line, given by the word's place.
     Word(usize),
-    /// What is read as standard input.
+    /// Standard input.
     Input,
-    /// What is written as standard output.
+    /// Standard output.
     Output,
     /// A file that no word names.
     Other,
 }
 
-/// A call of the operating system that failed: what it was about, and why.
+/// A failed call of the operating system: its subject and its error.
 #[derive(Clone, Copy)]
 struct Note {
     subject: Subject,
     error: io::Error,
 }
 
-/// The last call of the operating system that failed, kept for the line that explains a fault of a file: the fault
-/// itself names neither path nor cause.
+/// The last failed call of the operating system, kept for the line that explains a file fault: the fault itself names
+/// neither path nor cause.
 #[derive(Drop)]
 pub struct Notes<'a> {
     words: &'a [String],
@@ -30,7 +30,7 @@ pub struct Notes<'a> {
 }
 
 impl<'a> Notes<'a> {
-    /// Nothing has failed. The paths are those among these words of the command line.
+    /// Makes empty notes. Paths are named by these words of the command line.
     pub fn new(words: &'a [String]) -> Notes<'a> {
         Notes {
             words,
@@ -38,13 +38,13 @@ impl<'a> Notes<'a> {
         }
     }
 
-    /// What the last failure was about, in a word, and its error.
+    /// The subject of the last failure, as a word, and its error.
     pub fn last(&self) -> Option<(&'a str, io::Error)> {
         let note = self.last.get()?;
         Some((self.name(note.subject), note.error))
     }
 
-    /// Notes the error of a call that failed.
+    /// Notes the error of a failed call.
     pub fn watch<T>(&self, subject: Subject, outcome: &io::Result<T>) {
         if let Err(error) = outcome {
             self.last.set(Some(Note {
@@ -54,12 +54,12 @@ impl<'a> Notes<'a> {
         }
     }
 
-    /// Forgets the last failure: it was no fault, since the program went on.
+    /// Forgets the last failure. It wasn't a fault, because the program continued.
     pub fn forget(&self) {
         self.last.set(None);
     }
 
-    /// The word of the command line that names this path, or the one in whose place a temporary file stands.
+    /// The word of the command line that names this path, or that names the file for which it is a temporary file.
     pub fn subject_of(&self, path: &str) -> Subject {
         let mut found = Subject::Other;
         for (place, word) in self.words.iter().enumerate() {

@@ -11,9 +11,9 @@ use std::fs::Files;
 use std::io::{Read, Write};
 use std::net::Net;
 
-/// Runs the program on the words of a command line, of which the first is its name. Lines that begin
-/// with `audit: ` go to `messages`, and so does clap's usage; every other text goes to `output`, which is
-/// flushed at the end. Where `messages` is a terminal, or the command line asks for it, causes and warnings follow.
+/// Runs the program on the words of a command line, of which the first is its name. Lines that begin with `audit: `,
+/// and clap's usage, are written to `messages`. All other text is written to `output`, which is flushed at the end.
+/// Causes and warnings follow if `messages` is a terminal, or if the command line requests them.
 pub fn run<F: Files + Net, R: Read, W: Write, M: Write>(
     rt: &F,
     alloc: Global,
@@ -43,7 +43,7 @@ where
     status
 }
 
-// Prints clap's help, or its usage, or that memory ran out.
+// Prints clap's help or usage, or reports that memory ran out.
 fn print_usage<W: Write, M: Write>(error: &Error, output: &mut W, messages: &mut M) -> Status {
     if error.kind() == ErrorKind::OutOfMemory {
         return report(CommandError::Refused(StoreError::Memory), messages);

@@ -2,11 +2,11 @@ use std::alloc::Global;
 use std::env::{Args, Env, FillError};
 use std::{env, io};
 
-// What the program is called by its own texts.
+// The program's name in its own texts.
 const NAME: [u8; 5] = *b"audit";
 
-// An environment in which the program has this name, whatever path it was started by: that path may be no text,
-// and nothing rests on it.
+// An environment in which the program has this name, whatever path it was started by. That path may not be text, and
+// nothing depends on it.
 #[derive(Drop)]
 struct Named<'a, E>(&'a E);
 
@@ -31,8 +31,8 @@ impl<E: Env> Env for Named<'_, E> {
     }
 }
 
-/// The words of the command line, of which the first is the program's name. It fails where memory is refused
-/// (`OutOfMemory`), and where a word is no text.
+/// Returns the words of the command line, of which the first is the program's name. Errors: `OutOfMemory` if memory is
+/// refused, and another error if a word isn't text.
 pub fn words<R: Env>(rt: &R, alloc: Global) -> io::Result<Args> {
     env::args(&(Named(rt), alloc))
 }

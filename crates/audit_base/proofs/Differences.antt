@@ -1,4 +1,4 @@
--- The bits in which the bytes of two lists differ, gathered from the front on.
+-- The bits in which two lists of bytes differ, gathered from the start.
 use Rattle.std.proofs.Common.{◌≡◌, ℕ, ◌+◌, ◌<◌, ◌≤◌, List, length, get_or, bit_or, bit_xor, ap, ◌∙◌, arith}
 use Rattle.std.specs.Int.Bits.{xor_add_and, xor_self}
 use Rattle.std.proofs.lemmas.Nat.{and_le_l, and_le_r, le_or_l, le_or_r}

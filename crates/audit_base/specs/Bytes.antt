@@ -6,10 +6,10 @@ use Rattle.std.specs.Int.{Width, byte_len, from_be_bytes}
 abbrev pub AreBytes : List ℕ → Type 0
 AreBytes bytes = (place : ℕ) → slice_index bytes place < 256
 
--- so many zero bytes
+-- n zero bytes
 unfoldable pub zeros : ℕ → List ℕ
 zeros n = replicate n 0
 
--- the number of this width from a place on, the highest byte first
+-- the big-endian number of this width that starts at a place
 abbrev pub number_at : Width → ℕ → List ℕ → ℕ
 number_at width place bytes = from_be_bytes width (take (byte_len width) (drop place bytes))

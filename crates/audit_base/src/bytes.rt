@@ -1,9 +1,9 @@
-//! Bytes at their places. Numbers have their highest byte first.
+//! Big-endian numbers and fixed-length arrays read from byte slices, and comparisons of bytes.
 ghost use Rattle.std.specs.Prelude.{◌≡◌, ◌+◌, ◌≤◌, ◌↔◌, length, take, drop, IsTrue, EachIndex, slice_index};
 ghost use Rattle.std.specs.Int.{w16, w32, w64};
 ghost use Rattle.audit_base.specs.Bytes.{number_at, zeros};
 
-/// Returns the number in the two bytes at a place.
+/// Returns the big-endian number in the two bytes at `place`.
 pub fn u16_at(bytes: &[u8], place: usize) -> u16
     requires { place + 2 ≤ length bytes.now }
     ensures { result ≡ number_at w16 place bytes.now }
@@ -11,7 +11,7 @@ pub fn u16_at(bytes: &[u8], place: usize) -> u16
     u16::from_be_bytes(*array_at(bytes, place))
 }
 
-/// Returns the number in the four bytes at a place.
+/// Returns the big-endian number in the four bytes at `place`.
 pub fn u32_at(bytes: &[u8], place: usize) -> u32
     requires { place + 4 ≤ length bytes.now }
     ensures { result ≡ number_at w32 place bytes.now }
@@ -19,7 +19,7 @@ pub fn u32_at(bytes: &[u8], place: usize) -> u32
     u32::from_be_bytes(*array_at(bytes, place))
 }
 
-/// Returns the number in the eight bytes at a place.
+/// Returns the big-endian number in the eight bytes at `place`.
 pub fn u64_at(bytes: &[u8], place: usize) -> u64
     requires { place + 8 ≤ length bytes.now }
     ensures { result ≡ number_at w64 place bytes.now }
@@ -27,7 +27,7 @@ pub fn u64_at(bytes: &[u8], place: usize) -> u64
     u64::from_be_bytes(*array_at(bytes, place))
 }
 
-/// Returns the N bytes at a place.
+/// Returns the `N` bytes at `place`.
 pub fn array_at<const N: usize>(bytes: &[u8], place: usize) -> &[u8; N]
     requires { place + N ≤ length bytes.now }
     ensures { result.now ≡ take N (drop place bytes.now) }
@@ -35,7 +35,8 @@ pub fn array_at<const N: usize>(bytes: &[u8], place: usize) -> &[u8; N]
     bytes[place..].first_chunk().unwrap()
 }
 
-/// Returns whether two texts are equal. It may stop at the first difference: digests and MACs are for `is_same_hash`.
+/// Returns whether two byte strings are equal. The comparison may stop at the first difference: use `is_same_hash` for
+/// digests and MACs.
 pub fn are_equal(left: &[u8], right: &[u8]) -> bool
     ensures { IsTrue result ↔ (left.now ≡ right.now) }
 {
@@ -49,8 +50,7 @@ pub fn are_zero(bytes: &[u8]) -> bool
     largest(bytes) == 0
 }
 
-// The largest byte, or zero where there is none. The loop has no way out, so that the compiler can take many bytes at
-// once.
+// The largest byte, or zero if there are none. The loop has no early exit, so the compiler can vectorise it.
 fn largest(bytes: &[u8]) -> u8
     ensures { (result ≡ 0) ↔ EachIndex bytes.now (λ k. slice_index bytes.now k ≡ 0) }
 {

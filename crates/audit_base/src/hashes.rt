@@ -6,7 +6,7 @@ use crate::hash::Hash;
 use crate::limits::HASH_LEN;
 use std::alloc::{AllocError, Global};
 
-/// Reads `number` digests from the front of the bytes. The only error is that memory for them is refused.
+/// Reads `number` digests from the start of `bytes`. It fails only if memory for them is refused.
 pub fn read_hashes(alloc: Global, bytes: &[u8], number: usize) -> Result<Vec<Hash>, AllocError>
     requires { HASH_LEN * number ≤ length bytes.now }
     ensures { IfOk result (λ hashes. hashes.items ≡ first_hashes number bytes.now) }

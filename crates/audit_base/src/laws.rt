@@ -6,7 +6,7 @@ use crate::{
     RESERVED_KIND, SECTOR_SIZE, SESSIONS,
 };
 
-/// The limits of the formats and of sessions, each as its number. The function does nothing: its contract is the law.
+/// The limits of the formats and of sessions, as numbers. The function does nothing: its contract is the law.
 pub fn limits_are_these_numbers()
     ensures hash { HASH_LEN ≡ 32 }
     ensures sector { SECTOR_SIZE ≡ 512 }

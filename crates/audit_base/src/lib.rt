@@ -1,5 +1,4 @@
-//! What the crates of the store stand on together: the limits of its formats, SHA-256 digests, and bytes read
-//! at their places and compared.
+//! Foundations of the store's crates: the limits of its formats, SHA-256 digests, and reading and comparing bytes.
 #![tactic(auto)]
 
 mod bytes;

@@ -1,4 +1,4 @@
--- The lines of receipts, one more at a time.
+-- The lines of receipts, with one more at a time.
 use Rattle.std.proofs.Common.{◌≡◌, ℕ, ◌+◌, ◌<◌, List, ◌∷◌, ◌++◌, length, drop, get_or, sym, ap, ◌∙◌, add-one}
 use Rattle.std.proofs.Math.Seq.{drop-cons}
 use Rattle.audit_store.specs.declared.receipt.Receipt.{Receipt}

@@ -1,4 +1,4 @@
--- A proof that is read from bytes, and the judgment on it.
+-- A proof read from bytes, and the judgment on it.
 use Rattle.std.proofs.Common.{inl, inr, ◌≡◌, ◌≢◌, ◌↔◌, ℕ, ◌+◌, ◌*◌, ◌<◌, ◌≤◌, Bool, true, false, ◌&&◌, ◌==◌, leb, List, length, drop, Option, Some, None, Ok, refl, sym, ◌∙◌, subst, arith, length-drop}
 use Rattle.std.specs.Prelude.{IsTrue}
 use Rattle.std.proofs.lemmas.Bool.{false≢true}

@@ -1,4 +1,4 @@
--- How the text of a key file is judged.
+-- Checking the text of a key file.
 use Rattle.std.proofs.Common.{◌≡◌, ℕ, Result, List, sym, ap, ◌∙◌}
 use Rattle.std.specs.Result.{result_ok}
 use Rattle.hex.specs.Hex.{decode_sized}

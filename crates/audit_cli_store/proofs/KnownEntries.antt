@@ -1,4 +1,4 @@
--- Proofs that a store makes of what it holds.
+-- Proofs made by a store about its contents.
 use Rattle.std.specs.Prelude.{◌⊎◌, Bool, false, MatchResult}
 use Rattle.std.proofs.Common.{inl, inr, ◌≡◌, ◌∙◌, ℕ, ◌<◌, ◌≤◌, Result, Ok, Err, sym, subst, arith}
 use Rattle.std.proofs.lemmas.Bool.{cases_lt}

@@ -1,4 +1,4 @@
--- Arguments that are judged by hand.
+-- Arguments that are checked here.
 use Rattle.std.specs.Prelude.{ℕ, nat_lt, ◌||◌, Option, Some, None, Result, Ok, Err, List, codes, if◌then◌else◌}
 use Rattle.std.specs.Str.{bytes_eq}
 use Rattle.audit_text.specs.Number.{number_in_text}
@@ -17,7 +17,7 @@ judged_sectors None = Err BadArgument
 judged_sectors (Some sectors) =
     if nat_lt sectors MIN_SECTORS || nat_lt MAX_SECTORS sectors then Err (Refused BadSize) else Ok sectors
 
--- its form is judged before its range
+-- its form is checked before its range
 abbrev pub sectors_asked : List ℕ → Result ℕ CommandError
 sectors_asked text = judged_sectors (number_in_text text)
 
@@ -33,7 +33,7 @@ proof_of kind (Some first) (Some second) =
 abbrev pub proof_asked : List ℕ → List ℕ → List ℕ → Option ProofRequest
 proof_asked kind first second = proof_of kind (number_in_text first) (number_in_text second)
 
--- a commitment in a word
+-- the commitment in a word
 abbrev pub asked_or_bad : Option Commitment → Result Commitment CommandError
 asked_or_bad None = Err BadArgument
 asked_or_bad (Some commitment) = Ok commitment

@@ -1,4 +1,4 @@
--- What checking a proof finds in the bytes of a file, under one commitment or two.
+-- The result of checking the proof in a file against one commitment or two.
 use Rattle.std.specs.Prelude.{◌≡◌, ◌≢◌, ◌⊎◌, Bool, true, false, Option, Some, None, Result, Ok, Err, List, ℕ, codes}
 use Rattle.std.specs.Io.KnownBytes.{Appends, Keeps}
 use Rattle.sha2.specs.Sha256.{sha256}
@@ -28,27 +28,27 @@ pub record IsAcceptedIncrement (bytes : List ℕ) (older newer : Commitment) : T
   pub newer_count : proof.newer ≡ newer.count
   pub accepted : AcceptsIncrement sha256 older newer proof.hashes
 
--- under one commitment the one, under two the other
+-- with one commitment a membership proof, with two an incremental proof
 abbrev pub IsAccepted : List ℕ → Commitment → Option Commitment → Type 0
 IsAccepted bytes older None = IsAcceptedMember bytes older
 IsAccepted bytes older (Some newer) = IsAcceptedIncrement bytes older newer
 
--- the bytes are a proof of the kind that is checked under so many commitments
+-- the bytes are a proof of the kind that is checked against this number of commitments
 abbrev pub IsProofKind : List ℕ → Option Commitment → Type 0
 IsProofKind bytes None = member_of bytes ≢ None
 IsProofKind bytes (Some newer) = increment_of bytes ≢ None
 
--- they are such a proof, and it isn't accepted
+-- the bytes are such a proof, and it isn't accepted
 pub record IsNotAccepted (bytes : List ℕ) (older : Commitment) (newer : Option Commitment) : Type 0 where
   pub kind : IsProofKind bytes newer
   pub refused : ¬ IsAccepted bytes older newer
 
--- they are a proof of the other kind
+-- the bytes are a proof of the other kind
 pub record IsOfOtherKind (bytes : List ℕ) (newer : Option Commitment) : Type 0 where
   pub proof : (member_of bytes ≢ None) ⊎ (increment_of bytes ≢ None)
   pub other : ¬ IsProofKind bytes newer
 
--- they are no proof
+-- the bytes aren't a proof
 pub record IsNoProof (bytes : List ℕ) : Type 0 where
   pub member : member_of bytes ≡ None
   pub increment : increment_of bytes ≡ None
@@ -67,19 +67,19 @@ IsUnread Salvaged bytes = ⊥
 IsUnread (Export fault) bytes = ⊥
 IsUnread NotAccepted bytes = ⊥
 
--- what the judgment on them says
+-- what the judgment states about the bytes
 abbrev pub IsProofJudged : Result Bool CommandError → List ℕ → Commitment → Option Commitment → Type 0
 IsProofJudged (Ok true) bytes older newer = IsAccepted bytes older newer
 IsProofJudged (Ok false) bytes older newer = IsNotAccepted bytes older newer
 IsProofJudged (Err fault) bytes older newer = IsUnread fault bytes ⊎ ((fault ≡ BadArgument) × IsOfOtherKind bytes newer)
 
--- a part of the line of the judgment was written
+-- a prefix of the line with the judgment was written
 abbrev pub WritesLineInPart : List ℕ → Commitment → Option Commitment → Option (List ℕ) → Option (List ℕ) → Type 0
 WritesLineInPart bytes older newer old new =
     (IsAccepted bytes older newer × WritesInPart old new (codes "accepted\n"))
     ⊎ (IsNotAccepted bytes older newer × WritesInPart old new (codes "not accepted\n"))
 
--- what a check's result says of the bytes, and what was written
+-- what the result of a check states about the bytes, and what was written
 abbrev pub IsChecked : Result Unit CommandError → List ℕ → Commitment → Option Commitment → Option (List ℕ)
     → Option (List ℕ) → Type 0
 IsChecked (Ok _) bytes older newer old new = IsAccepted bytes older newer × Appends old new (codes "accepted\n")

@@ -1,4 +1,4 @@
--- How the program ends with each fault of a command.
+-- The program's exit status for each error of a command.
 use Rattle.std.specs.Prelude.{◌≡◌, ◌⊎◌, ℕ, Result, Ok, Err}
 use Rattle.audit_store.specs.declared.store_error.StoreError.{StoreError}
 use Rattle.audit_store.specs.declared.store_error.StoreError.TheVariants as store
@@ -19,7 +19,7 @@ use Rattle.audit_cli_store.specs.declared.fault.CommandError.TheVariants.{BadArg
 use Rattle.audit_cli_store.specs.declared.fault.CommandError.TheVariants.{TooSmall, Salvaged, Lines, Refused, Export}
 use Rattle.audit_cli_store.specs.declared.fault.CommandError.TheVariants.{BadProof, NotAccepted}
 
--- the number that the program ends with
+-- the status as a number
 abbrev pub exit_status_of : Status → ℕ
 exit_status_of ends.Done = 0
 exit_status_of ends.Refused = 1
@@ -27,7 +27,7 @@ exit_status_of ends.Usage = 2
 exit_status_of ends.Device = 3
 exit_status_of ends.Memory = 4
 
--- how it ends with faults of lines
+-- the status for an error in lines
 abbrev pub status_of_lines : LinesError → Status
 status_of_lines lines.InputTooLong = ends.Refused
 status_of_lines (lines.Line line cause) = ends.Refused
@@ -35,7 +35,7 @@ status_of_lines lines.Read = ends.Device
 status_of_lines lines.Write = ends.Device
 status_of_lines lines.Memory = ends.Memory
 
--- of a store
+-- the status for a store's error
 abbrev pub status_of_refusal : StoreError → Status
 status_of_refusal store.NotAStore = ends.Refused
 status_of_refusal store.DamagedHeader = ends.Refused
@@ -52,7 +52,7 @@ status_of_refusal store.Closed = ends.Refused
 status_of_refusal store.BadSize = ends.Refused
 status_of_refusal store.ReservedKind = ends.Refused
 
--- of an export that isn't verified
+-- the status for an export that can't be verified
 abbrev pub status_of_cause : Cause → Status
 status_of_cause cause.Short = ends.Refused
 status_of_cause cause.BadLength = ends.Refused
@@ -76,12 +76,12 @@ status_of (Export fault) = status_of_cause fault.cause
 status_of BadProof = ends.Refused
 status_of NotAccepted = ends.Refused
 
--- how it ends where its output was written whole
+-- the status if the output was written completely
 abbrev pub status_of_end : Result (Unit {0}) CommandError → Status
 status_of_end (Ok done) = ends.Done
 status_of_end (Err fault) = status_of fault
 
--- the fault of the same meaning
+-- the command's error with the same meaning
 abbrev pub of_auditor : OfflineError → CommandError
 of_auditor (auditor.Export fault) = Export fault
 of_auditor (auditor.Lines fault) = Lines fault
@@ -97,6 +97,6 @@ of_file file.InUse = InUse
 of_file (file.TooSmall sectors) = TooSmall sectors
 of_file file.Memory = Refused store.Memory
 
--- a line couldn't be made for want of memory, or couldn't be written whole
+-- memory for a line was refused, or it couldn't be written completely
 abbrev pub IsUnwritten : CommandError → Type 0
 IsUnwritten fault = (fault ≡ Lines lines.Write) ⊎ (fault ≡ Refused store.Memory)

@@ -1,4 +1,4 @@
--- The bytes of the proofs that a list of events has.
+-- The bytes of proofs about a list of events.
 use Rattle.std.specs.Prelude.{◌≡◌, ◌⊎◌, ◌<◌, ◌≤◌, ℕ, List, [], take, slice_index_or}
 use Rattle.sha2.specs.Sha256.{sha256}
 use Rattle.audit_chain.specs.Event.{EventData}
@@ -14,7 +14,7 @@ use Rattle.audit_cli_store.specs.declared.fault.CommandError.TheVariants.{BadArg
 use Rattle.audit_cli_store.specs.declared.fault.CommandError.TheVariants.{TooSmall, Salvaged, Lines, Refused, Export}
 use Rattle.audit_cli_store.specs.declared.fault.CommandError.TheVariants.{BadProof, NotAccepted}
 
--- that an event is one of the first `count`: its siblings on the way to their root, and its entry
+-- that an event is one of the first `count`: the siblings on its path to their root, and its entry
 abbrev pub member_of_log : List ℕ → List EventData → ℕ → ℕ → Member
 member_of_log first_key events index count = record {
   index = index;
@@ -31,13 +31,13 @@ increment_of_log first_key events older newer = record {
   hashes = increment_path sha256 (log_leaves first_key (take newer events)) older;
 }
 
--- the bytes of the proof that is asked for
+-- the bytes of the requested proof
 abbrev pub proof_of_log : List ℕ → List EventData → ProofRequest → List ℕ
 proof_of_log first_key events (asked.Member index count) = member_bytes (member_of_log first_key events index count)
 proof_of_log first_key events (asked.Increment older newer) =
     increment_bytes (increment_of_log first_key events older newer)
 
--- a log of so many events has no such proof
+-- a log of `held` events has no such proof
 abbrev pub AsksOutside : ProofRequest → ℕ → Type 0
 AsksOutside (asked.Member index count) held = (count ≤ index) ⊎ (held < count)
 AsksOutside (asked.Increment older newer) held = (older ≡ 0) ⊎ (newer < older) ⊎ (held < newer)

@@ -1,4 +1,4 @@
--- What a store shows of itself.
+-- The output of `show`.
 use Rattle.std.specs.Prelude.{ℕ, List, ◌++◌, codes}
 use Rattle.std.specs.Fmt.{decimal}
 use Rattle.audit_log.specs.declared.header.Header.{Header}

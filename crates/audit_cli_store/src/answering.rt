@@ -1,4 +1,4 @@
-//! Commands that answer for the store in a file.
+//! Commands that only answer about the store in a file.
 use crate::arguments::ProofRequest;
 use crate::exporting::{write_entries, write_exported};
 use crate::fault::CommandError;
@@ -16,16 +16,16 @@ use std::alloc::Global;
 use std::fs::Files;
 use std::io::{BufWriter, Write};
 
-// Room for entries of an export that weren't written yet, in bytes.
+// The size in bytes of the buffer for an export.
 const EXPORT_ROOM: usize = 1 << 16;
 
-// The word for the output in place of a file. Nothing else is written there then.
+// The word that selects standard output instead of a file. Nothing else is then written there.
 const STANDARD_OUTPUT: &str = "-";
 
-// The output by its path. It may lead to a file, in whose place no other may be put.
+// Standard output as a path. It may be a regular file, which must not be replaced by another.
 const OUTPUT_DEVICE: &str = "/dev/stdout";
 
-/// Writes the commitment of the store in a file, and where it stands.
+/// Writes the commitment of the store in a file, and the state of its log.
 pub fn show_file<F: Files, W: Write>(
     rt: &F,
     alloc: Global,
@@ -45,7 +45,7 @@ where
     }
 }
 
-/// Writes the entries of the store in a file to another one, which isn't that of the store. The store is opened before
+/// Writes the entries of the store in a file to another file, which can't be the store's. The store is opened before
 /// that file is made.
 pub fn export_file<F: Files, W: Write>(
     rt: &F,
@@ -73,7 +73,7 @@ where
     }
 }
 
-// Whether an opening was refused for what the device holds.
+// Whether an opening was refused because of the contents of the device.
 fn is_damage(error: StoreError) -> bool {
     matches!(
         error,
@@ -113,7 +113,7 @@ fn export_store<F: Files, D: Sectors, W: Write>(
     write_exported(alloc, store.commitment().count, size, output)
 }
 
-// Writes the entries of a store to a file, and returns how many bytes they have.
+// Writes the entries of a store to a file, and returns their size in bytes.
 fn write_export<D: Sectors, W: Write>(
     alloc: Global,
     store: &mut Store<D>,
@@ -127,7 +127,7 @@ fn write_export<D: Sectors, W: Write>(
     Ok(size)
 }
 
-// Writes the entries that can still be read of a damaged store.
+// Writes the entries of a damaged store that can still be read.
 fn salvage_device<F: Files, D: Sectors, W: Write>(
     rt: &F,
     alloc: Global,
@@ -156,7 +156,7 @@ fn salvage_device<F: Files, D: Sectors, W: Write>(
     Err(CommandError::Salvaged)
 }
 
-// Writes what can be salvaged of a device to a file.
+// Writes what can be salvaged from a device to a file.
 fn salvage_to<D: Sectors, W: Write>(
     alloc: Global,
     disk: &mut D,
@@ -170,8 +170,8 @@ fn salvage_to<D: Sectors, W: Write>(
     Ok(salvaged)
 }
 
-/// Writes a proof of the store in a file to another one, which isn't that of the store. The store is opened, and the
-/// proof made, before that file is.
+/// Writes a proof about the store in a file to another file, which can't be the store's. The store is opened and the
+/// proof made before that file is.
 pub fn prove_file<F: Files, W: Write>(
     rt: &F,
     alloc: Global,
@@ -201,7 +201,7 @@ where
     write_number(alloc, b"proof ", proof.len() as u64, output)
 }
 
-// The bytes of a proof of the store in a file, and which file that is.
+// The bytes of a proof about the store in a file, and the identity of that file.
 fn proof_of<F: Files>(
     rt: &F,
     alloc: Global,

@@ -1,4 +1,4 @@
-//! Arguments that are judged here, not by the parser of the command line.
+//! Arguments that are checked here, not by the command line's parser.
 ghost use Rattle.std.specs.Prelude.{◌≡◌};
 ghost use Rattle.audit_cli_store.specs.Arguments.{sectors_asked, proof_asked, commitment_asked};
 
@@ -9,27 +9,27 @@ use audit_proof::Commitment;
 use audit_store::StoreError;
 use audit_text::number_in_text;
 
-/// The proof that is asked for.
+/// The requested proof.
 #[derive(Clone, Copy, Debug, PartialEq, Eq)]
 pub enum ProofRequest {
     /// A membership (inclusion) proof: the event of this index is one of the first `count` events.
     Member {
-        /// The event's number, from 0 on.
+        /// The event's index, counting from 0.
         index: u64,
-        /// How many events.
+        /// The number of events.
         count: u64,
     },
     /// An incremental (consistency) proof: the first `newer` events begin with the first `older` events.
     Increment {
         /// The count of the older commitment.
         older: u64,
-        /// The count of the newer one.
+        /// The count of the newer commitment.
         newer: u64,
     },
 }
 
-/// The number of sectors that a word asks for: 1 to 20 decimal digits, and a number of sectors that a store can have.
-/// A word of another form is `BadArgument`, and a number that no store has is refused as `BadSize`.
+/// The number of sectors that a word requests: 1 to 20 decimal digits, and a number that a store can have. Errors:
+/// `BadArgument` if the word has another form, `BadSize` if no store can have this number.
 pub fn sectors_asked(text: &str) -> Result<u64, CommandError>
     ensures { result ≡ sectors_asked text.now }
 {
@@ -42,8 +42,8 @@ pub fn sectors_asked(text: &str) -> Result<u64, CommandError>
     Ok(sectors)
 }
 
-/// The proof that three words ask for: `member` with an index and a count, or `increment` with an older and a newer
-/// count, each of 1 to 20 decimal digits and below 2^64. The counts aren't judged here.
+/// The proof that three words request: `member` with an index and a count, or `increment` with an older and a newer
+/// count. Each number is 1 to 20 decimal digits and below 2^64. The counts aren't checked here.
 pub fn proof_request(kind: &str, first: &str, second: &str) -> Option<ProofRequest>
     ensures { result ≡ proof_asked kind.now first.now second.now }
 {
@@ -64,8 +64,7 @@ pub fn proof_request(kind: &str, first: &str, second: &str) -> Option<ProofReque
     None
 }
 
-/// The commitment that a word asks for: a count, a colon and the 64 hex digits of a root. A word of another form is
-/// `BadArgument`.
+/// The commitment in a word: a count, a colon and the 64 hex digits of a root. Any other word is `BadArgument`.
 pub fn commitment_asked(word: &str) -> Result<Commitment, CommandError>
     ensures { result ≡ commitment_asked word.now }
 {

@@ -1,4 +1,4 @@
-//! Commands that judge files without a store.
+//! Commands that check files without a store.
 use crate::arguments::commitment_asked;
 use crate::checking::check_proof;
 use crate::fault::CommandError;
@@ -8,7 +8,7 @@ use std::alloc::Global;
 use std::fs::{self, Files};
 use std::io::Write;
 
-/// Checks the proof in a file. The commitments are judged before the file is touched.
+/// Checks the proof in a file. The commitments are checked before the file is opened.
 pub fn check_file<F: Files, W: Write>(
     rt: &F,
     alloc: Global,
@@ -25,7 +25,7 @@ pub fn check_file<F: Files, W: Write>(
     check_proof(alloc, &mut fs::open(rt, proof)?, &older, newer, output)
 }
 
-/// Verifies the export in a file. The arguments are judged before the export is touched.
+/// Verifies the export in a file. The arguments are checked before the export is opened.
 pub fn verify_file<F: Files, W: Write>(
     rt: &F,
     alloc: Global,

@@ -1,4 +1,4 @@
-//! Proofs in files, checked under commitments.
+//! Checking proofs in files against commitments.
 ghost use Rattle.std.specs.Prelude.{◌≡◌, ◌⊎◌, ℕ, List, IfOk, IfErr, IfSome, MatchResult};
 ghost use Rattle.audit_cli_offline.specs.Judgment.{SpellsProof};
 ghost use Rattle.audit_cli_store.specs.Checks.{IsAccepted, IsNotAccepted, IsOfOtherKind, IsNoProof, IsUnread};
@@ -11,17 +11,17 @@ use audit_text::{LinesError, read_input};
 use std::alloc::Global;
 use std::io::{Read, Write};
 
-/// Checks a proof under one commitment or two, and writes whether it is accepted.
+/// Checks a proof against one commitment or two, and writes whether it is accepted.
 ///
 /// | The bytes are | Result | Written |
 /// |---|---|---|
 /// | no proof | `BadProof` | nothing |
-/// | a membership proof, and there are two commitments, or an incremental proof and one | `BadArgument` | nothing |
-/// | a proof of other counts than the commitments', or one that isn't accepted | `NotAccepted` | `not accepted` |
-/// | another proof | Ok | `accepted` |
+/// | a membership proof with two commitments, or an incremental proof with one | `BadArgument` | nothing |
+/// | a proof for other counts than the commitments', or one that isn't accepted | `NotAccepted` | `not accepted` |
+/// | any other proof | Ok | `accepted` |
 ///
-/// Other faults come only where reading, writing or memory failed. Where the line couldn't be written whole, a part of
-/// the one that is due was.
+/// Other errors occur only if reading, writing or memory failed. If the line couldn't be written completely, a prefix
+/// of the line that was due has been written.
 pub fn check_proof<R: Read, W: Write>(
     alloc: Global,
     reader: &mut R,
@@ -32,7 +32,7 @@ pub fn check_proof<R: Read, W: Write>(
     ensures found { IfSome (R.remaining reader.old) (λ bytes. IsChecked result bytes older.now newer
         (W.contents writer.old) (W.contents writer.new)) }
 
-    // And the other way round: what the bytes are is what is said, or reading, writing or memory failed.
+    // Conversely, the bytes determine the result, unless reading, writing or memory failed.
     ensures accepted { IfSome (R.remaining reader.old) (λ bytes. IsAccepted bytes older.now newer
         → IfErr result IsFailure) }
     ensures not_accepted { IfSome (R.remaining reader.old) (λ bytes. IsNotAccepted bytes older.now newer
@@ -51,7 +51,7 @@ pub fn check_proof<R: Read, W: Write>(
     }
 }
 
-// Whether the proof that a file holds is accepted.
+// Whether the proof in a file is accepted.
 fn judged_in<R: Read>(
     alloc: Global,
     reader: &mut R,
@@ -78,7 +78,7 @@ fn is_accepted(
     }
 }
 
-// The proof that a file holds, all of it: an input that is too long is none.
+// The proof in a file, which contains nothing else. An input that is too long is no proof.
 fn proof_in<R: Read>(alloc: Global, reader: &mut R) -> Result<Proof, CommandError>
     ensures spelled { IfOk result (λ proof. IfSome (R.remaining reader.old) (λ bytes. SpellsProof bytes proof)) }
     ensures unread { IfErr result (λ fault. IfSome (R.remaining reader.old) (λ bytes. IsUnread fault bytes)) }

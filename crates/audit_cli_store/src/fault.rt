@@ -13,13 +13,13 @@ use std::alloc::AllocError;
 use std::io;
 use thiserror::Error;
 
-/// Why a command wasn't done.
+/// Why a command failed.
 #[derive(Clone, Copy, Debug, Drop, Error, PartialEq, Eq)]
 pub enum CommandError {
-    /// An argument, or what a key file holds, isn't of its form.
+    /// An argument, or the contents of a key file, doesn't have the required form.
     #[error("bad argument")]
     BadArgument,
-    /// The file that was to be made already exists.
+    /// The file to be made already exists.
     #[error("the file exists")]
     FileExists,
     /// A file couldn't be opened, read, written or made.
@@ -28,10 +28,10 @@ pub enum CommandError {
     /// Another program has the store open.
     #[error("the store is in use")]
     InUse,
-    /// The file or device that was to be formatted in place has fewer sectors than were asked for.
+    /// The file or device to be formatted in place has fewer sectors than requested.
     #[error("there are {sectors} sectors")]
     TooSmall {
-        /// How many it has.
+        /// The number of its sectors.
         sectors: u64,
     },
     /// The store is damaged, and the entries that could still be read were written.
@@ -40,13 +40,13 @@ pub enum CommandError {
     /// Lines weren't read or written.
     #[error(transparent)]
     Lines(LinesError),
-    /// The store refused.
+    /// The store returned an error.
     #[error(transparent)]
     Refused(StoreError),
-    /// An export isn't verified.
+    /// An export couldn't be verified.
     #[error("the export is not verified")]
     Export(VerifyFault),
-    /// The bytes of a file aren't a proof.
+    /// The contents of a file aren't a proof.
     #[error("the file holds no proof")]
     BadProof,
     /// A proof isn't accepted.
@@ -58,7 +58,7 @@ impl CommandError {
     ghost use Rattle.std.specs.Prelude.{◌≡◌};
     ghost use Rattle.audit_cli_store.specs.Faults.{status_of};
 
-    /// The status with which the program ends after it.
+    /// The status with which the program exits.
     pub fn status(self) -> Status
         ensures { result ≡ status_of self }
     {
@@ -154,7 +154,7 @@ impl From<io::Error> for CommandError {
     }
 }
 
-// How the program ends where an export isn't verified.
+// The status if an export can't be verified.
 fn status_of_cause(cause: Cause) -> Status
     ensures { result ≡ status_of_cause cause }
 {

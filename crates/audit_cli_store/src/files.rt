@@ -13,17 +13,18 @@ pub type FileStore<F> = Store<FileDisk<OsFile<F>>>;
 /// A device in an open file.
 pub type FileDevice<F> = FileDisk<OsFile<F>>;
 
-/// What was opened, and the file that it is in.
+/// What was opened, and its file's identity.
 #[derive(Drop)]
 pub struct Opened<S> {
     /// The store, or the device.
     pub content: S,
-    /// Which file that is, whatever its path names by now.
+    /// The identity of the file, whatever its path names by now.
     pub identity: FileIdentity,
 }
 
-/// Opens the store that a file holds. The opening may write to the file: it repairs what a crash left half done. While
-/// the store is open no other program can open it; where one has it, that is `InUse`, and nothing is read or written.
+/// Opens the store in a file. Opening may write to the file, to repair what a crash left unfinished. While the store
+/// is open no other program can open it. If another program has it open, the error is `InUse`, and nothing is read or
+/// written.
 pub fn open_store<F: Files>(
     rt: &F,
     alloc: Global,
@@ -37,7 +38,7 @@ where
     Ok(opened)
 }
 
-// It isn't inlined: the copies of the key that it leaves on the stack are below its caller, which overwrites that.
+// Not inlined, so that the copies of the key that it leaves on the stack are below its caller, which overwrites them.
 #[inline(never)]
 fn open_and_repair<F: Files>(
     rt: &F,
@@ -58,8 +59,8 @@ where
     }
 }
 
-/// Opens a file as a device that is only read: without the right to write. Other programs may read it too, and none can
-/// change it; where one has it open to change it, that is `InUse`.
+/// Opens a file as a device that is only read, without permission to write. Other programs may read it meanwhile, but
+/// none can change it. If another program has it open for writing, the error is `InUse`.
 pub fn open_device_to_read<F: Files>(
     rt: &F,
     alloc: Global,
@@ -76,7 +77,7 @@ where
     })
 }
 
-/// Opens the store on a device that is only read: what an opening would repair is repaired in memory.
+/// Opens the store on a device that is only read. Repairs are made only in memory.
 pub fn store_to_read<S: SectorSource>(
     alloc: Global,
     source: &S,
@@ -87,8 +88,8 @@ pub fn store_to_read<S: SectorSource>(
     }
 }
 
-/// Makes a file of `sectors` zero sectors as a device, with these permissions. A file that is already there is
-/// `FileExists`, and stays.
+/// Makes a file of `sectors` zero sectors as a device, with these permissions. If the file already exists, the error
+/// is `FileExists` and the file is unchanged.
 pub fn make_device<F: Files>(
     rt: &F,
     alloc: Global,
@@ -105,9 +106,8 @@ where
     Ok(FileDisk::create_with_mode(rt, alloc, file, sectors, mode)?)
 }
 
-/// Opens a file or a block device that is there as a device, to be formatted, all of it. One of fewer sectors than that
-/// is
-/// `TooSmall`, and one that holds a store is `FileExists`, unless the store may be erased.
+/// Opens all of an existing file or block device as a device to be formatted. Errors: `TooSmall` if it has fewer than
+/// `sectors` sectors; `FileExists` if it holds a store, unless `erase` is set.
 pub fn device_in_place<F: Files>(
     rt: &F,
     alloc: Global,
@@ -130,7 +130,7 @@ where
     Ok(disk)
 }
 
-// Opens a file as a device that has what a store can have of it.
+// Opens a file as a device, limited to the sectors that a store can have.
 fn open_bounded<F: Files>(
     rt: &F,
     alloc: Global,
@@ -144,8 +144,8 @@ where
     Ok(bounded(disk, identity))
 }
 
-// A block device may have more sectors than a store: then the store has the first ones. A file has the size that it was
-// given.
+// A block device may have more sectors than a store: the store then uses the first ones. A file has the size that it
+// was made with.
 fn bounded<F: SystemFile>(disk: FileDevice<F>, identity: FileIdentity) -> FileDevice<F> {
     let is_block = matches!(identity, FileIdentity::Block { .. });
     if is_block && disk.size() > MAX_SECTORS {
@@ -155,7 +155,7 @@ fn bounded<F: SystemFile>(disk: FileDevice<F>, identity: FileIdentity) -> FileDe
     }
 }
 
-// Whether one of the header sectors is a header.
+// Whether one of the header sectors contains a header.
 fn holds_store<D: Sectors>(disk: &mut D) -> Result<bool, CommandError> {
     match are_headers(disk) {
         Ok(found) => Ok(found),

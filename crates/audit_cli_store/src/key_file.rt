@@ -10,7 +10,7 @@ use hex::FromHex;
 use std::alloc::Global;
 use std::io::Read;
 
-/// Decodes the key that a key file holds: 64 hex digits of either case, with or without a line feed after them.
+/// Parses the key in a key file: 64 hex digits in either case, optionally followed by a line feed.
 pub fn key_of_file(text: &[u8]) -> Option<Key>
     ensures { result ≡ key_of_file text.now }
 {
@@ -20,7 +20,7 @@ pub fn key_of_file(text: &[u8]) -> Option<Key>
     }
 }
 
-// The text without the line feed that may end it.
+// The text without a line feed at its end.
 fn without_line_feed(text: &[u8]) -> &[u8]
     ensures { result.now ≡ without_line_feed text.now }
 {
@@ -30,7 +30,7 @@ fn without_line_feed(text: &[u8]) -> &[u8]
     }
 }
 
-/// Reads the key that a key file holds; `BadArgument` where it holds none.
+/// Reads the key in a key file. If there is none, the error is `BadArgument`.
 pub fn read_key<R: Read>(alloc: Global, reader: &mut R) -> Result<Key, CommandError>
     ensures key { IfOk result (λ key. IfSome (R.remaining reader.old) (λ text. key_of_file text ≡ Some key)) }
 {

@@ -1,4 +1,4 @@
-//! Stores made in files and on block devices.
+//! Making stores in files and on block devices.
 use crate::arguments::sectors_asked;
 use crate::fault::CommandError;
 use crate::files::{device_in_place, make_device};
@@ -11,8 +11,8 @@ use std::alloc::Global;
 use std::fs::{self, Files};
 use std::io::Write;
 
-/// Formats a new file for a store. It is made when all words are judged and the key was read. Where it can't be
-/// formatted it is removed again.
+/// Formats a new file for a store. The file is made only after all words were checked and the key was read. If it
+/// can't be formatted it is removed again.
 pub fn format_file<F: Files, W: Write>(
     rt: &F,
     alloc: Global,
@@ -39,8 +39,8 @@ where
     formatted
 }
 
-/// Formats a file or a block device that is there, all of it. It has at least as many sectors as are asked for, and
-/// holds no store, unless that may be lost.
+/// Formats all of an existing file or block device. It must have at least the requested number of sectors, and must
+/// not hold a store unless `erase` is set.
 pub fn format_in_place<F: Files, W: Write>(
     rt: &F,
     alloc: Global,
@@ -59,7 +59,7 @@ where
     format_device(alloc, disk, first_key, output)
 }
 
-/// The key that a key file holds.
+/// Reads the key in a key file.
 pub fn key_in<F: Files>(rt: &F, alloc: Global, key_file: &str) -> Result<Key, CommandError> {
     let mut file = fs::open(rt, key_file)?;
     read_key(alloc, &mut file)

@@ -1,14 +1,14 @@
-//! The permissions of a file that is made.
+//! The permissions of a new file.
 ghost use Rattle.std.specs.Prelude.{◌≡◌, ℕ, IfOk, IfErr, Ok};
 ghost use Rattle.audit_cli_store.specs.Mode.{IsMode};
 
 use crate::fault::CommandError;
 
-/// Reading and writing for the owner, and nothing for anybody else.
+/// Reading and writing for the owner, and nothing for anyone else.
 pub const OWNER_ONLY: u32 = 0o600;
 
-/// The permissions that a word asks for: three octal digits, as those of POSIX's `chmod`, of which the first is 6,
-/// since the owner reads and writes. Any other word is `BadArgument`.
+/// The permissions in a word: three octal digits, as in POSIX's `chmod`, of which the first is 6, because the owner
+/// reads and writes. Any other word is `BadArgument`.
 pub fn mode_asked(text: &str) -> Result<u32, CommandError>
     ensures mode { IfOk result (IsMode text.now) }
     ensures every { (mode : ℕ) → IsMode text.now mode → result ≡ Ok mode }

@@ -1,4 +1,4 @@
-//! Proofs of a store's history, as bytes.
+//! Proofs about a store's history, as bytes.
 ghost use Rattle.std.specs.Prelude.{◌≡◌, ◌⊎◌, ◌<◌, ◌≤◌, true, false, Err, List, length, vec_len, MatchResult, IfOk};
 ghost use Rattle.std.specs.Prelude.{IfErr};
 ghost use Rattle.audit_chain.specs.Event.{EventData};
@@ -18,7 +18,7 @@ use audit_proof::{IncrementProof, MemberProof, write_increment, write_member};
 use audit_store::{Store, StoreError};
 use std::alloc::Global;
 
-/// The bytes of a proof that a store makes, or its refusal. Nothing is written to the device.
+/// Returns the bytes of a store's proof, or its refusal. Nothing is written to the device.
 pub fn proof_bytes<D: Sectors>(
     alloc: Global,
     store: &mut Store<D>,
@@ -28,7 +28,7 @@ pub fn proof_bytes<D: Sectors>(
     ensures outside { is_broken store.old ≡ false → AsksOutside asked (active_header store.old).count
         → result ≡ Err (CommandError.Refused StoreError.NoSuchVersion) }
 
-    // They are those of the events that the store holds, and only the device and memory can be in the way.
+    // The proof is about the events that the store holds, and only the device or memory can fail.
     ensures log { (origin : Origin) (events : List EventData) → Holds store.old origin events
         → (AsksOutside asked (length events) → ⊥)
         → MatchResult result (λ bytes. bytes.items ≡ proof_of_log origin.first_key events asked) IsDeviceOrMemory }
@@ -45,7 +45,7 @@ pub fn proof_bytes<D: Sectors>(
     }
 }
 
-// The membership proof of an event with its entry.
+// The membership proof of an event, with its entry.
 fn member_proof<D: Sectors>(
     store: &mut Store<D>,
     index: u64,

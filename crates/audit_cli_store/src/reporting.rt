@@ -9,10 +9,10 @@ use audit_verify::VerifyFault;
 use std::io;
 use std::io::Write;
 
-/// Prints why a command wasn't done, in one line, and returns the status with which the program ends. Where the line
-/// can't be printed, the status alone reports the fault. For a proof that isn't accepted, and for entries that were
-/// salvaged, it prints nothing: the command has printed that itself. A device that is too small is told in a second
-/// line. It takes no memory.
+/// Prints in one line why a command failed, and returns the program's exit status. If the line can't be printed, only
+/// the status reports the fault. Nothing is printed for a proof that isn't accepted, or for salvaged entries, because
+/// the command has already printed that. For a device that is too small a second line states its size. It allocates
+/// nothing.
 pub fn report<M: Write>(fault: CommandError, messages: &mut M) -> Status
     ensures { result ≡ status_of fault }
 {
@@ -31,8 +31,8 @@ pub fn report<M: Write>(fault: CommandError, messages: &mut M) -> Status
     fault.status()
 }
 
-/// Prints how a command ended, after its output was flushed for the last time, and returns the status with which the
-/// program ends, as [`report_flush`] has it.
+/// Prints how a command ended, after the last flush of its output, and returns the program's exit status. A failed
+/// flush is a separate fault, printed in a line after the command's own fault, unless that is already a file fault.
 pub fn report_end<M: Write>(
     done: Result<(), CommandError>,
     flushed: io::Result<()>,
@@ -48,8 +48,8 @@ pub fn report_end<M: Write>(
     report_flush(status, flushed, messages)
 }
 
-/// Prints that the last flush of a command's output failed, if it did, in a line after that of the command's own error,
-/// unless that is one of files already. It returns the status with which the program ends.
+/// Prints that the last flush of a command's output failed, if it did: in a line after the command's own fault, unless
+/// that is already a file fault. Returns the program's exit status.
 pub fn report_flush<M: Write>(
     status: Status,
     flushed: io::Result<()>,
@@ -64,7 +64,7 @@ pub fn report_flush<M: Write>(
     report(CommandError::File, messages)
 }
 
-// As a size that no store has, and how many sectors there are.
+// A size that no store has, and then the number of sectors.
 fn print_too_small<M: Write>(sectors: u64, messages: &mut M) -> io::Result<()> {
     print_refusal(StoreError::BadSize, messages)?;
     writeln!(messages, "audit: there are {sectors} sectors")
@@ -81,14 +81,14 @@ fn print_lines_fault<M: Write>(fault: LinesError, messages: &mut M) -> io::Resul
     }
 }
 
-// The entry at fault, or the number of entries, and the number and name of the cause.
+// The entry at fault, or the number of entries, followed by the number and name of the cause.
 fn print_export_fault<M: Write>(fault: VerifyFault, messages: &mut M) -> io::Result<()> {
     let (index, cause) = (fault.index, fault.cause);
     let (number, name) = (cause.number(), cause.name());
     writeln!(messages, "audit: entry {index}: {number} {name}")
 }
 
-// The number of the refusal and its name, and the index where it has one.
+// The number and name of the refusal, and the index if it has one.
 fn print_refusal<M: Write>(error: StoreError, messages: &mut M) -> io::Result<()> {
     let (number, name) = (error.number(), error.name());
     match error {

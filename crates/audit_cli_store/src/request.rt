@@ -1,4 +1,4 @@
-//! What the program is asked to do, and doing it.
+//! The program's requests, and how they are carried out.
 use crate::answering::{export_file, prove_file, show_file};
 use crate::arguments::proof_request;
 use crate::auditing::{check_file, verify_file};
@@ -16,30 +16,30 @@ use std::io::{Read, Write};
 /// How a command that only answers opens the store.
 #[derive(Clone, Copy, Debug, PartialEq, Eq)]
 pub enum Access {
-    /// As every other command: the opening repairs what a crash left half done.
+    /// Like every other command: opening repairs what a crash left unfinished.
     Repair,
-    /// The file is opened without the right to write, and nothing of it changes.
+    /// The file is opened without permission to write, and isn't changed.
     ReadOnly,
-    /// So too; and of a damaged store the entries are taken that can still be read.
+    /// The same, and from a damaged store the entries are taken that can still be read.
     Salvage,
 }
 
 /// Where a store is made.
 #[derive(Clone, Copy, Debug, PartialEq, Eq)]
 pub enum Site<'a> {
-    /// In a new file, with these permissions where they are given.
+    /// In a new file, with these permissions if they are given.
     NewFile {
         /// Three octal digits.
         mode: Option<&'a str>,
     },
-    /// In a file or a block device that is there.
+    /// In an existing file or block device.
     InPlace {
-        /// Whether a store that is there may be lost.
+        /// Whether an existing store may be erased.
         erase: bool,
     },
 }
 
-/// What the program is asked to do, with the words of the command line as they were given.
+/// A request to the program, with the words of the command line as given.
 #[derive(Clone, Copy, Debug)]
 pub enum Request<'a> {
     /// Seal the events of the input, and write the entries and their commitment.
@@ -48,9 +48,9 @@ pub enum Request<'a> {
     Format {
         /// The file.
         file: &'a str,
-        /// Whether it is made.
+        /// Where the store is made.
         site: Site<'a>,
-        /// How many sectors it is to have.
+        /// The requested number of sectors.
         sectors: &'a str,
         /// The file with the first key.
         key_file: &'a str,
@@ -65,14 +65,14 @@ pub enum Request<'a> {
         /// The file.
         file: &'a str,
     },
-    /// Write the commitment of the store in a file, and where it stands.
+    /// Write the commitment of the store in a file, and the state of its log.
     Show {
         /// The file.
         file: &'a str,
         /// How it is opened.
         access: Access,
     },
-    /// Check a proof under one commitment or two.
+    /// Check a proof against one commitment or two.
     Check {
         /// The file with the proof.
         proof: &'a str,
@@ -81,11 +81,11 @@ pub enum Request<'a> {
         /// The newer commitment, for an incremental proof.
         newer: Option<&'a str>,
     },
-    /// Write the entries of the store in a file to another one.
+    /// Write the entries of the store in a file to another file.
     Export {
         /// The file.
         file: &'a str,
-        /// The file for the export, which is replaced; `-` for the output. It isn't the store's.
+        /// The file for the export, which is replaced; `-` for standard output. It can't be the store's.
         out: &'a str,
         /// How the store is opened.
         access: Access,
@@ -99,7 +99,7 @@ pub enum Request<'a> {
         /// The commitment.
         commitment: &'a str,
     },
-    /// Make a proof of the store in a file, and write it to another one.
+    /// Make a proof about the store in a file, and write it to another file.
     Prove {
         /// The file.
         file: &'a str,
@@ -109,15 +109,15 @@ pub enum Request<'a> {
         first: &'a str,
         /// The count, or the newer one.
         second: &'a str,
-        /// The file for the proof, which is replaced; `-` for the output. It isn't the store's.
+        /// The file for the proof, which is replaced; `-` for standard output. It can't be the store's.
         out: &'a str,
         /// How the store is opened.
         access: Access,
     },
 }
 
-/// Does what is asked. Lines that begin with `audit: ` go to `messages`, and every other one to `output`, which is
-/// flushed at the end. It returns the status with which the program ends.
+/// Carries out a request. Lines that begin with `audit: ` are written to `messages`, all others to `output`, which is
+/// flushed at the end. It returns the program's exit status.
 pub fn run<F: Files, R: Read, W: Write, M: Write>(
     rt: &F,
     alloc: Global,

@@ -1,4 +1,4 @@
-//! What a store shows of itself.
+//! Showing the state of a store.
 ghost use Rattle.std.specs.Prelude.{◌≡◌, IfOk, OnOk, OnErr};
 ghost use Rattle.std.specs.Io.KnownBytes.{Appends};
 ghost use Rattle.audit_text.specs.Writing.{WritesInPart};
@@ -13,8 +13,8 @@ use audit_text::{push_number, put_line, write_whole};
 use std::alloc::{AllocError, Global};
 use std::io::Write;
 
-/// Writes the line of the commitment, and that of the device's sectors, the end of the log, the generation, the version
-/// of the format and whether the log is closed.
+/// Writes the line of the commitment, then a line with the device's sectors, the end of the log, the generation, the
+/// version of the format, and whether the log is closed.
 pub fn show<D: Sectors, W: Write>(
     alloc: Global,
     store: &Store<D>,

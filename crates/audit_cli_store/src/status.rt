@@ -1,11 +1,11 @@
-/// The status with which the program ends.
+/// The status with which the program exits.
 #[derive(Clone, Copy, Debug, PartialEq, Eq)]
 pub enum Status {
-    /// All was done.
+    /// Everything was done.
     Done,
     /// The input or a request was refused.
     Refused,
-    /// The command line isn't one of the program's.
+    /// The command line isn't valid.
     Usage,
     /// A file or a device failed.
     Device,
@@ -17,7 +17,7 @@ impl Status {
     ghost use Rattle.std.specs.Prelude.{◌≡◌};
     ghost use Rattle.audit_cli_store.specs.Faults.{exit_status_of};
 
-    /// The exit status.
+    /// The exit status as a number.
     pub fn code(self) -> u8
         ensures { result ≡ exit_status_of self }
     {

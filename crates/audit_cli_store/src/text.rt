@@ -1,4 +1,4 @@
-//! Lines of one number.
+//! Lines with one number.
 ghost use Rattle.std.specs.Prelude.{◌≡◌, ◌++◌, codes, OnOk, OnErr, IfErr};
 ghost use Rattle.std.specs.Fmt.{decimal};
 ghost use Rattle.std.specs.Io.KnownBytes.{Appends};
@@ -10,7 +10,7 @@ use audit_text::{push_number, write_whole};
 use std::alloc::Global;
 use std::io::Write;
 
-/// Writes a line of a word with a space after it and a number.
+/// Writes a line with a word (which ends in a space) and a number.
 pub fn write_number<W: Write>(
     alloc: Global,
     word: &[u8],

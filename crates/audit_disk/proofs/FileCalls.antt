@@ -1,4 +1,4 @@
--- The calls of a file are those of a device.
+-- The calls of a file have the effects of device calls.
 use Rattle.std.proofs.Common.{◌≡◌, ◌⊎◌, inl, inr, ⊎_elim, ℕ, ◌+◌, ◌*◌, ◌^◌, ◌<◌, ◌≤◌, Ok, Err, Result, OnOk, OnErr, List, length, take, drop, refl, sym, ◌∙◌, ap, subst, arith}
 use Rattle.audit_disk_model.specs.Image.{Sector, Image, sector_at, with_sector}
 use Rattle.audit_disk_model.specs.View.{View, last_count}

@@ -1,4 +1,4 @@
--- A `MemDisk` of which no call was made.
+-- A `MemDisk` before its first call.
 use Rattle.std.proofs.Common.{◌≡◌, ℕ, Ok, Err, Result, IfOk, List, [], ◌∷◌, map, refl, sym, ◌∙◌, ap, subst, length, ◌<◌, ◌^◌}
 use Rattle.std.proofs.lemmas.List.{length-map}
 use Rattle.audit_disk_model.specs.Image.{Sector, Image}

@@ -1,4 +1,4 @@
--- What a write and a sync make of the images.
+-- The effects of a write and of a sync on the images.
 use Rattle.std.proofs.Common.{◌≡◌, ◌⊎◌, inl, inr, ⊎_elim, ℕ, zero, suc, List, [], ◌∷◌, ◌++◌, set, refl, sym, ◌∙◌, ap, ◌≤◌, length, arith}
 use Rattle.audit_disk_model.specs.Image.{Sector, Image}
 use Rattle.audit_disk.specs.Held.{Held, picked, newest, content_of, IsImageOf, crashed, after_write, after_sync}

@@ -1,4 +1,4 @@
--- The calls of a `MemDisk`, from what its record of calls gained.
+-- The calls of a `MemDisk`, by what they add to its record of calls.
 use Rattle.std.proofs.Common.{◌≡◌, ⊎_elim, ℕ, suc, ◌<◌, ◌≤◌, Ok, Err, IsErr, OnOk, OnErr, List, [], ◌∷◌, map, set, get_or, length, refl, sym, ◌∙◌, ap, arith, ◌^◌}
 use Rattle.std.proofs.lemmas.Bool.{false≢true, cases_lt}
 use Rattle.std.proofs.lemmas.List.{map-set, length-map, get_or-map}

@@ -1,4 +1,4 @@
--- The calls of a device that keeps a record of its calls are those of the crash model.
+-- The calls of a device that records them follow the crash model.
 use Rattle.std.proofs.Common.{◌≡◌, ◌⊎◌, inl, inr, ⊎_elim, ℕ, ◌+◌, ◌<◌, ◌≤◌, Ok, Err, List, [], ◌∷◌, ◌++◌, map, set, refl, sym, ◌∙◌, ap, subst, arith, ◌^◌, length}
 use Rattle.audit_disk_model.specs.Image.{Sector, Image, sector_at}
 use Rattle.audit_disk_model.specs.View.{View, last_count}

@@ -1,4 +1,4 @@
--- A device over a file of which no call was made.
+-- A device over a file, before its first call.
 use Rattle.std.proofs.Common.{◌≡◌, ℕ, zero, suc, ◌<◌, List, [], ◌∷◌, ◌++◌, length, drop, refl, sym, ◌∙◌, ap, subst, arith}
 use Rattle.std.proofs.lemmas.List.{take_at, drop_at}
 use Rattle.audit_disk_model.specs.Image.{Sector, Image, sector_at}

@@ -1,4 +1,4 @@
--- Calls of a file at offsets, with a count of those that failed kept beside it, are those of a file of sectors.
+-- Calls of a file at offsets, with a separate count of failures, have the effects of calls of a file of sectors.
 use Rattle.std.proofs.Common.{◌≡◌, ℕ, ◌+◌, ◌*◌, ◌≤◌, Ok, Err, Result, OnOk, List, [], ◌∷◌, length, slice_index_or, take, drop, sym, ◌∙◌, ap, subst, arith}
 use Rattle.std.proofs.lemmas.Bool.{false≢true}
 use Rattle.audit_disk_model.specs.Image.{Sector, Image}

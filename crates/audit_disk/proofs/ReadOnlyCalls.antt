@@ -1,4 +1,4 @@
--- The calls of a device over sectors that are only read are those of the crash model.
+-- The calls of a device over a source that is only read follow the crash model.
 use Rattle.std.proofs.Common.{◌≡◌, inl, inr, ⊎_elim, ℕ, ◌<◌, ◌≤◌, nat_le, cond, Option, Some, None, Ok, Err, List, [], ◌∷◌, ◌++◌, reverse, length, OnOk, OnErr, refl, sym, ◌∙◌, ap, subst, arith}
 use Rattle.std.specs.List.{filter}
 use Rattle.std.proofs.lemmas.Bool.{lt-leb, cases_lt}

@@ -1,4 +1,4 @@
--- A crash that is replayed call by call leaves what its picks say.
+-- Replaying the calls before a crash leaves what its picks select.
 use Rattle.std.proofs.Common.{◌≡◌, ℕ, zero, suc, ◌+◌, ◌-◌, ◌<◌, ◌≤◌, nat_lt, cond, List, [], ◌∷◌, ◌++◌, map, set, get_or, take, drop, length, refl, sym, ◌∙◌, ap, subst, arith}
 use Rattle.std.proofs.lemmas.Bool.{lt-ltb, le-ltb}
 use Rattle.std.proofs.lemmas.List.{length-append, map-append, take_more, drop_more, set_at, get_or_at, append_assoc, length-map, length-take}

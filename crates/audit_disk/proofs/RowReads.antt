@@ -1,4 +1,4 @@
--- Reads of a file one after the other, and sectors that were read ahead.
+-- Consecutive reads of a file, and sectors that are read ahead.
 use Rattle.std.proofs.Common.{inl, inr, ◌≡◌, ℕ, ◌+◌, ◌*◌, ◌<◌, ◌≤◌, min, Ok, Err, Result, IsErr, OnOk, OnErr, List, [], ◌++◌, length, take, drop, set, refl, sym, ◌∙◌, ap, subst, arith}
 use Rattle.std.proofs.lemmas.List.{get_or-set_same, get_or-set_other, get_or_append_left}
 use Rattle.std.proofs.lemmas.Bool.{cases_eq, false≢true}

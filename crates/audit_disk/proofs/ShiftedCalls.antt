@@ -1,4 +1,4 @@
--- Calls that are passed on to the inner device, and calls that it misses, are those of the crash model.
+-- Calls that are passed on to the inner device, and calls that it misses, follow the crash model.
 use Rattle.std.proofs.Common.{◌≡◌, inl, inr, ⊎_elim, ℕ, ◌+◌, ◌^◌, ◌<◌, ◌≤◌, Ok, Err, IsErr, OnOk, OnErr, refl, sym, ap, subst, arith}
 use Rattle.std.proofs.lemmas.Bool.{false≢true, cases_lt}
 use Rattle.audit_disk_model.specs.Image.{Sector, Image, with_sector}

@@ -1,4 +1,4 @@
--- What a device that fails once shows.
+-- The view of a device that fails once.
 use Rattle.std.specs.Prelude.{ℕ, Option}
 use Rattle.audit_disk_model.specs.View.{View}
 use Rattle.audit_disk.specs.Gate.{gate_view}
@@ -14,6 +14,6 @@ module _ {D : Type 0} {g : sectors.Ghosts D} where
   abbrev pub fail_once_view : FailOnce D g → View
   fail_once_view disk = gate_view disk.gate
 
-  -- how many calls pass before the one that fails; nothing once it was made
+  -- how many calls pass before the one that fails, or None once it was made
   abbrev pub calls_before : FailOnce D g → Option ℕ
   calls_before disk = disk.left

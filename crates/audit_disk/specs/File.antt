@@ -7,35 +7,36 @@ use Rattle.audit_disk_model.specs.View.{last_count}
 use Rattle.audit_disk_model.specs.Calls.{CountsFailure, HasRisen}
 use Rattle.audit_base.specs.declared.limits.TheConstants.{SECTOR_SIZE}
 
--- the file with other bytes from that offset on
+-- the file with these bytes written at the offset
 abbrev pub overlaid : List ℕ → ℕ → List ℕ → List ℕ
 overlaid file offset bytes = take offset file ++ bytes ++ drop (offset + length bytes) file
 
--- the sectors that stand in a file, one after the other
+-- the first sectors of a file
 abbrev pub sectors_of : ℕ → List ℕ → Image
 sectors_of zero file = []
 sectors_of (suc count) file = take SECTOR_SIZE file ∷ sectors_of count (drop SECTOR_SIZE file)
 
--- What is known of a file: the crash model, where a write at a multiple of the sector's size is whole or not there.
+-- What is known of a file: the crash model, in which a write at a multiple of the sector size lands whole or not at
+-- all.
 pub record FileView : Type 1 where
-  -- what reads give
+  -- what reads return
   pub bytes : List ℕ
-  -- how many writes and syncs were asked of it
+  -- how many writes and syncs were requested
   pub moment : ℕ
-  -- what a crash at that moment could have left
+  -- what a crash at this moment may leave
   pub left_at : ℕ → List ℕ → Type 0
-  -- how many of its calls have failed
+  -- how many calls have failed
   pub failures : ℕ
-  -- the last read at that offset that succeeded gave these bytes, and nothing was written there since
+  -- the last successful read at this offset returned these bytes, and nothing was written there since
   pub gave : ℕ → Sector → Type 0
-  -- it is a file as described here
+  -- the file behaves as described here
   pub honest : Type 0
-  -- a fact, of which nothing but its truth is known
+  -- a proposition: it is either true or false, and carries no other information
   pub given_once : (offset : ℕ) (bytes : Sector) → IsProp (gave offset bytes)
   pub bytes_left : honest → left_at moment bytes
   pub same_length : honest → (at : ℕ) (file : List ℕ) → left_at at file → length file ≡ length bytes
 
--- What reads gave at other offsets still stands: nothing was written there.
+-- What reads returned at other offsets remains valid: nothing was written there.
 abbrev pub KeepsGiven : FileView → FileView → ℕ → Type 0
 KeepsGiven old new offset = (other : ℕ) (bytes : Sector) → other ≢ offset → old.gave other bytes → new.gave other bytes
 
@@ -56,15 +57,15 @@ pub record IsFileRead {E : Type 0} (old new : FileView) (offset : ℕ) (into : S
   pub same : old.honest → new.bytes ≡ old.bytes
   pub found : old.honest → OnOk result (into ≡ take SECTOR_SIZE (drop offset old.bytes))
 
--- Nothing was asked of it but reads, of whatever sectors.
+-- Only reads were requested, of any sectors.
 pub record OnlyFileReads (old new : FileView) : Type 0 where
   pub goes_on : FileContinues old new
-  -- no failure was forgotten
+  -- the count of failures didn't fall
   pub failures : min old.failures last_count ≤ new.failures
   pub moment : old.honest → new.moment ≡ old.moment
   pub same : old.honest → new.bytes ≡ old.bytes
 
--- The first so many of these sectors, one after the other, are what the file last gave from that offset on, and
+-- The first `count` of these sectors are what the file last returned, one after the other, from the offset on, and
 -- nothing was written there since.
 pub record HasRow (file : FileView) (offset count : ℕ) (sectors : Image) : Type 0 where
   pub given : (at : ℕ) → at < count → file.gave (offset + SECTOR_SIZE * at) (sector_at sectors at)
@@ -74,13 +75,13 @@ pub record HasRow (file : FileView) (offset count : ℕ) (sectors : Image) : Typ
 pub HasRow-prop : (file : FileView) (offset count : ℕ) (sectors : Image) → IsProp (HasRow file offset count sectors)
 HasRow-prop file offset count sectors = Prim.hlevel (file.given_once, props)
 
--- What reads gave at offsets outside of the row still stands.
+-- What reads returned at offsets outside the row remains valid.
 abbrev pub KeepsOutside : FileView → FileView → ℕ → ℕ → Type 0
 KeepsOutside old new offset count =
     (other : ℕ) (bytes : Sector) → ((at : ℕ) → at < count → other ≢ offset + SECTOR_SIZE * at) → old.gave other bytes
     → new.gave other bytes
 
--- A read of so many sectors in a row: all of them, or an error.
+-- A read of `count` consecutive sectors: all of them, or an error.
 pub record IsRowRead {E : Type 0} (old new : FileView) (offset count : ℕ) (sectors : Image)
     (result : Result (Unit {0}) E) : Type 0 where
   pub only : OnlyFileReads old new
@@ -114,32 +115,32 @@ pub record IsFileSync {E : Type 0} (old new : FileView) (result : Result (Unit {
   pub no_other : old.honest → OnErr result ((file : List ℕ) → new.left_at new.moment file → old.left_at old.moment file)
   pub kept : old.honest → OnErr result ((file : List ℕ) → old.left_at old.moment file → new.left_at new.moment file)
 
--- A read at that offset, by whatever reads of the file: Ok gives what the file last gave there with nothing written
--- there since, and an error comes only where a call of the file failed.
+-- A read at this offset, by any reads of the file. Ok returns what the file last returned there, with nothing written
+-- there since. There is an error only if a call of the file failed.
 pub record ReadsFile {E : Type 0} (old new : FileView) (offset : ℕ) (into : Sector)
     (result : Result (Unit {0}) E) : Type 0 where
   pub given : OnOk result (new.gave offset into)
   pub fault : OnErr result (HasRisen old.failures new.failures)
 
--- A read of one sector at that offset, for which others may have been read as well, or none.
+-- A read of one sector at this offset. Other sectors may have been read too, or none at all.
 pub record IsReadThrough {E : Type 0} (old new : FileView) (offset : ℕ) (into : Sector)
     (result : Result (Unit {0}) E) : Type 0 where
   pub only : OnlyFileReads old new
   pub file : ReadsFile old new offset into result
   pub found : old.honest → OnOk result (into ≡ take SECTOR_SIZE (drop offset old.bytes))
 
--- a whole sector stands at that offset
+-- the offset is that of a whole sector
 pub record IsSectorOffset (file : FileView) (offset : ℕ) : Type 0 where
   pub multiple : offset % SECTOR_SIZE ≡ 0
   pub within : file.honest → offset + SECTOR_SIZE ≤ length file.bytes
 
--- so many whole sectors stand from that offset on
+-- `count` whole sectors start at this offset
 pub record IsRowOffset (file : FileView) (offset count : ℕ) : Type 0 where
   pub multiple : offset % SECTOR_SIZE ≡ 0
   pub within : file.honest → offset + SECTOR_SIZE * count ≤ length file.bytes
   pub fits : offset + SECTOR_SIZE * count ≤ 2 ^ 64
 
--- at least as many bytes as so many sectors have, and no call was made
+-- the file has at least `sectors` sectors, and no write or sync was requested
 pub record IsUnusedFile (file : FileView) (sectors : ℕ) : Type 0 where
   pub sized : file.honest → SECTOR_SIZE * sectors ≤ length file.bytes
   pub moment : file.honest → file.moment ≡ 0

@@ -1,4 +1,4 @@
--- What a failed call makes of a file.
+-- The fault of a failed call of a file.
 use Rattle.std.specs.declared.fs.TryLockError.{TryLockError}
 use Rattle.std.specs.declared.fs.TryLockError.TheVariants as lock
 use Rattle.audit_disk.specs.declared.file_fault.FileFault.{FileFault}

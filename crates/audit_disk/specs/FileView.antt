@@ -22,14 +22,14 @@ whole_sectors count file is = record { sectors = length-sectors_of count file; e
     each (suc count) file is (suc at) lt =
         each count (drop SECTOR_SIZE file) (omega (arith, length-drop SECTOR_SIZE file)) at (omega arith)
 
--- The moment of the file that is this moment of the clock: they go on together up to the last call that reached it.
+-- The file's moment at this moment of the clock. Both advance together up to the last call that reached the file.
 abbrev pub file_moment : ℕ → ℕ → ℕ → ℕ
 file_moment now reached moment = now - (reached - moment)
 
 pub sectors_fit : (sectors : ℕ) → SECTOR_SIZE * sectors < 2 ^ 64 → sectors < 2 ^ 64
 sectors_fit sectors fits = omega arith
 
--- the device of so many sectors, of whose calls those up to the clock `reached` were the file's
+-- the device of the first sectors of a file, which the calls up to the clock `reached` have reached
 abbrev pub file_view : (file : FileView) (sectors reached clock failures : ℕ) → sectors < 2 ^ 64 → reached ≤ clock
     → clock < 2 ^ 64 → (file.honest → SECTOR_SIZE * sectors ≤ length file.bytes) → View
 file_view file sectors reached clock failures fits in_order in_range whole = record {

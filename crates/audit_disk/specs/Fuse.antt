@@ -1,4 +1,4 @@
--- What a fuse shows.
+-- The view of a fuse.
 use Rattle.std.specs.Prelude.{ℕ, Bool, nat_lt}
 use Rattle.audit_disk_model.specs.View.{View}
 use Rattle.audit_disk.specs.Gate.{gate_view}
@@ -14,10 +14,10 @@ module _ {D : Type 0} {g : sectors.Ghosts D} where
   abbrev pub fuse_view : Fuse D g → View
   fuse_view fuse = gate_view fuse.gate
 
-  -- how many writes and syncs it still lets pass
+  -- how many more writes and syncs pass
   abbrev pub calls_left : Fuse D g → ℕ
   calls_left fuse = fuse.left
 
-  -- it still lets a call pass
+  -- at least one more call passes
   abbrev pub is_intact : Fuse D g → Bool
   is_intact fuse = nat_lt 0 (calls_left fuse)

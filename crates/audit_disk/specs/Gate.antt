@@ -1,4 +1,4 @@
--- A device inside a gate.
+-- A device behind a gate.
 use Rattle.std.specs.Prelude.{◌≡◌, ◌+◌, ◌<◌, ◌≤◌}
 use Rattle.audit_disk_model.specs.View.{View, last_count}
 use Rattle.audit_disk.specs.Shifted.{shifted, MayMiss}
@@ -13,11 +13,11 @@ module _ {D : Type 0} {g : sectors.Ghosts D} where
   abbrev pub MayShut : Gate D g → Type 0
   MayShut gate = MayMiss gate.place gate.missed (g.view gate.inner).clock
 
-  -- its clock is not at its end
+  -- its clock isn't at its end
   abbrev pub IsBelowEnd : Gate D g → Type 0
   IsBelowEnd gate = (g.view gate.inner).clock + gate.missed < last_count
 
-  -- one call more was missed, unless the clock is at its end
+  -- one more call was missed, unless the clock is at its end
   pub record Misses (old new : Gate D g) : Type 0 where
     pub missed : IsBelowEnd old → new.missed ≡ old.missed + 1
     pub place : IsBelowEnd old → new.place ≡ (g.view old.inner).clock

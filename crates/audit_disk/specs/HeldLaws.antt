@@ -1,4 +1,4 @@
--- Laws of what sectors hold: reads give an image, and each image is a whole device.
+-- Laws of sectors' contents: what reads return is a possible image, and each image is a whole device.
 use Rattle.std.specs.Prelude.{◌≡◌, ℕ, zero, suc, ◌<◌, List, [], ◌∷◌, length, refl}
 use Rattle.std.proofs.Common.{sym, ◌∙◌, ap, arith}
 use Rattle.audit_disk_model.specs.Image.{Image, IsWhole, sector_at}
@@ -6,7 +6,7 @@ use Rattle.audit_disk.specs.Held.{Held, picked, newest, content_of, IsImageOf, a
 use Rattle.audit_disk.specs.declared.block.Block.{Block}
 use Rattle.audit_base.specs.declared.limits.TheConstants.{SECTOR_SIZE}
 
--- a pick after the last content gives the last
+-- a pick beyond the last content selects the last
 pub chosen_last : (synced : Block) (since : List Block) → (p : ℕ) × (picked synced since p ≡ newest synced since)
 chosen_last synced [] = (zero, refl)
 chosen_last synced (block ∷ since) = let rest = chosen_last block since in (suc rest.0, rest.1)
@@ -20,7 +20,7 @@ pub length-after_sync : (held : List Held) → length (after_sync held) ≡ leng
 length-after_sync [] = refl
 length-after_sync (sector ∷ rest) = ap suc (length-after_sync rest)
 
--- what reads give is an image
+-- what reads return is a possible image
 pub content_image : (held : List Held) → IsImageOf held (content_of held)
 content_image [] = tt
 content_image (sector ∷ rest) =

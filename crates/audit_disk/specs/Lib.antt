@@ -4,7 +4,7 @@ pub use Rattle.audit_disk_model.specs.Image
 pub use Rattle.audit_disk_model.specs.Moments
 pub use Rattle.audit_disk_model.specs.View
 pub use Rattle.audit_disk_model.specs.Window
--- What contracts of public calls cite, besides the views below.
+-- What the contracts of public calls cite, besides the views below.
 pub mod Countdown
 pub mod FailOnce
 pub mod File
@@ -26,7 +26,7 @@ pub mod MemFile
 pub mod Memory
 pub mod ReadOnly
 pub mod Shifted
--- What only bodies need.
+-- Needed only by bodies.
 pub mod CallLog
 pub mod Contents
 pub mod Gate

@@ -1,4 +1,4 @@
--- A file in memory: the sectors of a device, one after the other.
+-- A file in memory: the concatenated sectors of a device.
 use Rattle.std.specs.Prelude.{◌≡◌, ℕ, zero, suc, ◌*◌, ◌/◌, ◌%◌, ◌<◌, List, [], ◌∷◌, ◌++◌, length, refl}
 use Rattle.std.proofs.Common.{sym, ◌∙◌, ap, arith}
 use Rattle.std.proofs.Props.{props}
@@ -30,7 +30,7 @@ length-joined size image whole = all size image whole.sectors whole.each
           all size image (omega arith) (λ at lt. each (suc at) (omega arith)),
         )
 
--- the file that stands in a device
+-- the file whose bytes are a device's sectors
 abbrev pub joined_view : View → FileView
 joined_view device = record {
   bytes = bytes_of_image device.content;

@@ -1,4 +1,4 @@
--- What a file in memory shows.
+-- The view of a file in memory.
 use Rattle.audit_disk.specs.File.{FileView}
 use Rattle.audit_disk.specs.MemDisk.{disk_view}
 use Rattle.audit_disk.specs.MemFile.{joined_view}

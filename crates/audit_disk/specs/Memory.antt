@@ -1,4 +1,4 @@
--- A device that keeps a record of its calls.
+-- A device that records its calls.
 use Rattle.std.specs.Prelude.{◌≡◌, ℕ, max, ◌≤◌, nat_le, cond, List, [], ◌∷◌, map, length, refl, ◌<◌, ◌^◌}
 use Rattle.std.specs.List.{filter}
 use Rattle.std.proofs.Common.{sym, ◌∙◌, ap, subst, arith}
@@ -17,7 +17,7 @@ abbrev pub after_call : Effect → List Held → List Held
 after_call (Write at block) held = after_write held at block
 after_call Sync held = after_sync held
 
--- after these calls, the first of them first
+-- the sectors after these calls, in order
 abbrev pub after_calls : List Call → List Held → List Held
 after_calls [] held = held
 after_calls (call ∷ calls) held = after_calls calls (after_call call.effect held)
@@ -26,7 +26,7 @@ after_calls (call ∷ calls) held = after_calls calls (after_call call.effect he
 abbrev pub calls_until : ℕ → List Call → List Call
 calls_until moment calls = filter (λ (call : Call). nat_le call.moment moment) calls
 
--- what the sectors held at that moment, from a synced start on
+-- what the sectors held at this moment, starting from synced content
 abbrev pub held_at : List Block → List Call → ℕ → List Held
 held_at start calls moment = after_calls (calls_until moment calls) (map settled start)
 
@@ -35,7 +35,7 @@ abbrev pub latest : List Call → ℕ
 latest [] = 0
 latest (call ∷ calls) = max call.moment (latest calls)
 
--- up to a moment that none has passed, these are all calls
+-- if no call is later than a moment, the calls up to it are all calls
 pub calls_until_all : (calls : List Call) (moment : ℕ) → latest calls ≤ moment → calls_until moment calls ≡ calls
 calls_until_all [] moment le = refl
 calls_until_all (call ∷ calls) moment le =
@@ -52,7 +52,7 @@ length-after_calls [] held = refl
 length-after_calls (call ∷ calls) held = length-after_calls calls (after_call call.effect held)
     ∙ length-after_call call.effect held
 
--- An honest device: the images of each moment are those of the calls up to it.
+-- An honest device: the images of each moment follow from the calls up to it.
 abbrev pub memory_view : (start : List Block) (content : Image) (calls : List Call) (clock failures : ℕ)
     → content ≡ content_of (after_calls calls (map settled start)) → latest calls ≤ clock → length start < 2 ^ 64
     → clock < 2 ^ 64 → View

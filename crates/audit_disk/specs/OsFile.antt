@@ -1,14 +1,14 @@
--- A file of the operating system, of whose bytes no contract knows anything.
+-- A file of the operating system, whose bytes are unknown to contracts.
 use Rattle.std.specs.Prelude.{ℕ, Result, MatchResult, IsOk, IsErr}
 use Rattle.audit_disk.specs.File.{FileView}
 use Rattle.audit_disk.specs.Positioned.{counted_file, unknown_positioned}
 use Rattle.audit_disk.specs.declared.os_file.OsFile.{OsFile}
 
--- It isn't known to be as described: what is said of honest files is a premise there.
+-- It isn't known to be honest, so clauses about honest files hold only if that is assumed.
 abbrev pub unknown_file : ℕ → FileView
 unknown_file failures = counted_file unknown_positioned failures
 
--- the file whose failed calls it counts
+-- the file below, whose failed calls are counted
 abbrev pub file_below : {F : Type 0} → OsFile F → F
 file_below it = it.file
 

@@ -1,4 +1,4 @@
--- A file by its calls at offsets, without a count of those that failed.
+-- A file with calls at offsets, without a count of failed calls.
 use Rattle.std.specs.Prelude.{◌≡◌, ℕ, ◌*◌, ◌≤◌, List, [], length, Result, IfOk}
 use Rattle.std.specs.Coded.{Unit-prop}
 use Rattle.audit_disk_model.specs.Image.{Sector, Image}
@@ -7,7 +7,7 @@ use Rattle.audit_disk_model.specs.Calls.{CountsFailure}
 use Rattle.audit_disk.specs.File.{FileView, OnlyFileReads, IsRowRead, IsFileWrite, IsFileSync, sectors_of}
 use Rattle.audit_base.specs.declared.limits.TheConstants.{SECTOR_SIZE}
 
--- what is known of it, as of a `FileView`
+-- what is known of it, as in a `FileView`
 pub record PositionedView : Type 1 where
   pub bytes : List ℕ
   pub moment : ℕ
@@ -18,7 +18,7 @@ pub record PositionedView : Type 1 where
   pub bytes_left : honest → left_at moment bytes
   pub same_length : honest → (at : ℕ) (file : List ℕ) → left_at at file → length file ≡ length bytes
 
--- the file beside which this count of failed calls is kept
+-- the file together with this count of failed calls
 abbrev pub counted_file : PositionedView → ℕ → FileView
 counted_file file failures = record {
   bytes = file.bytes;
@@ -32,7 +32,7 @@ counted_file file failures = record {
   same_length = file.same_length;
 }
 
--- a file that counts its failures, without the count
+-- the file without its count of failures
 abbrev pub uncounted : FileView → PositionedView
 uncounted file = record {
   bytes = file.bytes;
@@ -45,7 +45,7 @@ uncounted file = record {
   same_length = file.same_length;
 }
 
--- A file of which nothing is known: what is said of honest files is a premise there.
+-- A file of which nothing is known, so clauses about honest files hold only if that is assumed.
 abbrev pub unknown_positioned : PositionedView
 unknown_positioned = record {
   bytes = [];
@@ -58,39 +58,39 @@ unknown_positioned = record {
   same_length = λ honest. absurd honest;
 }
 
--- It is the read of so many sectors in a row, whatever count of failed calls is kept beside the file.
+-- A read of `count` consecutive sectors, whatever count of failed calls is kept beside the file.
 pub record IsPositionedRead {E : Type 0} (old new : PositionedView) (offset count : ℕ) (sectors : Image)
     (result : Result (Unit {0}) E) : Type 0 where
   pub counted : (failures failures' : ℕ) → CountsFailure failures failures' result
       → IsRowRead (counted_file old failures) (counted_file new failures') offset count sectors result
 
--- It is the write of one sector, whatever count is kept.
+-- A write of one sector, whatever count is kept.
 pub record IsPositionedWrite {E : Type 0} (old new : PositionedView) (offset : ℕ) (bytes : Sector)
     (result : Result (Unit {0}) E) : Type 0 where
   pub counted : (failures failures' : ℕ) → CountsFailure failures failures' result
       → IsFileWrite (counted_file old failures) (counted_file new failures') offset bytes result
 
--- It is a sync, whatever count is kept.
+-- A sync, whatever count is kept.
 pub record IsPositionedSync {E : Type 0} (old new : PositionedView) (result : Result (Unit {0}) E) : Type 0 where
   pub counted : (failures failures' : ℕ) → CountsFailure failures failures' result
       → IsFileSync (counted_file old failures) (counted_file new failures') result
 
--- Nothing changed, and the number is that of its bytes.
+-- Nothing changed, and the number is the length in bytes.
 pub record IsMeasured {E : Type 0} (old new : PositionedView) (result : Result ℕ E) : Type 0 where
   pub only : OnlyFileReads (counted_file old 0) (counted_file new 0)
   pub found : old.honest → IfOk result (λ bytes. bytes ≡ length old.bytes)
 
--- no write and no sync was asked of it
+-- no write or sync was requested
 abbrev pub IsUncalled : PositionedView → Type 0
 IsUncalled file = file.honest → file.moment ≡ 0
 
--- The device, of which no call was made, has the first sectors of the file.
+-- The device has the first sectors of the file, and no call of it was made.
 pub record ShowsFront (file : PositionedView) (view : View) : Type 0 where
   pub honest : file.honest → view.honest
   pub was_honest : view.honest → file.honest
   pub within : file.honest → SECTOR_SIZE * view.size ≤ length file.bytes
   pub content : file.honest → view.content ≡ sectors_of view.size file.bytes
-  -- a crash now may leave the sectors of each file that may be left, and nothing else
+  -- a crash now may leave the sectors of any file that a crash may leave, and nothing else
   pub left : file.honest → (bytes : List ℕ) → file.left_at file.moment bytes
       → view.left_at 0 (sectors_of view.size bytes)
   pub no_other : (image : Image) → view.left_at 0 image → (bytes : List ℕ) × file.left_at file.moment bytes

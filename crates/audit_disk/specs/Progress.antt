@@ -1,4 +1,4 @@
--- A crash replayed call by call.
+-- Replaying the calls before a crash.
 use Rattle.std.specs.Prelude.{◌≡◌, ℕ, zero, suc, ◌-◌, nat_lt, if◌then◌else◌, List, [], ◌∷◌, map, length}
 use Rattle.audit_disk.specs.Held.{Held, picked, newest}
 use Rattle.audit_disk.specs.declared.block.Block.{Block}
@@ -6,14 +6,14 @@ use Rattle.audit_disk.specs.declared.call.Effect.{Effect}
 use Rattle.audit_disk.specs.declared.call.Effect.TheVariants.{Write, Sync}
 use Rattle.audit_disk.specs.declared.progress.Progress.{Progress}
 
--- the progress of a sector that holds this
+-- the replayed state of a sector with these contents
 pub record IsSectorProgress (held : Held) (p : ℕ) (progress : Progress) : Type 0 where
   pub newest : progress.newest ≡ newest held.synced held.since
   pub landed : progress.landed ≡ picked held.synced held.since p
   pub pick : progress.pick ≡ p
   pub left : progress.left ≡ p - length held.since
 
--- the progress of all sectors, with pick 0 where none is given
+-- the state of all sectors; a missing pick is 0
 abbrev pub AreProgress : List Held → List ℕ → List Progress → Type 0
 AreProgress [] picks [] = Unit {0}
 AreProgress [] picks (progress ∷ others) = ⊥

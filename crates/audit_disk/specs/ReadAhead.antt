@@ -1,8 +1,8 @@
--- Sectors that were read ahead.
+-- Sectors that are read ahead.
 use Rattle.std.specs.Prelude.{◌≡◌, ℕ, ◌+◌, ◌*◌, ◌<◌}
 use Rattle.audit_base.specs.declared.limits.TheConstants.{SECTOR_SIZE}
 
--- the sector at that offset is this one of a row of so many that begins there
+-- the sector at this offset is number `place` of the row, which starts at `start` and holds `held` sectors
 pub record StandsAt (start held offset place : ℕ) : Type 0 where
   pub read : place < held
   pub there : offset ≡ start + SECTOR_SIZE * place

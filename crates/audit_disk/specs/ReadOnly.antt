@@ -1,4 +1,4 @@
--- A device over sectors that are only read. What was written is kept over them.
+-- A device over a source that is only read, with the writes kept over it.
 use Rattle.std.specs.Prelude.{◌≡◌, ℕ, ◌^◌, ◌<◌, ◌≤◌, Option, Some, None, List, [], ◌∷◌, length, reverse, refl, OnOk}
 use Rattle.std.proofs.Common.{inr, ⊎_elim, sym, ◌∙◌, ap, subst, arith}
 use Rattle.std.proofs.lemmas.Bool.{cases_eq}
@@ -19,22 +19,22 @@ abbrev pub content_by : Effect → Image → Image
 content_by (Write at block) content = with_sector content at block.bytes
 content_by Sync content = content
 
--- the content after these calls, the last of them first
+-- the content after these calls, latest first
 abbrev pub content_over : List Call → Image → Image
 content_over [] start = start
 content_over (call ∷ older) start = content_by call.effect (content_over older start)
 
--- the images that a crash after a call may leave, from those before it
+-- the images that a crash may leave after a call, given those before it
 abbrev pub images_after : Effect → Image → (Image → Type 0) → Image → Type 0
 images_after (Write at block) content left image = MayBeWritten left at block.bytes image
 images_after Sync content left image = image ≡ content
 
--- and after these calls, the last of them first: at the start nothing is pending
+-- the images that a crash may leave after these calls, latest first; at the start nothing is pending
 abbrev pub left_over : List Call → Image → Image → Type 0
 left_over [] start image = image ≡ start
 left_over (call ∷ older) start image = images_after call.effect (content_over older start) (left_over older start) image
 
--- the content is one of the images
+-- the content is one of the possible images
 pub content_is_left : (calls : List Call) (start : Image) → left_over calls start (content_over calls start)
 content_is_left [] start = refl
 content_is_left (call ∷ older) start =
@@ -46,7 +46,7 @@ content_is_left (call ∷ older) start =
         record { either = inr (record { before = content; was_left = is; is = refl }) }
     by_effect Sync content left is = refl
 
--- a whole device is whole with a whole sector written
+-- an image is still a whole device after a whole sector was written
 pub whole_with_sector : (size : ℕ) (image : Image) (at : ℕ) (block : Block) → IsWhole size image
     → IsWhole size (with_sector image at block.bytes)
 whole_with_sector size image at block whole =
@@ -71,7 +71,7 @@ whole_content size (call ∷ older) start whole =
     by_effect (Write at block) content is = whole_with_sector size content at block is
     by_effect Sync content is = is
 
--- each image is a whole device
+-- each possible image is a whole device
 pub whole_left : (size : ℕ) (calls : List Call) (start image : Image) → IsWhole size start
     → left_over calls start image → IsWhole size image
 whole_left size [] start image whole left = subst (IsWhole size) (sym left) whole
@@ -90,7 +90,7 @@ whole_left size (call ∷ older) start image whole left =
         may.either
     by_effect Sync content earlier is each same = subst (IsWhole size) (sym same) is
 
--- The source with these calls kept over it: at the start its content is the only image.
+-- The source with these calls applied over it. At the start its content is the only image.
 abbrev pub overlay_view : (source : SourceView) (calls : List Call) (clock failures : ℕ) → latest calls ≤ clock
     → clock < 2 ^ 64 → View
 overlay_view source calls clock failures is_stamped is_in_range = record {
@@ -109,17 +109,17 @@ overlay_view source calls clock failures is_stamped is_in_range = record {
       (source.whole honest) left;
 }
 
--- the bytes of a block that was found, or others
+-- the bytes of the block that was found, or else these bytes
 abbrev pub bytes_or : Option Block → Sector → Sector
 bytes_or None bytes = bytes
 bytes_or (Some block) bytes = block.bytes
 
--- in whatever image, after these calls the sector has the bytes that were found, or else its own
+-- on any image, after these calls the sector has the bytes that were found, or else the image's own
 pub record IsLastWritten (calls : List Call) (at : ℕ) (found : Option Block) : Type 0 where
   pub over : (image : Image) → at < length image
       → sector_at (content_over (reverse calls) image) at ≡ bytes_or found (sector_at image at)
 
--- a read of the source with these calls kept over it
+-- a read of the source with these calls applied over it
 abbrev pub IsReadThrough : SourceView → List Call → ℕ → Sector → Outcome → Type 0
 IsReadThrough source calls at into result = source.honest
     → OnOk result (into ≡ sector_at (content_over (reverse calls) source.content) at)

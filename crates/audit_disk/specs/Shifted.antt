@@ -1,16 +1,16 @@
--- A device inside one that doesn't pass every call on: the outer clock counts the calls that were missed, too.
+-- A device inside one that doesn't pass on every call. The outer clock counts missed calls too.
 use Rattle.std.specs.Prelude.{◌≡◌, ℕ, ◌+◌, ◌-◌, ◌^◌, ◌<◌, ◌≤◌, min, max}
 use Rattle.std.proofs.Common.{sym, subst, arith}
 use Rattle.audit_disk_model.specs.View.{View}
 
--- The moment of the inner clock: the calls that it missed were made when it stood at that place.
+-- The moment of the inner clock. Missed calls were made when the inner clock stood at `place`.
 abbrev pub inner_moment : ℕ → ℕ → ℕ → ℕ
 inner_moment place missed moment = min moment (max place (moment - missed))
 
 pub inner_moment_now : (place missed clock : ℕ) → place ≤ clock → inner_moment place missed (clock + missed) ≡ clock
 inner_moment_now place missed clock le = omega arith
 
--- the inner device, where it missed some calls at a place of its clock, and some calls failed that it didn't see
+-- the inner device as seen from outside, after it missed some calls at a place of its clock, and some failures
 abbrev pub shifted : (inner : View) (place missed refused : ℕ) → place ≤ inner.clock → inner.clock + missed < 2 ^ 64
     → View
 shifted inner place missed refused in_step fits = record {
@@ -28,6 +28,6 @@ shifted inner place missed refused in_step fits = record {
   whole = λ honest moment image left. inner.whole honest (inner_moment place missed moment) image left;
 }
 
--- a call may be missed here: none was missed before, or no call has passed since
+-- a call may be missed: none was missed before, or no call has passed since
 abbrev pub MayMiss : ℕ → ℕ → ℕ → Type 0
 MayMiss place missed clock = 0 < missed → place ≡ clock

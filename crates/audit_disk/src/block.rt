@@ -3,7 +3,7 @@ ghost use Rattle.audit_base.specs.declared.limits.TheConstants.{SECTOR_SIZE};
 
 use crate::SECTOR_SIZE;
 
-/// What one sector held at some time.
+/// The bytes that one sector held at some time.
 #[derive(Clone, Copy)]
 pub(crate) struct Block {
     pub(crate) bytes: [u8; SECTOR_SIZE],

@@ -1,6 +1,6 @@
 use crate::block::Block;
 
-/// What a call did to the medium.
+/// The effect of a call on the medium.
 #[derive(Clone, Copy)]
 pub(crate) enum Effect {
     Write(usize, Block),

@@ -32,7 +32,7 @@ impl CallLog {
         }
     }
 
-    /// Takes the memory for that many more calls.
+    /// Reserves memory for `calls` more calls.
     pub(crate) fn reserve(&mut self, calls: usize) -> Result<(), AllocError>
         ensures calls { self.new.calls.items ≡ self.old.calls.items }
         ensures clock { self.new.clock ≡ self.old.clock }
@@ -42,7 +42,7 @@ impl CallLog {
         self.calls.reserve(calls)
     }
 
-    /// Notes a call that is about to reach the medium. A refused growth is a failed call.
+    /// Records a call that is about to reach the medium. If the record can't grow, the call fails.
     pub(crate) fn note(&mut self, effect: Effect) -> Result<(), DeviceFault>
         ensures ok { OnOk result (Notes self.old self.new effect) }
         ensures err { OnErr result (RefusesCall self.old self.new) }

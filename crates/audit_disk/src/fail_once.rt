@@ -9,7 +9,7 @@ ghost use Rattle.audit_disk.specs.Passing.{PassesOn};
 use crate::gate::Gate;
 use crate::{DeviceFault, SECTOR_SIZE, Sectors};
 
-/// A device of whose reads, writes and syncs one fails and reaches nothing. The calls before and after it pass.
+/// A device of which one read, write or sync fails and has no effect. The calls before and after it pass.
 #[derive(Drop)]
 pub struct FailOnce<D: Sectors> {
     gate: Gate<D>,
@@ -20,7 +20,7 @@ pub struct FailOnce<D: Sectors> {
 impl<D: Sectors> FailOnce<D> {
     ghost use Rattle.audit_disk.specs.FailOnce.{fail_once_inner, fail_once_view, calls_before};
 
-    /// Wraps a device of which `calls` calls pass, and the next one fails.
+    /// Wraps a device: `calls` calls pass, and the next one fails.
     pub fn new(inner: D, calls: u64) -> Self
         ensures inner { fail_once_inner result ≡ inner }
         ensures unused { IsUnused (D.view inner) (fail_once_view result) }
@@ -32,7 +32,7 @@ impl<D: Sectors> FailOnce<D> {
         }
     }
 
-    /// Returns the device, as it is.
+    /// Returns the device inside, as the calls left it.
     pub fn into_inner(self) -> D
         ensures inner { result ≡ fail_once_inner self }
         ensures alike { LooksLike (fail_once_view self) (D.view result) }

@@ -8,18 +8,18 @@ use crate::read_ahead::{ReadAhead, new_row};
 use crate::{DeviceFault, SECTOR_SIZE, SectorFile, Sectors};
 use std::alloc::{AllocError, Global};
 
-/// A device in a file: sector k stands at the offset k * 512. It is honest where the file's calls are. It reads ahead:
-/// reads that go on where the last one ended read rows of sectors, which every other call drops.
+/// A device in a file: sector k is at offset k * 512. It is honest if the file is. It reads ahead: a read that
+/// continues where the last one ended reads a row of sectors, and any other call drops the row.
 ///
-/// After a sync that failed every call fails, is counted and doesn't reach the file: an operating system may have
-/// dropped what was written, and let the next sync succeed.
+/// After a failed sync every call fails, is counted, and doesn't reach the file: the operating system may have dropped
+/// what was written, and let the next sync succeed.
 #[derive(Drop)]
 pub struct FileDisk<F: SectorFile> {
     file: ReadAhead<F>,
     sectors: u64,
     clock: u64,
     failures: u64,
-    /// The clock after the first sync that failed.
+    /// The clock after the first failed sync.
     failed_at: Option<u64>,
     ghost fits: { SECTOR_SIZE * sectors < 2 ^ 64 },
     ghost sized: { (F.file file.inner).honest → SECTOR_SIZE * sectors ≤ length (F.file file.inner).bytes },
@@ -33,8 +33,8 @@ impl<F: SectorFile> FileDisk<F> {
     ghost use Rattle.audit_disk.specs.FileDisk.{file_disk_view, file_inside, has_stopped};
     ghost use Rattle.audit_disk.specs.FileDisk.{IsOverFile, IsFrontOf, PassesCalls, IsShut};
 
-    /// Makes a device over the first `sectors` sectors of a file that has at least so many. The memory for reading
-    /// ahead, 64 KiB, is taken here.
+    /// Makes a device over the first `sectors` sectors of a file, which must have at least that many. It allocates the
+    /// 64 KiB for reading ahead.
     pub fn over(alloc: Global, file: F, sectors: u64) -> Result<Self, AllocError>
     where
         F: Drop,
@@ -45,7 +45,7 @@ impl<F: SectorFile> FileDisk<F> {
         Ok(FileDisk::with_row(file, sectors, new_row(alloc)?))
     }
 
-    /// The same with memory that was taken before.
+    /// The same, with memory for reading ahead that is already allocated.
     pub(crate) fn with_row(file: F, sectors: u64, row: Vec<[u8; SECTOR_SIZE]>) -> Self
         requires unused { IsUnusedFile (F.file file) sectors }
         requires fits { SECTOR_SIZE * sectors < 2 ^ 64 }
@@ -67,8 +67,8 @@ impl<F: SectorFile> FileDisk<F> {
         self.file.inner
     }
 
-    /// The device of the first `sectors` sectors of the same file. The clock, the failures and the file stay as they
-    /// are, and after a sync that failed every call still fails.
+    /// Returns a device of the first `sectors` sectors of the same file. The clock, the count of failures and the file
+    /// are unchanged, and after a failed sync every call still fails.
     pub fn with_sectors(self, sectors: u64) -> Self
         requires { sectors ≤ (file_disk_view self).size }
         ensures front { IsFrontOf (file_disk_view result) (file_disk_view self) sectors }
@@ -84,14 +84,14 @@ impl<F: SectorFile> FileDisk<F> {
         }
     }
 
-    /// The file, to be looked at.
+    /// Lends the file, read-only.
     pub(crate) fn file(&self) -> &F
         ensures { result.now ≡ file_inside self.now }
     {
         &self.file.inner
     }
 
-    /// Whether a write or a sync would not reach the file.
+    /// Returns whether a write or a sync would not reach the file.
     fn is_shut(&self) -> bool
         ensures shut { IsTrue result → IsShut self.now }
         ensures reaches { IsFalse result → PassesCalls self.now }
@@ -117,8 +117,8 @@ impl<F: SectorFile> Sectors for FileDisk<F> {
         self.clock
     }
 
-    /// Ok gives what the file last gave there, with no write to it since. An error comes after a sync that
-    /// failed, and else only where a call of the file failed.
+    /// Ok returns what the file last returned for this sector, and nothing was written there since. Errors: after a
+    /// failed sync, or if a call of the file failed.
     fn read(&mut self, at: u64, into: &mut [u8; SECTOR_SIZE]) -> Result<(), DeviceFault>
         requires { at < (file_disk_view self.old).size }
         ensures read { IsRead (file_disk_view self.old) (file_disk_view self.new) at into.new result }
@@ -135,7 +135,7 @@ impl<F: SectorFile> Sectors for FileDisk<F> {
         counted(outcome, &mut self.failures)
     }
 
-    /// The file's write at 512 times the sector, with its result, unless a sync has failed or the clock is at its
+    /// Writes to the file at offset 512 * `at` and returns its result, unless a sync has failed or the clock is at its
     /// end.
     fn write(&mut self, at: u64, bytes: &[u8; SECTOR_SIZE]) -> Result<(), DeviceFault>
         requires { at < (file_disk_view self.old).size }
@@ -154,7 +154,7 @@ impl<F: SectorFile> Sectors for FileDisk<F> {
         counted(outcome, &mut self.failures)
     }
 
-    /// The file's sync, with its result, unless a sync has failed or the clock is at its end. After an error
+    /// Syncs the file and returns its result, unless a sync has failed or the clock is at its end. After an error
     /// every call fails.
     fn sync(&mut self) -> Result<(), DeviceFault>
         ensures sync { IsSync (file_disk_view self.old) (file_disk_view self.new) result }

@@ -3,22 +3,22 @@ use std::fs::TryLockError;
 use std::io;
 use thiserror::Error;
 
-/// A file that can't be a device.
+/// Why a file can't be a device.
 #[derive(Clone, Copy, Debug, PartialEq, Eq, Error)]
 pub enum FileFault {
-    /// It couldn't be made, opened, measured or synced.
+    /// Making, opening, measuring or syncing the file failed.
     #[error("the file failed")]
     Io,
-    /// Its length is no multiple of the sector's size, or would be 2^64 bytes or more.
+    /// The length isn't a multiple of the sector size, or would be 2^64 bytes or more.
     #[error("the length is no whole number of sectors")]
     Length,
     /// Memory was refused.
     #[error("out of memory")]
     Memory,
-    /// Another open of it holds the lock.
+    /// Another open of the file holds the lock.
     #[error("the file is in use")]
     InUse,
-    /// It has fewer whole sectors than were asked for: `sectors` of them.
+    /// The file has fewer whole sectors than requested: only `sectors`.
     #[error("the file has {sectors} sectors")]
     TooSmall { sectors: u64 },
 }

@@ -1,7 +1,7 @@
 //! Devices in files of the operating system.
 //!
-//! Each holds a lock on its file from before the first read or write of it until the device is let go: one that may
-//! write holds it alone.
+//! Each device holds a lock on its file from before the first read or write until the device is dropped. A device that
+//! may write holds an exclusive lock.
 ghost use Rattle.std.specs.Prelude.{◌≡◌, ◌≢◌, ◌⊎◌, ◌*◌, ◌/◌, ◌%◌, ◌^◌, ◌<◌, ◌≤◌, ◌↔◌};
 ghost use Rattle.std.specs.Prelude.{IfOk, IfErr, IsErrOf, replicate, length};
 ghost use Rattle.audit_base.specs.declared.limits.TheConstants.{SECTOR_SIZE};
@@ -20,14 +20,13 @@ use std::io;
 use std::os::unix::fs::{FileTypeExt, OpenOptionsExt, PermissionsExt};
 use std::path::Path;
 
-/// The mode of a file that its owner may read and write, and nobody else.
+/// The mode of a file that only its owner may read and write.
 const OWNER_ONLY: u32 = 0o600;
 
 impl<F: SystemFile> FileDisk<OsFile<F>> {
-    /// Makes a file of `sectors` zero sectors and takes the lock on it. From the first moment it is open to nobody but
-    /// its owner (0600), whatever the umask is. A file that is there isn't overwritten: that is a fault. A file that
-    /// can't be locked, given its length or synced is removed again, where the system lets it be. Where memory is
-    /// refused, no file is made.
+    /// Creates a file of `sectors` zero sectors and locks it. From the start only its owner can open it (0600),
+    /// whatever the umask is. An existing file isn't overwritten: that is a fault. A file that can't be locked, given
+    /// its length or synced is removed again, if the system allows it. If memory is refused, no file is made.
     pub fn create<R: Files<File = F>>(
         rt: &R,
         alloc: Global,
@@ -41,8 +40,8 @@ impl<F: SystemFile> FileDisk<OsFile<F>> {
         FileDisk::create_with_mode(rt, alloc, path, sectors, OWNER_ONLY)
     }
 
-    /// The same with the permission bits `mode`, as in `0o640`. The file is made for its owner alone, and then given
-    /// its mode; a mode that can't be set is a fault, and removes it again.
+    /// The same, with the permission bits `mode`, for example `0o640`. The file is created for its owner only, and
+    /// then given its mode. If the mode can't be set, that is a fault and the file is removed.
     pub fn create_with_mode<R: Files<File = F>>(
         rt: &R,
         alloc: Global,
@@ -69,7 +68,7 @@ impl<F: SystemFile> FileDisk<OsFile<F>> {
         Ok(FileDisk::with_row(OsFile::new(file), sectors, row))
     }
 
-    /// Opens a file or a block device as a device. Its length has to be a multiple of 512.
+    /// Opens a file or a block device as a device. Its length must be a multiple of 512.
     pub fn open<R: Files<File = F>>(
         rt: &R,
         alloc: Global,
@@ -80,8 +79,8 @@ impl<F: SystemFile> FileDisk<OsFile<F>> {
         FileDisk::over_whole(alloc, open_alone(rt, path)?)
     }
 
-    /// Opens a file or a block device of at least `sectors` whole sectors as a device of the first `sectors` of them.
-    /// It keeps its length. One with fewer is `TooSmall`.
+    /// Opens a file or a block device of at least `sectors` whole sectors, as a device of the first `sectors` of them.
+    /// Its length isn't changed. If it has fewer sectors the fault is `TooSmall`.
     pub fn open_in_place<R: Files<File = F>>(
         rt: &R,
         alloc: Global,
@@ -95,8 +94,8 @@ impl<F: SystemFile> FileDisk<OsFile<F>> {
         FileDisk::over_front(alloc, open_alone(rt, path)?, sectors)
     }
 
-    /// Opens a file or a block device without the right to write, so each write of the device fails. Other opens that
-    /// only read may be there beside it, and none that may write. A folder or a pipe is a fault, and isn't opened.
+    /// Opens a file or a block device for reading only, so each write of the device fails. Others may have the file
+    /// open for reading at the same time, but not for writing. A directory or a pipe is a fault, and isn't opened.
     pub fn open_read_only<R: Files<File = F>>(
         rt: &R,
         alloc: Global,
@@ -113,14 +112,14 @@ impl<F: SystemFile> FileDisk<OsFile<F>> {
         FileDisk::over_whole(alloc, file)
     }
 
-    /// Which file the device is in, as the open file itself tells it.
+    /// Returns the identity of the device's file, from the metadata of the open file.
     pub fn identity(&self) -> io::Result<FileIdentity> {
         self.file().identity()
     }
 }
 
 impl<F: PositionedFile + Drop> FileDisk<OsFile<F>> {
-    /// Makes a device over all of an open file, whose length has to be a multiple of 512.
+    /// Makes a device over all of an open file, whose length must be a multiple of 512.
     pub fn over_whole(alloc: Global, file: F) -> Result<FileDisk<OsFile<F>>, FileFault>
         requires { IsUncalled (F.positioned file) }
         ensures fresh { IfOk result IsFreshFile }
@@ -135,7 +134,7 @@ impl<F: PositionedFile + Drop> FileDisk<OsFile<F>> {
         Ok(FileDisk::over(alloc, OsFile::new(file), sectors)?)
     }
 
-    /// Makes a device over the first `sectors` sectors of an open file, which has to have so many whole ones.
+    /// Makes a device over the first `sectors` sectors of an open file, which must have that many whole sectors.
     pub fn over_front(
         alloc: Global,
         file: F,
@@ -159,7 +158,7 @@ impl<F: PositionedFile + Drop> FileDisk<OsFile<F>> {
 }
 
 impl FileDisk<MemFile> {
-    /// Makes a device in a file in memory, of `sectors` zero sectors, for tests. It is honest.
+    /// Makes a device of `sectors` zero sectors in a file in memory, for tests. It is honest.
     pub fn in_memory(alloc: Global, sectors: u64) -> Result<FileDisk<MemFile>, AllocError>
         requires { SECTOR_SIZE * sectors < 2 ^ 64 }
 
@@ -171,7 +170,7 @@ impl FileDisk<MemFile> {
     }
 }
 
-/// How many sectors a file of that length has, which has to be a multiple of 512.
+/// Returns how many sectors a file of this length has. The length must be a multiple of 512.
 fn whole_sectors(length: u64) -> Result<u64, FileFault>
     ensures sectors { IfOk result (λ sectors. length ≡ SECTOR_SIZE * sectors) }
     ensures length { IsErrOf result FileFault.Length ↔ (length % SECTOR_SIZE ≢ 0) }
@@ -182,7 +181,7 @@ fn whole_sectors(length: u64) -> Result<u64, FileFault>
     Ok(length / SECTOR_SIZE as u64)
 }
 
-/// Opens what is there to be read and written, and takes the lock on it.
+/// Opens an existing file for reading and writing, and locks it.
 fn open_alone<R: Files<File = F>, F: SystemFile>(rt: &R, path: &str) -> Result<F, FileFault>
     ensures { IfErr result (λ fault. (fault ≡ FileFault.Io) ⊎ (fault ≡ FileFault.InUse)) }
 {
@@ -191,7 +190,7 @@ fn open_alone<R: Files<File = F>, F: SystemFile>(rt: &R, path: &str) -> Result<F
     Ok(file)
 }
 
-/// Takes the lock on a new file, gives it its mode and its length, and puts it and its name on the medium.
+/// Locks a new file, sets its mode and length, and syncs the file and its name.
 fn take_and_lay_out<R: Files<File = F>, F: SystemFile>(
     rt: &R,
     file: &F,
@@ -211,7 +210,7 @@ fn take_and_lay_out<R: Files<File = F>, F: SystemFile>(
     Ok(())
 }
 
-/// Puts the name of a new file on the medium, where its folder can be opened.
+/// Syncs the name of a new file, if its directory can be opened.
 fn sync_folder<R: Files<File = F>, F: OpenFile + Drop>(rt: &R, path: &str) -> io::Result<()> {
     let folder = match Path::new(path).parent() {
         Some(folder) if !folder.as_str().is_empty() => folder,

@@ -7,8 +7,8 @@ ghost use Rattle.audit_disk.specs.Shifted.{shifted, MayMiss};
 use crate::gate::Gate;
 use crate::{DeviceFault, SECTOR_SIZE, Sectors};
 
-/// A device that stops after so many device calls, as at a crash: from then on every call fails, reads too, and
-/// reaches nothing. Device calls are writes and syncs.
+/// A device that stops after a number of device calls (writes and syncs), as at a crash. From then on every call
+/// fails, including reads, and has no effect.
 #[derive(Drop)]
 pub struct Fuse<D: Sectors> {
     gate: Gate<D>,
@@ -20,7 +20,7 @@ pub struct Fuse<D: Sectors> {
 impl<D: Sectors> Fuse<D> {
     ghost use Rattle.audit_disk.specs.Fuse.{fuse_inner, fuse_view, calls_left};
 
-    /// Wraps a device that `calls` writes and syncs reach, and no call after them.
+    /// Wraps a device: `calls` writes and syncs reach it, and no call after them.
     pub fn new(inner: D, calls: u64) -> Self
         ensures inner { fuse_inner result ≡ inner }
         ensures unused { IsUnused (D.view inner) (fuse_view result) }
@@ -32,7 +32,7 @@ impl<D: Sectors> Fuse<D> {
         }
     }
 
-    /// Returns the device, as it is.
+    /// Returns the device inside, as the calls left it.
     pub fn into_inner(self) -> D
         ensures inner { result ≡ fuse_inner self }
         ensures alike { LooksLike (fuse_view self) (D.view result) }

@@ -4,15 +4,15 @@ ghost use Rattle.audit_disk.specs.Passing.{PassesOn};
 
 use crate::{DeviceFault, SECTOR_SIZE, Sectors};
 
-/// A device inside a gate: a call is passed on, or it fails and the device doesn't see it.
+/// A device behind a gate: a call is passed on, or it fails and doesn't reach the device.
 #[derive(Drop)]
 pub(crate) struct Gate<D: Sectors> {
     pub(crate) inner: D,
-    /// The inner clock at which the calls were missed.
+    /// The inner clock when the calls were missed.
     pub(crate) place: u64,
-    /// How many writes and syncs the device didn't see.
+    /// How many writes and syncs didn't reach the device.
     pub(crate) missed: u64,
-    /// How many failures it didn't count.
+    /// How many failures the device didn't count.
     pub(crate) refused: u64,
     ghost in_step: { place ≤ (D.view inner).clock },
     ghost fits: { (D.view inner).clock + missed < 2 ^ 64 },
@@ -34,7 +34,7 @@ impl<D: Sectors> Gate<D> {
         }
     }
 
-    /// The clock, with the calls that were missed.
+    /// The clock, including the missed calls.
     pub(crate) fn calls(&self) -> u64
         ensures { result ≡ (D.view self.now.inner).clock + self.now.missed }
     {
@@ -105,7 +105,7 @@ impl<D: Sectors> Gate<D> {
         self.inner.sync()
     }
 
-    /// Counts a failure that the device doesn't see.
+    /// Counts a failure that doesn't reach the device.
     fn refuse(&mut self) -> DeviceFault
         ensures inner { self.new.inner ≡ self.old.inner }
         ensures place { self.new.place ≡ self.old.place }
@@ -117,7 +117,7 @@ impl<D: Sectors> Gate<D> {
         DeviceFault
     }
 
-    /// Counts a write or a sync that the device doesn't see.
+    /// Counts a write or a sync that doesn't reach the device.
     fn miss(&mut self) -> DeviceFault
         requires { MayShut self.old }
         ensures inner { self.new.inner ≡ self.old.inner }
@@ -132,7 +132,7 @@ impl<D: Sectors> Gate<D> {
         self.refuse()
     }
 
-    /// The device, as it is.
+    /// Returns the device inside, as the calls left it.
     pub(crate) fn into_inner(self) -> D
         ensures { result ≡ self.inner }
     {

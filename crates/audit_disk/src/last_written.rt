@@ -3,7 +3,7 @@ ghost use Rattle.audit_disk.specs.ReadOnly.{IsLastWritten};
 use crate::block::Block;
 use crate::call::{Call, Effect};
 
-/// What these calls wrote last to that sector.
+/// The content that these calls last wrote to the sector.
 pub(crate) fn last_written(calls: &[Call], at: usize) -> Option<Block>
     ensures { IsLastWritten calls.now at result }
 {

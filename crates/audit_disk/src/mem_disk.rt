@@ -9,8 +9,8 @@ use crate::replay::{blocks_of, crashed_blocks, zero_blocks};
 use crate::{DeviceFault, SECTOR_SIZE, SectorSource, Sectors};
 use std::alloc::{AllocError, Global};
 
-/// A device in memory, for tests. It is honest, and keeps a record of its calls, so that any crash can be tried.
-/// A growth that is refused there is a failed call, which reaches nothing.
+/// A device in memory, for tests. It is honest, and records its calls, so that any crash can be tried. If the record
+/// can't grow, the call fails and has no effect.
 #[derive(Drop)]
 pub struct MemDisk {
     start: Vec<Block>,
@@ -37,7 +37,7 @@ impl Sectors for MemDisk {
         self.log.clock
     }
 
-    /// It takes no memory, so it never fails.
+    /// It allocates nothing, so it never fails.
     fn read(&mut self, at: u64, into: &mut [u8; SECTOR_SIZE]) -> Result<(), DeviceFault>
         requires { at < (disk_view self.old).size }
         ensures read { IsRead (disk_view self.old) (disk_view self.new) at into.new result }
@@ -48,7 +48,7 @@ impl Sectors for MemDisk {
         Ok(())
     }
 
-    /// Where the record of its calls can't grow, it fails, and nothing is reached.
+    /// If the record of calls can't grow, it fails and nothing is written.
     fn write(&mut self, at: u64, bytes: &[u8; SECTOR_SIZE]) -> Result<(), DeviceFault>
         requires { at < (disk_view self.old).size }
         ensures write { IsWrite (disk_view self.old) (disk_view self.new) at bytes.now result }
@@ -60,7 +60,7 @@ impl Sectors for MemDisk {
         Ok(())
     }
 
-    /// Where the record of its calls can't grow, it fails, and as much as before is pending.
+    /// If the record of calls can't grow, it fails, and as much is pending as before.
     fn sync(&mut self) -> Result<(), DeviceFault>
         ensures sync { IsSync (disk_view self.old) (disk_view self.new) result }
         ensures held { HoldsSync (disk_held self.old) (disk_held self.new) result }
@@ -70,7 +70,7 @@ impl Sectors for MemDisk {
     }
 }
 
-/// It is only read, as it is now.
+/// As a source its content is fixed, because the reference is shared.
 impl SectorSource for MemDisk {
     ghost use Rattle.std.specs.Prelude.{IsOk};
     ghost use Rattle.audit_disk.specs.MemDisk.{disk_view};
@@ -82,7 +82,7 @@ impl SectorSource for MemDisk {
         self.size()
     }
 
-    /// It takes no memory, so it never fails.
+    /// It allocates nothing, so it never fails.
     fn read_sector(&self, at: u64, into: &mut [u8; SECTOR_SIZE]) -> Result<(), DeviceFault>
         requires { at < (disk_view self.now).size }
         ensures read { IsSourceRead (source_of (disk_view self.now)) at into.new result }
@@ -101,7 +101,7 @@ impl MemDisk {
     ghost use Rattle.audit_disk.specs.Held.{crashed};
     ghost use Rattle.audit_disk.specs.MemDisk.{disk_view, disk_held, IsFresh, HoldsOnly, IsEachPicked};
 
-    /// Makes a device of `sectors` zero sectors, all of them synced.
+    /// Makes a device of `sectors` zero sectors, all synced.
     pub fn new(alloc: Global, sectors: u64) -> Result<MemDisk, AllocError>
         ensures fresh { IfOk result (λ disk. IsFresh (disk_view disk) (replicate sectors (replicate SECTOR_SIZE 0))) }
         ensures held { IfOk result (λ disk. HoldsOnly (disk_held disk) (replicate sectors (replicate SECTOR_SIZE 0))) }
@@ -117,9 +117,10 @@ impl MemDisk {
         MemDisk::with_content(alloc, blocks_of(alloc, sectors)?)
     }
 
-    /// Returns what a crash now may leave, as a device: in sector k its last synced content where `pick[k]` is 0 or
-    /// missing or nothing was written to it since, the p-th content written since where it is p, and the last
-    /// one where p is too large. Every image that a crash may leave is that of some picks.
+    /// Returns, as a device, what a crash now may leave. `pick[k]` selects the content of sector k: 0 (or a missing
+    /// pick) selects its last synced content, and p the p-th content written since. If p is too large it selects the
+    /// last one, or the synced content if nothing was written since. Every image that a crash may leave has picks that
+    /// select it.
     pub fn crash(&self, alloc: Global, pick: &[u64]) -> Result<MemDisk, AllocError>
         ensures device { IfOk result (λ disk. IsFresh (disk_view disk)
             (crashed (disk_held self.now) pick.now)) }

@@ -2,10 +2,10 @@ ghost use Rattle.audit_disk.specs.MemFile.{joined_view};
 
 use crate::{DeviceFault, MemDisk, SECTOR_SIZE, SectorFile, Sectors};
 
-/// A file in memory, for tests: the sectors of a `MemDisk`, one after the other. It is honest.
+/// A file in memory, for tests: the concatenated sectors of a `MemDisk`. It is honest.
 #[derive(Drop)]
 pub struct MemFile {
-    /// The device whose sectors are the bytes.
+    /// The device whose sectors are the file's bytes.
     pub disk: MemDisk,
 }
 

@@ -7,7 +7,7 @@ use crate::counting::counted;
 use crate::{DeviceFault, FileIdentity, PositionedFile, SECTOR_SIZE, SectorFile, SystemFile};
 use std::{io, slice};
 
-/// An open file whose calls that fail are counted. It is honest where the file below is.
+/// An open file whose failed calls are counted. It is honest if the file below is.
 #[derive(Drop)]
 pub struct OsFile<F> {
     file: F,
@@ -17,7 +17,7 @@ pub struct OsFile<F> {
 impl<F: PositionedFile> OsFile<F> {
     ghost use Rattle.audit_disk.specs.OsFile.{file_below};
 
-    /// The file, of which no call has failed.
+    /// Wraps a file, with no failed calls so far.
     pub fn new(file: F) -> Self
         ensures failures { result.failures ≡ 0 }
         ensures file { file_below result ≡ file }
@@ -27,7 +27,7 @@ impl<F: PositionedFile> OsFile<F> {
 }
 
 impl<F: SystemFile> OsFile<F> {
-    /// Which file it is.
+    /// Returns the identity of the file.
     pub(crate) fn identity(&self) -> io::Result<FileIdentity> {
         Ok(FileIdentity::of(&self.file.metadata()?))
     }
@@ -57,7 +57,7 @@ impl<F: PositionedFile> SectorFile for OsFile<F> {
     }
 }
 
-/// Counts a call that failed, and returns its result without the cause.
+/// Counts a failed call, and returns its result without the cause.
 fn counted_call(outcome: io::Result<()>, failures: &mut u64) -> Result<(), DeviceFault>
     ensures result { AnswersAlike outcome result }
     ensures counts { CountsFailure failures.old failures.new outcome }

@@ -6,28 +6,28 @@ ghost use Rattle.audit_disk.specs.Positioned.{IsPositionedRead, IsPositionedWrit
 use crate::SECTOR_SIZE;
 use std::io;
 
-/// The calls of an open file that a device is built on, as a system has them: sectors at an offset in bytes, a sync,
-/// and the length.
+/// The calls of an open file that a device needs, as operating systems have them: reading and writing sectors at a
+/// byte offset, syncing, and the length.
 pub trait PositionedFile {
     /// Everything that is known of the file.
     ghost positioned: { Self → PositionedView };
 
-    /// Reads sectors that stand one after the other from that offset on: all of them, or it is an error.
+    /// Reads consecutive sectors that start at `offset`. It is an error if not all of them can be read.
     fn read_exact_at(&mut self, into: &mut [[u8; SECTOR_SIZE]], offset: u64) -> io::Result<()>
         requires { IsRowOffset (counted_file (positioned self.old) 0) offset (length into.old) }
         ensures { IsPositionedRead (positioned self.old) (positioned self.new)
             offset (length into.old) into.new result };
 
-    /// Writes the bytes of one sector at that offset.
+    /// Writes one sector at `offset`.
     fn write_all_at(&mut self, bytes: &[u8; SECTOR_SIZE], offset: u64) -> io::Result<()>
         requires { IsSectorOffset (counted_file (positioned self.old) 0) offset }
         ensures { IsPositionedWrite (positioned self.old) (positioned self.new) offset bytes.now result };
 
-    /// Puts on the medium what was written.
+    /// Flushes to the medium what was written.
     fn sync_data(&mut self) -> io::Result<()>
         ensures { IsPositionedSync (positioned self.old) (positioned self.new) result };
 
-    /// How many bytes it has.
+    /// Returns the length in bytes.
     fn length(&mut self) -> io::Result<u64>
         ensures { IsMeasured (positioned self.old) (positioned self.new) result };
 }

@@ -1,4 +1,4 @@
-//! A file in memory by its calls at offsets: there are honest ones.
+//! A file in memory as a `PositionedFile`, which shows that honest ones exist.
 ghost use Rattle.audit_disk.specs.MemFileView.{mem_file_view};
 ghost use Rattle.audit_disk.specs.OsFile.{AnswersAlike};
 ghost use Rattle.audit_disk.specs.Positioned.{uncounted};
@@ -29,7 +29,7 @@ impl PositionedFile for MemFile {
     }
 }
 
-/// The result as a system gives it.
+/// Converts a result to the system's type.
 fn as_system(outcome: Result<(), DeviceFault>) -> io::Result<()>
     ensures { AnswersAlike outcome result }
 {

@@ -3,16 +3,16 @@ ghost use Rattle.audit_disk.specs.Held.{settled};
 
 use crate::block::Block;
 
-/// How far a sector has come in the calls that a crash replays.
+/// The state of one sector while the calls before a crash are replayed.
 #[derive(Clone, Copy)]
 pub(crate) struct Progress {
-    /// What was written last.
+    /// The last content written.
     pub(crate) newest: Block,
-    /// What the crash leaves, if it comes now.
+    /// What a crash at this point leaves.
     pub(crate) landed: Block,
     /// Which content since the last sync the crash is to leave.
     pub(crate) pick: u64,
-    /// How many contents are missing up to that one.
+    /// How many more writes there are until that content.
     pub(crate) left: u64,
 }
 

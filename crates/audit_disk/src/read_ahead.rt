@@ -6,30 +6,30 @@ ghost use Rattle.audit_disk.specs.File.{HasRow, HasRow-prop, IsRowOffset, OnlyFi
 use crate::{DeviceFault, SECTOR_SIZE, SectorFile};
 use std::alloc::{AllocError, Global};
 
-/// How many sectors are read at once, at most: 64 KiB.
+/// The most sectors read at once: 64 KiB.
 const ROW_SECTORS: usize = 128;
 
-/// The memory for the sectors that are read ahead.
+/// Allocates the row for sectors that are read ahead.
 pub(crate) fn new_row(alloc: Global) -> Result<Vec<[u8; SECTOR_SIZE]>, AllocError> {
     Ok(vec![in alloc; [0; SECTOR_SIZE]; ROW_SECTORS]?)
 }
 
-/// Where rows may begin. The sectors before it are those of a store's headers, which have its key: they are read alone
-/// each time, so that no key stays in the row.
+/// Where rows may begin. The sectors before this are a store's headers, which contain its key. They are always read
+/// one by one, so that no key remains in the row.
 const ROWS_FROM: u64 = 2 * SECTOR_SIZE as u64;
 
-/// A file of which a read that goes on where the last one ended reads a row of sectors at once: two, and then each time
-/// twice as many. What it holds is what the file gave; every write, every sync and every read elsewhere drops it. The
-/// first two sectors are in no row.
+/// A file that is read ahead. A read that continues where the last one ended reads a row of sectors at once: two at
+/// first, then twice as many each time. The row holds what the file returned. Every write, every sync and every read
+/// elsewhere drops it. The first two sectors are never in a row.
 #[derive(Drop)]
 pub(crate) struct ReadAhead<F: SectorFile> {
     pub(crate) inner: F,
     row: Vec<[u8; SECTOR_SIZE]>,
-    /// Where in the file the row begins.
+    /// The file offset of the row.
     start: u64,
-    /// How many sectors of the row were read.
+    /// How many sectors of the row are valid.
     held: usize,
-    /// Where the last read ended.
+    /// The file offset where the last read ended.
     next: u64,
     ghost aligned: { start % SECTOR_SIZE ≡ 0 },
     ghost after_headers: { ROWS_FROM ≤ start },
@@ -42,7 +42,7 @@ impl<F: SectorFile> ReadAhead<F> {
     ghost use Rattle.audit_disk.specs.File.{IsSectorOffset, IsReadThrough, IsFileWrite, IsFileSync};
     ghost use Rattle.audit_disk.specs.ReadAhead.{StandsAt};
 
-    /// The file, of which nothing was read.
+    /// Wraps a file of which nothing has been read.
     pub(crate) fn new(inner: F, row: Vec<[u8; SECTOR_SIZE]>) -> Self
         ensures { result.inner ≡ inner }
     {
@@ -55,8 +55,8 @@ impl<F: SectorFile> ReadAhead<F> {
         }
     }
 
-    /// Reads the sector at that offset, where so many stand from there on. After a fault the bytes in `into` are not
-    /// specified.
+    /// Reads the sector at `offset`, which is followed by the file's remaining sectors: `sectors` in all. After a
+    /// fault the contents of `into` are unspecified.
     pub(crate) fn read_at(
         &mut self,
         offset: u64,
@@ -83,7 +83,7 @@ impl<F: SectorFile> ReadAhead<F> {
         }
     }
 
-    /// Where in the row the sector at that offset stands, if it was read.
+    /// The index in the row of the sector at `offset`, if the row has it.
     fn place_of(&self, offset: u64) -> Option<usize>
         requires { offset % SECTOR_SIZE ≡ 0 }
         ensures { IfSome result (λ place. StandsAt self.now.start self.now.held offset place) }
@@ -96,7 +96,7 @@ impl<F: SectorFile> ReadAhead<F> {
         }
     }
 
-    /// Reads the next row, where the file has so many sectors from that offset on.
+    /// Reads the next row. The file has `sectors` sectors from `offset` on.
     fn fill(&mut self, offset: u64, sectors: u64)
         requires row { IsRowOffset (F.file self.old.inner) offset sectors }
         requires after_headers { ROWS_FROM ≤ offset }
@@ -108,7 +108,7 @@ impl<F: SectorFile> ReadAhead<F> {
         self.held = read_front(&mut self.inner, offset, &mut self.row, count);
     }
 
-    /// Writes one sector.
+    /// Drops the row and writes one sector.
     pub(crate) fn write_at(
         &mut self,
         offset: u64,
@@ -121,7 +121,7 @@ impl<F: SectorFile> ReadAhead<F> {
         self.inner.write_at(offset, bytes)
     }
 
-    /// Puts on the medium what was written.
+    /// Drops the row and syncs.
     pub(crate) fn sync(&mut self) -> Result<(), DeviceFault>
         ensures { IsFileSync (F.file self.old.inner) (F.file self.new.inner) result }
     {
@@ -130,8 +130,8 @@ impl<F: SectorFile> ReadAhead<F> {
     }
 }
 
-/// Reads so many sectors from that offset on into the front of the row, and gives how many of them it has then: a read
-/// that fails gives none, and its sectors are to be read one by one.
+/// Reads `count` sectors from `offset` on into the start of the row, and returns how many the row then holds. A failed
+/// read yields none: its sectors must be read one by one.
 fn read_front<F: SectorFile>(
     file: &mut F,
     offset: u64,

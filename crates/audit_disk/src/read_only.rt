@@ -10,12 +10,12 @@ use crate::last_written::last_written;
 use crate::{DeviceFault, SECTOR_SIZE, SectorSource, Sectors};
 use std::alloc::{AllocError, Global};
 
-/// A device over sectors that are only read. Reads give what was written last, or else what the source has; writes
-/// and syncs are kept in memory and never reach the source. So the source can be looked at as if it were repaired.
+/// A device over a source that is only read. Writes and syncs are kept in memory and never reach the source; reads
+/// return what was last written, or else the source's content. So a source can be inspected as if it were repaired.
 ///
-/// It is honest where the source is: at the start its content is the source's, with nothing pending. Like any device
-/// it counts its writes and syncs, and the calls that failed. A write or a sync for which memory is refused fails and
-/// is not kept.
+/// It is honest if the source is: at the start it has the source's content, with nothing pending. Like any device it
+/// counts its writes, its syncs and the calls that failed. If memory for a write or a sync is refused, the call fails
+/// and isn't kept.
 #[derive(Drop)]
 pub struct ReadOnly<'a, S: SectorSource> {
     source: &'a S,
@@ -27,7 +27,7 @@ impl<'a, S: SectorSource> ReadOnly<'a, S> {
     ghost use Rattle.audit_disk_model.specs.Moments.{IsUnused};
     ghost use Rattle.audit_disk.specs.ReadOnlyView.{read_only_view, source_under, spare_calls, IsFreshOver};
 
-    /// Makes a device over a source. It takes no memory.
+    /// Makes a device over a source. It allocates nothing.
     pub fn over(alloc: Global, source: &'a S) -> Self
         ensures source { source_under result ≡ source.now }
         ensures fresh { IsFreshOver (S.source source.now) (read_only_view S.source result) }
@@ -38,8 +38,8 @@ impl<'a, S: SectorSource> ReadOnly<'a, S> {
         }
     }
 
-    /// Takes the memory for that many more writes and syncs, which then are kept without asking for any. Nothing else
-    /// changes, after an error either.
+    /// Reserves memory for `calls` more writes and syncs, so that they can be kept without allocating. Nothing else
+    /// changes, even after an error.
     pub fn reserve(&mut self, calls: usize) -> Result<(), AllocError>
         ensures spare { OnOk result (calls ≤ spare_calls self.new) }
         ensures source { source_under self.new ≡ source_under self.old }
@@ -67,7 +67,7 @@ impl<S: SectorSource> Sectors for ReadOnly<'_, S> {
         self.log.clock
     }
 
-    /// It fails only where a read of the source does.
+    /// It fails only if a read of the source fails.
     fn read(&mut self, at: u64, into: &mut [u8; SECTOR_SIZE]) -> Result<(), DeviceFault>
         requires { at < (read_only_view S.source self.old).size }
         ensures read { IsRead (read_only_view S.source self.old) (read_only_view S.source self.new) at into.new result }
@@ -76,7 +76,7 @@ impl<S: SectorSource> Sectors for ReadOnly<'_, S> {
         read_through(self.source, &mut self.log, at, into)
     }
 
-    /// It fails only where memory is refused, or at the end of the clock.
+    /// It fails only if memory is refused, or at the end of the clock.
     fn write(&mut self, at: u64, bytes: &[u8; SECTOR_SIZE]) -> Result<(), DeviceFault>
         requires { at < (read_only_view S.source self.old).size }
         ensures write { IsWrite (read_only_view S.source self.old)
@@ -88,7 +88,7 @@ impl<S: SectorSource> Sectors for ReadOnly<'_, S> {
         self.log.note(Effect::Write(at as usize, block))
     }
 
-    /// It fails only where memory is refused, or at the end of the clock.
+    /// It fails only if memory is refused, or at the end of the clock.
     fn sync(&mut self) -> Result<(), DeviceFault>
         ensures sync { IsSync (read_only_view S.source self.old) (read_only_view S.source self.new) result }
         ensures room { 0 < spare_calls self.old → (read_only_view S.source self.old).clock < last_count → IsOk result }
@@ -98,7 +98,7 @@ impl<S: SectorSource> Sectors for ReadOnly<'_, S> {
     }
 }
 
-// Reads what these calls wrote last to that sector, or else what the source has. A failed read is counted.
+// Reads what these calls last wrote to the sector, or else the source's content. A failed read is counted.
 fn read_through<S: SectorSource>(
     source: &S,
     log: &mut CallLog,

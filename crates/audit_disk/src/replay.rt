@@ -1,4 +1,4 @@
-//! What a crash leaves, from the calls that were made.
+//! Computes what a crash leaves from the calls made before it.
 ghost use Rattle.std.specs.Prelude.{◌≡◌, ◌≤◌, IfOk, length, map, replicate, take};
 ghost use Rattle.audit_disk.specs.Held.{settled, bytes_of_blocks, crashed};
 ghost use Rattle.audit_disk.specs.Memory.{after_calls};
@@ -54,7 +54,7 @@ fn progress_at(alloc: Global, start: &[Block], pick: &[u64]) -> Result<Vec<Progr
     Ok(progress)
 }
 
-/// Applies a call to each sector that it reaches.
+/// Applies a call to the sectors that it affects.
 fn apply(progress: &mut [Progress], call: &Call)
     ensures { progress.new ≡ after_effect call.now.effect progress.old }
 {
@@ -79,7 +79,7 @@ fn landed_blocks(alloc: Global, progress: &[Progress]) -> Result<Vec<Block>, All
     progress.iter().map(|sector| sector.landed).collect(alloc)
 }
 
-/// What a crash leaves by these picks, after these calls on synced sectors, each of them replayed.
+/// What a crash with these picks leaves after these calls on synced sectors, by replaying every call.
 fn replayed_blocks(
     alloc: Global,
     start: &[Block],
@@ -96,7 +96,7 @@ fn replayed_blocks(
     landed_blocks(alloc, &progress)
 }
 
-/// How many calls there are up to the last sync.
+/// How many calls there are up to and including the last sync.
 fn synced_calls(calls: &[Call]) -> usize
     ensures within { result ≤ length calls.now }
     ensures synced { EndSynced (take result calls.now) }
@@ -110,7 +110,7 @@ fn synced_calls(calls: &[Call]) -> usize
     synced
 }
 
-/// Sets the content that a call writes.
+/// Applies a call's write to the content.
 fn put(blocks: &mut [Block], call: &Call)
     ensures { blocks.new ≡ content_after call.now.effect blocks.old }
 {
@@ -137,8 +137,8 @@ fn content_of_calls(
     Ok(blocks)
 }
 
-/// What a crash leaves by these picks, after these calls on synced sectors. Up to the last sync the content alone
-/// counts, so the calls from there on are replayed.
+/// What a crash with these picks leaves after these calls on synced sectors. Before the last sync only the content
+/// matters, so only the calls after it are replayed with picks.
 pub(crate) fn crashed_blocks(
     alloc: Global,
     start: &[Block],

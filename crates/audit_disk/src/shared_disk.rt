@@ -4,8 +4,8 @@ ghost use Rattle.audit_disk.specs.SectorSource.{unknown_source};
 use crate::{DeviceFault, SECTOR_SIZE, SectorSource, Sectors};
 use std::cell::RefCell;
 
-/// A device that is read by shared references, and never written. No contract knows what its sectors are, since it is
-/// behind a cell.
+/// A device that is read through shared references and never written. Contracts know nothing of its sectors, because
+/// it is in a cell.
 #[derive(Drop)]
 pub struct SharedDisk<D> {
     disk: RefCell<D>,
@@ -14,7 +14,7 @@ pub struct SharedDisk<D> {
 }
 
 impl<D: Sectors> SharedDisk<D> {
-    /// The device, of which only reads will be asked from now on.
+    /// Wraps a device, of which only reads are used from now on.
     pub fn new(disk: D) -> SharedDisk<D> {
         let sectors = disk.size();
         SharedDisk {
@@ -25,7 +25,7 @@ impl<D: Sectors> SharedDisk<D> {
 }
 
 impl<D> SharedDisk<D> {
-    /// The device, for somebody who has it alone.
+    /// Lends the device to a caller with exclusive access.
     pub fn get_mut(&mut self) -> &mut D {
         self.disk.get_mut()
     }
@@ -46,7 +46,7 @@ impl<D: Sectors> SectorSource for SharedDisk<D> {
     }
 }
 
-// A read of a sector that may not be there.
+// Reads a sector, or fails if there is no such sector.
 fn read_within<D: Sectors>(
     disk: &mut D,
     at: u64,

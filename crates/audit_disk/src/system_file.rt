@@ -6,19 +6,19 @@ use std::fs::{File, OpenFile, TryLockError};
 use std::io::{self, Seek, SeekFrom};
 use std::os::unix::fs::FileExt;
 
-/// An open file of the operating system, or a type of a program's own that passes each call on to one. No contract
-/// knows what its bytes are, so it isn't proved to be honest.
+/// An open file of the operating system, or a program's own type that passes each call on to one. Contracts know
+/// nothing of its bytes, so it can't be proved honest.
 pub trait SystemFile: PositionedFile + OpenFile + Drop {
-    /// Takes the lock that one open of the file at a time has. It is held until the file is let go.
+    /// Takes the exclusive lock, which only one open of the file can hold. It is held until the file is dropped.
     fn try_lock(&self) -> Result<(), TryLockError>;
 
-    /// Takes the lock that any number of opens of the file have while none has the other one.
+    /// Takes the shared lock, which any number of opens can hold while none holds the exclusive one.
     fn try_lock_shared(&self) -> Result<(), TryLockError>;
 
     ghost unknown: { (it : Self) → (Self.positioned it).honest → ⊥ };
 }
 
-// A block device has its length at its end alone: its metadata say 0.
+// A block device's length is found by seeking to its end: its metadata say 0.
 impl PositionedFile for File {
     ghost positioned = { λ _. unknown_positioned };
 

@@ -1,4 +1,4 @@
--- What the calls of a device do to it.
+-- The effects of a device's calls.
 use Rattle.std.specs.Prelude.{◌≡◌, ◌⊎◌, ℕ, ◌+◌, ◌<◌, ◌≤◌, min, Result, OnOk, OnErr, IsErr, MatchResult}
 use Rattle.audit_disk_model.specs.Image.{Sector, Image, sector_at, with_sector}
 use Rattle.audit_disk_model.specs.View.{View, last_count}
@@ -7,26 +7,26 @@ use Rattle.audit_disk_model.specs.declared.fault.DeviceFault.{DeviceFault}
 abbrev pub Outcome : Type 0
 Outcome = Result (Unit {0}) DeviceFault
 
--- Some calls were made: what every call keeps, whatever it answers and whatever the device.
+-- Some calls were made: what every call preserves, on every device and with any result.
 pub record Continues (old new : View) : Type 0 where
   pub size : new.size ≡ old.size
   pub clock : old.clock ≤ new.clock
   pub failures : old.failures ≤ new.failures
   pub honest : old.honest → new.honest
   pub was_honest : new.honest → old.honest
-  -- each moment so far keeps its images, and gets no other
+  -- past moments keep their images and gain no other
   pub kept : (moment : ℕ) (image : Image) → moment ≤ old.clock → old.left_at moment image → new.left_at moment image
   pub no_other : (moment : ℕ) (image : Image) → moment ≤ old.clock → new.left_at moment image → old.left_at moment image
 
--- the count of failures rose, or stands at its end
+-- the count of failures rose, or is at its maximum
 abbrev pub HasRisen : ℕ → ℕ → Type 0
 HasRisen old new = min (old + 1) last_count ≤ new
 
--- an error is a failure that was counted, and a success is none
+-- an error is counted as a failure, and a success isn't
 abbrev pub CountsFailure : {T E : Type 0} → ℕ → ℕ → Result T E → Type 0
 CountsFailure old new result = MatchResult result (λ _. new ≡ old) (λ _. HasRisen old new)
 
--- the clock counts one call more, up to its end, where it stays
+-- the clock counts one more call, up to its maximum, where it stays
 pub record Ticks (old new : ℕ) : Type 0 where
   pub before_end : old < last_count → new ≡ old + 1
   pub at_end : last_count ≤ old → new ≡ old
@@ -38,13 +38,13 @@ pub record IsRead (old new : View) (at : ℕ) (into : Sector) (result : Outcome)
   pub content : old.honest → new.content ≡ old.content
   pub bytes : old.honest → OnOk result (into ≡ sector_at old.content at)
 
--- the image is one that was possible before, with that sector written
+-- the image was possible before, except that this sector has been written
 pub record IsWritten (left : Image → Type 0) (at : ℕ) (bytes : Sector) (image : Image) : Type 0 where
   pub before : Image
   pub was_left : left before
   pub is : image ≡ with_sector before at bytes
 
--- an image that was possible before, or such an image with that sector written
+-- an image that was possible before, or one with this sector written
 pub record MayBeWritten (left : Image → Type 0) (at : ℕ) (bytes : Sector) (image : Image) : Type 0 where
   pub either : left image ⊎ IsWritten left at bytes image
 
@@ -61,7 +61,7 @@ pub record IsWrite (old new : View) (at : ℕ) (bytes : Sector) (result : Outcom
   pub unwritten : old.honest → (image : Image) → old.left_at old.clock image → new.left_at new.clock image
   pub written : old.honest
       → OnOk result ((image : Image) → old.left_at old.clock image → new.left_at new.clock (with_sector image at bytes))
-  -- at the end of the clock it reaches nothing
+  -- at the end of the clock nothing is written
   pub at_end : last_count ≤ old.clock → IsErr result
   pub at_end_same : last_count ≤ old.clock → old.honest → new.content ≡ old.content
 
@@ -70,9 +70,9 @@ pub record IsSync (old new : View) (result : Outcome) : Type 0 where
   pub clock : Ticks old.clock new.clock
   pub failures : CountsFailure old.failures new.failures result
   pub content : old.honest → new.content ≡ old.content
-  -- its content is the only image
+  -- the content is the only image
   pub only : old.honest → OnOk result ((image : Image) → new.left_at new.clock image → image ≡ old.content)
-  -- a sync that failed leaves the images
+  -- a failed sync leaves the same images
   pub no_other : old.honest → OnErr result ((image : Image) → new.left_at new.clock image → old.left_at old.clock image)
   pub kept : old.honest → OnErr result ((image : Image) → old.left_at old.clock image → new.left_at new.clock image)
   pub at_end : last_count ≤ old.clock → IsErr result

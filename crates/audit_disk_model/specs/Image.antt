@@ -1,4 +1,4 @@
--- What a device holds: a list of sectors.
+-- The contents of a device: a list of sectors.
 use Rattle.std.specs.Prelude.{◌≡◌, ℕ, ◌+◌, ◌<◌, ◌≤◌, List, ◌++◌, length, take, drop, slice_index_or, slice_set, []}
 use Rattle.audit_base.specs.declared.limits.TheConstants.{SECTOR_SIZE}
 
@@ -6,7 +6,7 @@ use Rattle.audit_base.specs.declared.limits.TheConstants.{SECTOR_SIZE}
 abbrev pub Sector : Type 0
 Sector = List ℕ
 
--- the sectors of a device, the first of them first
+-- the sectors of a device in order
 abbrev pub Image : Type 0
 Image = List Sector
 
@@ -14,20 +14,20 @@ Image = List Sector
 abbrev pub sector_at : Image → ℕ → Sector
 sector_at image at = slice_index_or image at []
 
--- the image with other bytes in one sector
+-- the image with one sector replaced
 abbrev pub with_sector : Image → ℕ → Sector → Image
 with_sector image at bytes = slice_set image at bytes
 
--- the image with other sectors in a row, from that number on
+-- the image with consecutive sectors replaced, from number `at` on
 abbrev pub with_sectors : Image → ℕ → List Sector → Image
 with_sectors image at sectors = take at image ++ sectors ++ drop (at + length sectors) image
 
--- as many sectors as the device has, each of them whole
+-- the image has as many sectors as the device, each of full length
 pub record IsWhole (size : ℕ) (image : Image) : Type 0 where
   pub sectors : length image ≡ size
   pub each : (at : ℕ) → at < size → length (sector_at image at) ≡ SECTOR_SIZE
 
--- the images are alike, but for some sectors in a row
+-- the images are equal except in `count` sectors from `at` on
 pub record DiffersOnlyIn (at count : ℕ) (old new : Image) : Type 0 where
   pub sectors : length new ≡ length old
   pub before : (other : ℕ) → other < at → sector_at new other ≡ sector_at old other

@@ -1,6 +1,6 @@
 use thiserror::Error;
 
-/// A call of a device failed. What a crash now may leave is said by the call's contract.
+/// A call of a device failed. The call's contract states what a crash may then leave.
 #[derive(Clone, Copy, Debug, PartialEq, Eq, Error)]
 #[error("the device failed")]
 pub struct DeviceFault;

@@ -6,8 +6,9 @@ ghost use Rattle.audit_disk_model.specs.Window.{DiffersFromNow, ChangesOnly, Wri
 
 use crate::Sectors;
 
-/// Sectors written after sectors are one row, and no sectors are its unit; what only the first and then only
-/// the second of two neighbouring rows change, both change. The function does nothing: its contract is the law.
+/// Adjacent runs of written sectors make one run, and an empty run changes nothing. If two calls in a row change only
+/// a range of sectors and a part of it, both together change only that range. The function does nothing: its contract
+/// is the law.
 pub fn rows_join<D: Sectors>()
     ensures image { (image : Image) (at : ℕ) (one two : List Sector) → at + length one ≤ length image
         → with_sectors (with_sectors image at one) (at + length one) two ≡ with_sectors image at (one ++ two) }
@@ -21,10 +22,10 @@ pub fn rows_join<D: Sectors>()
         → at ≤ place → place + some ≤ at + count → ChangesOnly (D.view old) (D.view new) at count }
 {}
 
-/// What holds at each moment of some calls and of the next ones holds at each moment of all; windows in a row are
-/// one window; of a settled device a window is said of its content; what holds at each moment of calls holds of
-/// the content after them, and of the content after a crash; and what is said only where a device is honest is
-/// said at all. The function does nothing: its contract is the law.
+/// What holds at each moment of some calls and of the calls after them holds at each moment of both. Windows in a row
+/// combine into one. For a settled device, a window can be stated against its content. What holds at each moment of
+/// calls holds of the content after them, and of the content after a crash. Such a claim may be proved under the
+/// assumption that the device is honest. The function does nothing: its contract is the law.
 pub fn moments_join<D: Sectors, C: Sectors>()
     ensures calls { (old mid new : D) (p : Image → Bool)
         → AtEachMoment (D.view old) (D.view mid) (λ image. IsTrue (p image))

@@ -5,8 +5,8 @@ ghost use Rattle.audit_disk_model.specs.Window.{WritesRow, IsBeforeOrPublished, 
 
 use crate::{DeviceFault, SECTOR_SIZE, Sectors};
 
-/// Writes sectors in a row, from number `at` on, by one call each. Nothing is synced. After a fault some of them
-/// may be written, by at most as many calls.
+/// Writes consecutive sectors, starting with number `at`, one call each. Nothing is synced. After a fault some of them
+/// may be written, and at most one call was made for each.
 pub fn write_sectors<D: Sectors>(
     disk: &mut D,
     at: u64,
@@ -22,8 +22,8 @@ pub fn write_sectors<D: Sectors>(
     Ok(())
 }
 
-/// Writes a window of sectors, syncs, writes one sector that marks it, and syncs. A crash at any moment leaves
-/// what was there, but for the window, or the window with its mark.
+/// Writes a window of sectors and syncs, then writes one sector that marks it and syncs. A crash at any moment leaves
+/// the old content except for the window, or the window with its mark.
 pub fn publish<D: Sectors>(
     disk: &mut D,
     at: u64,

@@ -14,7 +14,7 @@ short_key key = if nat_lt block_len (length key) then sha256 key else key
 abbrev pub key_block : List ℕ → List ℕ
 key_block key = short_key key ++ replicate (block_len - length (short_key key)) 0
 
--- each byte of the key's block with a byte of padding, by exclusive or
+-- each byte of the key's block, xored with a padding byte
 abbrev pub masked_key : List ℕ → ℕ → List ℕ
 masked_key key pad = map (λ byte. bit_xor byte pad) (key_block key)
 

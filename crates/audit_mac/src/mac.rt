@@ -6,10 +6,10 @@ ghost use Rattle.audit_mac.specs.Hmac.{hmac, key_block};
 use audit_base::HASH_LEN;
 use sha2::{Digest, Sha256};
 
-/// The length of a block of SHA-256 in bytes, to which HMAC pads its key.
+/// The block length of SHA-256 in bytes, to which HMAC pads its key.
 pub const BLOCK_LEN: usize = 64;
 
-/// The length of an HMAC-SHA-256 in bytes: that of a digest.
+/// The length of an HMAC-SHA-256 in bytes, the same as a digest's.
 pub const MAC_LEN: usize = HASH_LEN;
 
 // The bytes ipad and opad of RFC 2104, section 2.
@@ -17,8 +17,8 @@ const INNER_PAD: u8 = 0x36;
 
 const OUTER_PAD: u8 = 0x5c;
 
-/// An HMAC-SHA-256 (RFC 2104) in the making: a key of any length, and the text so far, which comes in
-/// pieces of any length. No call fails or takes memory.
+/// An incremental HMAC-SHA-256 (RFC 2104). The key may have any length, and the text arrives in pieces of any length.
+/// No call fails or allocates.
 #[derive(Drop)]
 pub struct Mac {
     inner: Sha256,
@@ -28,7 +28,7 @@ pub struct Mac {
 impl Mac {
     ghost use Rattle.audit_mac.specs.Taking.{HasTaken};
 
-    /// Begins an HMAC under `key`, with no text so far.
+    /// Starts an HMAC under `key` with an empty text.
     pub fn new(key: &[u8]) -> Self
         ensures { HasTaken result key.now [] }
     {
@@ -39,14 +39,14 @@ impl Mac {
         }
     }
 
-    /// Adds a piece at the end of the text.
+    /// Appends a piece to the text.
     pub fn update(&mut self, piece: &[u8])
         ensures { (key text : List ℕ) → HasTaken self.old key text → HasTaken self.new key (text ++ piece.now) }
     {
         self.inner.update(piece);
     }
 
-    /// Returns the HMAC-SHA-256 of all text so far, in 32 bytes.
+    /// Returns the HMAC-SHA-256 of the whole text, in 32 bytes.
     pub fn finish(self) -> [u8; MAC_LEN]
         ensures { (key text : List ℕ) → HasTaken self key text → result ≡ hmac key text }
     {
@@ -57,8 +57,8 @@ impl Mac {
     }
 }
 
-/// Returns the HMAC-SHA-256 (RFC 2104) of a text under a key of any length, in 32 bytes. It never fails and
-/// takes no memory.
+/// Returns the HMAC-SHA-256 (RFC 2104) of a text under a key of any length, in 32 bytes. It never fails and allocates
+/// nothing.
 #[tactic(auto, unfolding(crate::specs::Hmac::hmac))]
 pub fn hmac_sha256(key: &[u8], text: &[u8]) -> [u8; MAC_LEN]
     ensures { result ≡ hmac key.now text.now }
@@ -68,7 +68,7 @@ pub fn hmac_sha256(key: &[u8], text: &[u8]) -> [u8; MAC_LEN]
     digest_after(&masked(&block, OUTER_PAD), &inner)
 }
 
-// The SHA-256 of a block and then a text.
+// The SHA-256 of a block followed by a text.
 fn digest_after(block: &[u8; BLOCK_LEN], text: &[u8]) -> [u8; HASH_LEN]
     ensures { result ≡ sha256 (block.now ++ text.now) }
 {
@@ -77,7 +77,7 @@ fn digest_after(block: &[u8; BLOCK_LEN], text: &[u8]) -> [u8; HASH_LEN]
     hasher.finalize()
 }
 
-// The key as one block: its digest where it is longer, and then zeros.
+// The key as one block: a key longer than a block is replaced by its digest, and the rest is zeros.
 fn padded_key(key: &[u8]) -> [u8; BLOCK_LEN]
     ensures { result ≡ key_block key.now }
 {

@@ -13,13 +13,13 @@ use std::test::Fail;
 mod reading_ahead;
 mod system_files;
 
-/// Writes a sector of equal bytes, and reports whether that succeeded.
+/// Writes a sector of equal bytes, and returns whether that succeeded.
 fn put<D: Sectors>(rt: &impl Abort, disk: &mut D, at: u64, byte: u8) -> bool {
     assert!(rt; at < disk.size());
     disk.write(at, &[byte; SECTOR_SIZE]).is_ok()
 }
 
-/// Reads a sector of equal bytes.
+/// Reads a sector of equal bytes, and returns the byte.
 fn found<D: Sectors>(rt: &impl Abort, disk: &mut D, at: u64) -> Result<u8, DeviceFault> {
     assert!(rt; at < disk.size());
     let mut into = [0; SECTOR_SIZE];
@@ -28,7 +28,7 @@ fn found<D: Sectors>(rt: &impl Abort, disk: &mut D, at: u64) -> Result<u8, Devic
     Ok(into[0])
 }
 
-/// One call on a device of sectors of equal bytes, or a look at it, and what it gives.
+/// A call on a device whose sectors each consist of equal bytes, or an inspection of it, with the expected result.
 #[derive(Clone, Copy)]
 enum Step {
     Size(u64),
@@ -41,7 +41,7 @@ enum Step {
     SyncFails,
 }
 
-/// Takes a step, and reports whether it gave what it says.
+/// Takes a step, and returns whether the result was as expected.
 fn takes<D: Sectors>(rt: &impl Abort, disk: &mut D, step: Step) -> bool {
     match step {
         Step::Size(sectors) => disk.size() == sectors,
@@ -61,7 +61,7 @@ fn expect<D: Sectors>(rt: &impl Abort, disk: &mut D, steps: &[Step]) {
     }
 }
 
-/// Takes the steps on what a crash with these picks leaves.
+/// Takes the steps on the device that a crash with these picks leaves.
 fn expect_left(
     rt: &impl Abort,
     alloc: Global,
@@ -73,7 +73,7 @@ fn expect_left(
     Ok(())
 }
 
-/// What sector 2 of three holds after a crash with each of these picks, where sector 1 was never written.
+/// The content of sector 2 of three after a crash with each of these picks, if sector 1 was never written.
 fn expect_picked(
     rt: &impl Abort,
     alloc: Global,
@@ -87,7 +87,7 @@ fn expect_picked(
     Ok(())
 }
 
-// Two writes to sector 2 of three, and what each pick leaves there before a sync and after it.
+// Two writes to sector 2 of three, and what each pick leaves there, before and after a sync.
 const BEFORE_SYNC: [(&[u64], u8); 5] = [
     (&[0, 0, 0], 0),
     (&[0, 0, 1], b'x'),
@@ -130,7 +130,7 @@ fn a_device_begins_with_the_sectors_that_it_is_given(rt: HostRuntime) -> Result<
     Ok(())
 }
 
-// What three sectors hold after a crash with each of these picks.
+// The contents of three sectors after a crash with each of these picks.
 fn expect_images(
     rt: &impl Abort,
     alloc: Global,
@@ -163,8 +163,8 @@ const ONE_IMAGE: [([u64; 3], [u8; 3]); 3] = [
     ([9, 9, 9], [0, b'z', b'y']),
 ];
 
-// Two writes to sector 2 and one to sector 1, and then a sync that fails: each of the six images, with the
-// picks that give it. After a sync that succeeds the content is the only one.
+// Two writes to sector 2 and one to sector 1, followed by a failed sync, leave six images. Each is selected by its
+// picks. After a successful sync the content is the only image.
 #[test]
 fn six_images_of_three_writes_and_a_failed_sync(rt: HostRuntime) -> Result<(), Fail> {
     let mut disk = FailOnce::new(MemDisk::new(rt.alloc(), 3)?, 3);
@@ -201,7 +201,7 @@ fn a_fuse_lets_so_many_calls_pass(rt: HostRuntime) -> Result<(), Fail> {
     Ok(())
 }
 
-// Four calls of which one fails, and what the first sector then holds.
+// Four calls, one of which fails, and the content of the first sector afterwards.
 const FAILING: [([Step; 4], u8); 4] = [
     (
         [
@@ -296,7 +296,7 @@ fn next(seed: &mut u64) -> u64 {
     *seed >> 33
 }
 
-/// Sixteen calls, of which one may fail, on a device and on the model.
+/// Sixteen calls, one of which may fail, on a device and on the model.
 fn play(rt: &impl Abort, disk: &mut FailOnce<MemDisk>, model: &mut Model, seed: &mut u64) {
     for _ in 0..16 {
         let at = next(seed) % 4;
@@ -329,7 +329,7 @@ fn next_picks(seed: &mut u64) -> [u64; 4] {
     ]
 }
 
-/// Plays a script and crashes: each sector holds what the model says.
+/// Plays a script and crashes. Each sector must have the model's content.
 fn expect_as_model(rt: &impl Abort, alloc: Global, seed: &mut u64) -> Result<(), AllocError> {
     let mut disk = FailOnce::new(MemDisk::new(alloc, 4)?, next(seed) % 32);
     let mut model = new_model();
@@ -365,7 +365,7 @@ fn ten_thousand_writes_and_a_crash(rt: HostRuntime) -> Result<(), Fail> {
     Ok(())
 }
 
-/// Two sectors of 1 and of 2.
+/// Two sectors, of ones and of twos.
 fn window(alloc: Global) -> Result<Vec<[u8; SECTOR_SIZE]>, AllocError> {
     let mut sectors = Vec::new(alloc);
     sectors.push([1; SECTOR_SIZE])?;
@@ -373,13 +373,13 @@ fn window(alloc: Global) -> Result<Vec<[u8; SECTOR_SIZE]>, AllocError> {
     Ok(sectors)
 }
 
-/// Publishes the window from sector 2 on, by a mark of 9 in sector 0, and reports whether that succeeded.
+/// Publishes the window at sector 2, marked by a 9 in sector 0, and returns whether that succeeded.
 fn publishes<D: Sectors>(rt: &impl Abort, disk: &mut D, window: &[[u8; SECTOR_SIZE]]) -> bool {
     assert!(rt; disk.size() == 4 && window.len() == 2);
     publish(disk, 2, window, 0, &[9; SECTOR_SIZE]).is_ok()
 }
 
-// Of so many calls, and what a crash then leaves.
+// How many calls are made, whether publishing succeeds, and what a crash then leaves.
 const PUBLISHED: [(u64, bool, &[Step]); 6] = [
     (0, false, &[Step::Found(0, 0)]),
     (1, false, &[Step::Found(0, 0)]),
@@ -437,7 +437,7 @@ fn a_file_in_memory_keeps_its_sectors(rt: HostRuntime) -> Result<(), Fail> {
     Ok(())
 }
 
-/// The path of a file of this process in the folder for temporary files, where no file is yet.
+/// The path of a file of this process in the temporary directory. No such file exists yet.
 fn fresh_path(rt: &HostRuntime, name: &str) -> Result<PathBuf, Fail> {
     let mut path = env::temp_dir(rt)?;
     let file = format!(in rt.alloc(); "{name}_{}", process::id(rt.process()))?;
@@ -446,7 +446,7 @@ fn fresh_path(rt: &HostRuntime, name: &str) -> Result<PathBuf, Fail> {
     Ok(path)
 }
 
-/// Makes a file of so many sectors, and takes the steps on it.
+/// Makes a file of `sectors` sectors, and takes the steps on it.
 fn expect_created(
     rt: &HostRuntime,
     judge: &impl Abort,
@@ -498,7 +498,7 @@ fn a_real_file_keeps_its_sectors(rt: HostRuntime) -> Result<(), Fail> {
     Ok(())
 }
 
-// Sectors in a row, of a file that is cut while they are read: those before its end are still found.
+// Reads consecutive sectors of a file that is truncated meanwhile. Those before its end are still found.
 #[test]
 fn a_real_file_is_read_in_rows(rt: HostRuntime) -> Result<(), Fail> {
     let path = fresh_path(&rt, "audit_disk_rows")?;
@@ -521,7 +521,7 @@ fn a_real_file_is_read_in_rows(rt: HostRuntime) -> Result<(), Fail> {
     Ok(())
 }
 
-/// A file of three sectors is opened, and then cut to two of them, and to a length that no device has.
+/// Opens a file of three sectors, then truncates it to two of them, and to a length that no device has.
 fn expect_cut(rt: &HostRuntime, judge: &impl Abort, path: &str) -> Result<(), Fail> {
     expect_cut_while_open(rt, judge, path)?;
     set_len(rt, path, 1025)?;
@@ -566,7 +566,7 @@ fn a_file_that_cant_be_laid_out_leaves_nothing(rt: HostRuntime) -> Result<(), Fa
     Ok(())
 }
 
-// A device of the system takes writes and refuses to be synced.
+// A system device that accepts writes but can't be synced.
 #[test]
 fn after_a_failed_sync_a_file_takes_no_call(rt: HostRuntime) -> Result<(), Fail> {
     let mut options = OpenOptions::new();
@@ -585,7 +585,7 @@ fn after_a_failed_sync_a_file_takes_no_call(rt: HostRuntime) -> Result<(), Fail>
     Ok(())
 }
 
-// Where the user is bound by a file's mode; a superuser may write every file.
+// Applies only if the file's mode binds the user: a superuser may write every file.
 #[test]
 fn a_file_that_may_only_be_read_takes_no_write(rt: HostRuntime) -> Result<(), Fail> {
     let path = fresh_path(&rt, "audit_disk_read_only")?;
@@ -597,7 +597,7 @@ fn a_file_that_may_only_be_read_takes_no_write(rt: HostRuntime) -> Result<(), Fa
     Ok(())
 }
 
-/// A file that was opened to be read.
+/// A file opened for reading only.
 fn expect_unwritten(rt: &HostRuntime, judge: &impl Abort, path: &str) -> Result<(), Fail> {
     let file = OpenOptions::new().read(true).open(rt, path)?;
     let mut disk = FileDisk::over(rt.alloc(), OsFile::new(file), 1)?;
@@ -606,7 +606,7 @@ fn expect_unwritten(rt: &HostRuntime, judge: &impl Abort, path: &str) -> Result<
     Ok(())
 }
 
-/// A file that its mode allows only to read is opened as a device where this user may write it all the same.
+/// A file whose mode allows only reading can be opened as a device only if this user may write it anyway.
 fn expect_opened_as_allowed(rt: &HostRuntime, judge: &impl Abort, path: &str) -> Result<(), Fail> {
     fs::set_permissions(rt, path, fs::Permissions::from_mode(0o444))?;
     let writable = OpenOptions::new().write(true).open(rt, path).is_ok();

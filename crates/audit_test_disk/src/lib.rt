@@ -1,5 +1,5 @@
-//! The tests of devices, of the log on them and of frames, by their public calls. They stand in a crate of their own,
-//! since a crate with tests is proved twice.
+//! The tests of devices, of the log on them and of frames, through public calls. They are in a separate crate because
+//! a crate with tests is proved twice.
 #![tactic(auto)]
 
 #[cfg(test)]

@@ -11,7 +11,7 @@ mod vectors;
 
 use vectors::*;
 
-/// The frames of one request each, and the requests.
+/// Frames of one request each, with their requests.
 const REQUESTS: [(&[u8], RequestView<'static>); 6] = [
     (
         &APPEND,
@@ -42,12 +42,12 @@ const REQUESTS: [(&[u8], RequestView<'static>); 6] = [
     ),
 ];
 
-// Whether a decoder takes the whole piece, and the frame goes on.
+// Whether a decoder takes the whole piece and still waits for the rest of the frame.
 fn waits(decoder: &mut Decoder, piece: &[u8]) -> bool {
     decoder.feed(piece) == Fed::More && decoder.pending()
 }
 
-// Whether a decoder takes the whole piece, which ends the frame of this request.
+// Whether a decoder takes the whole piece, which completes the frame of this request.
 fn gives(decoder: &mut Decoder, piece: &[u8], request: &RequestView) -> bool {
     let taken = piece.len();
     decoder.feed(piece) == Fed::Body { taken } && read_request(decoder.body()) == Ok(*request)
@@ -88,7 +88,7 @@ fn requests_are_read_whole_cut_anywhere_and_byte_by_byte(rt: HostRuntime) -> Res
     Ok(())
 }
 
-// The view that an owned request gives again.
+// A view of an owned request.
 fn view_of(request: &Request) -> RequestView<'_> {
     match request {
         Request::Append { tag, kind, payload } => RequestView::Append {
@@ -144,7 +144,7 @@ const LENGTHS: [([u8; 2], bool); 7] = [
     ([0xff, 0xff], false),
 ];
 
-// Whether a decoder judges a length so at its second byte.
+// Whether a decoder accepts or rejects a length at its second byte, as expected.
 fn judges(decoder: &mut Decoder, first: u8, second: u8, allowed: bool) -> bool {
     let expected = if allowed {
         Fed::More
@@ -175,7 +175,7 @@ fn a_length_is_judged_at_its_second_byte(rt: HostRuntime) -> Result<(), Fail> {
     Ok(())
 }
 
-// An append's frame of so many bytes, whose length says that it is the longest one.
+// The first `size` bytes of the longest append's frame.
 fn frame_of(alloc: Global, size: usize) -> Result<Vec<u8>, AllocError> {
     let mut frame = Vec::from_slice(alloc, &[0x7f, 0xc1])?;
     frame.extend_from_slice(&APPEND[2..11])?;
@@ -257,7 +257,7 @@ fn an_append_of_the_greatest_kind_and_no_payload(rt: HostRuntime) {
     assert!(rt; read_request(b"\x01\x00\x00\x00\x07\xff\xff\xff\xfe") == Ok(append));
 }
 
-// Whether a last byte gives the request, and puts back as if it had not come.
+// Whether a last byte completes the request, and can be put back as if it had never arrived.
 fn gives_and_puts_back(decoder: &mut Decoder, last: &[u8], request: &RequestView) -> bool {
     match decoder.feed(last) {
         Fed::Body { taken } => {
@@ -285,7 +285,7 @@ fn a_byte_that_is_put_back_comes_again(rt: HostRuntime) -> Result<(), Fail> {
     Ok(())
 }
 
-// Whether a malformed length is judged, and its last byte is put back.
+// Whether a malformed length is reported, and its last byte can be put back.
 fn puts_back_length(decoder: &mut Decoder) -> bool {
     match decoder.feed(b"\x7f\xc2\x01") {
         Fed::Malformed { taken } => {
@@ -296,7 +296,7 @@ fn puts_back_length(decoder: &mut Decoder) -> bool {
     }
 }
 
-// The byte after it makes a length that is allowed.
+// The next byte makes it an allowed length.
 #[test]
 fn a_malformed_length_that_is_put_back_comes_again(rt: HostRuntime) -> Result<(), Fail> {
     let mut decoder = Decoder::new(rt.alloc())?;
@@ -305,7 +305,7 @@ fn a_malformed_length_that_is_put_back_comes_again(rt: HostRuntime) -> Result<()
     Ok(())
 }
 
-/// The frame of a reply after these bytes, in what had room for so many bytes.
+/// The frame of a reply after these bytes, in a vector with capacity for `room` bytes.
 fn written(alloc: Global, reply: &Reply, before: &[u8], room: usize) -> Result<Vec<u8>, AllocError>
     requires { IsReply reply.now }
 {
@@ -315,7 +315,7 @@ fn written(alloc: Global, reply: &Reply, before: &[u8], room: usize) -> Result<V
     Ok(out)
 }
 
-/// The frame of a reply comes after what stands there, also where the room is exactly its size.
+/// The frame of a reply follows the existing bytes, even if the capacity is exactly its size.
 fn check_reply(
     rt: &impl Abort,
     alloc: Global,
@@ -339,7 +339,7 @@ fn is_after_a_byte(out: &[u8], frame: &[u8]) -> bool {
     }
 }
 
-/// Whether the first frame of an output is read as a reply and is all of it, and nothing less is read.
+/// Whether the first frame of an output is the whole output and reads as a reply, and no prefix of it does.
 fn is_read_back(alloc: Global, output: &[u8]) -> bool {
     match first_frame(output) {
         Some((body, [])) => {

@@ -1,5 +1,5 @@
-//! The tests of the chain, the tree and its proofs, and of what they stand on, by their public calls. They stand in a
-//! crate of their own, since a crate with tests is proved twice.
+//! The tests of the chain, of the tree and its proofs, and of their foundations, through public calls. They are in a
+//! separate crate because a crate with tests is proved twice.
 #![tactic(auto)]
 
 #[cfg(test)]

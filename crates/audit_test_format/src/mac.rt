@@ -1,7 +1,7 @@
 use audit_mac::{Mac, hmac_sha256};
 use std::process::Abort;
 
-/// Asserts that the text has this HMAC under the key, taken whole and taken byte by byte.
+/// Asserts that the text has this HMAC under the key, fed whole and byte by byte.
 fn expect_mac(rt: &impl Abort, key: &[u8], text: &[u8], expected: [u8; 32]) {
     assert_eq!(rt; hmac_sha256(key, text), expected);
     let mut mac = Mac::new(key);
@@ -45,7 +45,7 @@ fn vectors_of_rfc_4231(rt: HostRuntime) {
     );
 }
 
-// The digests are those of another implementation, Python's `hmac`.
+// The digests were computed by another implementation, Python's `hmac`.
 #[test]
 fn keys_about_a_block_long(rt: HostRuntime) {
     expect_mac(

@@ -10,7 +10,7 @@ use std::test::Fail;
 mod across;
 mod proof_bytes;
 
-// The tree over so many texts of one byte, which is the leaf's place.
+// The tree over `count` texts of one byte, which is the leaf's place.
 fn counted_tree(alloc: Global, count: u8) -> Result<Tree, TreeError> {
     let mut tree = Tree::new(alloc);
     for place in 0..count {
@@ -30,7 +30,7 @@ fn commitment(count: u64, root: &str) -> Result<Commitment, Fail> {
     })
 }
 
-// So many hashes, the first of bytes 0, the next of bytes 1 and so on.
+// `count` hashes: the first of zero bytes, the next of bytes 1, and so on.
 fn counted_hashes(alloc: Global, count: u8) -> Result<Vec<Hash>, Fail> {
     let mut hashes = Vec::new(alloc);
     for place in 0..count {
@@ -39,7 +39,7 @@ fn counted_hashes(alloc: Global, count: u8) -> Result<Vec<Hash>, Fail> {
     Ok(hashes)
 }
 
-// The commitments of a tree that grows to so many texts of one byte.
+// The commitments of a tree that grows to `count` texts of one byte.
 fn counted_commitments(alloc: Global, count: u8) -> Result<Vec<Commitment>, Fail> {
     let mut tree = Tree::new(alloc);
     let mut commitments = Vec::new(alloc);
@@ -57,7 +57,7 @@ fn commitment_to(tree: &Tree) -> Commitment {
     }
 }
 
-// Whether a made membership is accepted, but not of another text, nor with a hash more or one less.
+// Whether a membership proof is accepted, but not for another text, nor with one hash more or fewer.
 fn is_exact_membership(tree: &Tree, commitment: &Commitment, place: u8) -> Result<bool, Fail> {
     let index = u64::from(place);
     let other = place.wrapping_add(1);
@@ -108,7 +108,7 @@ fn made_memberships_are_accepted_as_they_are(rt: HostRuntime) -> Result<(), Fail
     assert_all_memberships(&rt, &tree, &commitments)
 }
 
-// Whether a made increment is accepted, but not backwards, nor with a hash more or one less.
+// Whether an incremental proof is accepted, but not backwards, nor with one hash more or fewer.
 fn is_exact_increment(tree: &Tree, older: &Commitment, newer: &Commitment) -> Result<bool, Fail> {
     let mut hashes = tree.incremental(older.count, newer.count)?;
     let exact = accepts_increment(older, newer, &hashes)
@@ -155,12 +155,12 @@ fn made_increments_are_accepted_as_they_are(rt: HostRuntime) -> Result<(), Fail>
 
 const FULL: u64 = 1 << 24;
 
-// The roots of full trees with `hello` as their first or as their last text.
+// The roots of full trees with `hello` as their first or last text.
 const FULL_WITH_FIRST: &str = "303c35d90e830791ae0ec69849ab6df4fef520b3201fd058de4fc2c6634201c3";
 
 const FULL_WITH_LAST: &str = "89a6951c2fd5564dfd50fefa7001470771d5465fc0657b2bcf05346e305fce09";
 
-// Whether `hello` is accepted under a full tree, with so many hashes.
+// Whether `hello` is accepted under a full tree, with `count` hashes.
 fn accepts_hello(alloc: Global, root: &str, index: u64, count: u8) -> Result<bool, Fail> {
     let full = commitment(FULL, root)?;
     let hashes = counted_hashes(alloc, count)?;
@@ -180,7 +180,7 @@ fn the_longest_memberships_are_accepted(rt: HostRuntime) -> Result<(), Fail> {
     Ok(())
 }
 
-// Whether the growth of a tree by its last leaf is accepted, with so many hashes.
+// Whether the growth of a tree by its last leaf is accepted, with `count` hashes.
 fn accepts_last(alloc: Global, count: u8) -> Result<bool, Fail> {
     let older = commitment(
         FULL - 1,
@@ -201,7 +201,7 @@ fn the_longest_increment_is_accepted(rt: HostRuntime) -> Result<(), Fail> {
     Ok(())
 }
 
-// The commitment of so many entries to a root of zeros.
+// A commitment of this count to a root of zeros.
 fn of_zeros(count: u64) -> Commitment {
     Commitment {
         count,
@@ -216,7 +216,7 @@ fn memberships_outside_the_limits_are_not_accepted(rt: HostRuntime) {
     }
 }
 
-// The last is a full tree over the limit, whose increment to itself is its root alone.
+// The last row is a full tree over the limit, whose incremental proof to itself is just its root.
 const OUTSIDE: [(u64, u64, &[Hash]); 5] = [
     (0, FULL + 1, &[]),
     (0, 0, &[]),
@@ -232,7 +232,7 @@ fn increments_outside_the_limits_are_not_accepted(rt: HostRuntime) {
     }
 }
 
-// Why a made proof of leaf 1 of three, of this entry, and another proof of it don't collide.
+// Why a real proof of leaf 1 of three, for this entry, and another proof of it don't collide.
 fn fault_beside(
     alloc: Global,
     entry: &[u8],
@@ -266,7 +266,7 @@ fn a_proof_that_is_not_accepted_does_not_collide(rt: HostRuntime) -> Result<(), 
     Ok(())
 }
 
-// A text's length.
+// A weak hash: the length of the text.
 #[derive(Drop)]
 struct Weak;
 
@@ -282,14 +282,14 @@ impl TextHash for Weak {
     }
 }
 
-// The commitment of one leaf to texts of this length, by the weak hash.
+// The commitment of one leaf to texts of this length, with the weak hash.
 fn weak_commitment(len: usize) -> Commitment {
     let mut root = [0; 32];
     root[0] = (len % 256) as u8;
     Commitment { count: 1, root }
 }
 
-// What the weak hash shows of two entries, each the only one of a log, under a root of texts of this length.
+// The collision that the weak hash yields for two entries, each alone in its log, under a root for this length.
 fn weakly(
     alloc: Global,
     len: usize,
@@ -342,7 +342,7 @@ fn nodes_of_one_length_collide(rt: HostRuntime) -> Result<(), Fail> {
     Ok(())
 }
 
-// Whether two entries of one length collide.
+// Whether two entries of equal length collide.
 fn entries_collide(alloc: Global, first: &[u8], second: &[u8]) -> Result<bool, CollideFault> {
     let len = first.len().saturating_add(1);
     let found = weakly(alloc, len, first, second)?;

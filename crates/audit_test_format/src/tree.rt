@@ -6,7 +6,7 @@ use std::test::Fail;
 
 mod plain;
 
-// A digest as hex digits.
+// A digest in hex digits.
 fn hex(alloc: Global, bytes: &[u8]) -> Result<String, AllocError> {
     let mut text = String::new(alloc);
     for byte in bytes {
@@ -21,10 +21,10 @@ fn assert_hex(rt: &impl Abort, alloc: Global, bytes: &[u8], expected: &str) -> R
     Ok(())
 }
 
-// The texts of the sample.
+// The sample's texts.
 const SAMPLE: [&[u8]; 4] = [b"", &[0x00], &[0x10], &[0x20, 0x21]];
 
-// The tree over the texts of the sample.
+// The tree over the sample's texts.
 fn sample_tree(alloc: Global) -> Result<Tree, TreeError> {
     let mut tree = Tree::new(alloc);
     for text in SAMPLE {
@@ -33,7 +33,7 @@ fn sample_tree(alloc: Global) -> Result<Tree, TreeError> {
     Ok(tree)
 }
 
-// The tree over so many texts of one byte, which is the leaf's place.
+// The tree over `count` texts of one byte, which is the leaf's place.
 fn counted_tree(alloc: Global, count: u8) -> Result<Tree, TreeError> {
     let mut tree = Tree::new(alloc);
     for place in 0..count {
@@ -42,7 +42,7 @@ fn counted_tree(alloc: Global, count: u8) -> Result<Tree, TreeError> {
     Ok(tree)
 }
 
-// The tree's count, and its root over so many leaves of the sample.
+// Asserts the tree's count, and its root over `count` leaves of the sample.
 fn assert_sample_root(rt: &impl Abort, alloc: Global, tree: &Tree, count: u64) -> Result<(), Fail> {
     let expected = match count {
         0 => "0000000000000000000000000000000000000000000000000000000000000000",
@@ -55,7 +55,7 @@ fn assert_sample_root(rt: &impl Abort, alloc: Global, tree: &Tree, count: u64) -
     assert_hex(rt, alloc, &tree.root(), expected)
 }
 
-// The digests of a list, in turn.
+// Asserts the digests in a list, in order.
 fn assert_hex_list(
     rt: &impl Abort,
     alloc: Global,
@@ -147,7 +147,7 @@ fn reserved_room_survives_a_push(rt: HostRuntime) -> Result<(), Fail> {
     assert_sample_root(&rt, rt.alloc(), &tree, 4)
 }
 
-// The digest of the roots of the counts to 33.
+// The digest of the roots under the counts up to 33.
 fn digest_of_roots(alloc: Global) -> Result<Hash, TreeError> {
     let mut hasher = Sha256::new();
     let mut growing = Tree::new(alloc);
@@ -195,7 +195,7 @@ fn digest_of_increments(tree: &Tree) -> Result<Hash, TreeError> {
     Ok(hasher.finalize())
 }
 
-// The digests are over the hashes that a model of the definitions gives, count by count.
+// The digests are over the hashes that a model of the definitions computes, count by count.
 #[test]
 fn roots_to_33_match_the_definitions(rt: HostRuntime) -> Result<(), Fail> {
     assert_hex(
@@ -226,7 +226,7 @@ fn increments_to_33_match_the_definitions(rt: HostRuntime) -> Result<(), Fail> {
     )
 }
 
-// The hash of a node where there is one.
+// The hash of a node, if there is one.
 fn node_under(tree: &Tree, start: u64, layer: u32, count: u64) -> Option<Hash> {
     if 8 <= layer || start % (1 << layer) != 0 || count <= start || tree.count() < count {
         return None;
@@ -234,7 +234,7 @@ fn node_under(tree: &Tree, start: u64, layer: u32, count: u64) -> Option<Hash> {
     Some(tree.node(start, layer, count))
 }
 
-// The place of a full node where there is one.
+// The place of a full node, if there is one.
 fn place_of(start: u64, layer: u32) -> Option<u64> {
     if LAYERS <= layer as usize || start % (1 << layer) != 0 || MAX_COUNT <= start {
         return None;
@@ -242,13 +242,13 @@ fn place_of(start: u64, layer: u32) -> Option<u64> {
     Some(frozen_place(start, layer))
 }
 
-// What stands at the place of a full node.
+// The hash at the place of a full node.
 fn frozen_at(tree: &Tree, start: u64, layer: u32) -> Option<Hash> {
     let place = place_of(start, layer)?;
     tree.frozen().get(place as usize).copied()
 }
 
-// The nodes that start at a leaf, under the count of these first texts.
+// Asserts the nodes that start at a leaf, under the count of these first texts.
 fn assert_plain_nodes(rt: &impl Abort, tree: &Tree, texts: &[u8], start: usize) {
     for layer in 0..7u32 {
         let Some(node) = node_under(tree, start as u64, layer, texts.len() as u64) else {
@@ -286,7 +286,7 @@ fn is_plain_increment(
     Ok(made == plain::increment(alloc, texts, older)?)
 }
 
-// The nodes and the proofs of a tree under the count of these first texts.
+// Asserts the nodes and the proofs of a tree under the count of these first texts.
 fn assert_plain(
     rt: &impl Abort,
     alloc: Global,
@@ -301,7 +301,7 @@ fn assert_plain(
     Ok(())
 }
 
-// The texts of so many leaves.
+// The texts of `count` leaves.
 fn counted_texts(alloc: Global, count: u8) -> Result<Vec<u8>, AllocError> {
     let mut texts = Vec::new(alloc);
     for place in 0..count {
@@ -310,7 +310,7 @@ fn counted_texts(alloc: Global, count: u8) -> Result<Vec<u8>, AllocError> {
     Ok(texts)
 }
 
-// The root, the nodes and the proofs of a tree of so many leaves.
+// Asserts the root, the nodes and the proofs of a tree of `count` leaves.
 fn assert_plain_root(
     rt: &impl Abort,
     alloc: Global,
@@ -362,7 +362,7 @@ fn five_leaves_freeze_eight_hashes(rt: HostRuntime) -> Result<(), Fail> {
     Ok(())
 }
 
-// A tree with so much room at each count.
+// Checks a tree with `more` reserved leaves at each count.
 fn expect_room(rt: &impl Abort, alloc: Global, more: u64) -> Result<(), TreeError> {
     assert!(rt; more <= MAX_COUNT);
     let mut tree = Tree::new(alloc);
@@ -382,7 +382,7 @@ fn room_is_reserved_at_each_count(rt: HostRuntime) -> Result<(), Fail> {
     Ok(())
 }
 
-// A tree of so many leaves, over the four bytes of each place.
+// A tree of `count` leaves, over the four bytes of each place.
 fn tree_of_places(alloc: Global, count: u32) -> Result<Tree, TreeError> {
     let mut tree = Tree::new(alloc);
     for place in 0..count {
@@ -399,7 +399,7 @@ fn fill(tree: &mut Tree) -> Result<(), TreeError> {
     Ok(())
 }
 
-// The root of 2^20 leaves is a model's.
+// The root of 2^20 leaves was computed by a model.
 #[test]
 fn a_tree_of_2_to_the_20_leaves(rt: HostRuntime) -> Result<(), Fail> {
     let tree = tree_of_places(rt.alloc(), 1 << 20)?;
@@ -419,7 +419,7 @@ fn largest_tree(alloc: Global) -> Result<Tree, TreeError> {
     Ok(tree)
 }
 
-// How many hashes show memberships of leaf 0 in a largest tree, and growths from count 1.
+// How many hashes prove the membership of leaf 0 in a largest tree, and its growth from count 1.
 const LONGEST_MEMBERSHIPS: [(u64, usize); 3] = [
     (MAX_COUNT, 24),
     ((1 << 23) + 1, 24),
@@ -442,7 +442,7 @@ fn assert_increments(rt: &impl Abort, tree: &Tree) -> Result<(), TreeError> {
     Ok(())
 }
 
-// It is full, and says so.
+// Whether it is full, and refuses another leaf.
 fn is_full(tree: &mut Tree) -> bool {
     tree.count() == MAX_COUNT
         && tree.push([0; 32]).err() == Some(TreeError::Full)

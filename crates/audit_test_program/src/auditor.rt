@@ -1,4 +1,4 @@
-// What is expected is what an independent model gives.
+// The expected values come from an independent model.
 use audit_chain::Key;
 use audit_cli_offline::{commitment_in_word, verify_export};
 use audit_proof::Commitment;

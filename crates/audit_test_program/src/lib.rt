@@ -1,5 +1,5 @@
-//! The tests of the auditor's crate and of that of the commands, by their public calls. They stand in a crate of their
-//! own, since a crate with tests is proved twice.
+//! The tests of the offline auditor and of the commands, through public calls. They are in a separate crate because a
+//! crate with tests is proved twice.
 #![tactic(auto)]
 
 #[cfg(test)]

@@ -1,4 +1,4 @@
-// Expected values are those of an independent model of the sessions, which shares no code with the crates.
+// The expected values come from an independent model of the sessions, which shares no code with the crates.
 use audit_chain::{Event, Key};
 use audit_disk::{Fuse, MemDisk, Sectors};
 use audit_server_commit::Committer;
@@ -17,7 +17,7 @@ fn formatted<D: Sectors + Drop>(alloc: Global, disk: D) -> Result<Store<D>, Stor
     }
 }
 
-// A committer over a new store on that device.
+// A committer over a new store on this device.
 fn committer_on<D: Sectors + Drop>(alloc: Global, disk: D) -> Result<Committer<D>, StoreError> {
     match Committer::new(alloc, formatted(alloc, disk)?) {
         Ok(committer) => Ok(committer),
@@ -41,7 +41,7 @@ fn ask<D: Sectors>(committer: &mut Committer<D>, query: Query) -> Result<(), Fai
     Ok(())
 }
 
-// Whether the output of a session is these bytes, in hex digits. It is taken.
+// Takes the output of a session, and returns whether it is these bytes, given in hex digits.
 fn says<D: Sectors>(
     alloc: Global,
     committer: &mut Committer<D>,
@@ -165,8 +165,8 @@ fn the_257th_item_forces_a_flush(rt: HostRuntime) -> Result<(), Fail> {
     Ok(())
 }
 
-// The device after a flush of a question and an append in which it failed from that call on: what waited is dropped,
-// and nothing is answered or called any more.
+// The device after a flush of a question and an append during which it failed from some call on. What waited is
+// dropped, nothing is answered, and no more calls are made.
 fn after_a_fault(rt: &impl Abort, alloc: Global, calls: u64) -> Result<MemDisk, Fail> {
     let mut committer = committer_on(alloc, Fuse::new(MemDisk::new(alloc, 16)?, calls))?;
     ask(&mut committer, Query::Commitment { tag: 9 })?;
@@ -178,7 +178,7 @@ fn after_a_fault(rt: &impl Abort, alloc: Global, calls: u64) -> Result<MemDisk, 
     Ok(committer.into_store().into_disk().into_inner())
 }
 
-// The header isn't written, or it is written and the sync after it fails.
+// Either the header isn't written, or it is written and the sync after it fails.
 #[test]
 fn a_fault_in_the_commit_drops_what_waits(rt: HostRuntime) -> Result<(), Fail> {
     let alloc = rt.alloc();

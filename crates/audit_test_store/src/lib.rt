@@ -1,5 +1,5 @@
-//! The tests of the store's crates and of group commit, by their public calls. They stand in a crate of their own,
-//! since a crate with tests is proved twice.
+//! The tests of the store's crates and of group commit, through public calls. They are in a separate crate because a
+//! crate with tests is proved twice.
 #![tactic(auto)]
 
 #[cfg(test)]

@@ -1,4 +1,4 @@
-// Expected values are the rows of the format's definition, and those of an independent model of the store.
+// The expected values come from the rows of the format's definition, and from an independent model of the store.
 use audit_chain::{Event, FIRST_LINK, Key, Sealed, seal};
 use audit_disk::{FailOnce, MemDisk, Sectors};
 use audit_log::{Chosen, GENERATION_LIMIT, Header, LogError, VERSION, write_header};
@@ -9,7 +9,7 @@ use std::alloc::Global;
 use std::process::Abort;
 use std::test::Fail;
 
-// A header of that generation on a device of so many sectors, over one entry or none.
+// A header with this generation on a device of `sectors` sectors, over one entry if `some` is set.
 fn header(generation: u64, sectors: u64, some: bool) -> Header {
     Header {
         version: VERSION,
@@ -24,7 +24,7 @@ fn header(generation: u64, sectors: u64, some: bool) -> Header {
     }
 }
 
-// A device of so many sectors with these headers.
+// A device of `size` sectors with these headers.
 fn with_headers(
     rt: &impl Abort,
     alloc: Global,
@@ -39,7 +39,7 @@ fn with_headers(
     Ok(disk)
 }
 
-// Whether it is the header of that generation, found to differ from the other one or not.
+// Whether the header with this generation was found, and was found to differ from the other one as expected.
 fn is_found(found: Result<Chosen, HeaderRefusal>, generation: u64, differ: bool) -> bool {
     match found {
         Ok(chosen) => chosen.header.generation == generation && chosen.differ == differ,
@@ -49,7 +49,7 @@ fn is_found(found: Result<Chosen, HeaderRefusal>, generation: u64, differ: bool)
 
 const LAST: u64 = GENERATION_LIMIT - 1;
 
-// A device of so many sectors with the header of no entry of one generation and the header of another.
+// A device of `size` sectors with the header of no entries of one generation, and the header of another.
 fn with_two(
     rt: &impl Abort,
     alloc: Global,
@@ -191,7 +191,7 @@ fn log_scanned(rt: HostRuntime) -> Result<(), Fail> {
     Ok(())
 }
 
-// The header states another last link, and then one more entry too.
+// First the header states another last link, then also one more entry.
 #[test]
 fn log_refused(rt: HostRuntime) -> Result<(), Fail> {
     let sealed = seal_hi(rt.alloc())?;

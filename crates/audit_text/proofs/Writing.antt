@@ -1,4 +1,4 @@
--- Text that is written to a writer, a piece at a time.
+-- Writing text to a writer, piece by piece.
 use Rattle.std.proofs.Common.{◌≡◌, ℕ, Option, Some, None, List, [], ◌++◌, refl, sym, ap, ◌∙◌, subst, append_assoc, append-nil}
 use Rattle.std.specs.Io.KnownBytes.{Appends, Keeps}
 use Rattle.audit_text.specs.Writing.{WritesInPart}

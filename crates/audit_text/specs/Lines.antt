@@ -1,4 +1,4 @@
--- The lines of an input. Each ends in a line feed, which may be missing after the last one.
+-- The lines of an input. Each ends in a line feed, which may be missing at the end.
 use Rattle.std.specs.Prelude.{◌≡◌, ℕ, Bool, List, [], ◌∷◌, ◌==◌, if◌then◌else◌}
 use Rattle.std.specs.List.{before_first, after_first}
 
@@ -6,7 +6,7 @@ use Rattle.std.specs.List.{before_first, after_first}
 abbrev pub line_feed : ℕ
 line_feed = 10
 
--- a byte in front of the first line
+-- a byte added to the start of the first line
 abbrev pub onto_first : ℕ → List (List ℕ) → List (List ℕ)
 onto_first byte [] = (byte ∷ []) ∷ []
 onto_first byte (line ∷ lines) = (byte ∷ line) ∷ lines

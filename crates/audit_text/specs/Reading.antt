@@ -1,23 +1,23 @@
--- What reading an input piece by piece takes of a reader whose bytes are known.
+-- What reading an input in pieces takes from a reader whose bytes are known.
 use Rattle.std.specs.Prelude.{◌≡◌, ℕ, ◌<◌, ◌≤◌, Option, List, length, take, IfSome}
 use Rattle.std.specs.Io.KnownBytes.{Consumes, IsAtEnd}
 use Rattle.audit_text.specs.declared.fault.LinesError.{LinesError}
 use Rattle.audit_text.specs.declared.fault.LinesError.TheVariants.{InputTooLong, Line, Read, Write, Memory}
 use Rattle.audit_text.specs.declared.input.TheConstants.{INPUT_LIMIT}
 
--- so many bytes of the piece were taken from the front, and none only at the end or with no room
+-- `taken` bytes from the front are in the piece; there are none only at the end, or if the piece is empty
 pub record TakesPiece (old new : Option (List ℕ)) (taken : ℕ) (piece : List ℕ) : Type 0 where
   pub within : taken ≤ length piece
   pub bytes : Consumes old new (take taken piece)
   pub none : taken ≡ 0 → 0 < length piece → IsAtEnd new
 
--- no more than so many bytes were taken from the front
+-- at most `most` bytes were taken from the front
 pub record TakesAtMost (old new : Option (List ℕ)) (most : ℕ) : Type 0 where
   pub taken : List ℕ
   pub within : length taken ≤ most
   pub bytes : Consumes old new taken
 
--- the input is too long, the reader failed or memory ran out
+-- the input is too long, the reader failed, or memory ran out
 abbrev pub IsReadingFault : LinesError → Option (List ℕ) → Type 0
 IsReadingFault InputTooLong known = IfSome known (λ bytes. INPUT_LIMIT < length bytes)
 IsReadingFault (Line line cause) known = ⊥

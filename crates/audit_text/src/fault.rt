@@ -4,21 +4,21 @@ use std::fmt::{Display, Formatter, Write};
 use std::{error, fmt};
 use thiserror::Error;
 
-/// What is wrong with a line of an input.
+/// What is wrong with a line of input.
 #[derive(Clone, Copy, Debug, Drop, PartialEq, Eq)]
 pub enum LineError {
     /// The first line isn't `key`, a space and 64 hexadecimal digits.
     BadKeyLine,
-    /// A further line isn't `event`, a kind in decimal and a payload in hexadecimal digits.
+    /// A later line isn't `event`, a decimal kind and a payload in hexadecimal digits.
     BadEventLine,
     /// The kind of the event is the reserved one.
     ReservedKind,
-    /// The payload is longer than an event's may be.
+    /// The payload is longer than an event allows.
     PayloadTooLong,
 }
 
 impl LineError {
-    /// The words that are printed for it.
+    /// The text printed for it.
     pub fn name(self) -> &'static str {
         match self {
             LineError::BadKeyLine => "bad key line",
@@ -37,7 +37,7 @@ impl Display for LineError {
 
 impl error::Error for LineError {}
 
-/// Why a line gave no event.
+/// Why a line has no event.
 #[derive(Clone, Copy, Debug, Drop, Error, PartialEq, Eq)]
 pub enum ParseError {
     /// The line is wrong.
@@ -64,13 +64,14 @@ impl From<FromHexError> for ParseError {
     }
 }
 
-/// Why lines weren't read or written. `Write` comes of writing alone; `InputTooLong`, `Line` and `Read` of reading.
+/// Why lines weren't read or written. `Write` occurs only in writing; `InputTooLong`, `Line` and `Read` only in
+/// reading.
 #[derive(Clone, Copy, Debug, Drop, Error, PartialEq, Eq)]
 pub enum LinesError {
     /// The input is longer than `INPUT_LIMIT`.
     #[error("input too long")]
     InputTooLong,
-    /// The first bad line, counted from 1.
+    /// The first bad line, counting from 1.
     #[error("line {line}: {cause}")]
     Line { line: u64, cause: LineError },
     /// A read of the input failed.

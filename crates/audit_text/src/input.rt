@@ -6,13 +6,13 @@ use crate::fault::LinesError;
 use std::alloc::{AllocError, Global};
 use std::io::Read;
 
-/// The greatest length of an input in bytes.
+/// The most bytes of an input.
 pub const INPUT_LIMIT: usize = 1 << 24;
 
-// The most that is read at a time, in bytes.
+// The most bytes read at a time.
 const PIECE_LEN: usize = 1 << 16;
 
-/// Reads the whole input, but at most one byte more than `INPUT_LIMIT`: an input that has that byte is too long.
+/// Reads the whole input, but at most `INPUT_LIMIT` bytes and one more: an input with that extra byte is too long.
 pub fn read_input<R: Read>(alloc: Global, reader: &mut R) -> Result<Vec<u8>, LinesError>
     ensures within { IfOk result (λ input. length input.items ≤ INPUT_LIMIT) }
     ensures whole { IfOk result (λ input. IfSome (R.remaining reader.old) (λ bytes. bytes ≡ input.items)) }
@@ -31,7 +31,7 @@ fn new_piece(alloc: Global) -> Result<Vec<u8>, AllocError>
     vec![in alloc; 0; PIECE_LEN]
 }
 
-// Reads piece by piece until the reader ends or the input is too long.
+// Reads pieces until the reader ends or the input is too long.
 fn read_to_end<R: Read>(
     reader: &mut R,
     piece: &mut [u8],
@@ -58,7 +58,7 @@ fn read_to_end<R: Read>(
     Err(LinesError::Read)
 }
 
-// One read, of which any error is a fault.
+// Reads once. Any error is a fault.
 fn read_piece<R: Read>(reader: &mut R, piece: &mut [u8]) -> Result<usize, LinesError>
     ensures taken { IfOk result (λ taken. TakesPiece (R.remaining reader.old)
         (R.remaining reader.new) taken piece.new) }

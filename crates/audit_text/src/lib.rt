@@ -1,5 +1,5 @@
-//! Lines of text: the events that lines spell, a log's first key before them, input that is read whole and
-//! judged, and lines that are written.
+//! Lines of text: parsing events and the log's first key from lines, reading and checking a whole input, and writing
+//! lines.
 #![tactic(auto)]
 
 mod event_line;

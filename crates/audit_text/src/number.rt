@@ -4,10 +4,10 @@ ghost use Rattle.std.specs.List.{list_all};
 ghost use Rattle.std.specs.Str.Parse.{digits_value};
 ghost use Rattle.audit_text.specs.Number.{number_in_text};
 
-// The most decimal digits that a number is spelled in.
+// The most decimal digits of a number.
 const NUMBER_DIGITS: usize = 20;
 
-/// Decodes the number that 1 to 20 decimal digits spell, where it is below 2^64.
+/// Parses the number below 2^64 that 1 to 20 decimal digits denote.
 pub fn number_in_text(text: &[u8]) -> Option<u64>
     ensures { result ≡ number_in_text text.now }
 {

@@ -10,8 +10,8 @@ use itoa::Buffer;
 use std::alloc::AllocError;
 use std::io::{ErrorKind, Write};
 
-/// Puts a line of a word with a space after it, a number in decimal digits, and bytes in lower hex digits into
-/// the buffer, in place of what it holds.
+/// Replaces the buffer's contents with a line: a word (which ends in a space), a number in decimal, a space, bytes in
+/// lower-case hex, and a line feed.
 #[tactic(auto, unfolding(crate::specs::NumberedLine::numbered_line))]
 pub fn put_line(
     line: &mut Vec<u8>,
@@ -29,7 +29,7 @@ pub fn put_line(
     Ok(())
 }
 
-/// Adds a word and a number in decimal digits.
+/// Appends a word and a number in decimal.
 pub fn push_number(line: &mut Vec<u8>, word: &[u8], number: u64) -> Result<(), AllocError>
     ensures { OnOk result (line.new.items ≡ line.old.items ++ word.now ++ decimal number) }
 {
@@ -38,7 +38,7 @@ pub fn push_number(line: &mut Vec<u8>, word: &[u8], number: u64) -> Result<(), A
     line.extend_from_slice(digits.format(number).as_bytes())
 }
 
-/// Adds two lower hex digits for each byte.
+/// Appends two lower-case hex digits for each byte.
 pub fn push_hex(line: &mut Vec<u8>, bytes: &[u8]) -> Result<(), AllocError>
     ensures { OnOk result (line.new.items ≡ line.old.items ++ encode_lower bytes.now) }
 {
@@ -61,7 +61,7 @@ fn put_hex(digits: &mut [u8], bytes: &[u8])
     let _ = hex::encode_to_slice(bytes, digits);
 }
 
-/// Writes a whole text. After a fault a front part of it was written.
+/// Writes a whole text. After a fault a prefix of it was written.
 pub fn write_whole<W: Write>(writer: &mut W, text: &[u8]) -> Result<(), LinesError>
     ensures written { OnOk result (Appends (W.contents writer.old) (W.contents writer.new) text.now) }
     ensures part { OnErr result (WritesInPart (W.contents writer.old) (W.contents writer.new) text.now) }
@@ -79,7 +79,8 @@ pub fn write_whole<W: Write>(writer: &mut W, text: &[u8]) -> Result<(), LinesErr
     Err(LinesError::Write)
 }
 
-// One write, which is made again where it was interrupted. A writer that takes nothing has failed.
+// Writes once. An interrupted write counts as no bytes, so the caller tries again; a writer that accepts nothing has
+// failed.
 fn write_once<W: Write>(writer: &mut W, text: &[u8]) -> Result<usize, LinesError>
     ensures within { IfOk result (λ written. written ≤ length text.now) }
     ensures written { IfOk result (λ written. Appends (W.contents writer.old) (W.contents writer.new)

@@ -1,8 +1,7 @@
 ghost use Rattle.std.specs.Prelude.{◌≡◌, ◌==◌, position};
 ghost use Rattle.std.specs.List.{before_first, after_first};
 
-/// Splits bytes at the first `byte`, which is in neither part: all of them come before it, and none after, where it
-/// isn't there.
+/// Splits bytes at the first `byte`, which is in neither part. If there is none, all bytes are in the first part.
 pub fn split_at_first(bytes: &[u8], byte: u8) -> (&[u8], &[u8])
     ensures before { result.0.now ≡ before_first (λ b. b == byte) bytes.now }
     ensures after { result.1.now ≡ after_first (λ b. b == byte) bytes.now }

@@ -3,11 +3,11 @@ use std::io;
 use std::rt::Clock;
 use std::time::Instant;
 
-// The lengths of the messages that are hashed for an event with a payload of two bytes: key of the
-// keystream, link, the two halves of the MAC, next key, leaf, and an inner node. They have 11 blocks.
+// The lengths of the messages hashed for an event with a payload of two bytes: entry key, link, the two halves of the
+// MAC, next key, leaf, and an inner node. They have 11 blocks.
 const MESSAGE_LENS: [usize; 7] = [50, 38, 96, 96, 46, 75, 65];
 
-/// The time of the SHA-256 of so many small events alone.
+/// Times just the SHA-256 of `events` small events.
 pub fn measure(rt: &(impl Clock + Eprint), events: u32) -> io::Result<()> {
     let start = Instant::now(rt)?;
     let seen = hash_events(events);
@@ -15,7 +15,7 @@ pub fn measure(rt: &(impl Clock + Eprint), events: u32) -> io::Result<()> {
     eprintln!(rt; "events {events} nanoseconds {nanoseconds} seen {seen}")
 }
 
-/// Hashes what so many small events have to be hashed: seven messages of 11 blocks in all for each.
+/// Hashes what `events` small events require: seven messages with 11 blocks for each.
 pub fn hash_events(events: u32) -> u8 {
     let message = [0x5a; 96];
     let mut seen = 0;

@@ -1,4 +1,4 @@
-//! What verifying an export in a file costs, beside the SHA-256 blocks that it can't do without.
+//! The cost of verifying an export in a file, compared with the SHA-256 blocks that it can't avoid.
 use crate::blocks::hash_events;
 use crate::times::{Times, since};
 use anyhow::bail;
@@ -12,14 +12,14 @@ use std::io::{BufWriter, Read, Write};
 use std::rt::Clock;
 use std::time::Instant;
 
-// How often each is timed, in turns, so that the shortest times are of one time.
+// How often each is timed. Runs alternate, so that both minima come from the same period.
 const ROUNDS: u32 = 7;
 
-// Room for entries that weren't written yet, in bytes.
+// The size in bytes of the buffer for entries.
 const ROOM: usize = 1 << 16;
 
-/// Writes the export of so many small events to the file, and prints the shortest time of verifying it, and that of
-/// the events' SHA-256 blocks alone.
+/// Writes the export of `events` small events to the file, and prints the shortest time of verifying it and that of
+/// just the events' SHA-256 blocks.
 pub fn measure<R: Files + AllocGlobal + Clock + Eprint>(
     rt: &R,
     file: &str,
@@ -39,7 +39,7 @@ fn first_key() -> Key {
     Key::from_bytes([0; 32])
 }
 
-// Writes the export of so many small events, and returns the commitment to them.
+// Writes the export of `events` small events, and returns their commitment.
 fn write_export<R: Files + AllocGlobal>(
     rt: &R,
     file: &str,
@@ -51,7 +51,7 @@ fn write_export<R: Files + AllocGlobal>(
     Ok(commitment)
 }
 
-// Writes the entries of so many events of the kind 1 with a payload of two bytes.
+// Writes the entries of `events` events of kind 1 with a payload of two bytes.
 fn write_entries<W: Write>(
     alloc: Global,
     export: &mut W,
@@ -73,7 +73,7 @@ fn write_entries<W: Write>(
     })
 }
 
-// Times the SHA-256 blocks of so many events, and then verifying the export.
+// Times the SHA-256 blocks of `events` events, then the verification of the export.
 fn time_verifying<R: Files + AllocGlobal + Clock>(
     rt: &R,
     file: &str,
@@ -93,7 +93,7 @@ fn time_verifying<R: Files + AllocGlobal + Clock>(
     Ok(Times { whole, bare, seen })
 }
 
-// The events of the export, which is verified.
+// Verifies the export, and returns its events.
 fn verify_events<R: Read>(
     alloc: Global,
     export: &mut R,

@@ -1,5 +1,5 @@
-//! Group commit of small events that sessions append, beside the calls of the file and the SHA-256 messages that it
-//! can't do without.
+//! Group commit of small events from sessions, compared with the file calls and the SHA-256 messages that it can't
+//! avoid.
 use crate::sessions::{ROUNDS, started, time_frames};
 use crate::stores::{hash_messages, write_bare};
 use crate::times::{Rounds, Times, since};
@@ -17,20 +17,20 @@ const APPEND_LEN: usize = 13;
 // The first byte of an acknowledgement.
 const ACKNOWLEDGEMENT: u8 = 0x81;
 
-// The lengths of the messages that are hashed for such an event: key of the keystream, link, the two halves of the
-// MAC, next key, and leaf. They have 9 blocks.
+// The lengths of the messages hashed for such an event: entry key, link, the two halves of the MAC, next key, and
+// leaf. They have 9 blocks.
 const EVENT_LENS: [usize; 6] = [50, 38, 96, 96, 46, 75];
 
-// What is hashed of the two headers that a batch writes.
+// The messages hashed for the two headers that a batch writes.
 const HEADER_LENS: [usize; 2] = [480, 480];
 
-// What is hashed for a node with one side, and with two: a block and two blocks.
+// The message hashed for a node with one side (one block) and for one with two (two blocks).
 const LONE_LEN: usize = 33;
 
 const PAIR_LEN: usize = 65;
 
-/// Times flushes of so many appends, and before each the SHA-256 messages and the writes and syncs of the same sectors
-/// by a second handle of the file. The file has its sectors before.
+/// Times flushes of `size` appends. Before each one it times the SHA-256 messages, and the writes and syncs of the
+/// same sectors through a second handle of the file. The file already has its sectors.
 pub fn time_flushes<R: AllocGlobal + Clock + Eprint, D: Sectors + Drop>(
     rt: &R,
     store: Store<D>,
@@ -49,7 +49,7 @@ pub fn time_flushes<R: AllocGlobal + Clock + Eprint, D: Sectors + Drop>(
     Ok(core.into_store())
 }
 
-// The times of flushes of so many appends to a store of so many events.
+// The times of flushes of this many appends to a store of this many events.
 fn time_rounds<R: AllocGlobal + Clock, D: Sectors>(
     rt: &R,
     core: &mut Core<D>,
@@ -85,7 +85,7 @@ fn time_flush<R: AllocGlobal + Clock, D: Sectors>(
     })
 }
 
-// The frames of so many appends of an event of the kind 1 with a payload of two bytes.
+// The frames of `size` appends of an event of kind 1 with a payload of two bytes.
 fn append_frames(alloc: Global, size: u32) -> anyhow::Result<Vec<[u8; APPEND_LEN]>> {
     let mut frames = Vec::new(alloc);
     for tag in 0..size {
@@ -96,8 +96,8 @@ fn append_frames(alloc: Global, size: u32) -> anyhow::Result<Vec<[u8; APPEND_LEN
     Ok(frames)
 }
 
-// Hashes what a batch of so many small events after so many others has to have hashed: what each event has, and the
-// inner nodes that it completes; the root after them, and two headers.
+// Hashes what a batch of `size` small events after `count` others requires: the messages of each event, the inner
+// nodes that it completes, the root after them, and two headers.
 fn hash_batch(count: u64, size: u64) -> u8 {
     let after = count.saturating_add(size);
     let mut seen = hash_messages(&HEADER_LENS, after) ^ hash_root(after);
@@ -107,7 +107,7 @@ fn hash_batch(count: u64, size: u64) -> u8 {
     seen
 }
 
-// Hashes as many inner nodes as the last of so many leaves completes.
+// Hashes as many inner nodes as the last of `leaves` leaves completes.
 fn hash_nodes(leaves: u64) -> u8 {
     let mut seen = 0;
     for layer in 0..leaves.trailing_zeros() {
@@ -116,7 +116,7 @@ fn hash_nodes(leaves: u64) -> u8 {
     seen
 }
 
-// Hashes what the root of so many leaves has hashed: a node at each layer above that of the last full one.
+// Hashes what the root of `leaves` leaves requires: a node at each layer above the last full node's.
 fn hash_root(leaves: u64) -> u8 {
     let mut seen = 0;
     let lowest = leaves.trailing_zeros();

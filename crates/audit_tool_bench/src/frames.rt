@@ -4,13 +4,13 @@ use std::alloc::{AllocError, Global};
 use std::rt::Clock;
 use std::time::Instant;
 
-// The pieces that a decoder is fed, in bytes.
+// The size in bytes of the pieces that a decoder is fed.
 const PIECE_LEN: usize = 4096;
 
-// A body of an append: its byte, a tag, a kind and a payload of 100 bytes.
+// The body of an append: its first byte, a tag, a kind and a payload of 100 bytes.
 const BODY_LEN: usize = 109;
 
-/// The time of so many appends of 100 bytes through a decoder, in pieces.
+/// Times `frames` appends of 100 bytes through a decoder, in pieces.
 pub fn measure(rt: &(impl Clock + Eprint + AllocGlobal), frames: u32) -> anyhow::Result<()> {
     let stream = stream_of(rt.alloc(), frames)?;
     let start = Instant::now(rt)?;
@@ -21,7 +21,7 @@ pub fn measure(rt: &(impl Clock + Eprint + AllocGlobal), frames: u32) -> anyhow:
     Ok(())
 }
 
-// So many appends.
+// A stream of `frames` appends.
 fn stream_of(alloc: Global, frames: u32) -> Result<Vec<u8>, AllocError> {
     let mut stream = Vec::new(alloc);
     for _ in 0..frames {
@@ -31,7 +31,7 @@ fn stream_of(alloc: Global, frames: u32) -> Result<Vec<u8>, AllocError> {
     Ok(stream)
 }
 
-// The number of good requests in the stream.
+// The number of valid requests in the stream.
 fn decode(alloc: Global, stream: &[u8]) -> Result<u64, AllocError> {
     let mut decoder = Decoder::new(alloc)?;
     let mut requests = 0u64;
@@ -41,7 +41,7 @@ fn decode(alloc: Global, stream: &[u8]) -> Result<u64, AllocError> {
     Ok(requests)
 }
 
-// The number of good requests that end in the piece.
+// The number of valid requests that end in the piece.
 fn feed(decoder: &mut Decoder, piece: &[u8]) -> u64 {
     let mut requests = 0u64;
     let mut rest = piece;

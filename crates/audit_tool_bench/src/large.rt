@@ -1,5 +1,5 @@
-//! What events of the longest payload cost, beside the SHA-256, the ChaCha20 and the calls of the file that they can't
-//! do without.
+//! The cost of events with the longest payload, compared with the SHA-256, the ChaCha20 and the file calls that they
+//! can't avoid.
 use crate::stores::{BATCH_LENS, bare_disk, hash_messages, new_store, write_bare};
 use crate::times::{Times, since};
 use anyhow::bail;
@@ -18,17 +18,17 @@ use std::fs::Files;
 use std::rt::Clock;
 use std::time::Instant;
 
-// How often the verifying is timed, in turns with what it can't do without: the least times count.
+// How often verification is timed, alternating with the work that it can't avoid. The minima are reported.
 const ROUNDS: u32 = 7;
 
-// The lengths of the long messages that are hashed for an event: its link, and its leaf.
+// The lengths of the long messages hashed for an event: its link and its leaf.
 const LONG_LENS: [usize; 2] = [36 + MAX_PAYLOAD, 1 + MAX_ENTRY];
 
-// And of the short ones: key of the keystream, the two halves of the MAC, next key, and an inner node.
+// The lengths of the short messages: entry key, the two halves of the MAC, next key, and an inner node.
 const SHORT_LENS: [usize; 5] = [50, 96, 96, 46, 65];
 
-/// Seals and appends so many events of the longest payload to a store in the file, one at a time, and verifies their
-/// export in memory, seven times. It prints the times of both, and those of what they can't do without.
+/// Seals events with the longest payload and appends them to a store in the file, one at a time; then verifies their
+/// export in memory, seven times. It prints the times of both, and those of the work that they can't avoid.
 pub fn measure<R: Files + AllocGlobal + Clock + Eprint>(
     rt: &R,
     file: &str,
@@ -54,7 +54,7 @@ fn print_times<R: Eprint>(rt: &R, name: &str, events: u32, times: Times) -> anyh
     Ok(())
 }
 
-// The sum of the times of so many appends.
+// The total time of this many appends.
 fn time_appends<R: AllocGlobal + Clock, D: Sectors>(
     rt: &R,
     store: &mut Store<D>,
@@ -69,7 +69,7 @@ fn time_appends<R: AllocGlobal + Clock, D: Sectors>(
     Ok(sum)
 }
 
-// Times what the append of an event can't do without, with the calls by a second handle of the file; and then the
+// Times the work that the append of an event can't avoid, with the file calls through a second handle; then times the
 // append.
 fn time_append<R: AllocGlobal + Clock, D: Sectors>(
     rt: &R,
@@ -99,13 +99,13 @@ fn large_event(alloc: Global, number: u64) -> anyhow::Result<Vec<Event>> {
     Ok(vec![in alloc; Event::new(alloc, 1, &payload)?]?)
 }
 
-// The messages of an event with the longest payload, and its keystream.
+// Does the hashing of an event with the longest payload, and computes its keystream.
 fn work_of_event(text: &mut [u8], number: u64) -> u8 {
     let long = hash_long(text, number);
     long ^ hash_messages(&SHORT_LENS, number) ^ stream_of(number)
 }
 
-// Hashes the long messages. They begin with the number, so that none is hashed once for all.
+// Hashes the long messages. They begin with the number, so that no result can be reused.
 fn hash_long(text: &mut [u8], number: u64) -> u8 {
     if let Some(front) = text.first_chunk_mut::<8>() {
         *front = number.to_be_bytes();
@@ -117,7 +117,7 @@ fn hash_long(text: &mut [u8], number: u64) -> u8 {
     seen
 }
 
-// Makes the words of a keystream of the longest payload, under a key of the number.
+// Computes the words of a keystream for the longest payload, under a key made of the number.
 fn stream_of(number: u64) -> u8 {
     let mut key = [0; 32];
     key[..8].copy_from_slice(&number.to_be_bytes());
@@ -129,7 +129,7 @@ fn stream_of(number: u64) -> u8 {
     (seen & 0xff) as u8
 }
 
-// The least times of verifying all entries, and of what it can't do without.
+// The shortest times of verifying all entries, and of the work that this can't avoid.
 fn time_verifying<R: AllocGlobal + Clock, D: Sectors>(
     rt: &R,
     store: &mut Store<D>,
@@ -143,7 +143,7 @@ fn time_verifying<R: AllocGlobal + Clock, D: Sectors>(
     Ok(least)
 }
 
-// Times what the verifying of an export can't do without, and then the verifying.
+// Times the work that verifying an export can't avoid, then the verification.
 fn time_export<R: AllocGlobal + Clock>(
     rt: &R,
     export: &[u8],

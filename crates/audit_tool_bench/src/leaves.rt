@@ -3,10 +3,10 @@ use audit_tree::{Tree, leaf_hash};
 use std::rt::Clock;
 use std::time::Instant;
 
-// How often a root and a proof are asked for.
+// How often a root and a proof are requested.
 const REPEATS: u64 = 100_000;
 
-/// The time of pushing so many leaves of 74 bytes, and of roots and membership proofs over them.
+/// Times pushing `leaves` leaves of 74 bytes, and roots and membership proofs over them.
 pub fn measure(rt: &(impl Clock + Eprint + AllocGlobal), leaves: u32) -> anyhow::Result<()> {
     let mut tree = Tree::new(rt.alloc());
     let start = Instant::now(rt)?;
@@ -46,7 +46,7 @@ fn time_proofs(rt: &(impl Clock + Eprint), tree: &Tree) -> anyhow::Result<()> {
     Ok(())
 }
 
-// Makes so many proofs, and returns what it saw of them.
+// Makes `repeats` proofs, and returns a value that depends on them.
 fn make_proofs(tree: &Tree, repeats: u64) -> anyhow::Result<usize> {
     let mut hashes = 0;
     for index in 0..repeats {

@@ -1,10 +1,13 @@
-//! Measures what the store's layers cost. Figures go to standard error, since they differ from run to run;
+//! Measures what the store's layers cost. Figures are written to standard error, because they differ from run to run;
 //! standard output is fixed.
 //!
-//! Arguments: the number of small events, of leaves, and of frames, each a decimal number; then `store`, `sessions`,
-//! `export` or `large`, the name of a file that isn't there, and a number of events, for what a store of so many in a
-//! file costs, or sessions over one, or verifying an export of so many; or appending so many of the longest payload,
-//! and verifying them.
+//! Arguments: three decimal numbers, of small events, of leaves and of frames. They may be followed by one of these
+//! words, the name of a new file, and a number of events:
+//!
+//! - `store`: a store with this many events in the file.
+//! - `sessions`: sessions over such a store.
+//! - `export`: verifying an export of this many events.
+//! - `large`: appending this many events with the longest payload, and verifying them.
 #![tactic(auto)]
 
 mod blocks;

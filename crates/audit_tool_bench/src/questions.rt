@@ -1,4 +1,5 @@
-//! Replies to questions for membership proofs, beside the proof, the reads of the entry's sectors and its leaf hash.
+//! Replies to questions for membership proofs, compared with the proof, the reads of the entry's sectors and its leaf
+//! hash.
 use crate::sessions::{ROUNDS, started, time_frames};
 use crate::times::{Rounds, Times, since};
 use anyhow::bail;
@@ -10,11 +11,11 @@ use std::alloc::Global;
 use std::rt::Clock;
 use std::time::Instant;
 
-// The questions of a batch.
+// The number of questions in a batch.
 const QUESTIONS: u32 = 64;
 
-// How far the indices of one question and of the next one are from each other, before they are brought below the
-// count: a prime number.
+// The distance between the indices of consecutive questions, before they are reduced modulo the count. It is a prime
+// number.
 const STRIDE: u64 = 7_368_787;
 
 // The frame of a question for a membership proof.
@@ -23,11 +24,11 @@ const QUESTION_LEN: usize = 23;
 // The first byte of a reply with a membership proof.
 const MEMBERSHIP: u8 = 0x83;
 
-// The length of an entry whose payload has two bytes. It takes one sector.
+// The length of an entry with a payload of two bytes. It occupies one sector.
 const ENTRY_LEN: usize = 74;
 
-/// Times replies to questions for membership proofs of entries all over the log, under the count of all, and as many
-/// proofs, reads and leaf hashes alone, of other entries, by a second handle of the file.
+/// Times replies to questions for membership proofs of entries all over the log, under the full count; and as many
+/// proofs, reads and leaf hashes alone, for other entries, through a second handle of the file.
 pub fn time_questions<R: AllocGlobal + Clock + Eprint, D: Sectors + Drop>(
     rt: &R,
     store: Store<D>,
@@ -50,7 +51,7 @@ pub fn time_questions<R: AllocGlobal + Clock + Eprint, D: Sectors + Drop>(
     Ok(())
 }
 
-// Times what replies to a batch of questions can't do without.
+// Times the work that replies to a batch of questions can't avoid.
 fn time_bare<R: AllocGlobal + Clock, D: Sectors>(
     rt: &R,
     store: &Store<D>,
@@ -67,7 +68,7 @@ fn time_bare<R: AllocGlobal + Clock, D: Sectors>(
     })
 }
 
-// Times the replies to a batch of questions, and gives the store back.
+// Times the replies to a batch of questions, and returns the store.
 fn time_replies<R: AllocGlobal + Clock, D: Sectors + Drop>(
     rt: &R,
     store: Store<D>,
@@ -81,7 +82,7 @@ fn time_replies<R: AllocGlobal + Clock, D: Sectors + Drop>(
     Ok((time, core.into_store()))
 }
 
-// Numbers below the count, all over it: others for each batch.
+// Numbers below the count, spread over its range and different for each batch.
 fn some_indices(alloc: Global, batch: u32, count: u64) -> anyhow::Result<Vec<u64>> {
     let mut indices = Vec::new(alloc);
     for place in 0..QUESTIONS {
@@ -91,7 +92,7 @@ fn some_indices(alloc: Global, batch: u32, count: u64) -> anyhow::Result<Vec<u64
     Ok(indices)
 }
 
-// A number below the count, far from that of the next number.
+// A number below the count, far from the one for the next number.
 fn scattered(number: u64, count: u64) -> u64 {
     number.wrapping_mul(STRIDE).checked_rem(count).unwrap_or(0)
 }
@@ -112,7 +113,7 @@ fn question_frames(
     Ok(frames)
 }
 
-// What replies to these questions can't do without.
+// Does the work that replies to these questions can't avoid.
 fn bare_replies<D: Sectors>(store: &Store<D>, bare: &mut D, indices: &[u64]) -> anyhow::Result<u8> {
     let mut seen = 0;
     for index in indices {
@@ -121,7 +122,7 @@ fn bare_replies<D: Sectors>(store: &Store<D>, bare: &mut D, indices: &[u64]) -> 
     Ok(seen)
 }
 
-// A proof, the read of the entry's one sector, and its leaf hash.
+// Makes a proof, reads the entry's one sector, and computes its leaf hash.
 fn bare_reply<D: Sectors>(store: &Store<D>, bare: &mut D, index: u64) -> anyhow::Result<u8> {
     let hashes = store.membership(index, store.commitment().count)?;
     let at = LOG_START.saturating_add(index);

@@ -1,4 +1,4 @@
-//! What sessions cost over a store in a file: group commit of small events, and replies to questions.
+//! The cost of sessions over a store in a file: group commit of small events, and replies to questions.
 use crate::flushes::time_flushes;
 use crate::questions::time_questions;
 use crate::stores::{LARGE_BATCH, append_large, bare_disk, new_store, small_events};
@@ -17,15 +17,15 @@ use std::time::Instant;
 // How many flushes of each size, and how many batches of questions, are timed.
 pub const ROUNDS: u32 = 300;
 
-// After how many appends there is a flush.
+// The number of appends in a flush.
 const FLUSH_SIZES: [u32; 4] = [1, 4, 16, 64];
 
-// The sectors that a store has besides those of the events that are wanted of it: the headers', those of the events of
-// all flushes, and as many as a batch may take.
+// The sectors of a store besides those for the requested events: the headers, the events of all flushes, and as many
+// as a batch may have.
 const SPARE_SECTORS: u64 = 2 + (1 + 4 + 16 + 64) * ROUNDS as u64 + LARGE_BATCH as u64;
 
-/// Makes a store in the file, appends small events by sessions with flushes of several sizes, then more until it holds
-/// so many, and asks for membership proofs of them.
+/// Makes a store in the file, appends small events through sessions with flushes of several sizes, appends more until
+/// it holds `events`, and requests membership proofs of them.
 pub fn measure<R: Files + AllocGlobal + Clock + Eprint>(
     rt: &R,
     file: &str,
@@ -54,7 +54,7 @@ fn time_sizes<R: AllocGlobal + Clock + Eprint, D: Sectors + Drop>(
     Ok(store)
 }
 
-// Appends small events until the store holds so many.
+// Appends small events until the store holds `events`.
 fn fill<D: Sectors>(alloc: Global, store: &mut Store<D>, events: u64) -> anyhow::Result<()> {
     let missing = events.saturating_sub(store.commitment().count);
     append_large(alloc, store, missing / u64::from(LARGE_BATCH))?;
@@ -63,13 +63,13 @@ fn fill<D: Sectors>(alloc: Global, store: &mut Store<D>, events: u64) -> anyhow:
     Ok(())
 }
 
-/// A core over a store.
+/// Makes a core over a store.
 pub fn started<D: Sectors + Drop>(alloc: Global, store: Store<D>) -> anyhow::Result<Core<D>> {
     Core::new(alloc, store).ok().context("no memory for a core")
 }
 
-/// The time of these frames: each is given to a session, in turns, then there is a flush, and each session's output is
-/// taken. The outputs have to have a reply for each frame that begins with this byte.
+/// Times these frames: they are fed to the sessions in turn, then there is a flush, and each session's output is
+/// taken. The outputs must contain a reply for each frame that begins with this byte.
 pub fn time_frames<R: AllocGlobal + Clock, D: Sectors, const N: usize>(
     rt: &R,
     core: &mut Core<D>,
@@ -113,7 +113,7 @@ fn take_outputs<D: Sectors>(core: &mut Core<D>, outputs: &mut Vec<Vec<u8>>) -> a
     Ok(())
 }
 
-// The outputs have to have so many replies that begin with this byte.
+// Checks that the outputs contain `wanted` replies that begin with this byte.
 fn judge_replies(outputs: &[Vec<u8>], first: u8, wanted: usize) -> anyhow::Result<()> {
     let mut found = 0usize;
     for output in outputs {
@@ -125,7 +125,7 @@ fn judge_replies(outputs: &[Vec<u8>], first: u8, wanted: usize) -> anyhow::Resul
     Ok(())
 }
 
-// How many replies of an output begin with this byte.
+// How many replies in an output begin with this byte.
 fn count_replies(output: &[u8], first: u8) -> usize {
     let mut count = 0usize;
     let mut rest = output;

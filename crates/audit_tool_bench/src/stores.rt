@@ -1,4 +1,4 @@
-//! What a store in a file costs, beside the calls of the file and the SHA-256 blocks that it can't do without.
+//! The cost of a store in a file, compared with the file calls and the SHA-256 blocks that it can't avoid.
 use crate::times::{Times, since};
 use anyhow::{Context, bail};
 use audit_chain::{Event, Key};
@@ -10,33 +10,33 @@ use std::fs::{self, Files, OpenOptions};
 use std::rt::Clock;
 use std::time::Instant;
 
-/// The small events of a large batch: each takes one sector, and a store takes no more sectors at once.
+/// The small events in a large batch. Each occupies one sector, and a store accepts no more sectors at once.
 pub const LARGE_BATCH: u32 = 64;
 
-// How many batches of each size are timed: the least time counts.
+// How many batches of each size are timed. The minimum is reported.
 const ROUNDS: u32 = 300;
 
-// How many openings are timed: the least time counts.
+// How many openings are timed. The minimum is reported.
 const OPENINGS: u32 = 7;
 
-// The sectors that a store has besides those of the events that are wanted of it.
+// The sectors of a store besides those for the requested events.
 const SPARE_SECTORS: u64 = 2 + (LARGE_BATCH as u64 + 1) * ROUNDS as u64 + LARGE_BATCH as u64;
 
-// The lengths of the messages that are hashed for an event with a payload of two bytes: key of the keystream, link,
-// the two halves of the MAC, next key, leaf, and an inner node. They have 11 blocks.
+// The lengths of the messages hashed for an event with a payload of two bytes: entry key, link, the two halves of the
+// MAC, next key, leaf, and an inner node. They have 11 blocks.
 const SEALED_LENS: [usize; 7] = [50, 38, 96, 96, 46, 75, 65];
 
-// Where the same event is read at an opening: link, leaf, and an inner node. They have 5 blocks.
+// The messages hashed when an opening reads the same event: link, leaf, and an inner node. They have 5 blocks.
 const READ_LENS: [usize; 3] = [38, 75, 65];
 
-/// For a batch: the digests of two headers, and two roots of some thousand entries.
+/// The messages hashed for a batch: the digests of two headers, and two roots of some thousand entries.
 pub const BATCH_LENS: [usize; 14] = [480, 480, 65, 65, 65, 65, 65, 65, 65, 65, 65, 65, 65, 65];
 
 /// A device in a file of the operating system.
 pub type Disk<F> = FileDisk<OsFile<F>>;
 
-/// Makes a store of so many small events in the file, in large batches, after batches that are timed; and opens it
-/// again. It shows the memory that the process has taken at most.
+/// Makes a store of `events` small events in the file, in large batches, after batches that are timed, and reopens it.
+/// It prints the peak memory of the process.
 pub fn measure<R: Files + AllocGlobal + Clock + Eprint>(
     rt: &R,
     file: &str,
@@ -65,7 +65,7 @@ where
     append_large(rt.alloc(), &mut store, u64::from(events / LARGE_BATCH))
 }
 
-/// The file as a device without a lock, beside a store that is open there and keeps its own.
+/// Opens the file as a device without a lock, beside the open store, which keeps its own.
 pub fn bare_disk<R: Files + AllocGlobal>(rt: &R, file: &str) -> anyhow::Result<Disk<R::File>>
 where
     R::File: SystemFile,
@@ -74,7 +74,7 @@ where
     Ok(FileDisk::over_whole(rt.alloc(), opened)?)
 }
 
-/// A new store of so many sectors in the file, which isn't there.
+/// Makes a store of `sectors` sectors in a new file.
 pub fn new_store<R: Files + AllocGlobal>(
     rt: &R,
     file: &str,
@@ -95,7 +95,7 @@ fn made<D: Sectors + Drop>(opened: Result<Store<D>, Failed<D>>) -> anyhow::Resul
     }
 }
 
-/// Appends so many large batches of small events.
+/// Appends `batches` large batches of small events.
 pub fn append_large<D: Sectors>(
     alloc: Global,
     store: &mut Store<D>,
@@ -108,7 +108,7 @@ pub fn append_large<D: Sectors>(
     Ok(())
 }
 
-/// So many events of the kind 1 with a payload of two bytes.
+/// `count` events of kind 1 with a payload of two bytes.
 pub fn small_events(alloc: Global, count: u32) -> anyhow::Result<Vec<Event>> {
     let mut events = Vec::new(alloc);
     for _ in 0..count {
@@ -117,7 +117,7 @@ pub fn small_events(alloc: Global, count: u32) -> anyhow::Result<Vec<Event>> {
     Ok(events)
 }
 
-// Times the appends of batches of so many events, beside what they can't do without.
+// Times the appends of batches of this many events, compared with the work that they can't avoid.
 fn time_batches<R: AllocGlobal + Clock + Eprint, D: Sectors>(
     rt: &R,
     store: &mut Store<D>,
@@ -138,8 +138,8 @@ fn time_batches<R: AllocGlobal + Clock + Eprint, D: Sectors>(
     Ok(())
 }
 
-// Times what the append of a batch can't do without: the SHA-256 blocks, and the writes and syncs of the same sectors
-// by a second handle of the file; and then the append.
+// Times the work that the append of a batch can't avoid: the SHA-256 blocks, and the writes and syncs of the same
+// sectors through a second handle of the file. Then it times the append.
 fn time_batch<R: Clock, D: Sectors>(
     rt: &R,
     store: &mut Store<D>,
@@ -160,12 +160,13 @@ fn time_batch<R: Clock, D: Sectors>(
     })
 }
 
-// Hashes the messages of a batch of so many events.
+// Hashes the messages of a batch of `size` events.
 fn hash_batch(size: u64, round: u32) -> u8 {
     hash_events(&SEALED_LENS, size) ^ hash_messages(&BATCH_LENS, u64::from(round))
 }
 
-/// What a batch writes, and its three syncs, of other bytes: so many sectors from that one on, and both headers'.
+/// Writes what a batch writes, with other contents, and syncs three times: `count` sectors from `first` on, and both
+/// headers.
 pub fn write_bare<D: Sectors>(disk: &mut D, first: u64, count: u64) -> anyhow::Result<()> {
     for at in first..first.saturating_add(count) {
         write_one(disk, at)?;
@@ -186,7 +187,7 @@ fn write_one<D: Sectors>(disk: &mut D, at: u64) -> anyhow::Result<()> {
     Ok(())
 }
 
-// Hashes the messages of so many events.
+// Hashes the messages of `events` events.
 fn hash_events(lens: &[usize], events: u64) -> u8 {
     let mut seen = 0;
     for event in 0..events {
@@ -195,7 +196,7 @@ fn hash_events(lens: &[usize], events: u64) -> u8 {
     seen
 }
 
-/// Hashes a message of each of these lengths. They begin with a number, so that none is hashed once for all.
+/// Hashes a message of each of these lengths. They begin with a number, so that no result can be reused.
 pub fn hash_messages(lens: &[usize], number: u64) -> u8 {
     let mut message = [0x5a; 480];
     message[..8].copy_from_slice(&number.to_be_bytes());
@@ -206,7 +207,7 @@ pub fn hash_messages(lens: &[usize], number: u64) -> u8 {
     seen
 }
 
-// Times openings of the store in the file, beside the reading of as many sectors alone and the SHA-256 blocks.
+// Times openings of the store in the file, compared with just reading as many sectors and the SHA-256 blocks.
 fn time_openings<R: Files + AllocGlobal + Clock + Eprint>(rt: &R, file: &str) -> anyhow::Result<()>
 where
     R::File: SystemFile,
@@ -228,7 +229,7 @@ where
     Ok(())
 }
 
-// Shows the memory that the process has taken at most.
+// Prints the peak memory of the process.
 fn print_memory<R: Files + AllocGlobal + Eprint>(rt: &R) -> anyhow::Result<()> {
     let status = fs::read_to_string(rt, "/proc/self/status").context("no memory figure")?;
     for line in status.lines() {
@@ -239,7 +240,7 @@ fn print_memory<R: Files + AllocGlobal + Eprint>(rt: &R) -> anyhow::Result<()> {
     Ok(())
 }
 
-// What the opening of a store with so many events took, and what it can't do without.
+// The time of opening a store with this many events, and of the work that this can't avoid.
 #[derive(Clone, Copy)]
 struct OpeningTimes {
     count: u64,
@@ -250,7 +251,7 @@ struct OpeningTimes {
 }
 
 impl OpeningTimes {
-    // The least times of both.
+    // The shorter of both times.
     fn least(self, other: OpeningTimes) -> OpeningTimes {
         OpeningTimes {
             count: self.count,
@@ -262,7 +263,7 @@ impl OpeningTimes {
     }
 }
 
-// A store that was opened in so many nanoseconds: its events, and the end of its log.
+// A store that was opened in this many nanoseconds: its events, and the end of its log.
 #[derive(Clone, Copy)]
 struct Opened {
     nanoseconds: u128,
@@ -270,7 +271,7 @@ struct Opened {
     end: u64,
 }
 
-// Opens the store once, then reads its sectors, and then hashes what was hashed.
+// Opens the store once, then reads its sectors, then hashes the messages of the opening.
 fn time_opening<R: Files + AllocGlobal + Clock>(rt: &R, file: &str) -> anyhow::Result<OpeningTimes>
 where
     R::File: SystemFile,
@@ -302,7 +303,7 @@ where
     })
 }
 
-// Times the reading of every sector below that one.
+// Times reading every sector below `end`.
 fn time_reads<R: Files + AllocGlobal + Clock>(rt: &R, file: &str, end: u64) -> anyhow::Result<u128>
 where
     R::File: SystemFile,
@@ -313,7 +314,7 @@ where
     Ok(since(rt, start)?)
 }
 
-// Reads every sector below that one.
+// Reads every sector below `end`.
 fn read_bare<D: Sectors>(disk: &mut D, end: u64) -> anyhow::Result<()> {
     let mut sector = [0; SECTOR_SIZE];
     for at in 0..end {

@@ -1,11 +1,11 @@
-//! Times of work, beside those of what it can't do without.
+//! Times of work, compared with those of the part that it can't avoid.
 use anyhow::Context;
 use std::alloc::{AllocError, Global};
 use std::io;
 use std::rt::Clock;
 use std::time::Instant;
 
-/// Nanoseconds that work took, and that what it can't do without took alone, and what was seen of the latter.
+/// The nanoseconds of the whole work and of the unavoidable part alone, and a value that depends on the latter.
 #[derive(Clone, Copy)]
 pub struct Times {
     pub whole: u128,
@@ -21,7 +21,7 @@ impl Times {
         seen: 0,
     };
 
-    /// The sums of both.
+    /// Adds both times.
     pub fn plus(self, other: Times) -> Times {
         Times {
             whole: self.whole.saturating_add(other.whole),
@@ -30,7 +30,7 @@ impl Times {
         }
     }
 
-    /// The least times of both.
+    /// The shorter of both times.
     pub fn least(self, other: Times) -> Times {
         Times {
             whole: self.whole.min(other.whole),
@@ -69,7 +69,7 @@ impl Rounds {
         Ok(())
     }
 
-    /// The times that a tenth of the rounds' are below.
+    /// The tenth percentile of the rounds' times.
     pub fn low(mut self) -> anyhow::Result<Times> {
         Ok(Times {
             whole: low_time(&mut self.whole)?,
@@ -79,7 +79,7 @@ impl Rounds {
     }
 }
 
-// The time that a tenth of these times are below.
+// The tenth percentile of these times.
 fn low_time(times: &mut Vec<u128>) -> anyhow::Result<u128> {
     times.sort()?;
     let place = times.len() / 10;

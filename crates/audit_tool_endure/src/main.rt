@@ -1,7 +1,7 @@
-//! A program to be killed: it appends batches to a store in a file, and prints how many events are acknowledged
-//! after each. Another start opens the store, reads each entry and prints how many there are.
+//! A program to be killed. It appends batches to a store in a file, and prints how many events are acknowledged after
+//! each batch. Another run opens the store, reads each entry and prints how many there are.
 //!
-//! It also stops a store in memory after each call of its device.
+//! It can also stop a store in memory after each call of its device.
 //!
 //! Arguments: `format FILE`, `append FILE BATCHES`, `count FILE` or `stops`.
 #![tactic(auto)]

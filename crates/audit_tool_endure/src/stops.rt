@@ -1,5 +1,5 @@
-//! A store in memory that is stopped after each call of its device, with each of the writes that were pending kept or
-//! lost; then opened, and stopped again after each call of the opening in the same way.
+//! Stops a store in memory after each call of its device, with each pending write kept or lost. Then opens it, and
+//! stops it in the same way after each call of the opening.
 use crate::stores::{batch_of, made};
 use anyhow::{Context, bail};
 use audit_chain::Key;
@@ -11,12 +11,12 @@ use std::alloc::Global;
 // The sectors of the device: two headers, three for each batch, and one after them.
 const SECTORS: u64 = 12;
 
-// The calls of the device by which it is formatted, and by which a batch of three sectors is appended.
+// The device calls of formatting, and of appending a batch of three sectors.
 const FORMAT_CALLS: u64 = SECTORS + 5;
 
 const BATCH_CALLS: u64 = 8;
 
-// The roots under none of the batches, the first, the first two, and all. They were computed by an independent model.
+// The roots with none of the batches, the first, the first two, and all. They were computed by an independent model.
 const ROOTS: [&str; 4] = [
     "0000000000000000000000000000000000000000000000000000000000000000",
     "c580da10bd644a145393264a9af930551b9ef1fcfc30c8f0b4721fe6b1e3d7fe",
@@ -25,7 +25,7 @@ const ROOTS: [&str; 4] = [
 ];
 
 /// Stops a run of the batches after each call, and prints how many stores were opened. It is an error if one of them
-/// couldn't be opened, or has another list of events than it should.
+/// couldn't be opened, or doesn't have the expected events.
 pub fn try_stops<R: AllocGlobal + Print>(rt: &R) -> anyhow::Result<()> {
     let mut openings = 0;
     for calls in 0..=BATCH_CALLS * 3 {
@@ -39,7 +39,7 @@ fn sum(openings: u64, more: u64) -> u64 {
     openings.saturating_add(more)
 }
 
-// A run that is stopped after so many calls. At most three writes are pending then.
+// A run stopped after `calls` calls. At most three writes are then pending.
 fn stop_run(alloc: Global, calls: u64) -> anyhow::Result<u64> {
     let mut openings = 0;
     let (disk, acknowledged) = run_to(alloc, calls)?;
@@ -54,7 +54,7 @@ fn stop_run(alloc: Global, calls: u64) -> anyhow::Result<u64> {
     Ok(openings)
 }
 
-// The device after a run that was stopped after so many calls, and how many batches were acknowledged.
+// The device after a run stopped after `calls` calls, and how many batches were acknowledged.
 fn run_to(alloc: Global, calls: u64) -> anyhow::Result<(MemDisk, u64)> {
     let fuse = Fuse::new(
         MemDisk::new(alloc, SECTORS)?,
@@ -69,8 +69,8 @@ fn run_to(alloc: Global, calls: u64) -> anyhow::Result<(MemDisk, u64)> {
     Ok((store.into_disk().into_inner(), end.receipts.len() as u64))
 }
 
-// An opening that is stopped after each of its calls: whatever is lost of its own writes, as many batches are held.
-// It writes zeros from the log's end on, and then at most one header.
+// An opening stopped after each of its calls. Whatever is lost of its own writes, the same batches are held. It writes
+// zeros from the end of the log on, and then at most one header.
 fn stop_opening(alloc: Global, disk: &MemDisk, held: u64) -> anyhow::Result<u64> {
     let end = held.saturating_mul(3).saturating_add(2);
     let mut openings = 0;
@@ -91,8 +91,8 @@ fn stop_opening(alloc: Global, disk: &MemDisk, held: u64) -> anyhow::Result<u64>
     bail!("no opening came to its end");
 }
 
-// In how many ways the writes that are pending after so many calls of an opening may be kept or lost. The first call
-// is a sync; then come the zeros, a sync, and a header.
+// In how many ways the writes pending after `calls` calls of an opening may be kept or lost. The first call is a sync;
+// then there are the zeros, a sync, and a header.
 fn masks(calls: u64, zeros: u64) -> u64 {
     let pending = if calls <= zeros.saturating_add(1) {
         calls.saturating_sub(1)
@@ -102,7 +102,7 @@ fn masks(calls: u64, zeros: u64) -> u64 {
     1 << pending.min(SECTORS)
 }
 
-// The device after an opening that was stopped after so many calls, and whether it came to its end.
+// The device after an opening stopped after `calls` calls, and whether the opening completed.
 fn open_to(alloc: Global, disk: &MemDisk, calls: u64) -> anyhow::Result<(MemDisk, bool)> {
     match Store::open(alloc, Fuse::new(disk.crash(alloc, &[])?, calls)) {
         Ok(store) => Ok((store.into_disk().into_inner(), true)),
@@ -115,8 +115,8 @@ fn open_to(alloc: Global, disk: &MemDisk, calls: u64) -> anyhow::Result<(MemDisk
     }
 }
 
-// Which pending writes are kept, by the bits of a mask: the first one for a header, and one for each of so many
-// sectors in a row from the first on.
+// Which pending writes are kept, by the bits of a mask: the first bit for a header, and one for each of `width`
+// sectors from `first` on.
 fn picks(alloc: Global, mask: u64, first: u64, width: u64) -> anyhow::Result<Vec<u64>> {
     let mut picks = Vec::new(alloc);
     for sector in 0..SECTORS {
@@ -126,7 +126,7 @@ fn picks(alloc: Global, mask: u64, first: u64, width: u64) -> anyhow::Result<Vec
     Ok(picks)
 }
 
-// How many batches the store on the device holds, by the root under its events.
+// How many batches the store on the device holds, determined by its root.
 fn batches_held(alloc: Global, disk: MemDisk) -> anyhow::Result<u64> {
     let store = made(Store::open(alloc, disk))?;
     let commitment = store.commitment();

@@ -12,7 +12,7 @@ const SECTORS: u64 = 40_000;
 // The events of a batch.
 const EVENTS: u32 = 3;
 
-/// Makes the file, with a store of no events under a key of zeros.
+/// Makes the file, with a store without events under a key of zeros.
 pub fn format<R: Files + AllocGlobal + Print>(rt: &R, file: &str) -> anyhow::Result<()>
 where
     R::File: SystemFile,
@@ -24,7 +24,7 @@ where
     Ok(())
 }
 
-/// Appends so many batches, or as many as the device has room for, and prints the count of events after each.
+/// Appends `batches` batches, or as many as fit on the device, and prints the count of events after each.
 pub fn append<R: Files + AllocGlobal + Print>(
     rt: &R,
     file: &str,

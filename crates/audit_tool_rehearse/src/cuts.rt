@@ -1,4 +1,4 @@
-//! A stream cut into pieces: whatever the pieces are, the answers are the same.
+//! A stream cut into pieces: the answers don't depend on the pieces.
 use crate::stores::{Device, new_core};
 use crate::texts::text_of;
 use anyhow::{anyhow, bail};
@@ -8,8 +8,8 @@ use std::alloc::Global;
 // An append of `hi` under kind 1 with tag 7.
 const APPEND: &[u8] = b"\x00\x0b\x01\x00\x00\x00\x07\x00\x00\x00\x01hi";
 
-/// Feeds the bytes in every two and three pieces, empty ones too, and byte by byte, and prints in how many ways, and
-/// what they were answered. It is an error if two ways differ.
+/// Feeds the bytes in every possible two and three pieces, including empty ones, and byte by byte. It prints the
+/// number of ways and the answers. It is an error if the answers of two ways differ.
 pub fn try_cuts<R: AllocGlobal + Print>(rt: &R, stream: &[u8]) -> anyhow::Result<()> {
     let alloc = rt.alloc();
     let whole = answers(alloc, &[stream])?;
@@ -21,7 +21,7 @@ pub fn try_cuts<R: AllocGlobal + Print>(rt: &R, stream: &[u8]) -> anyhow::Result
     Ok(())
 }
 
-// In how many ways the bytes are cut in two and three.
+// The number of ways to cut the bytes into two or three pieces.
 fn try_ways(alloc: Global, stream: &[u8], whole: &[u8]) -> anyhow::Result<u64> {
     let mut ways = 0u64;
     for first in 0..=stream.len() {
@@ -31,12 +31,12 @@ fn try_ways(alloc: Global, stream: &[u8], whole: &[u8]) -> anyhow::Result<u64> {
     Ok(ways)
 }
 
-// The bytes before the place, and those from it on.
+// The bytes before `place`, and the others.
 fn cut(stream: &[u8], place: usize) -> (&[u8], &[u8]) {
     stream.split_at_checked(place).unwrap_or((stream, &[]))
 }
 
-// In how many ways the rest is cut in two.
+// The number of ways to cut the rest in two.
 fn cuts_after(alloc: Global, front: &[u8], rest: &[u8], whole: &[u8]) -> anyhow::Result<u64> {
     let mut ways = 0u64;
     for second in 0..=rest.len() {
@@ -52,8 +52,8 @@ fn cuts_after(alloc: Global, front: &[u8], rest: &[u8], whole: &[u8]) -> anyhow:
     Ok(ways)
 }
 
-// What is answered to the pieces, by a store of one event; whether the session has ended, and how many events there
-// are then.
+// The answers to the pieces, from a store of one event; whether the session has ended; and the number of events
+// afterwards.
 fn answers(alloc: Global, pieces: &[&[u8]]) -> anyhow::Result<Vec<u8>> {
     let mut core = core_of_one_event(alloc)?;
     for piece in pieces {

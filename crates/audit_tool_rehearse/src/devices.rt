@@ -1,4 +1,4 @@
-//! Devices hurt at random, which are opened then.
+//! Randomly damaged devices, and the outcomes of opening them.
 use crate::cuts::feed;
 use crate::lists::{add_device, random_core};
 use crate::random::Random;
@@ -16,10 +16,10 @@ use std::alloc::{AllocError, Global};
 
 type Block = [u8; SECTOR_SIZE];
 
-// The bytes of a header that its digest is of.
+// The number of header bytes covered by its digest.
 const DIGESTED: usize = 480;
 
-/// How many devices were opened, how many refused by each number, and the digest of all outcomes.
+/// How many devices were opened, how many were refused with each number, and the digest of all outcomes.
 #[derive(Drop)]
 struct Outcomes {
     opened: u64,
@@ -27,7 +27,7 @@ struct Outcomes {
     hasher: Sha256,
 }
 
-/// Hurts so many devices from a number on and opens them, and prints the outcomes.
+/// Damages a range of numbered devices, opens them, and prints the outcomes.
 pub fn play_devices<R: AllocGlobal + Print>(rt: &R, rest: &str) -> anyhow::Result<()> {
     let (first, count) = two_numbers(rest)?;
     let mut outcomes = Outcomes {
@@ -73,7 +73,7 @@ fn play_device(alloc: Global, number: u64, outcomes: &mut Outcomes) -> anyhow::R
     open_hurt(alloc, &content, outcomes)
 }
 
-// The device of a core to which up to four more events were appended.
+// The device of a core after appending up to four more events.
 fn with_events(alloc: Global, core: Core<Device>, random: &mut Random) -> anyhow::Result<MemDisk> {
     let mut core = core;
     let events = random.below(5);
@@ -83,7 +83,7 @@ fn with_events(alloc: Global, core: Core<Device>, random: &mut Random) -> anyhow
     Ok(core.into_store().into_disk().into_inner())
 }
 
-// Hurts a device in one of several ways.
+// Damages a device in one of several ways.
 fn hurt(random: &mut Random, older: &[Block], content: &mut Vec<Block>) -> Result<(), AllocError> {
     match random.below(18) {
         0..=4 => change_numbers(random, content),
@@ -100,7 +100,7 @@ fn hurt(random: &mut Random, older: &[Block], content: &mut Vec<Block>) -> Resul
     Ok(())
 }
 
-// Changes generation, sectors, count or end in one header or in both, and makes its digest right.
+// Changes generation, sectors, count or end in one header or in both, and recomputes the digest.
 fn change_numbers(random: &mut Random, content: &mut [Block]) {
     let at = random.below(4).saturating_mul(8).saturating_add(16) as usize;
     let change = match random.below(4) {
@@ -115,14 +115,14 @@ fn change_numbers(random: &mut Random, content: &mut [Block]) {
     }
 }
 
-/// What a number becomes, or what is added to it.
+/// The new value of a number, or what is added to it.
 #[derive(Clone, Copy)]
 enum Change {
     Becomes(u64),
     Grows(u64),
 }
 
-// Numbers at the limits of a header's rules and past them.
+// Numbers at the limits of the header's rules and beyond.
 fn limit(random: &mut Random) -> u64 {
     let least = match random.below(5) {
         0 => 0,
@@ -151,8 +151,8 @@ fn make_digest_right(sector: &mut Block) {
     sector[DIGESTED..].copy_from_slice(&digest);
 }
 
-// Turns a byte of the magic, the version, a zero part, the root, the last link or the key in one header or in both,
-// and makes its digest right.
+// Changes a byte of the magic, the version, a zero part, the root, the last link or the key, in one header or in both,
+// and recomputes the digest.
 fn change_parts(random: &mut Random, content: &mut [Block]) {
     let (start, size) = match random.below(6) {
         0 => (0, 10),
@@ -175,7 +175,7 @@ fn change_parts(random: &mut Random, content: &mut [Block]) {
     }
 }
 
-// Another version in one header or in both: the first, the newest, or one that is none.
+// Puts another version into one header or both: the first, the newest, or an invalid one.
 fn change_versions(random: &mut Random, content: &mut [Block]) {
     let version = match random.below(6) {
         0..=2 => FIRST_VERSION,
@@ -198,14 +198,14 @@ fn change_version(content: &mut [Block], slot: usize, version: u16) {
     }
 }
 
-// Turns the bits of a byte.
+// Flips bits of a byte.
 fn turn(content: &mut [Block], at: usize, place: usize, turned: u64) {
     if let Some(sector) = content.get_mut(at) {
         sector[place % SECTOR_SIZE] ^= (turned & 0xff) as u8;
     }
 }
 
-// A header of the device as it was before.
+// Replaces a header by one from an older state of the device.
 fn bring_older(random: &mut Random, older: &[Block], content: &mut [Block]) {
     let slot = random.below(2) as usize;
     if let (Some(sector), Some(before)) = (content.get_mut(slot), older.get(slot)) {
@@ -213,7 +213,7 @@ fn bring_older(random: &mut Random, older: &[Block], content: &mut [Block]) {
     }
 }
 
-// What a header held before, under the generation that it has.
+// Replaces a header by an older one, but keeps its generation.
 fn bring_older_contents(random: &mut Random, older: &[Block], content: &mut [Block]) {
     let slot = random.below(2) as usize;
     if let (Some(sector), Some(before)) = (content.get_mut(slot), older.get(slot)) {
@@ -230,7 +230,7 @@ fn exchange_headers(content: &mut [Block]) {
     }
 }
 
-// A sector of the log or a header.
+// A random sector of the log or the headers.
 fn any_sector(random: &mut Random, content: &[Block]) -> usize {
     let most = match random.below(4) {
         0 => 2,
@@ -265,7 +265,7 @@ fn add_noise(random: &mut Random, content: &mut [Block]) {
     }
 }
 
-// Cuts the device short, or lengthens it by zero sectors.
+// Truncates the device, or extends it with zero sectors.
 fn resize(random: &mut Random, content: &mut Vec<Block>) -> Result<(), AllocError> {
     if random.below(2) == 0 {
         let kept = random.below(content.len() as u64);
@@ -279,7 +279,7 @@ fn resize(random: &mut Random, content: &mut Vec<Block>) -> Result<(), AllocErro
     Ok(())
 }
 
-// Opens the device and appends an event to its store, and adds the outcomes and what the device has then.
+// Opens the device and appends an event to its store, and adds the outcomes and the device's resulting contents.
 fn open_hurt(alloc: Global, content: &[Block], outcomes: &mut Outcomes) -> anyhow::Result<()> {
     let disk = FailOnce::new(MemDisk::from_sectors(alloc, content)?, u64::MAX);
     let disk = match Store::open(alloc, disk) {

@@ -1,4 +1,4 @@
-//! Batches of hostile streams, and a digest of all that they make.
+//! Batches of hostile streams, and a digest of everything they produce.
 use crate::lists::{add_sessions, add_store, drive_groups, no_outputs};
 use crate::plan::Plan;
 use crate::random::Random;
@@ -10,22 +10,22 @@ use audit_wire::MAX_BODY;
 use sha2::{Digest, Sha256};
 use std::alloc::{AllocError, Global};
 
-// Each batch has so many groups of four steps.
+// The groups of four steps in a batch.
 const GROUPS: usize = 16;
 
-// The most bytes that a body may have, and how many lengths are over it.
+// The most bytes of a body, and how many lengths exceed it.
 const MOST_BYTES: u64 = MAX_BODY as u64;
 
 const LONGER: u64 = u16::MAX as u64 - MOST_BYTES;
 
-/// The frames that were drawn, and how many of them are malformed.
+/// How many frames were drawn, and how many of them are malformed.
 #[derive(Drop)]
 struct Tally {
     frames: u64,
     malformed: u64,
 }
 
-/// Plays so many batches from a number on, and prints how many frames they had, how many of them malformed, and the
+/// Plays a range of numbered batches, and prints how many frames they had, how many of them were malformed, and the
 /// digest.
 pub fn play_hostile<R: AllocGlobal + Print>(rt: &R, rest: &str) -> anyhow::Result<()> {
     let (first, count) = two_numbers(rest)?;
@@ -103,7 +103,7 @@ fn hostile_stream(
     Ok(stream)
 }
 
-// Of twelve frames two are appends, one a commitment and three other questions; the others are malformed.
+// Of twelve frames two are appends, one is a commitment and three are other questions; the rest are malformed.
 fn add_drawn(
     random: &mut Random,
     tally: &mut Tally,
@@ -122,7 +122,7 @@ fn add_drawn(
     }
 }
 
-// A question about places and counts that may be far out of range.
+// A question about indices and counts that may be far out of range.
 fn add_far_question(random: &mut Random, tag: u64, stream: &mut Vec<u8>) -> Result<(), AllocError> {
     match random.below(3) {
         0 => add_head(stream, 13, 5, tag)?,
@@ -160,7 +160,7 @@ fn add_malformed(
     }
 }
 
-// A length over the limit, with some bytes of the body.
+// A length over the limit, followed by some bytes of the body.
 fn add_too_long(random: &mut Random, stream: &mut Vec<u8>) -> Result<(), AllocError> {
     let length = match random.below(2) {
         0 => MOST_BYTES.saturating_add(1),
@@ -179,7 +179,7 @@ fn add_reserved(random: &mut Random, tag: u64, stream: &mut Vec<u8>) -> Result<(
     add_noise(random, length, stream)
 }
 
-// A request of its kind with another length than it has.
+// A request whose length is wrong for its kind.
 fn add_wrong_length(random: &mut Random, stream: &mut Vec<u8>) -> Result<(), AllocError> {
     let kind = random.up_to(5);
     let (most, right) = match kind {
@@ -193,7 +193,7 @@ fn add_wrong_length(random: &mut Random, stream: &mut Vec<u8>) -> Result<(), All
     add_body(random, length, kind, stream)
 }
 
-// A body that begins with no request's first byte.
+// A body whose first byte isn't a request's.
 fn add_unknown(random: &mut Random, stream: &mut Vec<u8>) -> Result<(), AllocError> {
     let first = match random.below(251) {
         0 => 0,
@@ -206,7 +206,7 @@ fn add_unknown(random: &mut Random, stream: &mut Vec<u8>) -> Result<(), AllocErr
     add_body(random, length, first, stream)
 }
 
-// A frame of this length, which isn't 0, with this first byte and noise after it.
+// A frame of this length, which isn't 0: this first byte, followed by noise.
 fn add_body(
     random: &mut Random,
     length: u64,

@@ -1,4 +1,4 @@
-//! A request and a membership proof of each length that they may have.
+//! A request and a membership proof of each length that is possible.
 use crate::streams::add_head;
 use crate::texts::text_of;
 use anyhow::bail;
@@ -21,7 +21,7 @@ pub fn try_lengths<R: AllocGlobal + Print>(rt: &R) -> anyhow::Result<()> {
     Ok(())
 }
 
-// So many bytes, each one more than the one before it.
+// Bytes of this number, each one more than the previous.
 fn counting_bytes(alloc: Global, first: u64, length: u64) -> Result<Vec<u8>, AllocError> {
     let mut bytes = Vec::new(alloc);
     for place in 0..length {
@@ -30,7 +30,7 @@ fn counting_bytes(alloc: Global, first: u64, length: u64) -> Result<Vec<u8>, All
     Ok(bytes)
 }
 
-// The append with a payload of this length, and the length as its kind and tag.
+// The append with a payload of this length, which is also its kind and tag.
 fn frame_of(alloc: Global, length: u64) -> Result<Vec<u8>, AllocError> {
     let mut frame = Vec::new(alloc);
     let kind = (length & 0xffff_ffff) as u32;
@@ -40,7 +40,7 @@ fn frame_of(alloc: Global, length: u64) -> Result<Vec<u8>, AllocError> {
     Ok(frame)
 }
 
-// Tag, kind and payload of the request that owns them.
+// Adds the tag, kind and payload of the owned request.
 fn add_owned(alloc: Global, length: u64, hasher: &mut Sha256) -> anyhow::Result<()> {
     let frame = frame_of(alloc, length)?;
     let body = frame.get(2..).unwrap_or(&[]);

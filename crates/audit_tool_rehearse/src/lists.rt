@@ -1,4 +1,4 @@
-//! Random lists of steps, and a digest of all that they make.
+//! Random lists of steps, and a digest of everything they produce.
 use crate::plan::Plan;
 use crate::random::Random;
 use crate::stores::{Device, first_core, new_core, worn_core};
@@ -12,12 +12,12 @@ use audit_store::Store;
 use sha2::{Digest, Sha256};
 use std::alloc::{AllocError, Global};
 
-// So many lists make a digest, and each of them has so many groups of four steps.
+// The lists in a digest, each of which has `GROUPS` groups of four steps.
 const LISTS: u64 = 20;
 
 const GROUPS: usize = 40;
 
-/// Prints the digest of twenty lists, from that number on.
+/// Prints the digest of twenty lists, starting with this number.
 pub fn play_lists<R: AllocGlobal + Print>(rt: &R, first: u64) -> anyhow::Result<()> {
     let mut hasher = Sha256::new();
     for place in 0..LISTS {
@@ -40,7 +40,7 @@ fn play_list(alloc: Global, number: u64, hasher: &mut Sha256) -> anyhow::Result<
     add_store(core.into_store(), hasher)
 }
 
-/// The plan of a list: one step in 4, in 12 or in 60 is a flush.
+/// The plan of a list: one step in 4, 12 or 60 is a flush.
 pub fn random_plan<'a>(mut random: Random, streams: &'a [Vec<u8>]) -> Plan<'a> {
     let flushes = match random.below(3) {
         0 => 4,
@@ -50,7 +50,7 @@ pub fn random_plan<'a>(mut random: Random, streams: &'a [Vec<u8>]) -> Plan<'a> {
     Plan::new(random, streams, flushes)
 }
 
-/// Drives so many groups of four steps, and after each takes what waits for a session.
+/// Drives groups of four steps, and after each group takes the output of a session.
 pub fn drive_groups(
     core: &mut Core<Device>,
     plan: &mut Plan,
@@ -64,8 +64,8 @@ pub fn drive_groups(
     Ok(())
 }
 
-/// A core over a store of 3 to 119 sectors. One store in eight is worn, one after its first commit, and one is of the
-/// first version of the format.
+/// A core over a store of 3 to 119 sectors. One store in eight is worn, one wears out with its first commit, and one
+/// is of the first version of the format.
 pub fn random_core(alloc: Global, random: &mut Random) -> anyhow::Result<Core<Device>> {
     let sectors = match random.below(3) {
         0 => random.below(6).saturating_add(3),
@@ -101,7 +101,7 @@ pub fn random_streams(alloc: Global, random: &mut Random) -> Result<Vec<Vec<u8>>
     Ok(streams)
 }
 
-/// No bytes yet for each session.
+/// Empty outputs for all sessions.
 pub fn no_outputs(alloc: Global) -> Result<Vec<Vec<u8>>, AllocError> {
     let mut outputs = Vec::new(alloc);
     for _ in 0..SESSIONS {
@@ -123,7 +123,7 @@ fn drive_four(core: &mut Core<Device>, plan: &mut Plan) -> anyhow::Result<()> {
     Ok(())
 }
 
-// Takes what waits for a session.
+// Takes the output of a session.
 fn gather(
     core: &mut Core<Device>,
     outputs: &mut [Vec<u8>],
@@ -136,7 +136,7 @@ fn gather(
     Ok(())
 }
 
-/// Takes what waits for each session.
+/// Takes the output of each session.
 pub fn gather_each(core: &mut Core<Device>, outputs: &mut [Vec<u8>]) -> Result<(), AllocError> {
     for session in 0..SESSIONS {
         gather(core, outputs, session)?;
@@ -144,7 +144,7 @@ pub fn gather_each(core: &mut Core<Device>, outputs: &mut [Vec<u8>]) -> Result<(
     Ok(())
 }
 
-/// Adds the length of each session's output and its bytes, and whether it has ended.
+/// Adds the length and the bytes of each session's output, and whether the session has ended.
 pub fn add_sessions(
     core: &mut Core<Device>,
     outputs: &mut [Vec<u8>],
@@ -161,7 +161,7 @@ pub fn add_sessions(
     Ok(())
 }
 
-/// Adds generation, count, end, root and the device.
+/// Adds the generation, the count, the end, the root and the device.
 pub fn add_store(store: Store<Device>, hasher: &mut Sha256) -> anyhow::Result<()> {
     let commitment = store.commitment();
     hasher.update(&store.generation().to_be_bytes());

@@ -1,28 +1,30 @@
-//! A rehearsal of sessions over stores in memory. Each line of standard input is a step of a scene, and what the
-//! sessions are answered is printed.
+//! A rehearsal of sessions over stores in memory. Each line of standard input is a step of a scene. The answers to the
+//! sessions are printed.
 //!
-//! | Line | What it does |
-//! |---|---|
-//! | `store SECTORS CALLS` | a core over a new store; its device fails once, after so many calls |
-//! | `worn SECTORS COMMITS` | a core over a store of no events with generations for so many commits |
-//! | `first SECTORS` | a core over a new store of the first version of the format |
-//! | `feed SESSION HEX`, `end SESSION`, `flush` | one step |
-//! | `drive SESSION HEX` | a list of steps: the piece, a flush, the end, and a flush |
-//! | `show SESSION` | prints what waits for the session, which is taken, and whether it has ended |
-//! | `open` | prints what the store holds, opens its device again, and prints what it holds then |
-//! | `cuts HEX` | feeds the bytes to new cores in every two and three pieces |
-//! | `lists FIRST` | twenty random lists of steps from that number on: prints a digest of all that they made |
-//! | `hostile FIRST COUNT` | so many batches of streams from that number on, most of whose frames are malformed or ask
-//! for what is not there: prints how many frames, how many of them malformed, and a digest of all that they made | |
-//! `devices FIRST COUNT` | hurts so many devices from that number on, opens them, and appends an event to each that was
-//! opened: prints how many were opened, how many refused by each number, and a digest of the outcomes and the devices |
-//! | `sweep FIRST COUNT` | so many lists of steps drawn by a cipher, from that number on, whose stores are opened,
-//! exported, verified and replayed: prints how many events they hold, how many were acknowledged, and a digest of the
-//! roots; and how many lists were replayed, and how many have more bytes than `replay` reads | | `lengths` | reads an
-//! append and a membership proof for each length of a payload: prints a digest of what was read | | `serve CALLS READ
-//! READS WRITE WAITS HEX HEX` | serves two streams over a device that fails once, after so many calls: so many bytes a
-//! read, reads before one fails, bytes a write; where WAITS is 1, a second read fails before the other stream was
-//! written to |
+//! - `store SECTORS CALLS`: makes a core over a new store, whose device fails once, after CALLS calls.
+//! - `worn SECTORS COMMITS`: makes a core over a store without events that has generations left for COMMITS commits.
+//! - `first SECTORS`: makes a core over a new store of the first version of the format.
+//! - `feed SESSION HEX`, `end SESSION`, `flush`: one step.
+//! - `drive SESSION HEX`: a list of steps: the piece, a flush, the end, and a flush.
+//! - `show SESSION`: takes and prints the session's output, and prints whether the session has ended.
+//! - `open`: prints what the store holds, reopens its device, and prints what it then holds.
+//! - `cuts HEX`: feeds the bytes to new cores in all possible two and three pieces.
+//! - `lists FIRST`: plays twenty random lists of steps from number FIRST on, and prints a digest of everything they
+//!   produced.
+//! - `hostile FIRST COUNT`: plays COUNT batches of streams from number FIRST on. Most of their frames are malformed or
+//!   request what doesn't exist. Prints how many frames there were, how many of them were malformed, and a digest of
+//!   everything they produced.
+//! - `devices FIRST COUNT`: damages COUNT devices from number FIRST on, opens them, and appends an event to each that
+//!   could be opened. Prints how many were opened, how many were refused with each number, and a digest of the
+//!   outcomes and the devices.
+//! - `sweep FIRST COUNT`: plays COUNT lists of steps from number FIRST on, drawn by a cipher. Their stores are
+//!   reopened, exported, verified and replayed. Prints how many events they hold, how many were acknowledged, a digest
+//!   of the roots, how many lists were replayed, and how many have more bytes than `replay` reads.
+//! - `lengths`: reads an append and a membership proof for each length of a payload, and prints a digest of what was
+//!   read.
+//! - `serve CALLS READ READS WRITE WAITS HEX HEX`: serves two streams over a device that fails once, after CALLS
+//!   calls. READ is the number of bytes a read, READS the reads before one fails, WRITE the bytes a write. If WAITS is
+//!   1, a second read fails until the other stream has been written to.
 #![tactic(auto)]
 
 mod cuts;

@@ -11,7 +11,7 @@ pub struct Plan<'a> {
     random: Random,
     streams: &'a [Vec<u8>],
     given: [usize; SESSIONS],
-    // One step in so many is a flush.
+    // One step in this many is a flush.
     flushes: u64,
 }
 

@@ -2,7 +2,7 @@ use rand_chacha::ChaCha20Rng;
 use rand_core::SeedableRng;
 use rand_core::utils::NextWord;
 
-/// Random numbers, the same for the same start everywhere.
+/// Pseudorandom numbers, the same everywhere for the same start.
 #[derive(Drop)]
 pub struct Random {
     source: Source,
@@ -10,7 +10,7 @@ pub struct Random {
 
 #[derive(Drop)]
 enum Source {
-    // A linear congruence modulo 2^64, of whose states the upper 31 bits are used.
+    // A linear congruential generator modulo 2^64, of which the upper 31 bits are used.
     Congruence(u64),
     // The words of ChaCha20.
     Cipher(ChaCha20Rng),
@@ -23,7 +23,7 @@ impl Random {
         }
     }
 
-    /// The words of ChaCha20 under the number, its lowest byte first, and zeros.
+    /// Draws from the words of ChaCha20, with a key of the number, lowest byte first, followed by zeros.
     pub fn of_cipher(number: u64) -> Random {
         let mut seed = [0; 32];
         seed[..8].copy_from_slice(&number.to_le_bytes());
@@ -44,12 +44,12 @@ impl Random {
         }
     }
 
-    /// A number below the bound, or 0 where that is 0.
+    /// A number below `bound`, or 0 if that is 0.
     pub fn below(&mut self, bound: u64) -> u64 {
         self.next().checked_rem(bound).unwrap_or(0)
     }
 
-    /// A number from 1 to the most.
+    /// A number from 1 to `most`.
     pub fn up_to(&mut self, most: u64) -> u64 {
         self.below(most).saturating_add(1)
     }

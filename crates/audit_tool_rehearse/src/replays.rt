@@ -1,4 +1,4 @@
-//! The events of a store, replayed: what comes of it are the lines of the store's entries and of its commitment.
+//! Replays the events of a store: the output must be the lines of the store's entries and of its commitment.
 use anyhow::bail;
 use audit_chain::Event;
 use audit_cli_store::replay;
@@ -7,8 +7,8 @@ use audit_text::LinesError;
 use hex::ToHex;
 use std::alloc::Global;
 
-/// Whether the events were replayed: it is false where their lines have more bytes than `replay` reads. It is an error
-/// if they are refused otherwise, or if other lines come of them than those of these entries and this commitment.
+/// Returns whether the events were replayed, which is false if their lines have more bytes than `replay` reads. It is
+/// an error if they are refused otherwise, or if the output isn't the lines of these entries and this commitment.
 pub fn is_replayed(
     alloc: Global,
     events: &[Event],
@@ -35,7 +35,7 @@ fn check_lines(output: &[u8], lines: &str) -> anyhow::Result<()> {
     Ok(())
 }
 
-// What is replayed: the key of zeros and the events.
+// The input of a replay: the key of zeros and the events.
 fn input_of(alloc: Global, events: &[Event]) -> anyhow::Result<String> {
     let key: String = [0; 32].encode_hex(alloc)?;
     let mut input = format!(in alloc; "key {key}\n")?;
@@ -46,7 +46,7 @@ fn input_of(alloc: Global, events: &[Event]) -> anyhow::Result<String> {
     Ok(input)
 }
 
-// The payload as a line of an event has it.
+// The payload as an event line has it.
 fn payload_of(alloc: Global, event: &Event) -> anyhow::Result<String> {
     if event.payload().is_empty() {
         return Ok(format!(in alloc; "-")?);

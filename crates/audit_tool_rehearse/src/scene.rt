@@ -1,4 +1,4 @@
-//! Lines of a scene, and what they do.
+//! Playing the lines of a scene.
 use crate::cuts::try_cuts;
 use crate::devices::play_devices;
 use crate::hostile::play_hostile;
@@ -14,7 +14,7 @@ use audit_disk::MemDisk;
 use audit_server::{Core, Step, drive};
 use audit_store::{Store, StoreError};
 
-/// A core under way, if there is one.
+/// The current core, if there is one.
 #[derive(Drop)]
 pub struct Scene {
     core: Option<Core<Device>>,
@@ -25,7 +25,7 @@ impl Scene {
         Scene { core: None }
     }
 
-    /// Does what a line says.
+    /// Plays a line.
     pub fn play<R: AllocGlobal + Print>(&mut self, rt: &R, line: &str) -> anyhow::Result<()> {
         let (task, rest) = line.split_once(' ').unwrap_or((line, ""));
         match task {
@@ -93,7 +93,7 @@ impl Scene {
     }
 }
 
-// A task that has stores of its own.
+// Plays a task that makes its own stores.
 fn play_apart<R: AllocGlobal + Print>(rt: &R, task: &str, rest: &str) -> anyhow::Result<()> {
     match task {
         "cuts" => try_cuts(rt, &bytes_of(rt.alloc(), rest)?),
@@ -125,7 +125,7 @@ fn step_session<R: AllocGlobal + Print>(
     }
 }
 
-// A call that memory is refused for is made again.
+// Feeds a piece, and tries again if memory was refused.
 fn feed<R: Print>(
     rt: &R,
     core: &mut Core<Device>,
@@ -212,7 +212,7 @@ fn show<R: AllocGlobal + Print>(
     Ok(())
 }
 
-// Prints what the store of a core holds, and returns its device.
+// Prints what a core's store holds, and returns its device.
 fn show_store<R: AllocGlobal + Print>(
     rt: &R,
     name: &str,

@@ -1,4 +1,4 @@
-//! Two streams in memory, served.
+//! Serving two streams in memory.
 use crate::stores::new_core;
 use crate::texts::{bytes_of, number_of, text_of};
 use anyhow::Context;
@@ -9,8 +9,8 @@ use std::cell::Cell;
 use std::io::{self, ErrorKind, Read, Write};
 use std::rc::Rc;
 
-/// A reader of some bytes a read, which fails after so many reads; and where it waits for something, it fails after
-/// its first read as long as that has not come.
+/// A reader of some bytes a read, which fails after a number of reads. If it waits for something, every read but its
+/// first fails until that has happened.
 #[derive(Drop)]
 struct Source {
     bytes: Vec<u8>,
@@ -43,7 +43,7 @@ impl Read for Source {
     }
 }
 
-/// A writer of some bytes a write, which notes that something came.
+/// A writer of some bytes a write, which notes that something arrived.
 #[derive(Drop)]
 struct Sink {
     bytes: Vec<u8>,
@@ -74,7 +74,7 @@ struct Manner {
     waits: bool,
 }
 
-/// Serves two streams as the words say, and prints how it ended and what was written to each.
+/// Serves two streams as the words specify, and prints how this ended and what was written to each.
 pub fn serve_scene<R: AllocGlobal + Print>(rt: &R, rest: &str) -> anyhow::Result<()> {
     let words = words_of(rt.alloc(), rest)?;
     let mut streams = streams_of(rt.alloc(), &words)?;
@@ -118,7 +118,7 @@ fn number_at(words: &[&str], place: usize) -> anyhow::Result<u64> {
     number_of(word_at(words, place)?)
 }
 
-// Two streams of these bytes, of which each may wait for what is written to the other.
+// Two streams of these bytes. Each may wait until something is written to the other.
 fn two_streams(
     alloc: Global,
     manner: Manner,
@@ -133,7 +133,7 @@ fn two_streams(
     ])
 }
 
-// How the streams were served, and how many events there are then.
+// How the streams were served, and how many events the store then has.
 #[derive(Clone, Copy)]
 struct Served {
     turns: u64,
@@ -141,7 +141,7 @@ struct Served {
     count: u64,
 }
 
-// Serves the streams over a device that fails once, after so many calls.
+// Serves the streams over a device that fails once, after `calls` calls.
 fn serve_both(alloc: Global, calls: u64, streams: &mut [Stream; 2]) -> anyhow::Result<Served> {
     let mut core = new_core(alloc, 16, calls)?;
     let end = serve(&mut core, streams);
@@ -159,7 +159,7 @@ fn print_written<R: AllocGlobal + Print>(rt: &R, streams: &[Stream]) -> anyhow::
     Ok(())
 }
 
-// A stream of these bytes, and where what was written to it and to the other is noted.
+// A stream of these bytes, with places to note that something was written to it and to the other.
 fn stream(
     alloc: Global,
     manner: Manner,

@@ -7,23 +7,23 @@ use audit_server::Core;
 use audit_store::{Failed, Store};
 use std::alloc::Global;
 
-/// The device of a scene. A device that is not to fail has a call that never comes.
+/// The device of a scene. If it isn't to fail, the failing call is never reached.
 pub type Device = FailOnce<MemDisk>;
 
 // The last generation that a header may have.
 const LAST_GENERATION: u64 = (1 << 62) - 1;
 
-// What memory is refused for is tried so often.
+// How often a call is tried if memory is refused.
 pub const TRIES: u64 = 3;
 
-/// A core over a new store on a device that fails once, after so many calls.
+/// A core over a new store on a device that fails once, after `calls` calls.
 pub fn new_core(alloc: Global, sectors: u64, calls: u64) -> anyhow::Result<Core<Device>> {
     let disk = FailOnce::new(MemDisk::new(alloc, sectors)?, calls);
     let key = Key::from_bytes([0; 32]);
     core_over(alloc, made(Store::format(alloc, disk, key))?)
 }
 
-/// A core over a store of no events with generations for so many commits.
+/// A core over a store without events that has generations left for `commits` commits.
 pub fn worn_core(alloc: Global, sectors: u64, commits: u64) -> anyhow::Result<Core<Device>> {
     let last = LAST_GENERATION.saturating_sub(commits.saturating_mul(2));
     core_of_no_events(alloc, sectors, VERSION, [last.saturating_sub(1), last])
@@ -34,7 +34,7 @@ pub fn first_core(alloc: Global, sectors: u64) -> anyhow::Result<Core<Device>> {
     core_of_no_events(alloc, sectors, FIRST_VERSION, [2, 1])
 }
 
-// A core over a store of no events whose two headers have these generations.
+// A core over a store without events whose two headers have these generations.
 fn core_of_no_events(
     alloc: Global,
     sectors: u64,
@@ -50,7 +50,7 @@ fn core_of_no_events(
     open_core(alloc, MemDisk::from_sectors(alloc, &content)?)
 }
 
-// The header of no events.
+// The header of a log without events.
 fn header_of(sectors: u64, version: u16, generation: u64) -> anyhow::Result<[u8; SECTOR_SIZE]> {
     let header = Header {
         version,
@@ -69,7 +69,7 @@ fn header_of(sectors: u64, version: u16, generation: u64) -> anyhow::Result<[u8;
     Ok(header.encode())
 }
 
-/// A core over the store that a device holds, which doesn't fail any more.
+/// A core over the store on a device, which no longer fails.
 pub fn open_core(alloc: Global, disk: MemDisk) -> anyhow::Result<Core<Device>> {
     let disk = FailOnce::new(disk, u64::MAX);
     core_over(alloc, made(Store::open(alloc, disk))?)

@@ -1,10 +1,11 @@
-//! Random streams of sessions: frames of each kind of request, some malformed, the last one cut off now and then.
+//! Random streams of sessions: frames of each kind of request. Some are malformed, and the last one is sometimes
+//! truncated.
 use crate::random::Random;
 use audit_base::{FIRST_MAX_PAYLOAD, MAX_PAYLOAD};
 use audit_wire::MAX_BODY;
 use std::alloc::{AllocError, Global};
 
-/// A stream of so many frames, which are appends as often in twenty as it says.
+/// A stream of `frames` frames, of which `appends` in twenty are appends.
 pub fn stream_of(
     alloc: Global,
     random: &mut Random,
@@ -19,7 +20,7 @@ pub fn stream_of(
     Ok(stream)
 }
 
-/// Cuts off the end of a stream, one time in four.
+/// Truncates a stream, one time in four.
 pub fn cut_off(random: &mut Random, stream: &mut Vec<u8>) {
     if random.below(4) == 0 {
         let kept = stream.len().saturating_sub(random.up_to(6) as usize);
@@ -65,7 +66,7 @@ fn add_numbers(random: &mut Random, stream: &mut Vec<u8>) -> Result<(), AllocErr
     stream.extend_from_slice(&random.below(24).to_be_bytes())
 }
 
-/// Adds an append, most often of a short payload.
+/// Adds an append, usually with a short payload.
 pub fn add_append(random: &mut Random, tag: u64, stream: &mut Vec<u8>) -> Result<(), AllocError> {
     let kind = random.below(5);
     let length = payload_length(random);
@@ -79,8 +80,8 @@ pub fn add_append(random: &mut Random, tag: u64, stream: &mut Vec<u8>) -> Result
     Ok(())
 }
 
-// Half of them are short, a quarter has about the bytes that fill a sector, and the others have any length that the
-// first version of the format allows, or any that the newest does.
+// Half of the payloads are short, a quarter fill about a sector, and the others have any length that the format's
+// first version allows, or any that the newest version allows.
 fn payload_length(random: &mut Random) -> u64 {
     match random.below(8) {
         0..=3 => random.below(40),
@@ -90,10 +91,10 @@ fn payload_length(random: &mut Random) -> u64 {
     }
 }
 
-// A length of a body that is over the limit.
+// A body length over the limit.
 const TOO_LONG: u16 = MAX_BODY as u16 + 1;
 
-// One malformed frame in four, of each kind, and else a question.
+// Adds a malformed frame, of each kind, one time in four, and otherwise a question.
 fn add_odd_frame(random: &mut Random, tag: u64, stream: &mut Vec<u8>) -> Result<(), AllocError> {
     match random.below(24) {
         0 => stream.extend_from_slice(&[0, 0]),

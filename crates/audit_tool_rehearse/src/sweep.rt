@@ -1,4 +1,4 @@
-//! The ample sweep: lists of steps drawn by a cipher, whose stores are opened, exported, verified and replayed.
+//! The large sweep: lists of steps drawn by a cipher, whose stores are reopened, exported, verified and replayed.
 use crate::lists::{drive_groups, gather_each, no_outputs, random_plan, random_streams};
 use crate::random::Random;
 use crate::replays::is_replayed;
@@ -13,7 +13,7 @@ use audit_wire::first_frame;
 use sha2::{Digest, Sha256};
 use std::alloc::Global;
 
-// Each list has so many groups of four steps.
+// The groups of four steps in a list.
 const GROUPS: usize = 50;
 
 // The first byte of an append, and of its acknowledgement.
@@ -21,8 +21,8 @@ const APPEND: u8 = 1;
 
 const ACKNOWLEDGED: u8 = 0x81;
 
-/// How many events were held, and how many acknowledged, the digest of the roots, and how many lists were replayed, or
-/// were too long for it.
+/// How many events were held, how many were acknowledged, the digest of the roots, and how many lists were replayed or
+/// were too long for that.
 #[derive(Drop)]
 struct Sums {
     events: u64,
@@ -32,8 +32,8 @@ struct Sums {
     too_long: u64,
 }
 
-/// Sweeps so many lists from a number on, and prints the sums. It is an error if a call is refused, if what `verify`
-/// returns aren't the acknowledged events in their order, or if `replay` writes other lines of them than the store's.
+/// Sweeps a range of numbered lists, and prints the sums. It is an error if a call is refused, if `verify` doesn't
+/// return the acknowledged events in their order, or if `replay` doesn't write the store's lines for them.
 pub fn play_sweep<R: AllocGlobal + Print>(rt: &R, rest: &str) -> anyhow::Result<()> {
     let (first, count) = two_numbers(rest)?;
     let mut sums = Sums {
@@ -75,7 +75,7 @@ fn sweep_list(alloc: Global, number: u64, sums: &mut Sums) -> anyhow::Result<()>
     add_reopened(alloc, store, &appended, sums)
 }
 
-// Adds a store, which is opened again, and whose events have to be those that were appended.
+// Adds a store after reopening it. Its events must be those that were appended.
 fn add_reopened(
     alloc: Global,
     store: Store<Device>,
@@ -96,7 +96,7 @@ fn add_reopened(
     Ok(())
 }
 
-// The entries of a store that is opened again.
+// The entries of a store, after reopening it.
 fn entries_of(alloc: Global, store: Store<Device>) -> anyhow::Result<Vec<Vec<u8>>> {
     let mut store = made(Store::open(alloc, store.into_disk()))?;
     let mut entries = Vec::new(alloc);
@@ -106,7 +106,7 @@ fn entries_of(alloc: Global, store: Store<Device>) -> anyhow::Result<Vec<Vec<u8>
     Ok(entries)
 }
 
-// The events that an export of these entries has by the verifier.
+// The events that the verifier finds in an export of these entries.
 fn verified_events(
     alloc: Global,
     entries: &[Vec<u8>],
@@ -123,7 +123,7 @@ fn verified_events(
     }
 }
 
-// Of each index the kind and payload of the append that was acknowledged with it.
+// For each index, the kind and payload of the append that was acknowledged with it.
 fn acknowledged_appends<'a>(
     alloc: Global,
     count: u64,
@@ -141,7 +141,7 @@ fn acknowledged_appends<'a>(
     Ok(appended)
 }
 
-// The appends of a session. Their replies come in their order.
+// Adds the appends of a session, whose replies are in the same order.
 fn add_session<'a>(
     stream: &'a [u8],
     output: &[u8],
@@ -165,7 +165,7 @@ fn add_session<'a>(
     Ok(())
 }
 
-// The kind and payload of the next append with the tag of the reply, and what stands after it.
+// The kind and payload of the next append with the reply's tag, and the bytes after it.
 fn next_append<'a>(requests: &'a [u8], reply: &[u8]) -> anyhow::Result<(&'a [u8], &'a [u8])> {
     let mut left = requests;
     for _ in 0..requests.len() {
@@ -178,7 +178,7 @@ fn next_append<'a>(requests: &'a [u8], reply: &[u8]) -> anyhow::Result<(&'a [u8]
     bail!("an append is missing")
 }
 
-// Notes the append of an acknowledgement at its index.
+// Records the append of an acknowledgement at its index.
 fn note<'a>(
     appended: &mut [Option<&'a [u8]>],
     reply: &[u8],
@@ -195,7 +195,7 @@ fn note<'a>(
     }
 }
 
-// Each event has to be that of the append which was acknowledged with its index.
+// Each event must be that of the append which was acknowledged with its index.
 fn check_events(events: &[Event], appended: &[Option<&[u8]>]) -> anyhow::Result<()> {
     if events.len() != appended.len() {
         bail!("there are other events");

@@ -4,7 +4,7 @@ use hex::ToHex;
 use sha2::{Digest, Sha256};
 use std::alloc::Global;
 
-// So many bytes are shown whole.
+// Up to this many bytes are shown in full.
 const MOST_SHOWN: usize = 400;
 
 pub fn number_of(word: &str) -> anyhow::Result<u64> {
@@ -20,7 +20,7 @@ pub fn bytes_of(alloc: Global, word: &str) -> anyhow::Result<Vec<u8>> {
     Ok(hex::decode(alloc, word).context("hex digits are wanted")?)
 }
 
-/// The digits of the bytes, or of their digest where there are many; `-` where there are none.
+/// The hex digits of the bytes, or of their digest if there are many; `-` if there are none.
 pub fn text_of(alloc: Global, bytes: &[u8]) -> anyhow::Result<String> {
     if bytes.is_empty() {
         return Ok(format!(in alloc; "-")?);

@@ -1,4 +1,4 @@
--- A choice by a test on numbers.
+-- Choices that depend on a test of numbers.
 use Rattle.std.proofs.Common.{◌≡◌, ℕ, ◌<◌, ◌≤◌, cond, leb, ltb, refl}
 use Rattle.std.proofs.lemmas.Bool.{le-leb, lt-leb, lt-ltb, le-ltb}
 

@@ -1,4 +1,4 @@
--- The hashes of a tree are as long as its leaf hashes.
+-- A tree's hashes have the length of its leaf hashes.
 use Rattle.std.proofs.Common.{◌≡◌, ℕ, zero, suc, ◌+◌, ◌-◌, ◌^◌, ◌<◌, ◌≤◌, List, [], ◌∷◌, ◌++◌, length, take, drop, map, refl, ap, ◌∙◌, arith, inl, inr, length-drop, length-take}
 use Rattle.std.specs.Int.{w64, trailing_zeros}
 use Rattle.std.proofs.lemmas.Bool.{cases_lt}

@@ -1,13 +1,13 @@
 use std::alloc::AllocError;
 use thiserror::Error;
 
-/// Why a tree refused.
+/// Why a call of a tree failed.
 #[derive(Clone, Copy, Debug, PartialEq, Eq, Error)]
 pub enum TreeError {
     /// The tree holds `MAX_COUNT` leaves.
     #[error("the tree is full")]
     Full,
-    /// Not `index < count` or `1 <= older <= newer`, or the tree holds fewer leaves than that count.
+    /// Not `index < count`, or not `1 <= older <= newer`, or the tree has fewer leaves than that count.
     #[error("the tree has no such version")]
     NoSuchVersion,
     /// Memory was refused.

@@ -1,4 +1,4 @@
-//! Laws of history trees, said of lists of leaf hashes. Each function does nothing: its contract is the law.
+//! Laws of history trees, stated over lists of leaf hashes. Each function does nothing: its contract is the law.
 
 ghost use Rattle.std.specs.Prelude.{◌≡◌, ℕ, ◌<◌, ◌≤◌, List, length, take, drop, map};
 ghost use Rattle.sha2.specs.Sha256.{sha256};
@@ -8,7 +8,7 @@ ghost use Rattle.audit_tree.specs.Paths.{membership_path, membership_at, increme
 
 use audit_base::{HASH_LEN, MAX_COUNT};
 
-/// Where all leaf hashes have 32 bytes, so have a root, each node, and each hash of both proofs.
+/// If all leaf hashes have 32 bytes, so have the root, each node, and each hash of both proofs.
 pub fn hashes_keep_their_length()
     ensures root { (leaves : List (List ℕ)) → AreHashes leaves → length (root_of sha256 leaves) ≡ HASH_LEN }
     ensures node { (leaves : List (List ℕ)) (count start layer : ℕ)
@@ -23,14 +23,14 @@ pub fn hashes_keep_their_length()
     ensures texts { (texts : List (List ℕ)) → AreHashes (map leaf_hash_of texts) }
 {}
 
-/// A node, a root and both proofs by the places of their nodes are those by the leaf hashes from a start on, over
-/// any hash function.
+/// The definitions by places (a node, the root, both proofs) agree with those by lists of leaf hashes, for any hash
+/// function.
 pub fn places_and_leaves_agree()
     ensures node { (H : List ℕ → List ℕ) (leaves : List (List ℕ)) (count start layer : ℕ)
         → start < count → count ≤ length leaves
         → node_at H leaves count start layer ≡ subtree_hash H layer (drop start (take count leaves)) }
 
-    // The root of a count is the node that starts at 0 of its depth's layer.
+    // The root under a count is the node at the layer of its depth that starts at leaf 0.
     ensures root { (H : List ℕ → List ℕ) (leaves : List (List ℕ)) (count : ℕ) → 1 ≤ count → count ≤ length leaves
         → root_of H (take count leaves) ≡ node_at H leaves count 0 (depth count) }
     ensures membership { (H : List ℕ → List ℕ) (leaves : List (List ℕ)) (count place : ℕ)

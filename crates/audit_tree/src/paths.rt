@@ -7,7 +7,7 @@ use crate::frozen::FrozenHashes;
 use crate::nodes::node_of;
 use audit_base::Hash;
 
-// The sibling of the node of a layer that holds a leaf, under a count, where it has leaves.
+// The sibling, at `layer`, of the node that contains a leaf, or nothing if the sibling has no leaves under `count`.
 fn sibling_of(frozen: &FrozenHashes, leaf: u64, layer: u32, count: u64) -> Option<Hash>
     requires layer { layer < LAYERS }
     requires leaf { leaf < count }
@@ -27,7 +27,7 @@ fn sibling_of(frozen: &FrozenHashes, leaf: u64, layer: u32, count: u64) -> Optio
     Some(node_of(frozen, start + width, layer, count))
 }
 
-// Adds the siblings on a leaf's way up from a layer to another one.
+// Appends the siblings on the path from a leaf upwards, at the layers from `from` up to, but not including, `to`.
 pub fn push_siblings(
     hashes: &mut Vec<Hash>,
     frozen: &FrozenHashes,

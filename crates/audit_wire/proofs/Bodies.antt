@@ -1,4 +1,4 @@
--- The body of a request is read as that request, and what is read has that body.
+-- The body of a request reads as that request, and a request that is read has that body.
 use Rattle.std.proofs.Common.{◌≡◌, ℕ, suc, ◌+◌, ◌<◌, ◌≤◌, ◌^◌, Bool, true, false, cond, not, ◌&&◌, leb, eqb, List, [], ◌∷◌, ◌++◌, length, take, drop, Option, Some, None, Result, Ok, Err, refl, sym, ap, subst, ◌∙◌, append_assoc, arith, inl, inr, length-take, length-drop}
 use Rattle.std.specs.Int.{w32, w64, to_be_bytes, from_be_bytes}
 use Rattle.std.proofs.lemmas.Bool.{cases_lt, and_parts, and_from, not-true, not_from_false, leb-true, le-leb, eqb-true, eqb-false, ne_eqb, cond-true}
@@ -67,7 +67,7 @@ all_three_parts n m k bytes le =
     ap (λ (back : List ℕ). (take n bytes ++ take m (drop n bytes)) ++ back) (take_all k (drop (n + m) bytes) (omega (arith, length-drop (n + m) bytes)))
     ∙ three_parts n m bytes
 
--- ---- what is read has its body
+-- ---- a request that is read has its body
 
 -- a request with the body that the kind and the fields are
 pub record IsBodyOf (body : List ℕ) (read : Request) : Type 0 where
@@ -218,7 +218,7 @@ request_found [] read fits e = absurd cc
 request_found (first ∷ fields) read fits e =
     by_kind first fields (kind_at first) read (λ place. fits (suc place)) (first_found first) e
 
--- ---- the body of a request is read as it
+-- ---- the body of a request reads as the request
 
 again_4 : (n : ℕ) → n < 2 ^ 32 → from_be_bytes w32 (to_be_bytes w32 n) ≡ n
 again_4 n lt = from_be_bytes-to_be_bytes_4 n lt
@@ -284,7 +284,7 @@ request_again (request.Incremental tag older newer) allowed = incremental_again 
 request_again (request.Entry tag index) allowed = entry_again tag index allowed
 request_again (request.Close tag) allowed = close_again tag allowed
 
--- ---- and has a size that a frame may have
+-- ---- the size of a body is allowed in a frame
 
 pub request_size : (asked : Request) → IsRequest asked → IsBodySize (length (request_body asked))
 request_size (request.Append tag event_kind payload) allowed = (omega arith, omega (arith, allowed.3))
@@ -294,7 +294,7 @@ request_size (request.Incremental tag older newer) allowed = (omega arith, omega
 request_size (request.Entry tag index) allowed = (omega arith, omega arith)
 request_size (request.Close tag) allowed = (omega arith, omega arith)
 
--- ---- what was read is a request with that body
+-- ---- what is read is a request with that body
 
 pub found_by : (body : List ℕ) (read : Result RequestView Malformed) → AreBytes body → request_read read ≡ request_in body
     → IfOk read (λ view. IsRequest (request_shown view) × (body ≡ request_body (request_shown view)))

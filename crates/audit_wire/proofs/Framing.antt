@@ -1,4 +1,4 @@
--- The first place of a stream: less than a whole frame, a length that no request has, or a frame.
+-- What a stream begins with: less than a whole frame, a length that no request has, or a frame.
 use Rattle.std.proofs.Common.{◌≡◌, ℕ, zero, suc, ◌+◌, ◌<◌, ◌≤◌, Bool, true, false, cond, leb, List, [], ◌∷◌, ◌++◌, length, take, drop, Option, Some, None, refl, sym, ap, subst, ◌∙◌, append_assoc, arith, inl, inr, length-append, length-drop, length-take}
 use Rattle.std.specs.Int.{w16, to_be_bytes, from_be_bytes}
 use Rattle.std.proofs.lemmas.Bool.{cases_lt, cases_Bool, both_ways, and_parts, and_from, leb-true, le-leb, lt-leb, cond-true, cond-false}
@@ -23,7 +23,7 @@ size_holds size h =
 pub size_fails : (size : ℕ) → (IsBodySize size → ⊥) → is_body_size size ≡ false
 size_fails size h = elim (cases_Bool (is_body_size size)) [ inl e ↦ absurd (h (size_holds size e)) | inr e ↦ e ]
 
--- ---- at most so many bodies
+-- ---- at most a number of bodies
 
 within_partial : (count : ℕ) (bytes : List ℕ) → IsPartial bytes → bodies_within count bytes ≡ rest_alone bytes
 unfolding bodies_within
@@ -116,7 +116,7 @@ requests_whole high low body more h e = ap requests_in (bodies_whole high low bo
 pub requests_frame : (body more : List ℕ) → IsBodySize (length body) → framed_requests (frame body ++ more) ≡ read_first (request_in body) (framed_requests more)
 requests_frame body more h = requests_whole _ _ body more h (frame_size (length body) h)
 
--- ---- the cases of the first place
+-- ---- the cases of what it begins with
 
 pub data First (bytes : List ℕ) : Type 0 where
   partial : IsPartial bytes → First bytes
@@ -139,7 +139,7 @@ first_of_stream (high ∷ low ∷ bytes) =
       | inr e ↦ bad high low bytes (λ h. both_ways (is_body_size size) e (size_passes size h)) refl
     ]
 
--- ---- more bytes after
+-- ---- more bytes after it
 
 -- a choice after a request is that request and then the choice
 choice_in_front : (flag : Bool) (asked : Request) (framed later : Framed Request)

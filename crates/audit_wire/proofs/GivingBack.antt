@@ -1,4 +1,4 @@
--- A byte that is given back after it was fed.
+-- Putting back a byte that was fed.
 use Rattle.std.proofs.Common.{◌≡◌, ◌+◌, ◌-◌, ◌<◌, ◌≤◌, ℕ, List, [], ◌∷◌, ◌++◌, length, take, get_or, refl, sym, ap, subst, ◌∙◌, append_assoc, arith, length-append}
 use Rattle.std.proofs.lemmas.List.{take_at, take_more}
 use Rattle.audit_wire.specs.declared.fed.Fed.{Fed}
@@ -35,7 +35,7 @@ given_back (whole body) taken new piece byte answer h all just back = undone [] 
 given_back (malformed bytes) taken new piece byte answer h all just back = absurd (subst HasJustTaken h.1 just)
 given_back closed taken new piece byte answer h all just back = absurd (subst HasJustTaken h.1 just)
 
--- ---- of any piece
+-- ---- for any piece
 
 -- what was taken is what was taken but for the last byte, and that byte
 last_taken : (held piece : List ℕ) (count : ℕ) (taken new : DecoderProgress) → 0 < count → count ≤ length piece → held ++ take count piece ≡ taken_of taken → PutsBack taken new

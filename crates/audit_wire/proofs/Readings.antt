@@ -19,7 +19,7 @@ request_first asked more allowed =
     requests_frame (request_body asked) more (request_size asked allowed)
     ∙ ap (λ (found : Option Request). read_first found (framed_requests more)) (request_again asked allowed)
 
--- ---- a body that is no request's
+-- ---- a body that isn't a request's
 
 none_by : (body : List ℕ) (found : Option Request) → request_in body ≡ found → AreBytes body → ((asked : Request) → IsRequest asked → request_body asked ≢ body) → found ≡ None
 none_by body None e fits none = refl
@@ -46,7 +46,7 @@ requests_malformed (high ∷ low ∷ bytes) fits h =
       | inr e ↦ requests_bad high low bytes (λ k. both_ways (is_body_size size) e (size_passes size k))
     ]
 
--- ---- a reading is the one by the definition
+-- ---- a reading agrees with the definition
 
 reads : (items : List Request) (malformed : Bool) (rest place : List ℕ) → AreBytes place → AllByRecursion IsRequest items → EndsIn malformed rest place
     → framed_requests (flat_map request_frame items ++ place) ≡ record { items = items; malformed = malformed; rest = rest }
@@ -66,7 +66,7 @@ reading_is bytes framed fits r =
     let after = AreBytes-after (flat_map request_frame framed.items) r.place (subst AreBytes r.whole fits) in
     sym (ap framed_requests r.whole ∙ reads framed.items framed.malformed framed.rest r.place after r.each r.ends)
 
--- ---- the definition gives a reading
+-- ---- the definition yields a reading
 
 reading_spoiled : (high low : ℕ) (bytes : List ℕ) → (IsBodySize (size_of high low) → ⊥) → IsReading (high ∷ low ∷ bytes) spoiled
 reading_spoiled high low bytes h = record { each = tt; place = high ∷ low ∷ bytes; whole = refl; ends = (λ k. absurd (h k), refl) }

@@ -1,4 +1,4 @@
--- The body of a reply is read as that reply, and has the size that its length field gives.
+-- The body of a reply reads as that reply, and has the length that its length field states.
 use Rattle.std.proofs.Common.{◌≡◌, ℕ, ◌+◌, ◌*◌, ◌<◌, ◌^◌, true, ◌&&◌, leb, eqb, List, [], ◌∷◌, ◌++◌, length, take, drop, Some, None, refl, sym, ap, ◌∙◌, arith}
 use Rattle.std.specs.List.{concat, flat_map, AllByRecursion}
 use Rattle.std.specs.Int.{w16, w32, w64, to_be_bytes, from_be_bytes}
@@ -128,7 +128,7 @@ reply_size (reply.Incremental tag hashes) within fits = omega (arith, ap length 
 reply_size (reply.Entry tag entry) within fits = omega (arith, within)
 reply_size (reply.Refused tag code) within fits = omega arith
 
--- ---- replies in a row
+-- ---- consecutive replies
 
 -- the bodies of two frames, and what follows them
 frame_split : (a b rest others : List ℕ) → length a < 2 ^ 16 → length b < 2 ^ 16 → frame a ++ rest ≡ frame b ++ others → (a ≡ b) × (rest ≡ others)

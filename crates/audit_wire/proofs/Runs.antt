@@ -1,4 +1,4 @@
--- Pieces in a row: what was handed out and what is held back are what the bytes so far hold.
+-- Consecutive pieces: the bodies returned and the bytes held back depend on the bytes so far.
 use Rattle.std.proofs.Common.{◌≡◌, ℕ, true, false, if◌then◌else◌, List, [], ◌∷◌, ◌++◌, length, take, drop, refl, sym, ap, subst, ◌∙◌, append_assoc}
 use Rattle.std.proofs.lemmas.List.{append-nil, take-append-drop}
 use Rattle.audit_wire.specs.declared.fed.Fed.{Fed}
@@ -45,7 +45,7 @@ fed_bodies (whole body) piece more answer new f = taken_step [] piece more answe
 fed_bodies (malformed bytes) piece more answer new f = dropped new more f.1
 fed_bodies closed piece more answer new f = dropped new more f.1
 
--- ---- the same of requests
+-- ---- the same for requests
 
 requests_in-front : (bodies : List (List ℕ)) (framed : Framed (List ℕ)) → requests_in (all_in_front bodies framed) ≡ requests_of bodies (requests_in framed)
 requests_in-front [] framed = refl
@@ -94,7 +94,7 @@ fed_answer (whole body) piece answer new f = answer_taken [] piece answer new f
 fed_answer (malformed bytes) piece answer new f = answer_dropped answer (length piece) new f.0
 fed_answer closed piece answer new f = answer_dropped answer (length piece) new f.0
 
--- ---- what has come of a frame, and whether the stream is spoiled
+-- ---- the bytes so far of a frame, and whether the stream is spoiled
 
 so_far_taken : (held piece : List ℕ) (answer : Fed) (new : DecoderProgress) → IsPieceTaken held piece answer new → taken_of new ≡ held ++ taken_by answer piece
 so_far_taken held piece fed.More new t = ap taken_of t.1
@@ -122,7 +122,7 @@ fed_spoils (whole body) piece answer new f = spoils_taken [] piece answer new f
 fed_spoils (malformed bytes) piece answer new f = spoils_dropped answer new f.0 f.1
 fed_spoils closed piece answer new f = spoils_dropped answer new f.0 f.1
 
--- ---- a byte that is given back
+-- ---- a byte that is put back
 
 bad_requests : (bytes more : List ℕ) → IsBadLength bytes → framed_requests (bytes ++ more) ≡ spoiled
 bad_requests [] more h = absurd h

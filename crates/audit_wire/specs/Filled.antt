@@ -1,4 +1,4 @@
--- What taking from a piece does to the bytes of a frame that is begun.
+-- The effect of a piece on the frame in progress.
 use Rattle.std.specs.Prelude.{◌≡◌, ℕ, ◌<◌, ◌≤◌, List, ◌++◌, length, take, drop}
 use Rattle.audit_wire.specs.declared.fed.Fed.{Fed}
 use Rattle.audit_wire.specs.declared.fed.Fed.TheVariants as fed

@@ -1,4 +1,4 @@
--- The body of a reply: the kind in one byte, the request tag in four, and the fields of its kind.
+-- The body of a reply: the kind in one byte, the request tag in four, then the fields of that kind.
 use Rattle.std.specs.Prelude.{◌≡◌, ℕ, ◌+◌, ◌*◌, ◌^◌, ◌<◌, ◌≤◌, ◌&&◌, ◌==◌, nat_le, if◌then◌else◌, List, [], ◌∷◌, ◌++◌}
 use Rattle.std.specs.Prelude.{length, take, drop, slice_index, Option, Some, None, Result, Ok, Err, MatchOption}
 use Rattle.std.specs.List.{flat_map}
@@ -35,7 +35,7 @@ reply_byte kind.Incremental = 132
 reply_byte kind.Entry = 133
 reply_byte kind.Refused = 255
 
--- the number of hashes in one byte, and the hashes
+-- the number of hashes in one byte, then the hashes
 abbrev pub hash_list : List (List ℕ) → List ℕ
 hash_list hashes = length hashes ∷ flat_map (λ hash. hash) hashes
 
@@ -60,7 +60,7 @@ IsReply (reply.Incremental tag hashes) = length hashes ≤ MAX_INCREMENT_HASHES
 IsReply (reply.Entry tag entry) = length entry ≤ MAX_ENTRY
 IsReply (reply.Refused tag code) = Unit {0}
 
--- the parts of a reply are as its fields hold them: numbers of their widths, and whole hashes
+-- the parts of a reply fit their fields: numbers within their widths, and hashes of full length
 abbrev pub HasReplyFields : Reply → Type 0
 HasReplyFields (reply.Acknowledgement tag index count root) = (tag < 2 ^ 32) × (index < 2 ^ 64) × (count < 2 ^ 64)
     × (length root ≡ HASH_LEN)
@@ -70,7 +70,7 @@ HasReplyFields (reply.Incremental tag hashes) = (tag < 2 ^ 32) × AreHashes hash
 HasReplyFields (reply.Entry tag entry) = tag < 2 ^ 32
 HasReplyFields (reply.Refused tag code) = tag < 2 ^ 32
 
--- a reply that has a frame, as the code holds it
+-- a reply that has a frame, as the code represents it
 pub record IsWholeReply (given : Reply) : Type 0 where
   pub within : IsReply given
   pub fields : HasReplyFields given
@@ -78,9 +78,9 @@ pub record IsWholeReply (given : Reply) : Type 0 where
 abbrev pub reply_frame : Reply → List ℕ
 reply_frame given = frame (reply_body given)
 
--- ---- the same from the bytes
+-- ---- the same, read from bytes
 
--- the kind that the first byte of a body stands for
+-- the kind that the first byte of a body denotes
 abbrev pub reply_kind_at : ℕ → Option ReplyKind
 reply_kind_at byte =
     if byte == 129 then Some kind.Acknowledgement else
@@ -90,7 +90,7 @@ reply_kind_at byte =
     if byte == 133 then Some kind.Entry else
     if byte == 255 then Some kind.Refused else None
 
--- the refusal of a code
+-- the refusal with this code
 abbrev pub refusal_with_code : ℕ → Option Refusal
 refusal_with_code code =
     if code == 4 then Some refusal.DamagedLog else
@@ -101,7 +101,7 @@ refusal_with_code code =
     if code == 13 then Some refusal.Closed else
     if code == 20 then Some refusal.Malformed else None
 
--- what the bytes after the first one say, for each kind
+-- the reply in the bytes after the first one, for each kind
 unfoldable pub acknowledgement_in : List ℕ → Option Reply
 acknowledgement_in fields =
     if length fields == 52
@@ -114,7 +114,7 @@ commitment_reply_in fields =
     then Some (reply.Commitment (number_at w32 0 fields) (number_at w64 4 fields) (take HASH_LEN (drop 12 fields)))
     else None
 
--- the number of hashes, the hashes, and what follows them
+-- the number of hashes, the hashes, and the bytes after them
 unfoldable pub membership_reply_in : List ℕ → Option Reply
 membership_reply_in fields =
     let number = slice_index fields 4 in
@@ -151,12 +151,12 @@ reply_fields_in (Some kind.Incremental) fields = increment_reply_in fields
 reply_fields_in (Some kind.Entry) fields = entry_reply_in fields
 reply_fields_in (Some kind.Refused) fields = refused_in fields
 
--- the reply that a body is
+-- the reply whose body this is
 unfoldable pub reply_in : List ℕ → Option Reply
 reply_in [] = None
 reply_in (first ∷ fields) = reply_fields_in (reply_kind_at first) fields
 
--- a reply that has hashes or an entry, which take memory
+-- a reply with hashes or an entry, which are allocated
 abbrev pub HasParts : Reply → Type 0
 HasParts (reply.Acknowledgement tag index count root) = ⊥
 HasParts (reply.Commitment tag count root) = ⊥
@@ -165,7 +165,7 @@ HasParts (reply.Incremental tag hashes) = Unit {0}
 HasParts (reply.Entry tag entry) = Unit {0}
 HasParts (reply.Refused tag code) = ⊥
 
--- what reading a body as a reply has come to: the reply that the body is, or none, or memory was refused for one
+-- the result of reading a body: its reply, or none if it has none, or memory was refused for its parts
 abbrev pub IsReadAs : Option Reply → Result Reply ReplyError → Type 0
 IsReadAs said (Ok given) = said ≡ Some given
 IsReadAs said (Err fault.Malformed) = said ≡ None

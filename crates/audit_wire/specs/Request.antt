@@ -1,4 +1,4 @@
--- The body of a request: the kind in one byte, the request tag in four, and the fields of its kind.
+-- The body of a request: the kind in one byte, the request tag in four, then the fields of that kind.
 use Rattle.std.specs.Prelude.{◌≢◌, ℕ, ◌+◌, ◌<◌, ◌≤◌, ◌^◌, not, ◌&&◌, ◌==◌, nat_le, if◌then◌else◌, List, [], ◌∷◌, ◌++◌}
 use Rattle.std.specs.Prelude.{length, drop, Option, Some, None}
 use Rattle.std.specs.Int.{w32, w64, to_be_bytes}
@@ -21,7 +21,7 @@ request_body (request.Incremental tag older newer) =
 request_body (request.Entry tag index) = 5 ∷ (to_be_bytes w32 tag ++ to_be_bytes w64 index)
 request_body (request.Close tag) = 6 ∷ to_be_bytes w32 tag
 
--- a request that has a body: its numbers fit their fields, and an append has a kind and a payload that it may have
+-- a request that has a body: its numbers fit their fields, and an append has an allowed kind and payload
 abbrev pub IsRequest : Request → Type 0
 IsRequest (request.Append tag event_kind payload) = (tag < 2 ^ 32) × (event_kind < 2 ^ 32)
     × (event_kind ≢ RESERVED_KIND) × (length payload ≤ MAX_PAYLOAD)
@@ -31,7 +31,7 @@ IsRequest (request.Incremental tag older newer) = (tag < 2 ^ 32) × (older < 2 ^
 IsRequest (request.Entry tag index) = (tag < 2 ^ 32) × (index < 2 ^ 64)
 IsRequest (request.Close tag) = tag < 2 ^ 32
 
--- the kind that the first byte of a body stands for
+-- the kind that the first byte of a body denotes
 abbrev pub kind_at : ℕ → Option RequestKind
 kind_at byte =
     if byte == 1 then Some kind.Append else
@@ -41,7 +41,7 @@ kind_at byte =
     if byte == 5 then Some kind.Entry else
     if byte == 6 then Some kind.Close else None
 
--- what the bytes after the first one say, for each kind
+-- the request in the bytes after the first one, for each kind
 unfoldable pub append_in : List ℕ → Option Request
 append_in fields =
     if (nat_le 8 (length fields) && nat_le (length fields) (8 + MAX_PAYLOAD)) && not
@@ -78,7 +78,7 @@ fields_in (Some kind.Incremental) fields = incremental_in fields
 fields_in (Some kind.Entry) fields = entry_in fields
 fields_in (Some kind.Close) fields = close_in fields
 
--- the request that a body is
+-- the request whose body this is
 unfoldable pub request_in : List ℕ → Option Request
 request_in [] = None
 request_in (first ∷ fields) = fields_in (kind_at first) fields

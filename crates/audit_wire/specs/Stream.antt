@@ -1,5 +1,5 @@
--- What a byte stream holds so far: the whole frames at its front, then one malformed place where the
--- next is, and nothing after it; and the rest that is no whole frame.
+-- What a byte stream contains so far: the whole frames at its start; then either one malformed place, after which
+-- nothing is read, or the start of an incomplete frame.
 use Rattle.std.specs.Prelude.{◌≡◌, ◌≢◌, ℕ, zero, suc, ◌≤◌, Bool, true, false, nat_le, if◌then◌else◌, List, [], ◌∷◌}
 use Rattle.std.specs.Prelude.{◌++◌, length, take, drop, Option, Some, None}
 use Rattle.std.specs.List.{flat_map, AllByRecursion}
@@ -12,15 +12,15 @@ pub record Framed (Item : Type 0) : Type 0 where
   pub malformed : Bool
   pub rest : List ℕ
 
--- nothing but a rest
+-- only a rest
 abbrev pub rest_alone : {Item : Type 0} → List ℕ → Framed Item
 rest_alone bytes = record { items = []; malformed = false; rest = bytes }
 
--- nothing but a malformed place
+-- only a malformed place
 abbrev pub spoiled : {Item : Type 0} → Framed Item
 spoiled = record { items = []; malformed = true; rest = [] }
 
--- one item more at the front, or several
+-- the same with one more item at the front, or with several
 abbrev pub in_front : {Item : Type 0} → Item → Framed Item → Framed Item
 in_front item framed = record { items = item ∷ framed.items; malformed = framed.malformed; rest = framed.rest }
 
@@ -29,7 +29,7 @@ all_in_front items framed = record { items = items ++ framed.items; malformed = 
 
 -- ---- the bodies of the frames
 
--- at most so many bodies of a stream
+-- at most `count` bodies of a stream
 unfoldable pub bodies_within : ℕ → List ℕ → Framed (List ℕ)
 bodies_within zero bytes = rest_alone bytes
 bodies_within (suc count) [] = rest_alone []
@@ -41,13 +41,13 @@ bodies_within (suc count) (high ∷ low ∷ bytes) =
     else rest_alone (high ∷ low ∷ bytes))
     else spoiled
 
--- the bodies of a stream, of which it has no more than bytes
+-- the bodies of a stream, of which there are at most as many as bytes
 unfoldable pub framed_bodies : List ℕ → Framed (List ℕ)
 framed_bodies bytes = bodies_within (length bytes) bytes
 
 -- ---- the requests
 
--- a body at the front: a request, or else a malformed place
+-- the first body is a request, or else a malformed place
 abbrev pub read_first : Option Request → Framed Request → Framed Request
 read_first None after = spoiled
 read_first (Some request) after = in_front request after
@@ -63,12 +63,12 @@ requests_in bodies = requests_of bodies.items (record { items = []; malformed = 
 unfoldable pub framed_requests : List ℕ → Framed Request
 framed_requests bytes = requests_in (framed_bodies bytes)
 
--- what a stream holds when more bytes come, from what it held before
+-- the contents of a stream after more bytes, from its contents before
 abbrev pub continued : Framed Request → List ℕ → Framed Request
 continued framed more = if framed.malformed then framed
     else all_in_front framed.items (framed_requests (framed.rest ++ more))
 
--- ---- the same as a relation, which says nothing of how a stream is read
+-- ---- the same as a relation, independent of how a stream is read
 
 abbrev pub request_frame : Request → List ℕ
 request_frame request = frame (request_body request)
@@ -82,12 +82,12 @@ IsMalformedPlace (high ∷ low ∷ bytes) =
     IsBodySize (size_of high low) → (size_of high low ≤ length bytes)
     × ((request : Request) → IsRequest request → request_body request ≢ take (size_of high low) bytes)
 
--- what stands after the requests
+-- what follows the requests
 abbrev pub EndsIn : Bool → List ℕ → List ℕ → Type 0
 EndsIn false rest place = IsPartial place × (rest ≡ place)
 EndsIn true rest place = IsMalformedPlace place × (rest ≡ [])
 
--- the stream is the frames of these requests, and then a malformed place or the rest
+-- the stream consists of the frames of these requests, then a malformed place or the rest
 pub record IsReading (bytes : List ℕ) (framed : Framed Request) : Type 0 where
   pub each : AllByRecursion IsRequest framed.items
   pub place : List ℕ

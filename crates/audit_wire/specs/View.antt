@@ -1,4 +1,4 @@
--- A view of a request, and what it shows.
+-- A view of a request, and the request that it shows.
 use Rattle.std.specs.Prelude.{Option, Some, None, Result, Ok, Err}
 use Rattle.audit_wire.specs.declared.request.Request.{Request}
 use Rattle.audit_wire.specs.declared.request.Request.TheVariants as request
@@ -6,7 +6,7 @@ use Rattle.audit_wire.specs.declared.view.RequestView.{RequestView}
 use Rattle.audit_wire.specs.declared.view.RequestView.TheVariants as view
 use Rattle.audit_wire.specs.declared.malformed.Malformed.{Malformed}
 
--- the request that a view shows
+-- the request shown by a view
 abbrev pub request_shown : RequestView → Request
 request_shown (view.Append tag kind payload) = request.Append tag kind payload.now
 request_shown (view.Commitment tag) = request.Commitment tag
@@ -15,7 +15,7 @@ request_shown (view.Incremental tag older newer) = request.Incremental tag older
 request_shown (view.Entry tag index) = request.Entry tag index
 request_shown (view.Close tag) = request.Close tag
 
--- a request that has no payload
+-- a request without a payload
 abbrev pub IsQuery : RequestView → Type 0
 IsQuery (view.Append tag kind payload) = ⊥
 IsQuery (view.Commitment tag) = Unit {0}
@@ -24,7 +24,7 @@ IsQuery (view.Incremental tag older newer) = Unit {0}
 IsQuery (view.Entry tag index) = Unit {0}
 IsQuery (view.Close tag) = Unit {0}
 
--- the request that was read, if one was
+-- the request that was read, if any
 abbrev pub request_read : Result RequestView Malformed → Option Request
 request_read (Ok view) = Some (request_shown view)
 request_read (Err fault) = None

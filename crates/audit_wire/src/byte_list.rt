@@ -2,7 +2,7 @@ ghost use Rattle.std.specs.Prelude.{◌≡◌};
 
 use std::marker::Model;
 
-/// A payload or an entry: contracts see its bytes.
+/// The bytes of a payload or an entry. Contracts see them as a list.
 #[derive(Debug, Drop)]
 pub struct ByteList {
     bytes: Vec<u8>,
@@ -17,14 +17,14 @@ impl Model for ByteList {
 }
 
 impl ByteList {
-    /// The bytes of a vector. Takes no memory.
+    /// Wraps a vector. It allocates nothing.
     pub fn from_vec(bytes: Vec<u8>) -> ByteList
         ensures { result ≡ bytes.items }
     {
         Self { bytes }
     }
 
-    /// Hands the vector back. Takes no memory.
+    /// Returns the vector. It allocates nothing.
     pub fn into_vec(self) -> Vec<u8>
         ensures { result.items ≡ self }
     {

@@ -13,28 +13,27 @@ use crate::room::put;
 use std::alloc::{AllocError, Global};
 use std::marker::Model;
 
-/// Where a decoder stands in its stream.
+/// The position of a decoder in its stream.
 #[derive(Clone, Copy, Debug, PartialEq, Eq)]
 enum State {
-    /// A frame is begun, or will be with the next byte.
+    /// A frame is in progress, or starts with the next byte.
     Reading,
-    /// A body was handed out, and is lent until the next feed.
+    /// A body was returned, and is lent until the next feed.
     Whole,
     /// A malformed length was reported.
     Malformed,
-    /// A malformed length was reported, and more came after it.
+    /// A malformed length was reported, and more bytes came after it.
     Closed,
 }
 
-/// Finds the frames of a byte stream that comes in any pieces.
+/// Finds the frames of a byte stream that arrives in arbitrary pieces.
 ///
-/// Contracts see where it stands in the stream: the bytes of the frame that is begun, the body that
-/// is just whole, the malformed length that just came, or that everything is dropped. For every cut
-/// of a stream into pieces, the bodies that are handed out and the bytes that are held back are a
-/// function of the bytes so far.
+/// Contracts see its progress in the stream: the bytes of the frame in progress, or the body that was just completed,
+/// or the malformed length that was just read, or that everything else is dropped. However the stream is cut into
+/// pieces, the bodies returned and the bytes held back depend only on the bytes so far.
 #[derive(Debug, Drop)]
 pub struct Decoder {
-    /// The bytes since the end of the frame before.
+    /// The bytes since the end of the previous frame.
     frame: Vec<u8>,
     state: State,
 }
@@ -53,8 +52,8 @@ impl Model for Decoder {
 }
 
 impl Decoder {
-    /// A decoder at the front of a stream. It takes all the room that it will ever have, for one
-    /// frame: no other call takes memory. The only error is that memory is refused.
+    /// Makes a decoder at the start of a stream. It reserves capacity for the longest frame, and no other call
+    /// allocates. The only error is that memory is refused.
     pub fn new(alloc: Global) -> Result<Decoder, AllocError>
         ensures { IfOk result (λ decoder. decoder ≡ reading []) }
     {
@@ -64,24 +63,24 @@ impl Decoder {
         })
     }
 
-    /// Takes the next piece of the stream, up to the first body that is whole or length that is
-    /// malformed. After a malformed length every piece is taken and dropped.
+    /// Takes the next piece of the stream, up to the first complete body or malformed length. After a malformed length
+    /// every piece is taken and dropped.
     pub fn feed(&mut self, piece: &[u8]) -> Fed
-        // What the piece does: where the frame that is begun goes on, becomes whole or is malformed.
+        // The effect of the piece: the frame in progress continues, is completed, or is malformed.
         ensures fed { IsDecoderFed self.old piece.now result self.new }
-        // A body or a malformed length takes at least one byte, which may be given back.
+        // A body or a malformed length takes at least one byte, which may be put back.
         ensures taken { IsDecoderAnswer result (length piece.now) self.new }
-        // The requests of the stream are those of the body that is handed out, and those ahead after it.
+        // The requests ahead before the call are those in the returned body, followed by those ahead after it.
         ensures requests { (later : List ℕ) → requests_ahead self.old (piece.now ++ later)
             ≡ requests_of (handed_out self.new) (requests_ahead self.new (untaken result piece.now ++ later)) }
         ensures rest { IsPartial (rest_of self.new) }
-        // The same of the bytes that were taken, whatever comes after them.
+        // The same for the bytes that were taken, whatever follows them.
         ensures ahead { (later : List ℕ) → requests_ahead self.old (taken_by result piece.now ++ later)
             ≡ requests_of (handed_out self.new) (requests_ahead self.new later) }
-        // The bytes since the end of the frame before are those that were held back and those that were taken.
+        // The bytes since the end of the previous frame are those held back and those taken.
         ensures so_far { is_spoiled self.old ≡ false → taken_of self.new
             ≡ rest_of self.old ++ taken_by result piece.now }
-        // A malformed length spoils the stream, and nothing else does or mends it.
+        // Only a malformed length spoils the stream, and nothing repairs it.
         ensures live { Spoils result (is_spoiled self.old) (is_spoiled self.new) }
     {
         self.advance(piece)
@@ -107,7 +106,7 @@ impl Decoder {
         fed
     }
 
-    /// The body that the last feed made whole, and nothing where it made none.
+    /// The body that the last feed completed, or nothing if it completed none.
     pub fn body(&self) -> &[u8]
         ensures body { result.now ≡ body_of self.now }
         ensures progress { IsDecoderProgress self.now }
@@ -118,12 +117,12 @@ impl Decoder {
         }
     }
 
-    /// Right after a body or a malformed length: gives back the last byte that was taken, as if it
-    /// had not come.
+    /// Puts back the last byte taken, as if it had never arrived. Allowed only right after a body or a malformed
+    /// length.
     pub fn put_back(&mut self)
         requires { HasJustTaken self.old }
         ensures before { PutsBack self.old self.new }
-        // With that byte again, the stream's requests are those that they were after it.
+        // If that byte comes again, the requests ahead are the same as before it was put back.
         ensures requests { (byte : ℕ) (later : List ℕ) → taken_of self.old ≡ rest_of self.new ++ byte ∷ []
             → requests_ahead self.new (byte ∷ later) ≡ requests_of (handed_out self.old)
             (requests_ahead self.old later) }
@@ -140,18 +139,18 @@ impl Decoder {
         self.state = State::Reading;
     }
 
-    /// Whether a frame is begun and not whole.
+    /// Returns whether a frame has begun but isn't complete.
     pub fn pending(&self) -> bool
         ensures pending { IsTrue result ↔ (rest_of self.now ≢ []) }
         ensures rest { IsPartial (rest_of self.now) }
-        // It stands in one of four places of its stream, with what holds there.
+        // Its progress is in one of four states, with the properties of that state.
         ensures progress { IsDecoderProgress self.now }
     {
         self.state == State::Reading && !self.frame.is_empty()
     }
 }
 
-/// Takes what the frame that is begun still lacks.
+/// Takes from the piece what the frame in progress lacks.
 fn take_up(frame: &mut Vec<u8>, piece: &[u8]) -> Fed
     requires begun { IsPartial frame.old.items }
     requires room { MAX_FRAME ≤ vec_capacity frame.old }
@@ -175,8 +174,8 @@ fn take_up(frame: &mut Vec<u8>, piece: &[u8]) -> Fed
     }
 }
 
-/// Takes from the front of a piece until the frame has `size` bytes or the piece ends, and returns
-/// how many bytes it took.
+/// Takes from the start of a piece until the frame has `size` bytes or the piece ends, and returns how many bytes it
+/// took.
 fn fill(frame: &mut Vec<u8>, piece: &[u8], size: usize) -> usize
     requires has { vec_len frame.old ≤ vec_capacity frame.old }
     requires room { size ≤ vec_capacity frame.old }

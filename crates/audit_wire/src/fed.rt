@@ -1,10 +1,10 @@
 /// What a decoder found in a piece of the stream.
 #[derive(Clone, Copy, Debug, PartialEq, Eq)]
 pub enum Fed {
-    /// All of the piece was taken, and no body is whole.
+    /// The whole piece was taken, and no body is complete.
     More,
-    /// A body is whole. The last of the `taken` bytes of the piece is its last byte.
+    /// A body is complete. Its last byte is the last of the `taken` bytes of the piece.
     Body { taken: usize },
-    /// A length of 0 or over the limit. The last of the `taken` bytes is its second byte.
+    /// A length is 0 or over the limit. Its second byte is the last of the `taken` bytes.
     Malformed { taken: usize },
 }

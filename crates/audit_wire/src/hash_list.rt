@@ -5,7 +5,7 @@ ghost use Rattle.audit_base.specs.Hashes.{AreHashes};
 use audit_base::Hash;
 use std::marker::Model;
 
-/// The hashes of a proof: contracts see the list of them.
+/// The hashes of a proof. Contracts see them as a list.
 #[derive(Debug, Drop)]
 pub struct HashList {
     hashes: Vec<Hash>,
@@ -20,14 +20,14 @@ impl Model for HashList {
 }
 
 impl HashList {
-    /// The hashes of a vector. Takes no memory.
+    /// Wraps a vector of hashes. It allocates nothing.
     pub fn from_vec(hashes: Vec<Hash>) -> HashList
         ensures { result ≡ hashes.items }
     {
         Self { hashes }
     }
 
-    /// Hands the vector back. Takes no memory.
+    /// Returns the vector. It allocates nothing.
     pub fn into_vec(self) -> Vec<Hash>
         ensures { result.items ≡ self }
     {
@@ -42,7 +42,7 @@ impl HashList {
         &self.hashes
     }
 
-    /// The hashes one after the other.
+    /// The concatenated hashes.
     pub fn as_bytes(&self) -> &[u8]
         ensures bytes { result.now ≡ flat_map (λ hash. hash) self.now }
         ensures size { length result.now ≡ length self.now * 32 }

@@ -1,4 +1,4 @@
-//! Laws of the formats, each the contract of a function that does nothing.
+//! Laws of the formats. Each function does nothing: its contract is the law.
 
 ghost use Rattle.std.specs.Prelude.{◌≡◌, ◌<◌, ◌^◌, ℕ, length, List, [], ◌∷◌, ◌++◌, Some};
 ghost use Rattle.audit_wire.specs.declared.request.Request.{Request};
@@ -20,16 +20,16 @@ ghost use Rattle.audit_wire.specs.Progress.{DecoderProgress, Feeding, reading, r
 ghost use Rattle.audit_wire.specs.Progress.{taken_by, taken_but_one, requests_ahead, HasJustTaken, PutsBack, IsRun};
 ghost use Rattle.audit_wire.specs.Progress.{bytes_taken, bodies_given, progress_after};
 
-/// A stream is read in one way only: two readings of one byte stream are the same requests, the same
-/// malformed place or none, and the same rest.
+/// A stream can be read in only one way: two readings of the same bytes have the same requests, the same rest, and
+/// both or neither ends in a malformed place.
 pub fn one_reading_of_a_stream()
     ensures read { (bytes : List ℕ) → AreBytes bytes → IsReading bytes (framed_requests bytes) }
     ensures only { (bytes : List ℕ) (framed : Framed Request) → AreBytes bytes → IsReading bytes framed
         → framed ≡ framed_requests bytes }
 {}
 
-/// Every request has a frame that is read back as it, whatever follows; and a body is read as a
-/// request exactly where it is that request's.
+/// Every request has a frame that reads back as the request, whatever follows it. A body reads as a request if and
+/// only if it is that request's body.
 pub fn every_request_is_read_back()
     ensures frame { (request : Request) (more : List ℕ) → IsRequest request
         → framed_requests (request_frame request ++ more) ≡ in_front request (framed_requests more) }
@@ -38,15 +38,15 @@ pub fn every_request_is_read_back()
         → IsRequest request × (body ≡ request_body request) }
 {}
 
-/// More bytes keep the requests that were there, and what was no whole frame is read together with
-/// them. A rest_alone frame is such a rest.
+/// More bytes leave the earlier requests unchanged, and are read together with the incomplete frame before them. The
+/// start of a frame is such a rest.
 pub fn more_bytes_keep_the_requests()
     ensures more { (bytes later : List ℕ) → framed_requests (bytes ++ later) ≡ continued (framed_requests bytes) later }
     ensures rest { (bytes : List ℕ) → IsPartial bytes → framed_requests bytes ≡ rest_alone bytes }
 {}
 
-/// However a stream is cut into pieces, what a decoder handed out and what it holds back are a
-/// function of the bytes that it took.
+/// However a stream is cut into pieces, the bodies that a decoder returned and the bytes that it holds back depend
+/// only on the bytes that it took.
 pub fn every_cut_gives_one_reading()
     ensures { (run : List Feeding) → IsRun (reading []) run → framed_bodies (bytes_taken run)
         ≡ record {
@@ -57,8 +57,9 @@ pub fn every_cut_gives_one_reading()
         } }
 {}
 
-/// Every reply has a body that is read back as it, so that different replies have different bytes; and the length
-/// field of its frame holds the body's length, which is the same for every acknowledgement and for every refusal.
+/// Every reply has a body that reads back as the reply, so different replies have different bytes. The length field of
+/// a frame can hold the length of every body. All acknowledgements have bodies of one length, and so have all
+/// refusals.
 pub fn every_reply_is_read_back()
     ensures body { (given : Reply) → IsWholeReply given → reply_in (reply_body given) ≡ Some given }
     ensures size { (given : Reply) → IsWholeReply given → length (reply_body given) < 2 ^ 16 }
@@ -67,14 +68,14 @@ pub fn every_reply_is_read_back()
     ensures refused { (tag : ℕ) (code : Refusal) → length (reply_body (reply.Refused tag code)) ≡ 6 }
 {}
 
-/// The frames of an acknowledgement and of a refusal each have one size, whatever they say.
+/// All acknowledgements have frames of one size, and so have all refusals.
 pub fn replies_have_their_sizes()
     ensures acknowledgement { (tag index count : ℕ) (root : List ℕ) → length root ≡ HASH_LEN
         → length (reply_frame (reply.Acknowledgement tag index count root)) ≡ ACKNOWLEDGEMENT_FRAME }
     ensures refused { (tag : ℕ) (code : Refusal) → length (reply_frame (reply.Refused tag code)) ≡ REFUSAL_FRAME }
 {}
 
-/// The output of a session is read as reply frames in one way only.
+/// The output of a session can be read as reply frames in only one way.
 pub fn one_reading_of_replies()
     ensures first { (one other : Reply) (rest others : List ℕ) → IsWholeReply one → IsWholeReply other
         → reply_frame one ++ rest ≡ reply_frame other ++ others → (one ≡ other) × (rest ≡ others) }
@@ -83,10 +84,10 @@ pub fn one_reading_of_replies()
         → flat_map reply_frame replies ≡ flat_map reply_frame others → replies ≡ others }
 {}
 
-/// A piece of which the last byte is given back is the piece without that byte: where feeding took all of it up to
-/// the end of a body or of a malformed length, the decoder is then where feeding the rest of it leaves it. Of any
-/// piece it is where feeding the bytes that were taken but for the last one leaves it, and so the stream has the same
-/// requests ahead.
+/// Putting back the last byte of a piece has the same effect as feeding the piece without it. If feeding took a whole
+/// piece, up to the end of a body or of a malformed length, the decoder is afterwards where feeding the rest of the
+/// piece leaves it. For any piece it is where feeding all but the last of the taken bytes leaves it. So the same
+/// requests are ahead in the stream.
 pub fn a_byte_given_back_never_came()
     ensures whole { (old taken new : DecoderProgress) (piece : List ℕ) (byte : ℕ) (answer : Fed)
         → IsDecoderFed old (piece ++ byte ∷ []) answer taken
@@ -102,7 +103,7 @@ pub fn a_byte_given_back_never_came()
         ≡ requests_ahead new later }
 {}
 
-/// The limits of the frames, each as its number.
+/// The limits of the frames, as numbers.
 pub fn limits_are_these_numbers()
     ensures length { LENGTH_BYTES ≡ 2 }
     ensures body { MAX_BODY ≡ 32705 }

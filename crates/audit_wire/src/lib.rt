@@ -1,8 +1,8 @@
 //! Frames between a client and the audit store.
 //!
-//! A frame is a length in two bytes and a body of that many bytes. A [`Decoder`] takes a byte stream
-//! in any pieces and hands out the bodies; [`read_request`] reads a body as a request, and
-//! [`write_reply`] writes the frame of a reply. Numbers are unsigned and big-endian.
+//! A frame is a length in two bytes and a body of that many bytes. A [`Decoder`] takes a byte stream in arbitrary
+//! pieces and returns the bodies. [`read_request`] reads a body as a request, and [`write_reply`] writes the frame of
+//! a reply. Numbers are unsigned and big-endian.
 #![tactic(auto)]
 
 mod byte_list;

@@ -12,15 +12,15 @@ use crate::request_kind::RequestKind;
 use crate::view::RequestView;
 use audit_base::{MAX_PAYLOAD, RESERVED_KIND, u32_at, u64_at};
 
-/// Reads the body of a frame as a request, and borrows an append's payload. Takes no memory.
+/// Reads the body of a frame as a request, and borrows an append's payload. It allocates nothing.
 pub fn read_request(body: &[u8]) -> Result<RequestView<'_>, Malformed>
-    // What is read has this body.
+    // A request that is read has this body.
     ensures found { IfOk result (λ view. IsRequest (request_shown view)
         × (body.now ≡ request_body (request_shown view))) }
-    // The body of a request is read as that request.
+    // The body of a request reads as that request.
     ensures only { (request : Request) → IsRequest request → body.now ≡ request_body request
         → request_read result ≡ Some request }
-    // Each body is read by the grammar.
+    // Every body is read according to the grammar.
     ensures exact { request_read result ≡ request_in body.now }
 {
     read_by_kind(body)

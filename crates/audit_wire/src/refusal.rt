@@ -1,6 +1,6 @@
 ghost use Rattle.std.specs.Prelude.{◌≡◌};
 
-/// Why a request was refused, by its code on the wire.
+/// Why a request was refused, with its code on the wire.
 #[derive(Clone, Copy, Debug, PartialEq, Eq)]
 pub enum Refusal {
     /// An entry on the device is damaged.
@@ -15,7 +15,7 @@ pub enum Refusal {
     Device = 11,
     /// The log is closed.
     Closed = 13,
-    /// The bytes were no request.
+    /// The bytes weren't a request.
     Malformed = 20,
 }
 
@@ -29,7 +29,7 @@ impl Refusal {
         self as u8
     }
 
-    /// The refusal of a code on the wire, where it has one.
+    /// The refusal with this code on the wire, if there is one.
     pub fn from_code(code: u8) -> Option<Refusal>
         ensures { result ≡ refusal_with_code code }
     {

@@ -6,7 +6,7 @@ use audit_base::Hash;
 /// The reply to a request, with the request's tag.
 #[derive(Debug, Drop)]
 pub enum Reply {
-    /// The event is in the log at `index`, and this is the log's commitment now.
+    /// The event is in the log at `index`, and this is now the log's commitment.
     Acknowledgement {
         tag: u32,
         index: u64,
@@ -19,13 +19,13 @@ pub enum Reply {
         count: u64,
         root: Hash,
     },
-    /// A membership proof, elsewhere called an inclusion proof, and the entry that it is for.
+    /// A membership (inclusion) proof, and the entry that it proves.
     Membership {
         tag: u32,
         hashes: HashList,
         entry: ByteList,
     },
-    /// An incremental proof, elsewhere called a consistency proof.
+    /// An incremental (consistency) proof.
     Incremental {
         tag: u32,
         hashes: HashList,
@@ -35,7 +35,7 @@ pub enum Reply {
         tag: u32,
         entry: ByteList,
     },
-    /// The request was refused. A malformed one has no tag, and 0 stands for it.
+    /// The request was refused. A malformed request has no tag, and is answered with tag 0.
     Refused {
         tag: u32,
         refusal: Refusal,

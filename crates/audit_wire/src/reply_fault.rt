@@ -1,6 +1,6 @@
 use thiserror::Error;
 
-/// Why bytes weren't read as a reply.
+/// Why bytes couldn't be read as a reply.
 #[derive(Clone, Copy, Debug, Drop, Error, PartialEq, Eq)]
 pub enum ReplyError {
     /// The bytes aren't a reply.

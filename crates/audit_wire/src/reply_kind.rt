@@ -21,7 +21,7 @@ impl ReplyKind {
         self as u8
     }
 
-    /// The kind that a first byte stands for.
+    /// The kind that a body's first byte denotes.
     pub(crate) fn from_byte(byte: u8) -> Option<ReplyKind>
         ensures { result ≡ reply_kind_at byte }
     {

@@ -1,4 +1,4 @@
-//! Replies, as a client reads them.
+//! Reading replies, for clients.
 ghost use Rattle.std.specs.Prelude.{◌≡◌, ◌^◌, ◌<◌, ℕ, List, ◌++◌, length, IfSome, MatchOption};
 ghost use Rattle.audit_wire.specs.Frame.{frame};
 ghost use Rattle.audit_wire.specs.Reply.{acknowledgement_in, commitment_reply_in, membership_reply_in};
@@ -18,8 +18,8 @@ use audit_base::{
 };
 use std::alloc::Global;
 
-/// The body of the first frame, and the bytes after that frame, or nothing if no whole frame is there yet. It takes no
-/// memory.
+/// Returns the body of the first frame and the bytes after that frame, or nothing if the first frame isn't complete
+/// yet. It allocates nothing.
 pub fn first_frame(bytes: &[u8]) -> Option<(&[u8], &[u8])>
     ensures found { IfSome result (λ parts. bytes.now ≡ frame parts.0.now ++ parts.1.now) }
     ensures size { IfSome result (λ parts. length parts.0.now < 2 ^ 16) }
@@ -37,8 +37,8 @@ pub fn first_frame(bytes: &[u8]) -> Option<(&[u8], &[u8])>
     Some(after.split_at(size))
 }
 
-/// Reads the body of a frame as a reply: `Malformed` exactly where it is no reply's, and `Memory` where memory is
-/// refused for the hashes or the entry of one.
+/// Reads the body of a frame as a reply. Errors: `Malformed` if and only if it isn't the body of a reply; `Memory` if
+/// memory is refused for a reply's hashes or entry.
 pub fn read_reply(alloc: Global, body: &[u8]) -> Result<Reply, ReplyError>
     ensures { IsReadAs (reply_in body.now) result }
 {

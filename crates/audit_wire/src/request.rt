@@ -1,6 +1,6 @@
 use crate::byte_list::ByteList;
 
-/// A request of a client. `tag` is the client's own number, handed back in the reply.
+/// A request of a client. `tag` is the client's own number, which the reply repeats.
 #[derive(Debug, Drop)]
 pub enum Request {
     /// Append an event of this kind.

@@ -14,7 +14,7 @@ pub(crate) enum RequestKind {
 impl RequestKind {
     ghost use Rattle.audit_wire.specs.Request.{kind_at};
 
-    /// The kind that a first byte stands for.
+    /// The kind that a body's first byte denotes.
     pub(crate) fn from_byte(byte: u8) -> Option<RequestKind>
         ensures { result ≡ kind_at byte }
     {

@@ -4,7 +4,7 @@ use crate::byte_list::ByteList;
 use crate::request::Request;
 use std::alloc::{AllocError, Global};
 
-/// A request as it stands in a frame's body, from which it borrows its payload. See [`Request`].
+/// A request in a frame's body, from which it borrows its payload. See [`Request`].
 #[derive(Clone, Copy, Debug, PartialEq, Eq)]
 pub enum RequestView<'a> {
     Append {
@@ -37,7 +37,7 @@ pub enum RequestView<'a> {
 impl<'a> RequestView<'a> {
     ghost use Rattle.audit_wire.specs.View.{request_shown, IsQuery};
 
-    /// The request with a payload of its own. The only error is that memory is refused for a payload.
+    /// Copies the request, with a payload of its own. The only error is that memory is refused for a payload.
     pub fn own(self, alloc: Global) -> Result<Request, AllocError>
         ensures shown { IfOk result (λ request. request ≡ request_shown self.entry) }
         ensures query { IsQuery self.entry → IsOk result }

@@ -13,22 +13,22 @@ use crate::room::put;
 use audit_base::Hash;
 use std::alloc::{AllocError, Global};
 
-// A body begins with its kind in one byte and the request tag in four. An index or a count has
-// eight bytes; a number of hashes and a code have one.
+// A body begins with its kind in one byte and the request tag in four. An index or a count has eight bytes; a number
+// of hashes or a code has one.
 const HEAD: usize = 5;
 
 const NUMBER: usize = 8;
 
-/// Adds the frame of a reply to the end of `out`. The only error is that memory is refused, which
-/// leaves the bytes of `out` as they were.
+/// Appends the frame of a reply to `out`. The only error is that memory is refused; the bytes of `out` are then
+/// unchanged.
 pub fn write_reply(_alloc: Global, reply: &Reply, out: &mut Vec<u8>) -> Result<(), AllocError>
     requires { IsReply reply.now }
     ensures ok { OnOk result (out.new.items ≡ out.old.items ++ frame (reply_body reply.now)) }
     ensures err { OnErr result (out.new.items ≡ out.old.items) }
-    // Where there is room for the frame, none is asked for; and room is never given back.
+    // Nothing is allocated if the capacity suffices, and capacity is never given back.
     ensures room { vec_len out.old + length (frame (reply_body reply.now)) ≤ vec_capacity out.old → IsOk result }
     ensures capacity { vec_capacity out.old ≤ vec_capacity out.new }
-    // Its parts are as wide as its fields, so that it is read back from its frame.
+    // The parts of the reply fit their fields, so it can be read back from its frame.
     ensures whole { IsOk result → IsWholeReply reply.now }
 {
     let size = body_size(reply);
@@ -38,7 +38,7 @@ pub fn write_reply(_alloc: Global, reply: &Reply, out: &mut Vec<u8>) -> Result<(
     Ok(())
 }
 
-/// Returns how many bytes the body of a reply has.
+/// Returns the length of a reply's body.
 fn body_size(reply: &Reply) -> usize
     requires { IsReply reply.now }
     ensures size { result ≡ length (reply_body reply.now) }
@@ -63,7 +63,7 @@ fn hash_size(hash: &Hash) -> usize
     hash.len()
 }
 
-/// Adds the body of a reply, for which there is room.
+/// Appends the body of a reply, within the capacity.
 fn put_body(out: &mut Vec<u8>, reply: &Reply)
     requires reply { IsReply reply.now }
     requires room { vec_len out.old + length (reply_body reply.now) ≤ vec_capacity out.old }

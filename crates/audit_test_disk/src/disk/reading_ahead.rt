@@ -1,4 +1,4 @@
-//! Reading ahead, against a file of which each call is counted.
+//! Reading ahead, over a file that counts its calls.
 
 ghost use Rattle.std.specs.Prelude.{◌<◌};
 ghost use Rattle.audit_disk.specs.OsFile.{unknown_file};
@@ -11,10 +11,11 @@ use std::test::Fail;
 
 const SECTORS: usize = 400;
 
-// What sector 3 holds after a sync.
+// The content of sector 3 after a sync.
 const SYNCED: u8 = b'x';
 
-/// A file in memory of sectors of equal bytes, of which one can't be read, and sector 3 changes by each sync.
+/// A file in memory whose sectors each consist of equal bytes. One sector can't be read, and each sync changes sector
+/// 3.
 #[derive(Drop)]
 struct Patchy {
     bytes: [u8; SECTORS],
@@ -75,7 +76,7 @@ impl SectorFile for Patchy {
 
 type Disk = FileDisk<Patchy>;
 
-/// Bytes of value k modulo 251 for each sector k.
+/// For each sector k the byte k modulo 251.
 fn counted_bytes() -> [u8; SECTORS] {
     let mut bytes = [0; SECTORS];
     for at in 0..SECTORS {
@@ -84,7 +85,7 @@ fn counted_bytes() -> [u8; SECTORS] {
     bytes
 }
 
-/// A device over a file whose sector k holds bytes of value k modulo 251.
+/// A device over a file whose sector k consists of bytes k modulo 251.
 fn new_disk(alloc: Global, bad: usize) -> Result<Disk, AllocError> {
     let file = Patchy {
         bytes: counted_bytes(),
@@ -109,7 +110,7 @@ fn write(rt: &impl Abort, disk: &mut Disk, at: usize, byte: u8) {
     assert!(rt; disk.write(at as u64, &[byte; SECTOR_SIZE]).is_ok());
 }
 
-/// Reads the sectors and expects of each what the file holds.
+/// Reads the sectors and expects the file's contents.
 fn expect_read(rt: &impl Abort, disk: &mut Disk, places: &[usize]) {
     for at in places {
         assert_eq!(rt; found(rt, disk, *at), Some((*at % 251) as u8));
@@ -121,7 +122,7 @@ fn expect_calls(rt: &impl Abort, disk: Disk, reads: u64, rows: u64) {
     assert_eq!(rt; (file.reads, file.rows), (reads, rows));
 }
 
-// The first two sectors alone, each time; then rows of 2, 4, .. 128 sectors, one of 128 again, and one of the last 16.
+// The first two sectors are always read one by one; then rows of 2, 4, .. 128 sectors, another 128, and the last 16.
 #[test]
 fn reads_that_go_on_read_rows(rt: HostRuntime) -> Result<(), Fail> {
     let mut disk = new_disk(rt.alloc(), SECTORS)?;
@@ -144,7 +145,7 @@ fn reads_elsewhere_read_one_sector_each(rt: HostRuntime) -> Result<(), Fail> {
     Ok(())
 }
 
-// The first read is alone, and then rows from 11, 13 and 17 on; what was read is given again, in any order.
+// The first read is of one sector, then there are rows from 11, 13 and 17 on. Rereads return the same, in any order.
 #[test]
 fn sectors_that_were_read_are_given_again(rt: HostRuntime) -> Result<(), Fail> {
     let onwards = [10, 11, 12, 13, 14, 15, 16, 17];
@@ -186,7 +187,7 @@ fn a_bad_sector_spoils_no_other(rt: HostRuntime) -> Result<(), Fail> {
     Ok(())
 }
 
-/// A call on the device and on a plain list of its bytes: a write, a sync, or some reads onwards from any place.
+/// A call on the device and on a plain list of its bytes: a write, a sync, or some consecutive reads from any place.
 fn play(rt: &impl Abort, disk: &mut Disk, model: &mut [u8; SECTORS], seed: &mut u64) {
     let at = (next(seed) % SECTORS as u64) as usize;
     match next(seed) % 8 {

@@ -1,4 +1,4 @@
-//! Files by their calls at offsets, their locks and their modes.
+//! Files as `PositionedFile`: their calls at offsets, their locks and their modes.
 
 ghost use Rattle.audit_disk.specs.Positioned.{unknown_positioned};
 
@@ -41,7 +41,7 @@ fn a_file_in_memory_is_measured_and_keeps_its_sectors(rt: HostRuntime) -> Result
     Ok(())
 }
 
-/// A file of so many bytes, all zero, of which no write and no sync succeeds, nor a read at 1024 or after.
+/// A file of zero bytes. Writes, syncs, and reads at offset 1024 or later fail.
 #[derive(Drop)]
 struct Faulty {
     bytes: u64,
@@ -97,7 +97,7 @@ fn fault_of(opened: Result<FileDisk<OsFile<File>>, FileFault>) -> Option<FileFau
     opened.err()
 }
 
-// What another open of the file is answered while one is held.
+// The result of another open of the file while one is held.
 #[test]
 fn one_device_at_a_time_may_write_a_file(rt: HostRuntime) -> Result<(), Fail> {
     let path = fresh_path(&rt, "audit_disk_lock")?;

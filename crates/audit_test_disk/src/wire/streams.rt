@@ -1,4 +1,4 @@
-//! Streams of good and damaged frames, against a plain reading of the whole stream.
+//! Streams of good and damaged frames, compared with a plain reading of the whole stream.
 
 ghost use Rattle.std.specs.Prelude.{◌<◌};
 
@@ -6,13 +6,12 @@ use audit_wire::{Decoder, Fed, RequestView, read_request};
 use std::alloc::{AllocError, Global};
 use std::test::Fail;
 
-/// The digest of all readings, as a model of the formats in another language gives it for these
-/// streams.
+/// The digest of all readings, which a model of the formats in another language computes for the same streams.
 const EXPECTED: u64 = 0xb323_b236_ca1e_5348;
 
 const STREAMS: u64 = 10_000;
 
-/// Numbers that look random: Marsaglia's xorshift.
+/// Pseudorandom numbers: Marsaglia's xorshift.
 #[derive(Drop)]
 struct Dice {
     state: u64,
@@ -34,7 +33,7 @@ impl Dice {
     }
 }
 
-/// What a reading gave: a digest of the requests, and how it ended.
+/// The result of a reading: a digest of the requests, and how it ended.
 #[derive(Clone, Copy, Debug, PartialEq, Eq)]
 struct Reading {
     digest: u64,
@@ -104,7 +103,7 @@ fn put_random(stream: &mut Vec<u8>, dice: &mut Dice, count: u64) -> Result<(), A
     Ok(())
 }
 
-/// A frame with this first byte, and random bytes after it.
+/// A frame with this first byte, followed by random bytes.
 fn put_query(stream: &mut Vec<u8>, dice: &mut Dice, kind: u8, size: u8) -> Result<(), AllocError> {
     stream.extend_from_slice(&[0, size, kind])?;
     put_random(stream, dice, (size as u64).saturating_sub(1))
@@ -122,7 +121,7 @@ fn put_append(stream: &mut Vec<u8>, dice: &mut Dice) -> Result<(), AllocError> {
     put_random(stream, dice, size)
 }
 
-/// A frame that is hardly a request.
+/// A frame that is hardly ever a request.
 fn put_junk(stream: &mut Vec<u8>, dice: &mut Dice) -> Result<(), AllocError> {
     let size = dice.below(24);
     stream.extend_from_slice(&[0, size as u8])?;
@@ -144,8 +143,7 @@ fn put_frame(stream: &mut Vec<u8>, dice: &mut Dice) -> Result<(), AllocError> {
     }
 }
 
-/// One to six frames, one byte of them changed in every fourth stream, and the end of every third
-/// cut off.
+/// One to six frames. Every fourth stream has one byte changed, and every third is truncated.
 fn stream_of(alloc: Global, dice: &mut Dice) -> Result<Vec<u8>, AllocError> {
     let mut stream = Vec::new(alloc);
     for _ in 0..dice.below(6) + 1 {
@@ -162,7 +160,7 @@ fn stream_of(alloc: Global, dice: &mut Dice) -> Result<Vec<u8>, AllocError> {
     Ok(stream)
 }
 
-/// Feeds a piece, and again what was left of it.
+/// Feeds a piece, again and again, until nothing of it is left.
 fn hear(decoder: &mut Decoder, piece: &[u8], reading: &mut Reading) {
     let mut rest = piece;
     while !rest.is_empty() && !reading.malformed {
@@ -183,7 +181,7 @@ fn hear(decoder: &mut Decoder, piece: &[u8], reading: &mut Reading) {
     }
 }
 
-/// What a decoder gives for a stream in pieces of up to nine bytes.
+/// A decoder's reading of a stream in pieces of up to nine bytes.
 fn decoded(alloc: Global, stream: &[u8], dice: &mut Dice) -> Result<Reading, AllocError> {
     let mut decoder = Decoder::new(alloc)?;
     let mut reading = Reading::NOTHING;
@@ -211,7 +209,7 @@ fn number_at_front(bytes: &[u8], size: usize) -> Option<(u64, &[u8])> {
     Some((number, rest))
 }
 
-/// Reads a body by the table of the formats: first byte, size, and the widths of the numbers.
+/// Reads a body by the formats' table: first byte, size, and the widths of the numbers.
 fn plain_request(body: &[u8], reading: &mut Reading) -> Option<()> {
     let (kind, mut rest) = number_at_front(body, 1)?;
     let widths: &[usize] = match (kind, body.len()) {

@@ -4,7 +4,7 @@ use super::*;
 use audit_proof::laws::collide_three_with;
 use std::alloc::AllocError;
 
-// The sum of the first bytes of a text's two sides, after its mark.
+// A weak hash: the sum of the first bytes of a text's two sides, after its mark.
 #[derive(Drop)]
 struct Sums;
 
@@ -18,14 +18,14 @@ impl TextHash for Sums {
     }
 }
 
-// The byte at a place, or 0 after the end.
+// The byte at a place, or 0 beyond the end.
 fn byte_at(text: &[u8], place: usize) -> u8
     ensures { result ≡ slice_index_or text.now place 0 }
 {
     if place < text.len() { text[place] } else { 0 }
 }
 
-// A hash of one byte and zeros.
+// A hash of one byte followed by zeros.
 fn first_byte(byte: u8) -> Hash
     ensures { result ≡ byte ∷ replicate 31 0 }
 {
@@ -34,7 +34,7 @@ fn first_byte(byte: u8) -> Hash
     value
 }
 
-// Two versions, an index and the numbers of hashes that the increment and the two memberships have there.
+// Two versions, an index, and how many hashes the incremental proof and the two membership proofs have there.
 #[derive(Drop)]
 struct Versions {
     older: u64,
@@ -56,7 +56,7 @@ fn versions_at(tree: &Tree, older: u64, newer: u64, index: u64) -> Result<Versio
     })
 }
 
-// So many hashes of zeros, of which the one at a place takes away what a leaf adds.
+// `count` hashes of zeros, except that the one at `place` cancels what a leaf adds.
 fn zeros_but(alloc: Global, count: usize, place: usize, leaf: u8) -> Result<Vec<Hash>, AllocError> {
     let mut hashes = Vec::new(alloc);
     for at in 0..count {
@@ -70,13 +70,13 @@ fn zeros_but(alloc: Global, count: usize, place: usize, leaf: u8) -> Result<Vec<
     Ok(hashes)
 }
 
-// The sum of a leaf that a hash takes away, or of one like all others.
+// The sum of a leaf that some hash cancels, or of a leaf like all others.
 fn leaf_at(place: usize, count: usize, sum: u8) -> u8 {
     if place < count { sum } else { 0 }
 }
 
-// What two entries show in trees whose roots and hashes are all zero. Each entry's sum isn't, and goes up to the
-// hash at its place, where it has one there.
+// The result for two entries in trees whose roots and hashes are all zero. Each entry has a nonzero sum, which is
+// carried up to the hash at its place, if there is one.
 fn found(
     alloc: Global,
     at: &Versions,
@@ -163,8 +163,8 @@ fn entries_under_any_two_versions_collide(rt: HostRuntime) -> Result<(), Fail> {
     Ok(())
 }
 
-// Entries of the tree without its last leaf at most: the first, those about its middle and the last, with the numbers
-// of their hashes there and with that leaf.
+// Entries of the tree without its last leaf: the first, those about its middle and the last, with the numbers of their
+// hashes in that tree and in the full one.
 const LARGEST: [(u64, usize, usize); 4] = [
     (0, 24, 24),
     (FULL / 2 - 1, 24, 24),
@@ -188,7 +188,7 @@ fn entries_under_the_largest_versions_collide(rt: HostRuntime) -> Result<(), Fai
     Ok(())
 }
 
-// Whether entries of one length collide, the first alone in its tree and the second with another.
+// Whether entries of equal length collide, the first alone in its tree and the second with another.
 fn entries_collide_across(
     alloc: Global,
     first: &[u8],
@@ -237,7 +237,7 @@ fn entries_of_each_length_collide_across_versions(rt: HostRuntime) -> Result<(),
     Ok(())
 }
 
-// What `aa` alone in its tree, and another entry with one after it, show by the weak hash.
+// The result of the weak hash for `aa` alone in its tree, and another entry followed by one more.
 fn weakly_across(
     alloc: Global,
     increment: &[Hash],
@@ -271,7 +271,7 @@ fn a_text_before_and_after_growth_collides(rt: HostRuntime) -> Result<(), Fail> 
     Ok(())
 }
 
-// Why made proofs of leaf 1 of three and of five, of these entries, and an increment don't collide.
+// Why real proofs of leaf 1 of three and of five, for these entries, and an incremental proof don't collide.
 fn fault_across(
     alloc: Global,
     first: &[u8],

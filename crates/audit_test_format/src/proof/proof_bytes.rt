@@ -1,14 +1,14 @@
 use super::*;
 use std::alloc::AllocError;
 
-// The entry of kind 1 and payload `hi` under the zero key, and the proof of it under count 1.
+// The entry of kind 1 and payload `hi` under the zero key, and its proof under count 1.
 const FIRST_ENTRY: &str =
     "0000000100000002b8879f1e0e12b5bff2e04073ae77cd7220863b2a5d3c10c71940136430292b3a08eea5a823836da22bd11e8e5f9c6e0141ef0a27786dfce7f9366ab4d990cf7c071d";
 
 const FIRST_PROOF: &str =
     "0100000000000000000000000000000001000000000100000002b8879f1e0e12b5bff2e04073ae77cd7220863b2a5d3c10c71940136430292b3a08eea5a823836da22bd11e8e5f9c6e0141ef0a27786dfce7f9366ab4d990cf7c071d";
 
-// The membership of leaf 1 under count 3, and the increment from 3 to 5, of the counted tree.
+// The membership proof of leaf 1 under count 3, and the incremental proof from 3 to 5, in the counted tree.
 const MEMBERSHIP: &str =
     "01000000000000000100000000000000030296a296d224f285c67bee93c30f8a309157f0daa35dc5b87e410b78630a09cfc7f3956680d1c73a4a4334eb46e3c978a803c22ed6732cf4bc21811f768f39ff9e01";
 
@@ -40,7 +40,7 @@ fn is_same_increment(one: &IncrementProof, other: &IncrementProof) -> bool {
         && one.hashes.as_slice() == other.hashes.as_slice()
 }
 
-// Writes a proof and reads it again.
+// Writes a proof and reads it back.
 fn member_through_bytes(
     rt: &impl Abort,
     alloc: Global,

@@ -1,12 +1,12 @@
-//! The tree as a plain and slow program over the leaf texts, each of one byte. It knows a node by the texts from
-//! its start on and by how many leaves wide it is, and shares nothing with the tree.
+//! The tree as a plain and slow program over leaf texts of one byte. A node is given by the texts from its start on
+//! and by its width in leaves. It shares nothing with the tree.
 
 use sha2::{Digest, Sha256};
 use std::alloc::{AllocError, Global};
 
 type Digest32 = [u8; 32];
 
-// The width of a tree with so many leaves: the least power of two that has room for them.
+// The width of a tree with `count` leaves: the least power of two that is at least `count`.
 fn width_of(count: usize) -> usize {
     [1, 2, 4, 8, 16, 32]
         .into_iter()
@@ -14,7 +14,7 @@ fn width_of(count: usize) -> usize {
         .unwrap_or(64)
 }
 
-// The hash of a node: its right side is left out where the texts end before it.
+// The hash of a node. Its right side is omitted if the texts end before it.
 pub fn node(texts: &[u8], width: usize) -> Digest32 {
     let mut hasher = Sha256::new();
     if width <= 1 {
@@ -39,7 +39,7 @@ pub fn root(texts: &[u8]) -> Digest32 {
     node(texts, width_of(texts.len()))
 }
 
-// Adds the siblings on a leaf's way up from the node of one width to that of another one, which has these texts.
+// Appends the siblings on a leaf's path, from the node of one width up to that of another, over these texts.
 fn add_siblings(
     hashes: &mut Vec<Digest32>,
     texts: &[u8],
@@ -72,7 +72,7 @@ pub fn membership(alloc: Global, texts: &[u8], leaf: usize) -> Result<Vec<Digest
     Ok(hashes)
 }
 
-// The incremental proof from an older count, one at least, to that of these texts.
+// The incremental proof from an older count (at least one) to the count of these texts.
 pub fn increment(alloc: Global, texts: &[u8], older: usize) -> Result<Vec<Digest32>, AllocError> {
     let width = older & older.wrapping_neg();
     let last = older.saturating_sub(width);

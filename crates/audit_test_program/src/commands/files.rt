@@ -1,4 +1,4 @@
-// Whole command lines over files. What is printed is that of an independent model.
+// Whole command lines over files. The expected output was computed by an independent model.
 use audit_cli_store::{Access, CommandError, Request, Site, Status, mode_asked, report_end, run};
 use std::fs::{self, OpenOptions};
 use std::io::{self, ErrorKind};
@@ -6,7 +6,7 @@ use std::path::PathBuf;
 use std::test::Fail;
 use std::{env, process};
 
-// A file in the folder for such files, which isn't there.
+// The path of a temporary file that doesn't exist.
 fn unused(rt: &HostRuntime, name: &str) -> Result<PathBuf, Fail> {
     let mut path = env::temp_dir(rt)?;
     path.push(format!(in rt.alloc();
@@ -17,7 +17,7 @@ fn unused(rt: &HostRuntime, name: &str) -> Result<PathBuf, Fail> {
     Ok(path)
 }
 
-// Whether a command prints this and ends with that status.
+// Whether a command prints this and ends with this status.
 fn prints(
     rt: &HostRuntime,
     request: Request<'_>,
@@ -124,7 +124,7 @@ fn a_store_in_a_file(rt: HostRuntime) -> Result<(), Fail> {
     Ok(())
 }
 
-// Words, and the permissions that they ask for: as POSIX's chmod reads them, where the owner reads and writes.
+// Words, and the permissions they denote, as POSIX's chmod reads them if the owner reads and writes.
 const MODES: [(&str, Option<u32>); 12] = [
     ("600", Some(384)),
     ("640", Some(416)),

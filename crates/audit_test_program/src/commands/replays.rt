@@ -1,4 +1,4 @@
-// What is printed is that of an independent model, which shares no code with the program.
+// The expected output was computed by an independent model, which shares no code with the program.
 use audit_cli_store::{Request, Status, run};
 use std::alloc::{AllocError, Global};
 use std::io::{self, ErrorKind, Read, Write};
@@ -51,14 +51,14 @@ fn did(found: &Outcome, output: &[u8], messages: &[u8], status: Status) -> bool 
         && found.status == status
 }
 
-// Whether an input is refused with that message.
+// Whether an input is refused with this message.
 fn refuses(rt: &HostRuntime, input: &[u8], message: &str) -> bool {
     let mut input = input;
     let found = outcome_of(rt, &mut input);
     did(&found, b"", message.as_bytes(), Status::Refused)
 }
 
-// Whether the program prints the entries of the three events, also where its input comes byte by byte.
+// Whether the program prints the entries of the three events, even if its input arrives byte by byte.
 fn prints_entries(rt: &HostRuntime, text: &[u8]) -> bool {
     let mut whole = text;
     let found = outcome_of(rt, &mut whole);
@@ -143,13 +143,13 @@ fn refuses_line(rt: &HostRuntime, line: &[u8], message: &str) -> Result<bool, Fa
     Ok(refuses(rt, &input, message))
 }
 
-// A line of an event of this kind, whose payload is so many zero digits, and what else stands after them.
+// A line of an event of this kind, with a payload of `digits` zero digits, followed by `rest`.
 fn line_of(alloc: Global, kind: &str, digits: usize, rest: &str) -> Result<String, Fail> {
     let zeros = vec![in alloc; b'0'; digits]?;
     Ok(format!(in alloc; "event {kind} {}{rest}", str::from_utf8(&zeros)?)?)
 }
 
-// The kind, the digits and what stands after them, and what is printed.
+// The kind, the digits and the text after them, and the expected message.
 const FAULTS: [(&str, usize, &str, &str); 7] = [
     ("4294967295", 0, "-", "audit: line 2: reserved kind\n"),
     ("4294967295", 65_394, "", "audit: line 2: reserved kind\n"),
@@ -170,7 +170,7 @@ const FAULTS: [(&str, usize, &str, &str); 7] = [
     ),
 ];
 
-// A bad line goes before the reserved kind, and that before a payload that is too long.
+// A bad line takes precedence over the reserved kind, which takes precedence over a payload that is too long.
 #[test]
 fn faults_of_a_line_in_their_order(rt: HostRuntime) -> Result<(), Fail> {
     for (kind, digits, rest, message) in FAULTS {
@@ -192,7 +192,7 @@ fn an_input_of_the_limit_and_one_byte_more(rt: HostRuntime) {
     }
 }
 
-// 256 events of zeros with payloads of the limit, and one that fills an input up to its limit.
+// 256 events of zeros with the longest payloads, and one that fills the input up to its limit.
 fn longest_input(alloc: Global) -> Result<Vec<u8>, AllocError> {
     let mut input = Vec::from_slice(alloc, KEY_LINE.as_bytes())?;
     for _ in 0..256 {
@@ -215,7 +215,7 @@ fn a_log_of_the_longest_input(rt: HostRuntime) -> Result<(), Fail> {
 const LAST_COMMIT: &[u8] =
     b"\ncommit 257 d8cd69f7c899bfe6ba6f211167b9d893209c8daedc41e0cdfcbc85e2ddf93097\n";
 
-// A line of an event of kind 1 whose payload is zeros, spelled in so many digits.
+// Appends a line of an event of kind 1 whose payload is zeros, written with `digits` digits.
 fn push_event(alloc: Global, input: &mut Vec<u8>, digits: usize) -> Result<(), AllocError> {
     input.extend_from_slice(b"event 1 ")?;
     input.extend_from_slice(&vec![in alloc; b'0'; digits]?)?;
@@ -241,7 +241,7 @@ fn a_reader_that_fails(rt: HostRuntime) {
     }
 }
 
-// The first line of output has 157 bytes, and both together 231.
+// The first line of the output has 157 bytes, and both lines 231.
 #[test]
 fn a_writer_that_fails(rt: HostRuntime) {
     for room in [0, 1, 100, 156, 157, 158, 230] {
@@ -251,7 +251,7 @@ fn a_writer_that_fails(rt: HostRuntime) {
     assert!(rt; ends_over(&rt, 231, false, Status::Device, FILE_FAULT));
 }
 
-// Whether a run over an output with so much room ends with that status, and reports that.
+// Whether a run with an output of this capacity ends with this status and prints this report.
 fn ends_over(rt: &HostRuntime, room: usize, flushes: bool, status: Status, report: &[u8]) -> bool {
     let mut input = SHORT_INPUT;
     let mut output = FailingWriter { room, flushes };
@@ -282,7 +282,7 @@ fn codes_of_each_status(rt: HostRuntime) {
     }
 }
 
-// A reader that gives one byte a read.
+// A reader that returns one byte a read.
 #[derive(Drop)]
 struct ByteByByte<'a>(&'a [u8]);
 
@@ -293,7 +293,7 @@ impl Read for ByteByByte<'_> {
     }
 }
 
-// A reader of so many zero bytes.
+// A reader of this many zero bytes.
 #[derive(Drop)]
 struct Zeros(usize);
 
@@ -305,7 +305,7 @@ impl Read for Zeros {
     }
 }
 
-// A reader that gives a few bytes a read, and fails after some reads.
+// A reader that returns a few bytes a read, and fails after some reads.
 #[derive(Drop)]
 struct FailingReader<'a> {
     bytes: &'a [u8],
@@ -323,7 +323,7 @@ impl Read for FailingReader<'_> {
     }
 }
 
-// A writer that takes so many bytes, and then fails; it may fail to flush them.
+// A writer that accepts `room` bytes and then fails. It may also fail to flush.
 #[derive(Drop)]
 struct FailingWriter {
     room: usize,

@@ -1,4 +1,4 @@
-// What is printed is that of an independent model, which shares no code with the program.
+// The expected output was computed by an independent model, which shares no code with the program.
 use audit_chain::Key;
 use audit_cli_store::{
     CommandError, ProofRequest, append_lines, close_log, format_device, proof_bytes, show,
@@ -9,7 +9,7 @@ use audit_text::{LineError, LinesError};
 use std::alloc::{AllocError, Global};
 use std::test::Fail;
 
-// A store of no events on a device of so many sectors, whose first key is zeros.
+// A store without events on a device of `sectors` sectors, with a first key of zeros.
 fn empty_store(alloc: Global, sectors: u64) -> Result<Store<MemDisk>, Fail> {
     let key = Key::from_bytes([0; 32]);
     match Store::format(alloc, MemDisk::new(alloc, sectors)?, key) {
@@ -18,7 +18,7 @@ fn empty_store(alloc: Global, sectors: u64) -> Result<Store<MemDisk>, Fail> {
     }
 }
 
-// So many lines of events of kind 1, each with a payload of so many zero digits.
+// For each row a number of lines, each an event of kind 1, and the number of zero digits in their payloads.
 type Rows = [(usize, usize); 3];
 
 fn lines_of(alloc: Global, rows: Rows) -> Result<Vec<u8>, AllocError> {
@@ -96,7 +96,7 @@ fn lines_are_gathered_into_batches(rt: HostRuntime) -> Result<(), Fail> {
     Ok(())
 }
 
-// What was appended before the refusal is printed, and is there.
+// Whatever was appended before the refusal is printed, and is in the store.
 #[test]
 fn a_device_that_gets_full(rt: HostRuntime) -> Result<(), Fail> {
     let mut store = empty_store(rt.alloc(), 66)?;
@@ -119,7 +119,7 @@ closed 1 2d575e5b39c1814e3d248ecf4d9cde1d3c9577c0c4900494c66ebaca6f5809f2\n\
 commit 1 2d575e5b39c1814e3d248ecf4d9cde1d3c9577c0c4900494c66ebaca6f5809f2\n\
 sectors 3 end 3 generation 4 version 2 state closed\n";
 
-// What is closed stays as it is.
+// A closed log stays as it is.
 #[test]
 fn a_log_of_no_event_is_closed(rt: HostRuntime) -> Result<(), Fail> {
     let mut store = empty_store(rt.alloc(), 3)?;
@@ -132,7 +132,7 @@ fn a_log_of_no_event_is_closed(rt: HostRuntime) -> Result<(), Fail> {
     Ok(())
 }
 
-// The last line is bad, so that nothing is appended.
+// The last line is bad, so nothing is appended.
 #[test]
 fn all_lines_are_judged_first(rt: HostRuntime) -> Result<(), Fail> {
     let mut store = empty_store(rt.alloc(), 10)?;
@@ -158,7 +158,7 @@ fn store_of_three(alloc: Global) -> Result<Store<MemDisk>, Fail> {
     Ok(store)
 }
 
-// What is asked for, and the proof in hex digits.
+// The request, and the proof in hex digits.
 const PROOFS: [(ProofRequest, &str); 2] = [
     (
         ProofRequest::Member { index: 1, count: 3 },
@@ -212,7 +212,7 @@ fn a_device_is_formatted(rt: HostRuntime) -> Result<(), Fail> {
     Ok(())
 }
 
-// A device whose every call fails once in turn: a format of three sectors makes eight.
+// Each call of the device fails once. Formatting three sectors takes eight calls.
 #[test]
 fn a_device_that_fails(rt: HostRuntime) -> Result<(), Fail> {
     for calls in 0..9 {

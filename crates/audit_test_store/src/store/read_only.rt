@@ -1,4 +1,4 @@
-//! Stores in sectors that are only read.
+//! Stores on sectors that are only read.
 ghost use Rattle.std.specs.Prelude.{◌≡◌, ◌<◌};
 
 use super::stops::{batches_in, passed, run_to};
@@ -15,8 +15,8 @@ fn opened_read_only<S: SectorSource>(
     }
 }
 
-// After a stop at each call, also between the two headers, the store has the answers and the sectors that an opening
-// of the device gives it. The device itself has had no call.
+// After a stop at any call, even between the two headers, the store has the same answers and sectors as if the device
+// had been opened. The device itself receives no call.
 #[test]
 fn a_run_stopped_after_each_call_read_only(rt: HostRuntime) -> Result<(), Fail> {
     let alloc = rt.alloc();
@@ -35,7 +35,7 @@ fn a_run_stopped_after_each_call_read_only(rt: HostRuntime) -> Result<(), Fail> 
     Ok(())
 }
 
-// What is appended to a store that only reads is held beside its sectors, and is gone with it.
+// An append to a read-only store is kept beside its sectors, and is lost with it.
 #[test]
 fn an_append_that_is_not_kept(rt: HostRuntime) -> Result<(), Fail> {
     let alloc = rt.alloc();
@@ -73,7 +73,7 @@ impl SectorSource for Unreadable {
     }
 }
 
-// An opening reads the headers and the log, of three sectors, and nothing after it.
+// Opening reads the headers and the log, which has three sectors, and nothing after it.
 #[test]
 fn a_sector_that_cannot_be_read(rt: HostRuntime) -> Result<(), Fail> {
     let alloc = rt.alloc();
@@ -90,8 +90,8 @@ fn a_sector_that_cannot_be_read(rt: HostRuntime) -> Result<(), Fail> {
     Ok(())
 }
 
-// To be run with each growth refused in turn: what an opening keeps asks for no memory after its first sync, so it is
-// never refused as the device's.
+// Run with each allocation refused in turn: an opening allocates nothing for the writes that it keeps after its first
+// sync, so it is never refused with a device fault.
 #[test]
 fn a_growth_that_is_refused_read_only(rt: HostRuntime) -> Result<(), Fail> {
     let alloc = rt.alloc();

@@ -1,11 +1,11 @@
-//! Stores of the first version of the format, which are read, and written in the newest one.
+//! Stores of the format's first version: they can be read, and are written in the newest version.
 use super::damage::{outcome, sectors_of};
 use super::*;
 use audit_base::{FIRST_MAX_PAYLOAD, MAX_PAYLOAD};
 use audit_chain::ChainError;
 use audit_log::{FIRST_VERSION, Header, VERSION};
 
-// The header sector as one of another version and generation.
+// The header sector with another version and generation.
 fn rewritten(
     rt: &impl Abort,
     sector: &[u8; 512],
@@ -21,8 +21,7 @@ fn rewritten(
     Ok(header.encode())
 }
 
-// The sectors of a store of one batch, with the headers of these versions: that of generation 4, and that of
-// generation 3.
+// The sectors of a store of one batch, with headers of these versions: first generation 4, then generation 3.
 fn as_versions(
     rt: &impl Abort,
     alloc: Global,
@@ -36,26 +35,27 @@ fn as_versions(
     Ok(sectors)
 }
 
-// The device of one event with the payload `hi` under the first version.
+// The device of one event with the payload `hi` in the first version.
 pub(crate) fn first_of_hi(rt: &impl Abort, alloc: Global) -> Result<MemDisk, Fail> {
     let store = of_hi(alloc, MemDisk::new(alloc, 16)?)?;
     let sectors = as_versions(rt, alloc, store, [FIRST_VERSION, FIRST_VERSION])?;
     Ok(MemDisk::from_sectors(alloc, &sectors)?)
 }
 
-// The image of that device, the state of its store, and that after an event of no bytes was appended.
+// The image of that device, the state of its store, and the state after appending an event without payload.
 const FIRST_IMAGE: &str = "f8dccd9bf9d0886fa8fa8171cddf2670f682efdde3298c39fa8b07af559a4bfc";
 
 const FIRST: &str = "378c9e74d3f25d7035860ab7496d00415139759749547296c0b0c65b7f5dfed0";
 
 const UPGRADED: &str = "d9454682b9de101395e4b139ddaa7d863ef81867bc02f8e251a7b3a5b945d25d";
 
-// An event of no bytes.
+// An event without payload.
 fn more(alloc: Global) -> Result<Vec<Event>, Fail> {
     Ok(vec![in alloc; Event::new(alloc, 2, &[])?]?)
 }
 
-// An opening keeps the first version, and so does an append of no event; an append of an event writes the newest one.
+// Opening keeps the first version, and so does an append of no events. An append of an event writes the newest
+// version.
 #[test]
 fn a_store_of_the_first_version(rt: HostRuntime) -> Result<(), Fail> {
     let alloc = rt.alloc();
@@ -70,7 +70,7 @@ fn a_store_of_the_first_version(rt: HostRuntime) -> Result<(), Fail> {
     Ok(())
 }
 
-// The device of the append that is stopped after so many calls, when a crash left none or all of what was pending.
+// The device of the append, stopped after `calls` calls, after a crash that left none or all of what was pending.
 fn stopped(rt: &impl Abort, alloc: Global, calls: u64, pick: u64) -> Result<MemDisk, Fail> {
     let fuse = Fuse::new(first_of_hi(rt, alloc)?, calls.saturating_add(15));
     let mut store = opened(alloc, fuse)?;
@@ -81,8 +81,8 @@ fn stopped(rt: &impl Abort, alloc: Global, calls: u64, pick: u64) -> Result<MemD
     Ok(store.into_disk().into_inner().crash(alloc, &picks)?)
 }
 
-// Of an append that is stopped after so many calls, when a crash left none and when it left all of what was pending:
-// the version of the store that is opened then, and the calls of the opening. At most one sector is pending.
+// For an append stopped after some number of calls, after a crash that left none or all of what was pending: the
+// version of the reopened store, and the calls of the opening. At most one sector is pending.
 const STOPPED: [[(u16, u64); 2]; 7] = [
     [(1, 15), (1, 15)],
     [(1, 15), (1, 15)],
@@ -121,7 +121,7 @@ fn an_upgrade_stopped_at_each_call(rt: HostRuntime) -> Result<(), Fail> {
     Ok(())
 }
 
-// What an opening answers for two events with payloads of these lengths, under a version.
+// The outcome of opening a store of two events with payloads of these lengths, in this version.
 fn outcome_of(rt: &impl Abort, alloc: Global, lengths: &[u64], version: u16) -> Result<u8, Fail> {
     let store = store_of(alloc, 16, lengths)?;
     let sectors = as_versions(rt, alloc, store, [version, version])?;
@@ -131,7 +131,7 @@ fn outcome_of(rt: &impl Abort, alloc: Global, lengths: &[u64], version: u16) -> 
 // The longest payload of the first version.
 const MOST: u64 = FIRST_MAX_PAYLOAD as u64;
 
-// A payload that only the newest version takes is damage under the first one, though the log ends where it may.
+// A payload that only the newest version allows is damage in the first one, even if the log ends where it may.
 #[test]
 fn payloads_under_each_version(rt: HostRuntime) -> Result<(), Fail> {
     let alloc = rt.alloc();
@@ -143,7 +143,7 @@ fn payloads_under_each_version(rt: HostRuntime) -> Result<(), Fail> {
     Ok(())
 }
 
-// The headers of generation 4 over one event and of generation 3 over none, of these versions.
+// The headers of generation 4 over one event and of generation 3 over none, in these versions.
 fn over_one_and_none(rt: &impl Abort, alloc: Global, versions: [u16; 2]) -> Result<MemDisk, Fail> {
     let store = of_hi(alloc, MemDisk::new(alloc, 16)?)?;
     let mut sectors = as_versions(rt, alloc, store, versions)?;
@@ -157,7 +157,7 @@ fn over_one_and_none(rt: &impl Abort, alloc: Global, versions: [u16; 2]) -> Resu
     Ok(MemDisk::from_sectors(alloc, &sectors)?)
 }
 
-// A lower generation isn't of a higher version.
+// A lower generation can't have a higher version.
 #[test]
 fn headers_of_two_versions(rt: HostRuntime) -> Result<(), Fail> {
     let alloc = rt.alloc();
