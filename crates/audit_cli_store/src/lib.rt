@@ -15,6 +15,7 @@ mod fault;
 mod files;
 mod formatting;
 mod key_file;
+mod leaves;
 mod making;
 mod mode;
 mod output_file;
