@@ -5,6 +5,7 @@
 mod carrying;
 mod frame_line;
 mod input_line;
+pub mod laws;
 mod limits;
 mod link;
 mod loop_fault;
