@@ -29,7 +29,7 @@ use Rattle.audit_cli_store.specs.declared.fault.CommandError.TheVariants.{File, 
 use Rattle.audit_cli_serve.specs.declared.fault.ServingError.{ServingError}
 use Rattle.audit_cli_serve.specs.declared.fault.ServingError.TheVariants.{Command, BadFrameLine}
 use Rattle.audit_cli_serve.specs.Faults.{of_serving, of_loop}
-use Rattle.audit_cli_serve.specs.Served.{IsNewCore, LoopsOver, ServesRound, ServesRounds, LoopReachesOver, ReachesByRound, IsAccepted, IsLineLost, HasRefused, StopsRound, StopsLoop}
+use Rattle.audit_cli_serve.specs.Served.{IsNewCore, LoopsOver, ServesRound, ServesRounds, LoopReachesOver, ReachesByRound, HasArrived, IsLineLost, HasRefused, StopsRound, StopsLoop}
 
 -- no other fault is reported as a line that spells no bytes
 pub bad_of_loop : (fault : LoopError StoreError) (number : ℕ) → of_loop fault ≡ BadFrameLine number → fault ≡ looping.BadLine number
@@ -102,7 +102,7 @@ module _ {D : Type 0} {g : sectors.Ghosts D} {T : Type 0} (M : CallModel T) (Arr
   rounds_more sessions turns (first ∷ before) old mid new h round = (h.0, h.1, rounds_more sessions turns before h.0 mid new h.2 round)
 
   pub round_served : (old new : Store D g) (core last : Core D g) (sessions turns : ℕ) (streams later : List (DuplexStream T)) → IsNewCore old core → new ≡ store_of (committer_of last) → length streams ≡ sessions
-      → AllByRecursion (IsAccepted Arrived) streams → Transition core_model (duplex_model M) core last streams later (IsServed core_model (length streams) turns core last) → ServesRound M Arrived sessions turns old new
+      → AllByRecursion (HasArrived Arrived) streams → Transition core_model (duplex_model M) core last streams later (IsServed core_model (length streams) turns core last) → ServesRound M Arrived sessions turns old new
   round_served old new core last sessions turns streams later made left each accepted run = record {
     core = core;
     made = made;
@@ -116,7 +116,7 @@ module _ {D : Type 0} {g : sectors.Ghosts D} {T : Type 0} (M : CallModel T) (Arr
   }
 
   pub round_reached : (old new : Store D g) (core last : Core D g) (sessions : ℕ) (streams later : List (DuplexStream T)) → IsNewCore old core → new ≡ store_of (committer_of last) → length streams ≡ sessions
-      → AllByRecursion (IsAccepted Arrived) streams → Reached core_model (duplex_model M) core last streams later AnySteps → ReachesByRound M Arrived sessions old new
+      → AllByRecursion (HasArrived Arrived) streams → Reached core_model (duplex_model M) core last streams later AnySteps → ReachesByRound M Arrived sessions old new
   round_reached old new core last sessions streams later made left each accepted run = record {
     core = core;
     made = made;
@@ -135,7 +135,7 @@ module _ {D : Type 0} {g : sectors.Ghosts D} {T : Type 0} (M : CallModel T) (Arr
   streams_refused sessions store fault (inr file) = inr (inl (file, refl))
 
   pub round_stopped : (old new : Store D g) (core last : Core D g) (sessions : ℕ) (streams later : List (DuplexStream T)) (fault : ServeFault StoreError) → IsNewCore old core → new ≡ store_of (committer_of last)
-      → length streams ≡ sessions → AllByRecursion (IsAccepted Arrived) streams
+      → length streams ≡ sessions → AllByRecursion (HasArrived Arrived) streams
       → ((error : StoreError) → Some fault ≡ Some (serving.Core error) → Refuses core last error)
       → (Some fault ≡ Some serving.ReadFault → EndsAs core_model (duplex_model M) core last streams later (IsCut core_model (length streams) core last))
       → StopsRound M Arrived sessions old new (of_serving fault)

@@ -65,7 +65,7 @@ module _ {D : Type 0} {g : sectors.Ghosts D} where
       ⊎ (((cause : LinesError) × (fault ≡ Command (Lines cause))) ⊎ ((number : ℕ) × (fault ≡ BadFrameLine number))))
 
 -- a stream over a connection that arrived, to which no write has failed
-pub record IsAccepted {T : Type 0} (Arrived : T → Type 0) (stream : DuplexStream T) : Type 0 where
+pub record HasArrived {T : Type 0} (Arrived : T → Type 0) (stream : DuplexStream T) : Type 0 where
   pub arrived : Arrived (inner_of stream)
   pub sound : stream.closed ≡ false
 
@@ -80,7 +80,7 @@ module _ {D : Type 0} {g : sectors.Ghosts D} {T : Type 0} (M : CallModel T) (Arr
     pub streams : List (DuplexStream T)
     pub later : List (DuplexStream T)
     pub each : length streams ≡ sessions
-    pub accepted : AllByRecursion (IsAccepted Arrived) streams
+    pub accepted : AllByRecursion (HasArrived Arrived) streams
     pub run : Transition core_model (duplex_model M) core last streams later (IsServed core_model sessions turns core last)
 
   -- rounds in turn, each by a new core over the store that the one before left
@@ -100,7 +100,7 @@ module _ {D : Type 0} {g : sectors.Ghosts D} {T : Type 0} (M : CallModel T) (Arr
     pub streams : List (DuplexStream T)
     pub later : List (DuplexStream T)
     pub each : length streams ≡ sessions
-    pub accepted : AllByRecursion (IsAccepted Arrived) streams
+    pub accepted : AllByRecursion (HasArrived Arrived) streams
     pub run : Reached core_model (duplex_model M) core last streams later AnySteps
 
   -- rounds in turn, and then a part of one, or nothing
@@ -120,7 +120,7 @@ module _ {D : Type 0} {g : sectors.Ghosts D} {T : Type 0} (M : CallModel T) (Arr
     pub streams : List (DuplexStream T)
     pub later : List (DuplexStream T)
     pub each : length streams ≡ sessions
-    pub accepted : AllByRecursion (IsAccepted Arrived) streams
+    pub accepted : AllByRecursion (HasArrived Arrived) streams
     pub run : EndsAs core_model (duplex_model M) core last streams later (IsCut core_model sessions core last)
 
   -- A round stopped for this: something was refused, a connection couldn't be accepted, or it had as many turns as may

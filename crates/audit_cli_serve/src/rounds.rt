@@ -9,7 +9,7 @@ ghost use Rattle.audit_store.specs.declared.store_error.StoreError.TheVariants.{
 ghost use Rattle.audit_cli_store.specs.declared.fault.CommandError.TheVariants.{File, Refused};
 ghost use Rattle.audit_cli_serve.specs.declared.fault.ServingError.TheVariants.{Command};
 ghost use Rattle.audit_cli_serve.specs.Served.{ServesRound, ServesRounds, ReachesByRound, ReachesByRounds, StopsRound};
-ghost use Rattle.audit_cli_serve.specs.Served.{StopsRounds, IsAccepted};
+ghost use Rattle.audit_cli_serve.specs.Served.{StopsRounds, HasArrived};
 
 use crate::fault::{ServingError, fault_of_serving, no_memory};
 use audit_disk_model::Sectors;
@@ -75,7 +75,7 @@ fn accept_streams<T: Duplex + Drop, L: Listener<T>>(
     count: usize,
 ) -> Result<Vec<DuplexStream<T>>, ServingError>
     ensures all { IfOk result (λ streams. vec_len streams ≡ count) }
-    ensures accepted { IfOk result (λ streams. AllByRecursion (IsAccepted (L.arrived socket.now)) streams.items) }
+    ensures accepted { IfOk result (λ streams. AllByRecursion (HasArrived (L.arrived socket.now)) streams.items) }
     ensures fault { IfErr result (λ fault. (fault ≡ Command (Refused Memory)) ⊎ (fault ≡ Command File)) }
 {
     let Ok(mut streams) = Vec::with_capacity(alloc, count) else {

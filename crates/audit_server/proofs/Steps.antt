@@ -175,9 +175,9 @@ module _ {D : Type 0} {g : sectors.Ghosts D} where
       )
 
   -- of no steps none is refused
-  pub drive_all : {steps : List Step} {number : ℕ} {old now : Core D g} → DoneTo steps number old now → (number < length steps → ⊥) → is_core_broken old → (pass_of tt ≡ broken_drive steps) × IsCoreUntouched old now
+  pub drive_all : {steps : List Step} {number : ℕ} {old now : Core D g} → DoneTo steps number old now → length steps ≤ number → is_core_broken old → (pass_of tt ≡ broken_drive steps) × IsCoreUntouched old now
   drive_all {steps = []} to past broken = (refl, (to.none broken).1)
-  drive_all {steps = step ∷ later} to past broken = absurd (past (omega (arith, (to.none broken).0)))
+  drive_all {steps = step ∷ later} to past broken = absurd (omega (arith, past, (to.none broken).0))
 
   -- of some the first
   pub drive_first : {steps : List Step} {number : ℕ} {old now new : Core D g} (fault : FeedFault) → DoneTo steps number old now → number < length steps → (is_core_broken now → (refusal_of fault ≡ refusal_of (record { taken = 0; error = Broken })) × IsCoreUntouched now new) → is_core_broken old
