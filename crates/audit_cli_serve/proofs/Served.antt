@@ -1,6 +1,6 @@
 -- Serving a store by a new core.
-use Rattle.std.proofs.Common.{◌≡◌, ◌⊎◌, ◌∙◌, inl, inr, ℕ, Option, Some, Result, Ok, Err, List, [], ◌∷◌, ◌++◌, length, map, refl, sym, ap, subst}
-use Rattle.std.proofs.lemmas.List.{length-map}
+use Rattle.std.proofs.Common.{◌≡◌, ◌⊎◌, ◌∙◌, inl, inr, ℕ, Option, Some, Result, Ok, Err, List, [], ◌∷◌, ◌++◌, length, refl, sym, ap, subst}
+use Rattle.std.specs.List.{AllByRecursion}
 use Rattle.std.specs.Prelude.{OnOk}
 use Rattle.audit_disk_model.specs.declared.sectors.Sectors as sectors
 use Rattle.audit_store.specs.declared.store.Store.{Store}
@@ -14,10 +14,12 @@ use Rattle.audit_server.specs.declared.server_core.Core.{Core}
 use Rattle.audit_server.specs.Core.{committer_of, data_of, Refuses}
 use Rattle.audit_server.specs.CoreModel.{core_model}
 use Rattle.audit_serve_passes.specs.Steps.{StepData}
-use Rattle.audit_serve_passes.specs.Streams.{StreamView}
+use Rattle.audit_serve_passes.specs.Streams.{CallModel}
+use Rattle.audit_serve_passes.specs.Pairs.{duplex_model}
+use Rattle.audit_serve_passes.specs.declared.duplex_stream.DuplexStream.{DuplexStream}
 use Rattle.audit_serve_passes.specs.declared.serve_end.ServeFault.{ServeFault}
 use Rattle.audit_serve_passes.specs.declared.serve_end.ServeFault.TheVariants as serving
-use Rattle.audit_serve_passes.specs.Transition.{Transition, EndsAs, Reached, IsServed, IsCut}
+use Rattle.audit_serve_passes.specs.Transition.{Transition, EndsAs, Reached, IsServed, IsCut, AnySteps}
 use Rattle.audit_serve_sockets.specs.Looping.{BringsLines, LoopTransition, LoopReached}
 use Rattle.audit_serve_sockets.specs.declared.loop_fault.LoopError.{LoopError}
 use Rattle.audit_serve_sockets.specs.declared.loop_fault.LoopError.TheVariants as looping
@@ -27,7 +29,7 @@ use Rattle.audit_cli_store.specs.declared.fault.CommandError.TheVariants.{File, 
 use Rattle.audit_cli_serve.specs.declared.fault.ServingError.{ServingError}
 use Rattle.audit_cli_serve.specs.declared.fault.ServingError.TheVariants.{Command, BadFrameLine}
 use Rattle.audit_cli_serve.specs.Faults.{of_serving, of_loop}
-use Rattle.audit_cli_serve.specs.Served.{IsNewCore, LoopsOver, ServesRound, ServesRounds, LoopReachesOver, ReachesByRound, IsLineLost, HasRefused, StopsRound, StopsLoop}
+use Rattle.audit_cli_serve.specs.Served.{IsNewCore, LoopsOver, ServesRound, ServesRounds, LoopReachesOver, ReachesByRound, HasArrived, IsLineLost, HasRefused, StopsRound, StopsLoop}
 
 -- no other fault is reported as a line that spells no bytes
 pub bad_of_loop : (fault : LoopError StoreError) (number : ℕ) → of_loop fault ≡ BadFrameLine number → fault ≡ looping.BadLine number
@@ -59,44 +61,13 @@ module _ {D : Type 0} {g : sectors.Ghosts D} where
   kept_by old new core last made left durably =
       subst (StoreKeepsOn old) (sym left) (subst (λ (store : Store D g). StoreKeepsOn store (store_of (committer_of last))) made (durably_keeps (data_of core) (data_of last) durably))
 
-  -- a round more
-  pub rounds_more : (sessions turns : ℕ) (before : List ℕ) (old mid new : Store D g) → ServesRounds sessions before old mid → ServesRound sessions turns mid new → ServesRounds sessions (before ++ turns ∷ []) old new
-  rounds_more sessions turns [] old mid new same round = (new, subst (λ (store : Store D g). ServesRound sessions turns store new) same round, refl)
-  rounds_more sessions turns (first ∷ before) old mid new h round = (h.0, h.1, rounds_more sessions turns before h.0 mid new h.2 round)
-
   pub looped : (old new : Store D g) (core last : Core D g) {before after : Option (List ℕ)} {Shape : List StepData → Type 0} → IsNewCore old core → new ≡ store_of (committer_of last) → LoopTransition core_model core last before after Shape
       → LoopsOver old new before after Shape
   looped old new core last made left run = record { core = core; made = made; last = last; left = left; run = run }
 
-  pub round_served : (old new : Store D g) (core last : Core D g) (sessions turns : ℕ) {S : Type 0} (view : S → StreamView) (streams later : List S) → IsNewCore old core → new ≡ store_of (committer_of last) → length streams ≡ sessions
-      → Transition core_model core last (map view streams) (map view later) (IsServed core_model (length streams) turns core last) → ServesRound sessions turns old new
-  round_served old new core last sessions turns view streams later made left each run = record {
-    core = core;
-    made = made;
-    last = last;
-    left = left;
-    streams = map view streams;
-    later = map view later;
-    each = length-map streams view ∙ each;
-    run = subst (λ (count : ℕ). Transition core_model core last (map view streams) (map view later) (IsServed core_model count turns core last)) each run;
-  }
-
   -- whatever stopped it
   pub loop_reached : (old new : Store D g) (core last : Core D g) {known : Option (List ℕ)} → IsNewCore old core → new ≡ store_of (committer_of last) → LoopReached core_model core last (BringsLines known) → LoopReachesOver old new known
   loop_reached old new core last made left run = record { core = core; made = made; last = last; left = left; run = run }
-
-  pub round_reached : (old new : Store D g) (core last : Core D g) (sessions : ℕ) {S : Type 0} (view : S → StreamView) (streams later : List S) → IsNewCore old core → new ≡ store_of (committer_of last) → length streams ≡ sessions
-      → Reached core_model core last (map view streams) (map view later) → ReachesByRound sessions old new
-  round_reached old new core last sessions view streams later made left each run = record {
-    core = core;
-    made = made;
-    last = last;
-    left = left;
-    streams = map view streams;
-    later = map view later;
-    each = length-map streams view ∙ each;
-    run = run;
-  }
 
   -- ---- why it stopped
 
@@ -104,35 +75,10 @@ module _ {D : Type 0} {g : sectors.Ghosts D} where
   pub no_memory_for : (old new : Store D g) (fault : ServingError) → fault ≡ Command (Refused Memory) → new ≡ old → HasRefused old new fault
   no_memory_for old new fault is same = (Memory, is, inr (inr (refl, ap is_broken same)))
 
-  -- no stream was had for a session
-  pub streams_refused : (sessions : ℕ) (store : Store D g) (fault : ServingError) → (fault ≡ Command (Refused Memory)) ⊎ (fault ≡ Command File) → StopsRound sessions store store fault
-  streams_refused sessions store fault (inl memory) = inl (no_memory_for store store fault memory refl)
-  streams_refused sessions store fault (inr file) = inr (inl (file, refl))
-
   -- what a core refused
-  core_refused : (old new : Store D g) (core last : Core D g) (error : StoreError) → IsNewCore old core → new ≡ store_of (committer_of last) → Refuses core last error → IsRefusedAs error old new
+  pub core_refused : (old new : Store D g) (core last : Core D g) (error : StoreError) → IsNewCore old core → new ≡ store_of (committer_of last) → Refuses core last error → IsRefusedAs error old new
   core_refused old new core last error made left refused =
       subst (λ (store : Store D g). IsRefusedAs error old store) (sym left) (subst (λ (store : Store D g). IsRefusedAs error store (store_of (committer_of last))) made.store_is refused)
-
-  pub round_stopped : (old new : Store D g) (core last : Core D g) (sessions : ℕ) {S : Type 0} (view : S → StreamView) (streams later : List S) (fault : ServeFault StoreError) → IsNewCore old core → new ≡ store_of (committer_of last)
-      → length streams ≡ sessions
-      → ((error : StoreError) → Some fault ≡ Some (serving.Core error) → Refuses core last error)
-      → (Some fault ≡ Some serving.ReadFault → EndsAs core_model core last (map view streams) (map view later) (IsCut core_model (length streams) core last))
-      → StopsRound sessions old new (of_serving fault)
-  round_stopped old new core last sessions view streams later (serving.Core error) made left each refused cut = inl (error, refl, core_refused old new core last error made left (refused error refl))
-  round_stopped old new core last sessions view streams later serving.ReadFault made left each refused cut = inr (inr (
-    refl,
-    record {
-      core = core;
-      made = made;
-      last = last;
-      left = left;
-      streams = map view streams;
-      later = map view later;
-      each = length-map streams view ∙ each;
-      run = subst (λ (count : ℕ). EndsAs core_model core last (map view streams) (map view later) (IsCut core_model count core last)) each (cut refl);
-    },
-  ))
 
   pub loop_stopped : (old new : Store D g) (core last : Core D g) (fault : LoopError StoreError) → IsNewCore old core → new ≡ store_of (committer_of last)
       → ((error : StoreError) → fault ≡ looping.Core error → Refuses core last error) → StopsLoop old new (of_loop fault)
@@ -140,3 +86,71 @@ module _ {D : Type 0} {g : sectors.Ghosts D} where
   loop_stopped old new core last (looping.Lines cause) made left refused = inr (inr (inl (cause, refl)))
   loop_stopped old new core last (looping.BadLine number) made left refused = inr (inr (inr (number, refl)))
   loop_stopped old new core last (looping.Core error) made left refused = inl (error, refl, core_refused old new core last error made left (refused error refl))
+
+-- one more
+pub all_and : {X : Type 0} (P : X → Type 0) (xs : List X) (x : X) → AllByRecursion P xs → P x → AllByRecursion P (xs ++ x ∷ [])
+all_and P [] x each one = (one, tt)
+all_and P (first ∷ xs) x each one = (each.0, all_and P xs x each.1 one)
+
+-- ---- rounds
+
+module _ {D : Type 0} {g : sectors.Ghosts D} {T : Type 0} (M : CallModel T) (Arrived : T → Type 0) where
+  -- a round more
+  pub rounds_more : (sessions turns : ℕ) (before : List ℕ) (old mid new : Store D g) → ServesRounds M Arrived sessions before old mid → ServesRound M Arrived sessions turns mid new
+      → ServesRounds M Arrived sessions (before ++ turns ∷ []) old new
+  rounds_more sessions turns [] old mid new same round = (new, subst (λ (store : Store D g). ServesRound M Arrived sessions turns store new) same round, refl)
+  rounds_more sessions turns (first ∷ before) old mid new h round = (h.0, h.1, rounds_more sessions turns before h.0 mid new h.2 round)
+
+  pub round_served : (old new : Store D g) (core last : Core D g) (sessions turns : ℕ) (streams later : List (DuplexStream T)) → IsNewCore old core → new ≡ store_of (committer_of last) → length streams ≡ sessions
+      → AllByRecursion (HasArrived Arrived) streams → Transition core_model (duplex_model M) core last streams later (IsServed core_model (length streams) turns core last) → ServesRound M Arrived sessions turns old new
+  round_served old new core last sessions turns streams later made left each accepted run = record {
+    core = core;
+    made = made;
+    last = last;
+    left = left;
+    streams = streams;
+    later = later;
+    each = each;
+    accepted = accepted;
+    run = subst (λ (count : ℕ). Transition core_model (duplex_model M) core last streams later (IsServed core_model count turns core last)) each run;
+  }
+
+  pub round_reached : (old new : Store D g) (core last : Core D g) (sessions : ℕ) (streams later : List (DuplexStream T)) → IsNewCore old core → new ≡ store_of (committer_of last) → length streams ≡ sessions
+      → AllByRecursion (HasArrived Arrived) streams → Reached core_model (duplex_model M) core last streams later AnySteps → ReachesByRound M Arrived sessions old new
+  round_reached old new core last sessions streams later made left each accepted run = record {
+    core = core;
+    made = made;
+    last = last;
+    left = left;
+    streams = streams;
+    later = later;
+    each = each;
+    accepted = accepted;
+    run = run;
+  }
+
+  -- no stream was had for a session
+  pub streams_refused : (sessions : ℕ) (store : Store D g) (fault : ServingError) → (fault ≡ Command (Refused Memory)) ⊎ (fault ≡ Command File) → StopsRound M Arrived sessions store store fault
+  streams_refused sessions store fault (inl memory) = inl (no_memory_for store store fault memory refl)
+  streams_refused sessions store fault (inr file) = inr (inl (file, refl))
+
+  pub round_stopped : (old new : Store D g) (core last : Core D g) (sessions : ℕ) (streams later : List (DuplexStream T)) (fault : ServeFault StoreError) → IsNewCore old core → new ≡ store_of (committer_of last)
+      → length streams ≡ sessions → AllByRecursion (HasArrived Arrived) streams
+      → ((error : StoreError) → Some fault ≡ Some (serving.Core error) → Refuses core last error)
+      → (Some fault ≡ Some serving.ReadFault → EndsAs core_model (duplex_model M) core last streams later (IsCut core_model (length streams) core last))
+      → StopsRound M Arrived sessions old new (of_serving fault)
+  round_stopped old new core last sessions streams later (serving.Core error) made left each accepted refused cut = inl (error, refl, core_refused old new core last error made left (refused error refl))
+  round_stopped old new core last sessions streams later serving.ReadFault made left each accepted refused cut = inr (inr (
+    refl,
+    record {
+      core = core;
+      made = made;
+      last = last;
+      left = left;
+      streams = streams;
+      later = later;
+      each = each;
+      accepted = accepted;
+      run = subst (λ (count : ℕ). EndsAs core_model (duplex_model M) core last streams later (IsCut core_model count core last)) each (cut refl);
+    },
+  ))

@@ -1,5 +1,6 @@
 -- Serving a store by a new core: what was done, and the store that is left.
-use Rattle.std.specs.Prelude.{◌≡◌, ◌⊎◌, ℕ, Option, List, [], ◌∷◌, length, replicate}
+use Rattle.std.specs.Prelude.{◌≡◌, ◌⊎◌, ℕ, false, Option, List, [], ◌∷◌, length, replicate}
+use Rattle.std.specs.List.{AllByRecursion}
 use Rattle.audit_disk_model.specs.declared.sectors.Sectors as sectors
 use Rattle.audit_store.specs.declared.store.Store.{Store}
 use Rattle.audit_store.specs.declared.store_error.StoreError.{StoreError}
@@ -7,8 +8,10 @@ use Rattle.audit_base.specs.declared.limits.TheConstants.{SESSIONS}
 use Rattle.audit_server_queue.specs.Waiting.{nothing_waits}
 use Rattle.audit_server_commit.specs.Committer.{store_of, waiting_of, outputs_of}
 use Rattle.audit_serve_passes.specs.Steps.{StepData}
-use Rattle.audit_serve_passes.specs.Streams.{StreamView}
-use Rattle.audit_serve_passes.specs.Transition.{Transition, EndsAs, Reached, IsServed, IsCut}
+use Rattle.audit_serve_passes.specs.Streams.{CallModel}
+use Rattle.audit_serve_passes.specs.Pairs.{duplex_model, inner_of}
+use Rattle.audit_serve_passes.specs.declared.duplex_stream.DuplexStream.{DuplexStream}
+use Rattle.audit_serve_passes.specs.Transition.{Transition, EndsAs, Reached, IsServed, IsCut, AnySteps}
 use Rattle.audit_server_model.specs.Sessions.{new_session}
 use Rattle.audit_server_model.specs.Serving.{IsRefusedAs}
 use Rattle.audit_server.specs.declared.server_core.Core.{Core}
@@ -42,16 +45,43 @@ module _ {D : Type 0} {g : sectors.Ghosts D} where
     pub left : new ≡ store_of (committer_of last)
     pub run : LoopTransition core_model core last before after Shape
 
-  -- a round of so many sessions, of whose streams nothing is known, with so many turns
+  -- a session over lines, of which the reader held these, went by some steps
+  pub record LoopReachesOver (old new : Store D g) (known : Option (List ℕ)) : Type 0 where
+    pub core : Core D g
+    pub made : IsNewCore old core
+    pub last : Core D g
+    pub left : new ≡ store_of (committer_of last)
+    pub run : LoopReached core_model core last (BringsLines known)
+
+  -- what was refused: by the core, or for want of memory before there was one
+  abbrev pub HasRefused : Store D g → Store D g → ServingError → Type 0
+  HasRefused old new fault = (error : StoreError) × (fault ≡ Command (Refused error)) × IsRefusedAs error old new
+
+  -- A session over lines stopped for this: something was refused, the connection or the lines failed, or a line spells
+  -- no bytes.
+  abbrev pub StopsLoop : Store D g → Store D g → ServingError → Type 0
+  StopsLoop old new fault = HasRefused old new fault
+      ⊎ ((fault ≡ Command File)
+      ⊎ (((cause : LinesError) × (fault ≡ Command (Lines cause))) ⊎ ((number : ℕ) × (fault ≡ BadFrameLine number))))
+
+-- a stream over a connection that arrived, to which no write has failed
+pub record HasArrived {T : Type 0} (Arrived : T → Type 0) (stream : DuplexStream T) : Type 0 where
+  pub arrived : Arrived (inner_of stream)
+  pub sound : stream.closed ≡ false
+
+-- Rounds over connections of which these are known: what their calls do, and which arrived at the socket.
+module _ {D : Type 0} {g : sectors.Ghosts D} {T : Type 0} (M : CallModel T) (Arrived : T → Type 0) where
+  -- A new core over the store served streams of so many connections that arrived: by their calls, in so many turns.
   pub record ServesRound (sessions turns : ℕ) (old new : Store D g) : Type 0 where
     pub core : Core D g
     pub made : IsNewCore old core
     pub last : Core D g
     pub left : new ≡ store_of (committer_of last)
-    pub streams : List StreamView
-    pub later : List StreamView
+    pub streams : List (DuplexStream T)
+    pub later : List (DuplexStream T)
     pub each : length streams ≡ sessions
-    pub run : Transition core_model core last streams later (IsServed core_model sessions turns core last)
+    pub accepted : AllByRecursion (HasArrived Arrived) streams
+    pub run : Transition core_model (duplex_model M) core last streams later (IsServed core_model sessions turns core last)
 
   -- rounds in turn, each by a new core over the store that the one before left
   abbrev pub ServesRounds : ℕ → List ℕ → Store D g → Store D g → Type 0
@@ -61,24 +91,17 @@ module _ {D : Type 0} {g : sectors.Ghosts D} where
 
   -- ---- whatever stopped it
 
-  -- a session over lines, of which the reader held these, went by some steps
-  pub record LoopReachesOver (old new : Store D g) (known : Option (List ℕ)) : Type 0 where
-    pub core : Core D g
-    pub made : IsNewCore old core
-    pub last : Core D g
-    pub left : new ≡ store_of (committer_of last)
-    pub run : LoopReached core_model core last (BringsLines known)
-
-  -- a round of so many sessions, of whose streams nothing is known, went by some steps
+  -- the same went by some steps
   pub record ReachesByRound (sessions : ℕ) (old new : Store D g) : Type 0 where
     pub core : Core D g
     pub made : IsNewCore old core
     pub last : Core D g
     pub left : new ≡ store_of (committer_of last)
-    pub streams : List StreamView
-    pub later : List StreamView
+    pub streams : List (DuplexStream T)
+    pub later : List (DuplexStream T)
     pub each : length streams ≡ sessions
-    pub run : Reached core_model core last streams later
+    pub accepted : AllByRecursion (HasArrived Arrived) streams
+    pub run : Reached core_model (duplex_model M) core last streams later AnySteps
 
   -- rounds in turn, and then a part of one, or nothing
   pub record ReachesByRounds (sessions : ℕ) (turns : List ℕ) (old new : Store D g) : Type 0 where
@@ -88,20 +111,17 @@ module _ {D : Type 0} {g : sectors.Ghosts D} where
 
   -- ---- why it stopped
 
-  -- a round of so many sessions had as many turns as may be, and those that were live then were ended
+  -- a round had as many turns as may be, and the sessions that were live then were ended
   pub record CutsRound (sessions : ℕ) (old new : Store D g) : Type 0 where
     pub core : Core D g
     pub made : IsNewCore old core
     pub last : Core D g
     pub left : new ≡ store_of (committer_of last)
-    pub streams : List StreamView
-    pub later : List StreamView
+    pub streams : List (DuplexStream T)
+    pub later : List (DuplexStream T)
     pub each : length streams ≡ sessions
-    pub run : EndsAs core_model core last streams later (IsCut core_model sessions core last)
-
-  -- what was refused: by the core, or for want of memory before there was one
-  abbrev pub HasRefused : Store D g → Store D g → ServingError → Type 0
-  HasRefused old new fault = (error : StoreError) × (fault ≡ Command (Refused error)) × IsRefusedAs error old new
+    pub accepted : AllByRecursion (HasArrived Arrived) streams
+    pub run : EndsAs core_model (duplex_model M) core last streams later (IsCut core_model sessions core last)
 
   -- A round stopped for this: something was refused, a connection couldn't be accepted, or it had as many turns as may
   -- be.
@@ -115,10 +135,3 @@ module _ {D : Type 0} {g : sectors.Ghosts D} where
     pub mid : Store D g
     pub served : ServesRounds sessions turns old mid
     pub stops : StopsRound sessions mid new fault ⊎ (IsLineLost fault × (new ≡ mid))
-
-  -- A session over lines stopped for this: something was refused, the connection or the lines failed, or a line spells
-  -- no bytes.
-  abbrev pub StopsLoop : Store D g → Store D g → ServingError → Type 0
-  StopsLoop old new fault = HasRefused old new fault
-      ⊎ ((fault ≡ Command File)
-      ⊎ (((cause : LinesError) × (fault ≡ Command (Lines cause))) ⊎ ((number : ℕ) × (fault ≡ BadFrameLine number))))

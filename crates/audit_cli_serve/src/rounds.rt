@@ -1,5 +1,6 @@
 //! Rounds of serving, each by a new core over the same store.
 ghost use Rattle.std.specs.Prelude.{◌≡◌, ◌⊎◌, ◌≤◌, List, ℕ, length, map, vec_len, IfOk, IfErr, OnOk, OnErr};
+ghost use Rattle.std.specs.List.{AllByRecursion};
 ghost use Rattle.std.specs.Io.KnownBytes.{Appends};
 ghost use Rattle.audit_base.specs.declared.limits.TheConstants.{SESSIONS};
 ghost use Rattle.audit_server_model.specs.Serving.{StoreKeepsOn};
@@ -8,42 +9,48 @@ ghost use Rattle.audit_store.specs.declared.store_error.StoreError.TheVariants.{
 ghost use Rattle.audit_cli_store.specs.declared.fault.CommandError.TheVariants.{File, Refused};
 ghost use Rattle.audit_cli_serve.specs.declared.fault.ServingError.TheVariants.{Command};
 ghost use Rattle.audit_cli_serve.specs.Served.{ServesRound, ServesRounds, ReachesByRound, ReachesByRounds, StopsRound};
-ghost use Rattle.audit_cli_serve.specs.Served.{StopsRounds};
+ghost use Rattle.audit_cli_serve.specs.Served.{StopsRounds, HasArrived};
 
 use crate::fault::{ServingError, fault_of_serving, no_memory};
 use audit_disk_model::Sectors;
-use audit_serve_passes::{DuplexStream, serve};
-use audit_serve_sockets::{SocketFile, write_round};
+use audit_serve_passes::{Duplex, DuplexStream, serve};
+use audit_serve_sockets::{Listener, write_round};
 use audit_server::Core;
 use audit_store::Store;
 use std::alloc::Global;
 use std::io::Write;
-use std::os::unix::net::UnixStream;
 
-/// Serves so many rounds: in each, so many connections are accepted, and a new core over the store serves them up to
-/// the end of the last one. After each round its line is written, with its number from 1 on and the number of its
-/// turns.
+/// Serves as many rounds as asked: in each it accepts as many connections as asked, and a new core over the store
+/// serves them up to the end of the last one. After each round its line is written, with its number from 1 on and the
+/// number of its turns.
 ///
 /// The store is handed back, as the rounds left it. A fault of a round ends them, and that round has no line.
-pub fn serve_rounds<D: Sectors + Drop, W: Write>(
+pub fn serve_rounds<D, T, L, W>(
     alloc: Global,
     store: Store<D>,
-    socket: &SocketFile,
+    socket: &L,
     rounds: u64,
     sessions: usize,
     writer: &mut W,
 ) -> (Store<D>, Result<(), ServingError>)
+where
+    D: Sectors + Drop,
+    T: Duplex + Drop,
+    L: Listener<T>,
+    W: Write,
     requires { sessions ≤ SESSIONS }
     // Whatever happens, a stop at any moment leaves the events that the store held, and so does the end.
     ensures kept { StoreKeepsOn store result.0 }
-    // Without a fault each round was served, by a new core over the store that the one before left, and has its line.
+    // Without a fault each round was served, by a new core over the store that the one before left and by calls of
+    // connections that arrived at the socket, and has its line.
     ensures served { OnOk result.1 ((turns : List ℕ) × (length turns ≡ rounds)
-        × ServesRounds sessions turns store result.0
+        × ServesRounds T.calls (L.arrived socket.now) sessions turns store result.0
         × Appends (W.contents writer.old) (W.contents writer.new) (round_lines 1 turns)) }
     // With one some rounds were served, and of one more some steps were done.
-    ensures stopped { OnErr result.1 ((turns : List ℕ) × ReachesByRounds sessions turns store result.0) }
+    ensures stopped { OnErr result.1 ((turns : List ℕ)
+        × ReachesByRounds T.calls (L.arrived socket.now) sessions turns store result.0) }
     // The fault is what stopped them: of a refusal the store is left as it says.
-    ensures fault { IfErr result.1 (StopsRounds sessions store result.0) }
+    ensures fault { IfErr result.1 (StopsRounds T.calls (L.arrived socket.now) sessions store result.0) }
 {
     let mut store = store;
     for round in 0..rounds {
@@ -60,37 +67,39 @@ pub fn serve_rounds<D: Sectors + Drop, W: Write>(
     (store, Ok(()))
 }
 
-// Waits for so many connections, in their order. Room for all of them is taken first: memory that is refused isn't
-// reported as a fault of the socket.
-fn accept_streams(
+// Waits for as many connections as asked, in their order. Room for all of them is taken first: memory that is refused
+// isn't reported as a fault of the socket.
+fn accept_streams<T: Duplex + Drop, L: Listener<T>>(
     alloc: Global,
-    socket: &SocketFile,
+    socket: &L,
     count: usize,
-) -> Result<Vec<DuplexStream<UnixStream>>, ServingError>
+) -> Result<Vec<DuplexStream<T>>, ServingError>
     ensures all { IfOk result (λ streams. vec_len streams ≡ count) }
+    ensures accepted { IfOk result (λ streams. AllByRecursion (HasArrived (L.arrived socket.now)) streams.items) }
     ensures fault { IfErr result (λ fault. (fault ≡ Command (Refused Memory)) ⊎ (fault ≡ Command File)) }
 {
     let Ok(mut streams) = Vec::with_capacity(alloc, count) else {
         return Err(no_memory());
     };
     for _ in 0..count {
-        streams.push_reserved(DuplexStream::new(socket.accept()?));
+        streams.push_reserved(DuplexStream::new(socket.next_connection()?));
     }
     Ok(streams)
 }
 
 // Serves one round, and returns the store, and how many turns it had.
-fn serve_round<D: Sectors + Drop>(
+fn serve_round<D: Sectors + Drop, T: Duplex + Drop, L: Listener<T>>(
     alloc: Global,
     store: Store<D>,
-    socket: &SocketFile,
+    socket: &L,
     sessions: usize,
 ) -> (Store<D>, Result<u64, ServingError>)
     requires { sessions ≤ SESSIONS }
     ensures kept { StoreKeepsOn store result.0 }
-    ensures served { IfOk result.1 (λ turns. ServesRound sessions turns store result.0) }
-    ensures reached { (result.0 ≡ store) ⊎ ReachesByRound sessions store result.0 }
-    ensures fault { IfErr result.1 (StopsRound sessions store result.0) }
+    ensures served { IfOk result.1 (λ turns. ServesRound T.calls (L.arrived socket.now) sessions turns store result.0) }
+    ensures reached { (result.0 ≡ store)
+        ⊎ ReachesByRound T.calls (L.arrived socket.now) sessions store result.0 }
+    ensures fault { IfErr result.1 (StopsRound T.calls (L.arrived socket.now) sessions store result.0) }
 {
     let mut streams = match accept_streams(alloc, socket, sessions) {
         Ok(streams) => streams,

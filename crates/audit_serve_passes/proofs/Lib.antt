@@ -1,3 +1,4 @@
+pub mod Calls
 pub mod StreamSteps
 pub mod Transitions
 pub mod Turns

@@ -1,274 +1,354 @@
--- Calls of which the last may have been refused.
-use Rattle.std.proofs.Common.{◌≡◌, ℕ, ◌<◌, ◌≤◌, eqb, Bool, true, List, [], ◌∷◌, ◌++◌, length, map, set, take, Result, Ok, Err, IsOk, refl, sym, ap, subst, ◌∙◌, arith, inl, inr, true≢false}
-use Rattle.std.proofs.lemmas.Bool.{cases_eq, eq-eqb, cond-true}
-use Rattle.std.proofs.lemmas.List.{append-nil, append_assoc, length-set, length-take-le, length-append}
-use Rattle.audit_serve_passes.specs.declared.limits.TheConstants.{MAX_PIECE}
-use Rattle.audit_serve_passes.specs.declared.stream_fault.StreamError.{StreamError}
-use Rattle.audit_serve_passes.specs.Steps.{StepData, a_piece, an_end, a_flush, AreAbout, IsPartOf, bytes_fed}
-use Rattle.audit_serve_passes.specs.Rounds.{live_below}
-use Rattle.audit_serve_passes.specs.Streams.{StreamView, view_at, HasRead, IsStreamRead, IsStreamWrite, IsStreamed}
+-- Calls of which the last was refused.
+use Rattle.std.proofs.Common.{◌≡◌, ◌≢◌, ◌⊎◌, ℕ, zero, suc, ◌<◌, ◌≤◌, Bool, false, cond, List, [], ◌∷◌, ◌++◌, length, map, set, get_or, refl, sym, ap, subst, ◌∙◌, arith, inl, inr}
+use Rattle.std.proofs.lemmas.Bool.{cases_eq}
+use Rattle.std.proofs.lemmas.List.{append-nil, append_assoc, length-set, map-append}
+use Rattle.audit_serve_passes.specs.declared.limits.TheConstants.{MAX_TURNS}
+use Rattle.audit_serve_passes.specs.Steps.{StepData, an_end, a_flush, IsPartOf, bytes_fed}
+use Rattle.audit_serve_passes.specs.Streams.{StreamCall, StreamModel, IsStreamed, calls_for}
 use Rattle.audit_serve_passes.specs.Core.{CoreModel, GoesBy, no_bytes, bytes_for}
-use Rattle.audit_serve_passes.specs.Transition.{Transition, CoreTransition, IsReadOf, Reached, SessionReached, CoreReached, BringNothing, AreEndsBelow}
-use Rattle.audit_serve_passes.proofs.StreamSteps.{bytes_of-append, about_elsewhere, streamed_elsewhere}
-use Rattle.audit_serve_passes.proofs.Transitions.{none_of_both, bytes_here, bytes_there, here, there, known_here, fine_here, sound_all}
-use Rattle.audit_serve_passes.proofs.Turns.{none_for, no_bytes_for, bytes_then_none}
-use Rattle.audit_serve_passes.proofs.Runs.{flushed}
+use Rattle.audit_serve_passes.specs.Rounds.{live_below, AreVisits, AreEndsOfClosed, IsFlushAndEnds, IsPass, ArePasses, IsLastFlush, IsInterrupted, IsStoppedInPass}
+use Rattle.audit_serve_passes.specs.Transition.{Transition, CoreTransition, EndsAs, Reached, SessionReached, CoreReached, IsOneVisit, AreVisitsBelow, AreEndsBelow, IsEndOfClosed, AreTaken, IsStoppedBy, AnySteps, closed_by}
+use Rattle.audit_serve_passes.proofs.StreamSteps.{bytes_of-append, streamed_none, streamed_on}
+use Rattle.audit_serve_passes.proofs.Transitions.{none_of_both, no_calls, none_for, streamed_one, bytes_there}
+use Rattle.audit_serve_passes.proofs.Turns.{end_brings_nothing}
+use Rattle.audit_serve_passes.proofs.Runs.{below_more, ends_more, ends_bring, closed_first, closed_later, ends_still, ends_and, flush_still, pass_still, passes_still, one_flush, flushed, ended_still, live_now, pass_then, streamed_after}
 
--- ---- what was read
+-- ---- steps up to one that was refused
 
--- all that was read was brought
-read_whole : (k : ℕ) (steps : List StepData) (sent : List ℕ) (before after : StreamView) → IsStreamed k steps sent before after → IsReadOf k steps [] sent before after
-read_whole k steps sent before after h = record { read = h.read; written = h.written }
-
--- nothing was read, and nothing written
-read_nothing : (k : ℕ) (steps : List StepData) (view : StreamView) → bytes_fed k steps ≡ [] → IsReadOf k steps [] [] view view
-read_nothing k steps view none = record { read = ap (λ (bytes : List ℕ). bytes ++ view.unread) (sym none); written = sym (append-nil view.written) }
-
-read_on : (k : ℕ) (steps later : List StepData) (lost sent more : List ℕ) (before mid after : StreamView) → IsStreamed k steps sent before mid → IsReadOf k later lost more mid after
-    → IsReadOf k (steps ++ later) lost (sent ++ more) before after
-read_on k steps later lost sent more before mid after first second = record {
-  read = first.read ∙ ap (λ (rest : List ℕ). bytes_fed k steps ++ rest) second.read ∙ sym (append_assoc (bytes_fed k steps) (bytes_fed k later) (lost ++ after.unread))
-      ∙ ap (λ (bytes : List ℕ). bytes ++ (lost ++ after.unread)) (sym (bytes_of-append k steps later));
-  written = second.written ∙ ap (λ (bytes : List ℕ). bytes ++ more) first.written ∙ append_assoc before.written sent more;
+-- steps before it
+cut_after : {Shape Both : List StepData → Type 0} (before steps : List StepData) → ((all : List StepData) → Shape all → Both (before ++ all)) → IsInterrupted Shape steps → IsInterrupted Both (before ++ steps)
+cut_after {Shape} {Both} before steps both h = record {
+  front = before ++ h.front;
+  step = h.step;
+  part = h.part;
+  later = h.later;
+  are = ap (λ (rest : List StepData). before ++ rest) h.are ∙ sym (append_assoc before h.front h.part);
+  of = h.of;
+  shape = subst Both (sym (append_assoc before h.front (h.step ∷ h.later))) (both (h.front ++ h.step ∷ h.later) h.shape);
 }
 
--- steps that bring nothing, and after which nothing is taken, before the others
-read_after : (k : ℕ) (steps later : List StepData) (lost sent more : List ℕ) (before after : StreamView) → bytes_fed k steps ≡ [] → sent ≡ [] → IsReadOf k later lost more before after
-    → IsReadOf k (steps ++ later) lost (sent ++ more) before after
-read_after k steps later lost sent more before after none nothing h = record {
-  read = h.read
-      ∙ ap (λ (bytes : List ℕ). bytes ++ (lost ++ after.unread)) (ap (λ (front : List ℕ). front ++ bytes_fed k later) (sym none) ∙ sym (bytes_of-append k steps later));
-  written = h.written ∙ ap (λ (front : List ℕ). before.written ++ (front ++ more)) (sym nothing);
+-- steps that were still to come
+cut_before : {Shape Both : List StepData → Type 0} (after steps : List StepData) → ((all : List StepData) → Shape all → Both (all ++ after)) → IsInterrupted Shape steps → IsInterrupted Both steps
+cut_before {Shape} {Both} after steps both h = record {
+  front = h.front;
+  step = h.step;
+  part = h.part;
+  later = h.later ++ after;
+  are = h.are;
+  of = h.of;
+  shape = subst Both (append_assoc h.front (h.step ∷ h.later) after) (both (h.front ++ h.step ∷ h.later) h.shape);
 }
 
-ends_bring_nothing : (k : ℕ) (sessions : List ℕ) → bytes_fed k (map an_end sessions) ≡ []
-ends_bring_nothing k [] = refl
-ends_bring_nothing k (session ∷ sessions) = ends_bring_nothing k sessions
+cut_as : {Shape Both : List StepData → Type 0} (steps : List StepData) → ((all : List StepData) → Shape all → Both all) → IsInterrupted Shape steps → IsInterrupted Both steps
+cut_as steps both h = record { front = h.front; step = h.step; part = h.part; later = h.later; are = h.are; of = h.of; shape = both (h.front ++ h.step ∷ h.later) h.shape }
 
-ends_bring : (count : ℕ) (ended : ℕ → Bool) (steps : List StepData) → AreEndsBelow count ended steps → BringNothing steps
-ends_bring count ended steps h k = ap (bytes_fed k) h.each ∙ ends_bring_nothing k (live_below count ended)
+-- ---- visits that were still to come
 
--- a part of an end
-pub end_brings_nothing : (session : ℕ) (part : List StepData) → IsPartOf (an_end session) part → BringNothing part
-end_brings_nothing session part (inl none) k = ap (bytes_fed k) none
-end_brings_nothing session part (inr whole) k = ap (bytes_fed k) whole
+rest_live : (count k : ℕ) (ended : ℕ → Bool) → k ≤ count → (rest : List ℕ) × (live_below count ended ≡ live_below k ended ++ rest)
+rest_live zero zero ended within = ([], refl)
+rest_live zero (suc k) ended within = absurd (omega (arith, within))
+rest_live (suc count) k ended within = elim (cases_eq k (suc count)) [
+  | inl same ↦ ([], subst (λ (n : ℕ). live_below (suc count) ended ≡ live_below n ended ++ []) (sym same) (sym (append-nil (live_below (suc count) ended))))
+  | inr apart ↦
+      let r = rest_live count k ended (omega (arith, within, apart)) in (
+        r.0 ++ cond (ended count) [] (count ∷ []),
+        ap (λ (front : List ℕ). front ++ cond (ended count) [] (count ∷ [])) r.1 ∙ append_assoc (live_below k ended) r.0 (cond (ended count) [] (count ∷ [])),
+      )
+]
 
-end_about : (k : ℕ) (part : List StepData) → IsPartOf (an_end k) part → AreAbout k part
-end_about k part (inl none) = subst (AreAbout k) (sym none) tt
-end_about k part (inr whole) = subst (AreAbout k) (sym whole) (refl, tt)
+ends_visit : (sessions : List ℕ) → AreVisits sessions (map an_end sessions)
+ends_visit [] = tt
+ends_visit (k ∷ sessions) = (refl, ends_visit sessions)
 
-pub flush_brings_nothing : (part : List StepData) → IsPartOf a_flush part → BringNothing part
+visits_and : (sessions more : List ℕ) (steps later : List StepData) → AreVisits sessions steps → AreVisits more later → AreVisits (sessions ++ more) (steps ++ later)
+visits_and [] more [] later each also = also
+visits_and [] more (step ∷ steps) later each also = absurd each
+visits_and (k ∷ sessions) more [] later each also = absurd each
+visits_and (k ∷ sessions) more (step ∷ steps) later each also = (each.0, visits_and sessions more steps later each.1 also)
+
+pub flush_brings_nothing : (part : List StepData) → IsPartOf a_flush part → (k : ℕ) → bytes_fed k part ≡ []
 flush_brings_nothing part (inl none) k = ap (bytes_fed k) none
 flush_brings_nothing part (inr whole) k = ap (bytes_fed k) whole
 
 module _ {C : Type 0} (M : CoreModel C) where
-  -- ---- several streams
+  -- ---- ends of the sessions in a row
 
-  pub done_reached : {Shape : List StepData → Type 0} (old new : C) (before after : List StreamView) → Transition M old new before after Shape → Reached M old new before after
-  done_reached old new before after t = record {
-    count = t.count;
-    steps = t.steps;
-    taken = t.taken;
-    reaches = M.done_in_part old new t.steps t.taken t.did;
-    others = t.others;
-    refused = 0;
-    lost = [];
-    most = omega arith;
-    sound = t.sound;
-    known = λ k within known fine.
-        subst (λ (lost : List ℕ). IsReadOf k t.steps lost (t.taken k) (view_at k before) (view_at k after)) (none_for 0 k)
-        (read_whole k t.steps (t.taken k) (view_at k before) (view_at k after) (t.known k within known fine).1);
-  }
-
-  pub then_reached : {Shape : List StepData → Type 0} (old mid new : C) (before between after : List StreamView) → Transition M old mid before between Shape → Reached M mid new between after
-      → Reached M old new before after
-  then_reached old mid new before between after first second = record {
-    count = second.count ∙ first.count;
-    steps = first.steps ++ second.steps;
-    taken = λ session. first.taken session ++ second.taken session;
-    reaches = M.then_in_part old mid new first.steps second.steps first.taken second.taken first.did second.reaches;
-    others = λ k above. none_of_both (first.taken k) (second.taken k) (first.others k above) (second.others k (omega (arith, above, first.count)));
-    refused = second.refused;
-    lost = second.lost;
-    most = second.most;
-    sound = λ k fine. first.sound k (second.sound k fine);
-    known = λ k within known fine.
-        let earlier = first.known k within known (second.sound k fine) in
-        read_on k first.steps second.steps (bytes_for second.refused second.lost k) (first.taken k) (second.taken k) (view_at k before) (view_at k between) (view_at k after)
-        earlier.1 (second.known k (omega (arith, within, first.count)) earlier.0 fine);
-  }
-
-  -- steps that bring nothing, and no stream was used
-  pub core_reached : (old new : C) (views : List StreamView) → CoreReached M old new BringNothing → Reached M old new views views
-  core_reached old new views h = record {
-    count = refl;
-    steps = h.steps;
-    taken = h.taken;
-    reaches = h.reaches;
-    others = λ k above. h.none k;
-    refused = 0;
-    lost = [];
-    most = omega arith;
-    sound = λ k fine. fine;
-    known = λ k within known fine.
-        subst (λ (lost : List ℕ). IsReadOf k h.steps lost (h.taken k) (view_at k views) (view_at k views)) (none_for 0 k)
-        (subst (λ (sent : List ℕ). IsReadOf k h.steps [] sent (view_at k views) (view_at k views)) (sym (h.none k))
-        (read_nothing k h.steps (view_at k views) (h.shape k)));
-  }
-
-  -- ---- ends
-
-  pub ends_reached : (old new : C) (count : ℕ) (ended : ℕ → Bool) → CoreTransition M old new (AreEndsBelow count ended) → CoreReached M old new BringNothing
-  ends_reached old new count ended h = record {
-    steps = h.steps;
-    taken = h.taken;
-    reaches = M.done_in_part old new h.steps h.taken h.did;
-    none = h.none;
-    shape = ends_bring count ended h.steps h.shape;
-  }
-
-  pub end_refused : (k : ℕ) (old mid new : C) (count : ℕ) (ended : ℕ → Bool) → CoreTransition M old mid (AreEndsBelow count ended) → GoesBy M (an_end k) mid new → CoreReached M old new BringNothing
-  end_refused k old mid new count ended first goes =
+  pub end_stops : (count k : ℕ) (old mid new : C) → CoreTransition M old mid (AreEndsBelow k (M.ended old [])) → M.ended mid [] k ≡ false → k < count → GoesBy M (an_end k) mid new
+      → CoreReached M old new (IsInterrupted (λ steps. steps ≡ map an_end (live_below count (M.ended old []))))
+  end_stops count k old mid new first live below goes =
       let part = goes.0 in
+      let ended = M.ended old [] in
+      let rest = rest_live count (suc k) ended (omega (arith, below)) in
+      let each = (ends_more k ended first.steps (sym (ended_still M old mid first.steps first.taken k first.did (first.shape.below k (omega arith))) ∙ live) first.shape).each in
       record {
         steps = first.steps ++ part;
         taken = λ session. first.taken session ++ no_bytes session;
         reaches = M.then_in_part old mid new first.steps part first.taken no_bytes first.did goes.2;
         none = λ session. none_of_both (first.taken session) [] (first.none session) refl;
-        shape = λ session.
+        brings = λ session.
             bytes_of-append session first.steps part
-            ∙ none_of_both (bytes_fed session first.steps) (bytes_fed session part) (ends_bring count ended first.steps first.shape session) (end_brings_nothing k part goes.1 session);
+            ∙ none_of_both (bytes_fed session first.steps) (bytes_fed session part) (ends_bring k ended first.steps first.shape session) (end_brings_nothing k part goes.1 session);
+        shape = record {
+          front = first.steps;
+          step = an_end k;
+          part = part;
+          later = map an_end rest.0;
+          are = refl;
+          of = goes.1;
+          shape = sym (append_assoc first.steps (an_end k ∷ []) (map an_end rest.0)) ∙ ap (λ (front : List StepData). front ++ map an_end rest.0) each
+              ∙ sym (map-append an_end (live_below (suc k) ended) rest.0) ∙ ap (map an_end) (sym rest.1);
+        };
       }
 
-  pub ends_then_reached : (old mid new : C) (before after : List StreamView) (count : ℕ) (ended : ℕ → Bool) → CoreTransition M old mid (AreEndsBelow count ended) → Reached M mid new before after → Reached M old new before after
-  ends_then_reached old mid new before after count ended first second = record {
+  -- where no session is live, none was ended
+  pub none_ended : (count : ℕ) (core : C) → live_below count (M.ended core []) ≡ [] → CoreTransition M core core (AreEndsBelow count (M.ended core []))
+  none_ended count core none = record {
+    steps = [];
+    taken = no_bytes;
+    did = M.nothing_done core;
+    none = λ k. refl;
+    shape = record { each = sym (ap (map an_end) none); below = λ k above. tt };
+  }
+
+module _ {C S : Type 0} (M : CoreModel C) (N : StreamModel S) where
+  -- ---- several streams
+
+  pub reached_as : {Shape Other : (ℕ → List StreamCall) → List StepData → Type 0} (old new : C) (before after : List S) → ((calls : ℕ → List StreamCall) (steps : List StepData) → Shape calls steps → Other calls steps)
+      → Reached M N old new before after Shape → Reached M N old new before after Other
+  reached_as old new before after by_shape h = record {
+    count = h.count;
+    steps = h.steps;
+    taken = h.taken;
+    calls = h.calls;
+    reaches = h.reaches;
+    others = h.others;
+    refused = h.refused;
+    lost = h.lost;
+    most = h.most;
+    shape = by_shape h.calls h.steps h.shape;
+    streamed = h.streamed;
+  }
+
+  pub reached_any : {Shape : (ℕ → List StreamCall) → List StepData → Type 0} (old new : C) (before after : List S) → Reached M N old new before after Shape → Reached M N old new before after AnySteps
+  reached_any old new before after h = reached_as old new before after (λ calls steps shape. tt) h
+
+  pub done_reached : {Shape : (ℕ → List StreamCall) → List StepData → Type 0} (old new : C) (before after : List S) → Transition M N old new before after Shape → Reached M N old new before after AnySteps
+  done_reached old new before after t = record {
+    count = t.count;
+    steps = t.steps;
+    taken = t.taken;
+    calls = t.calls;
+    reaches = M.done_in_part old new t.steps t.taken t.did;
+    others = t.others;
+    refused = 0;
+    lost = [];
+    most = omega arith;
+    shape = tt;
+    streamed = λ k none within.
+        subst (λ (lost : List ℕ). IsStreamed N k t.steps lost (t.taken k) (t.calls k) (get_or before k none) (get_or after k none)) (sym (none_for 0 k)) (t.streamed k none within);
+  }
+
+  pub cut_reached : {Shape : (ℕ → List StreamCall) → List StepData → Type 0} (old new : C) (before after : List S) → EndsAs M N old new before after Shape → Reached M N old new before after AnySteps
+  cut_reached old new before after t = record {
+    count = t.count;
+    steps = t.steps;
+    taken = t.taken;
+    calls = t.calls;
+    reaches = M.done_in_part old new t.steps t.taken t.did;
+    others = t.others;
+    refused = 0;
+    lost = [];
+    most = omega arith;
+    shape = tt;
+    streamed = λ k none within.
+        subst (λ (lost : List ℕ). IsStreamed N k t.steps lost (t.taken k) (t.calls k) (get_or before k none) (get_or after k none)) (sym (none_for 0 k)) (t.streamed k none within);
+  }
+
+  pub then_reached : {First Second Both : (ℕ → List StreamCall) → List StepData → Type 0} (old mid new : C) (before between after : List S) → (first : Transition M N old mid before between First)
+      → (second : Reached M N mid new between after Second) → (First first.calls first.steps → Second second.calls second.steps → Both (λ k. first.calls k ++ second.calls k) (first.steps ++ second.steps))
+      → Reached M N old new before after Both
+  then_reached old mid new before between after first second both = record {
+    count = second.count ∙ first.count;
+    steps = first.steps ++ second.steps;
+    taken = λ session. first.taken session ++ second.taken session;
+    calls = λ k. first.calls k ++ second.calls k;
+    reaches = M.then_in_part old mid new first.steps second.steps first.taken second.taken first.did second.reaches;
+    others = λ k above. none_of_both (first.taken k) (second.taken k) (first.others k above) (second.others k (omega (arith, above, first.count)));
+    refused = second.refused;
+    lost = second.lost;
+    most = second.most;
+    shape = both first.shape second.shape;
+    streamed = λ k none within.
+        streamed_on N k first.steps second.steps (bytes_for second.refused second.lost k) (first.taken k) (second.taken k) (first.calls k) (second.calls k) (get_or before k none) (get_or between k none) (get_or after k none)
+        (first.streamed k none within) (second.streamed k none (omega (arith, within, first.count)));
+  }
+
+  -- no stream was used
+  pub core_reached : {Shape : (ℕ → List StreamCall) → List StepData → Type 0} (old new : C) (streams : List S) → CoreReached M old new (Shape no_calls) → Reached M N old new streams streams Shape
+  core_reached old new streams h = record {
+    count = refl;
+    steps = h.steps;
+    taken = h.taken;
+    calls = no_calls;
+    reaches = h.reaches;
+    others = λ k above. h.none k;
+    refused = 0;
+    lost = [];
+    most = omega arith;
+    shape = h.shape;
+    streamed = λ k none within.
+        subst (λ (lost : List ℕ). IsStreamed N k h.steps lost (h.taken k) [] (get_or streams k none) (get_or streams k none)) (sym (none_for 0 k))
+        (subst (λ (sent : List ℕ). IsStreamed N k h.steps [] sent [] (get_or streams k none) (get_or streams k none)) (sym (h.none k)) (streamed_none N k h.steps (get_or streams k none) (h.brings k)));
+  }
+
+  -- the ends of sessions, and then the others
+  ends_then : {Second Both : (ℕ → List StreamCall) → List StepData → Type 0} (old mid new : C) (before after : List S) (count : ℕ) (ended : ℕ → Bool) → (first : CoreTransition M old mid (AreEndsBelow count ended))
+      → (second : Reached M N mid new before after Second) → (Second second.calls second.steps → Both second.calls (first.steps ++ second.steps)) → Reached M N old new before after Both
+  ends_then old mid new before after count ended first second both = record {
     count = second.count;
     steps = first.steps ++ second.steps;
     taken = λ session. first.taken session ++ second.taken session;
+    calls = second.calls;
     reaches = M.then_in_part old mid new first.steps second.steps first.taken second.taken first.did second.reaches;
     others = λ k above. none_of_both (first.taken k) (second.taken k) (first.none k) (second.others k above);
     refused = second.refused;
     lost = second.lost;
     most = second.most;
-    sound = second.sound;
-    known = λ k within known fine.
-        read_after k first.steps second.steps (bytes_for second.refused second.lost k) (first.taken k) (second.taken k) (view_at k before) (view_at k after)
-        (ends_bring count ended first.steps first.shape k) (first.none k) (second.known k within known fine);
+    shape = both second.shape;
+    streamed = λ k none within.
+        streamed_after M N k first.steps second.steps (bytes_for second.refused second.lost k) (first.taken k) (second.taken k) (second.calls k) (get_or before k none) (get_or after k none)
+        (ends_bring count ended first.steps first.shape k) (first.none k) (second.streamed k none within);
   }
-
-  -- ---- flushes
-
-  pub flush_refused : (old new : C) (views : List StreamView) → GoesBy M a_flush old new → Reached M old new views views
-  flush_refused old new views goes = core_reached old new views (record { steps = goes.0; taken = no_bytes; reaches = goes.2; none = λ k. refl; shape = flush_brings_nothing goes.0 goes.1 })
-
-  pub flush_then_reached : (old mid new : C) (before after : List StreamView) → M.DidSteps old mid (a_flush ∷ []) no_bytes → Reached M mid new before after → Reached M old new before after
-  flush_then_reached old mid new before after did further = then_reached old mid new before before after (flushed M old mid before did) further
 
   -- ---- one session
 
   -- what a session and its stream came to is what all of them came to
-  pub session_reached : (k : ℕ) (old new : C) (views : List StreamView) (view after : StreamView) → k < length views → view_at k views ≡ view → SessionReached M k old new view after
-      → Reached M old new views (set views k after)
-  session_reached k old new views view after within is t = record {
-    count = length-set views k after;
+  pub session_reached : {Shape : (ℕ → List StreamCall) → List StepData → Type 0} (k : ℕ) (old new : C) (streams : List S) (at after : S) → k < length streams → SessionReached M N k old new (get_or streams k at) after Shape
+      → Reached M N old new streams (set streams k after) Shape
+  session_reached k old new streams at after within t = record {
+    count = length-set streams k after;
     steps = t.steps;
     taken = bytes_for k t.sent;
+    calls = calls_for k t.calls;
     reaches = t.reaches;
-    others = λ other above. bytes_there k other t.sent (λ same. omega arith);
+    others = λ other above. bytes_there k other t.sent (λ same. omega (arith, above, within, same));
     refused = k;
     lost = t.lost;
     most = t.most;
-    sound = sound_all k views view after within is t.calm;
-    known = λ other inside known fine. elim (cases_eq other k) [
-      | inl same ↦ subst (λ (j : ℕ). IsReadOf j t.steps (bytes_for k t.lost j) (bytes_for k t.sent j) (view_at j views) (view_at j (set views k after))) (sym same)
-          (subst (λ (lost : List ℕ). IsReadOf k t.steps lost (bytes_for k t.sent k) (view_at k views) (view_at k (set views k after))) (sym (bytes_here k t.lost))
-          (subst (λ (sent : List ℕ). IsReadOf k t.steps t.lost sent (view_at k views) (view_at k (set views k after))) (sym (bytes_here k t.sent))
-          (subst (λ (v : StreamView). IsReadOf k t.steps t.lost t.sent (view_at k views) v) (sym (here k views after within))
-          (subst (λ (v : StreamView). IsReadOf k t.steps t.lost t.sent v after) (sym is)
-          (t.known (known_here k other views view is same known) (fine_here k other views after within same fine))))))
-      | inr apart ↦ subst (λ (lost : List ℕ). IsReadOf other t.steps lost (bytes_for k t.sent other) (view_at other views) (view_at other (set views k after))) (sym (bytes_there k other t.lost apart))
-          (subst (λ (sent : List ℕ). IsReadOf other t.steps [] sent (view_at other views) (view_at other (set views k after))) (sym (bytes_there k other t.sent apart))
-          (subst (λ (v : StreamView). IsReadOf other t.steps [] [] (view_at other views) v) (sym (there k other views after apart))
-          (read_whole other t.steps [] (view_at other views) (view_at other views) (streamed_elsewhere other t.steps (view_at other views) (about_elsewhere k other t.steps apart t.about)))))
-    ];
+    shape = t.shape;
+    streamed = λ other none inside. streamed_one k other streams none at after t.steps t.lost t.sent t.calls within t.about t.streamed;
   }
 
-  -- ---- turns
+  -- ---- turns of the sessions in a row
 
-  none_taken_of : (k : ℕ) (old new : C) (steps : List StepData) → M.DidStepsInPart old new steps no_bytes → M.DidStepsInPart old new steps (bytes_for k [])
-  none_taken_of k old new steps = subst (λ (taken : ℕ → List ℕ). M.DidStepsInPart old new steps taken) (no_bytes_for k)
+  pub visits_stopped : (count k : ℕ) (old mid new : C) (before between : List S) (at after : S) → Transition M N old mid before between (λ calls. AreVisitsBelow k (M.ended old [])) → M.ended mid [] k ≡ false
+      → k < length between → k < count → SessionReached M N k mid new (get_or between k at) after (λ calls. IsInterrupted (IsOneVisit k))
+      → Reached M N old new before (set between k after) (λ calls. IsInterrupted (AreVisits (live_below count (M.ended old []))))
+  visits_stopped count k old mid new before between at after first live within below turn =
+      let ended = M.ended old [] in
+      let rest = rest_live count (suc k) ended (omega (arith, below)) in
+      let second = session_reached k mid new between at after within turn in
+      then_reached old mid new before between (set between k after) first second
+      λ turns cut.
+      cut_before (map an_end rest.0) (first.steps ++ second.steps)
+      (λ all each. subst (λ (sessions : List ℕ). AreVisits sessions (all ++ map an_end rest.0)) (sym rest.1) (visits_and (live_below (suc k) ended) rest.0 all (map an_end rest.0) each (ends_visit rest.0)))
+      (cut_after first.steps second.steps
+      (λ all one. (below_more k ended first.steps all (sym (ended_still M old mid first.steps first.taken k first.did (turns.below k (omega arith))) ∙ live) turns one).each) cut)
 
-  -- of a piece the front was taken
-  front_read : (k count : ℕ) (buffer front rest : List ℕ) (before after : StreamView) → HasRead before after count buffer → take count buffer ≡ front ++ rest → IsReadOf k (a_piece k front ∷ []) rest [] before after
-  front_read k count buffer front rest before after h split = record {
-    read = h.bytes ∙ ap (λ (bytes : List ℕ). bytes ++ after.unread) split ∙ append_assoc front rest after.unread
-        ∙ ap (λ (bytes : List ℕ). bytes ++ (rest ++ after.unread)) (sym (append-nil front) ∙ ap (λ (bytes : List ℕ). bytes ++ []) (sym (cond-true (eqb k k) front [] (eq-eqb k k refl))));
-    written = h.written ∙ sym (append-nil before.written);
-  }
+  pub write_stops : (k : ℕ) (old mid new : C) (before between : List S) (at after : S) → Transition M N old mid before between (AreTaken M k mid) → k < length between
+      → SessionReached M N k mid new (get_or between k at) after (λ calls. IsInterrupted (IsEndOfClosed k calls))
+      → Reached M N old new before (set between k after) (λ calls. IsInterrupted (AreEndsOfClosed (closed_by calls)))
+  write_stops k old mid new before between at after first within turn =
+      let second = session_reached k mid new between at after within turn in
+      let closed = closed_by (λ (j : ℕ). first.calls j ++ second.calls j) in
+      then_reached old mid new before between (set between k after) first second
+      λ taken cut. cut_after first.steps second.steps
+      (λ all end. subst (λ (rest : List StepData). AreEndsOfClosed closed (first.steps ++ rest)) (sym end.one)
+      (ends_and closed first.steps k (ends_still (closed_by first.calls) closed (closed_first first.calls second.calls) first.steps taken.ends) (closed_later first.calls second.calls k end.closed))) cut
 
-  pub piece_reached : (k count : ℕ) (buffer : List ℕ) (old new : C) (before after : StreamView) → IsStreamRead before after buffer (Ok count) → length buffer ≤ MAX_PIECE
-      → GoesBy M (a_piece k (take count buffer)) old new → SessionReached M k old new before after
-  piece_reached k count buffer old new before after read most (part, inl none, goes) =
-      let long : length (take count buffer) ≡ count = length-take-le count buffer read.within in
-      record {
-        steps = [];
-        sent = [];
-        reaches = none_taken_of k old new [] (subst (λ (steps : List StepData). M.DidStepsInPart old new steps no_bytes) none goes);
-        about = tt;
-        lost = take count buffer;
-        most = omega (arith, long, read.within, most);
-        calm = λ calm. (read.calm calm).1;
-        known = λ known calm.
-            let h = read.when_known known in
-            record { read = h.bytes; written = h.written ∙ sym (append-nil before.written) };
-      }
-  piece_reached k count buffer old new before after read most (part, inr (front, rest, split, is), goes) =
-      let long : length (take count buffer) ≡ count = length-take-le count buffer read.within in
-      record {
-        steps = a_piece k front ∷ [];
-        sent = [];
-        reaches = none_taken_of k old new (a_piece k front ∷ []) (subst (λ (steps : List StepData). M.DidStepsInPart old new steps no_bytes) is goes);
-        about = (refl, tt);
-        lost = rest;
-        most = omega (arith, long, read.within, most, ap length split, length-append front rest);
-        calm = λ calm. (read.calm calm).1;
-        known = λ known calm. front_read k count buffer front rest before after (read.when_known known) split;
-      }
+  -- ---- a flush, a pass
 
-  end_read : (k : ℕ) (steps : List StepData) (buffer : List ℕ) (before after : StreamView) (given : Result ℕ StreamError) → IsStreamRead before after buffer given → ((count : ℕ) → given ≡ Ok count → count ≡ 0)
-      → IsOk given → before.known ≡ true → bytes_fed k steps ≡ [] → IsReadOf k steps [] [] before after
-  end_read k steps buffer before after (Ok count) read none ok known brings =
-      let h = read.when_known known in
-      let zero_read : count ≡ 0 = none count refl in
-      record {
-        read = h.bytes ∙ ap (λ (n : ℕ). take n buffer ++ after.unread) zero_read ∙ ap (λ (bytes : List ℕ). bytes ++ after.unread) (sym brings);
-        written = h.written ∙ sym (append-nil before.written);
-      }
-  end_read k steps buffer before after (Err fault) read none ok known brings = absurd (true≢false (sym ok))
-
-  pub end_reached : (k : ℕ) (buffer : List ℕ) (old new : C) (before after : StreamView) (given : Result ℕ StreamError) → IsStreamRead before after buffer given
-      → ((count : ℕ) → given ≡ Ok count → count ≡ 0) → GoesBy M (an_end k) old new → SessionReached M k old new before after
-  end_reached k buffer old new before after given read none goes = record {
+  pub flush_refused : (old new : C) (streams : List S) → GoesBy M a_flush old new → Reached M N old new streams streams (λ calls. IsInterrupted (IsFlushAndEnds (closed_by calls)))
+  flush_refused old new streams goes = core_reached old new streams (record {
     steps = goes.0;
-    sent = [];
-    reaches = none_taken_of k old new goes.0 goes.2;
-    about = end_about k goes.0 goes.1;
-    lost = [];
-    most = omega arith;
-    calm = λ calm. (read.calm calm).1;
-    known = λ known calm. end_read k goes.0 buffer before after given read none (read.calm calm).0 known (end_brings_nothing k goes.0 goes.1 k);
-  }
+    taken = no_bytes;
+    reaches = goes.2;
+    none = λ k. refl;
+    brings = flush_brings_nothing goes.0 goes.1;
+    shape = record { front = []; step = a_flush; part = goes.0; later = []; are = refl; of = goes.1; shape = one_flush (closed_by no_calls) };
+  })
 
-  -- a write that failed: the session is ended
-  pub failed_reached : (k : ℕ) (bytes : List ℕ) (old mid new : C) (before after : StreamView) (given : Result Unit StreamError) → (IsOk given → ⊥) → IsStreamWrite before after bytes given
-      → M.DidSteps old mid [] (bytes_for k bytes) → GoesBy M (an_end k) mid new → SessionReached M k old new before after
-  failed_reached k bytes old mid new before after given bad write taken goes = record {
-    steps = goes.0;
-    sent = bytes;
-    reaches = subst (λ (all : ℕ → List ℕ). M.DidStepsInPart old new goes.0 all) (bytes_then_none k bytes) (M.then_in_part old mid new [] goes.0 (bytes_for k bytes) no_bytes taken goes.2);
-    about = end_about k goes.0 goes.1;
-    lost = [];
-    most = omega arith;
-    calm = λ calm. absurd (bad (write.calm calm).0);
-    known = λ known calm. absurd (bad (write.calm calm).0);
-  }
+  pub flush_stopped : (old mid new : C) (before after : List S) → M.DidSteps old mid (a_flush ∷ []) no_bytes → Reached M N mid new before after (λ calls. IsInterrupted (AreEndsOfClosed (closed_by calls)))
+      → Reached M N old new before after (λ calls. IsInterrupted (IsFlushAndEnds (closed_by calls)))
+  flush_stopped old mid new before after did second =
+      let first = flushed M N old mid before did in
+      then_reached old mid new before before after first second
+      λ one cut. cut_after first.steps second.steps (λ all each. record { ends = all; are = ap (λ (front : List StepData). front ++ all) one; each = each }) cut
+
+  pub pass_in_visits : (count : ℕ) (old new : C) (before after : List S) → Reached M N old new before after (λ calls. IsInterrupted (AreVisits (live_below count (M.ended old []))))
+      → Reached M N old new before after (λ calls. IsInterrupted (IsPass count (M.ended old []) (closed_by calls)))
+  pass_in_visits count old new before after h =
+      reached_as old new before after
+      (λ calls steps cut. cut_before (a_flush ∷ []) steps (λ all each. record { turns = all; last = a_flush ∷ []; are = refl; each = each; flush = one_flush (closed_by calls) }) cut) h
+
+  pub pass_in_flush : (count : ℕ) (old mid new : C) (before between after : List S) → Transition M N old mid before between (λ calls. AreVisitsBelow count (M.ended old []))
+      → Reached M N mid new between after (λ calls. IsInterrupted (IsFlushAndEnds (closed_by calls))) → Reached M N old new before after (λ calls. IsInterrupted (IsPass count (M.ended old []) (closed_by calls)))
+  pass_in_flush count old mid new before between after first second =
+      let closed = closed_by (λ (j : ℕ). first.calls j ++ second.calls j) in
+      then_reached old mid new before between after first second
+      λ turns cut. cut_after first.steps second.steps
+      (λ all flush. record { turns = first.steps; last = all; are = refl; each = turns.each; flush = flush_still (closed_by second.calls) closed (closed_later first.calls second.calls) all flush }) cut
+
+  -- ---- passes, and what comes after them
+
+  pub passes_stopped : (count whole turns : ℕ) (old mid new : C) (before between after : List S) → turns ≡ suc whole → Transition M N old mid before between (λ calls. ArePasses count (M.ended old) (closed_by calls) whole)
+      → live_below count (M.ended mid []) ≢ [] → Reached M N mid new between after (λ calls. IsInterrupted (IsPass count (M.ended mid []) (closed_by calls)))
+      → Reached M N old new before after (λ calls. IsStoppedInPass count (M.ended old) (closed_by calls) turns)
+  passes_stopped count whole turns old mid new before between after begun first some second =
+      let closed = closed_by (λ (j : ℕ). first.calls j ++ second.calls j) in
+      then_reached old mid new before between after first second
+      λ rounds cut. record {
+        earlier = first.steps;
+        last = second.steps;
+        are = refl;
+        whole = whole;
+        begun = begun;
+        each = passes_still count (M.ended old) (closed_by first.calls) closed (closed_first first.calls second.calls) whole first.steps rounds;
+        live = λ none. some (live_now M old mid first.steps first.taken count first.did ∙ none);
+        pass = cut_as second.steps (λ all pass. pass_still count (M.ended old first.steps) (closed_by second.calls) closed (closed_later first.calls second.calls) all
+            (pass_then M N count old mid first.steps first.taken (closed_by second.calls) all first.did pass)) cut;
+      }
+
+  -- a step after the passes was refused
+  pub after_stopped : (count turns : ℕ) (old mid new : C) (before between after : List S) → Transition M N old mid before between (λ calls. ArePasses count (M.ended old) (closed_by calls) turns)
+      → (live_below count (M.ended mid []) ≡ []) ⊎ (turns ≡ MAX_TURNS) → Reached M N mid new between after (λ calls. IsInterrupted (IsLastFlush count (M.ended mid []) (closed_by calls)))
+      → Reached M N old new before after (IsStoppedBy M count turns old)
+  after_stopped count turns old mid new before between after first over second =
+      let closed = closed_by (λ (j : ℕ). first.calls j ++ second.calls j) in
+      let same = live_now M old mid first.steps first.taken count first.did in
+      then_reached old mid new before between after first second
+      λ rounds cut. inr (record {
+        rounds = first.steps;
+        last = second.steps;
+        are = refl;
+        each = passes_still count (M.ended old) (closed_by first.calls) closed (closed_first first.calls second.calls) turns first.steps rounds;
+        over = elim over [ inl none ↦ inl (sym same ∙ none) | inr most ↦ inr most ];
+        ends = cut_as second.steps (λ all last. record {
+          last = last.last;
+          are = last.are ∙ ap (λ (sessions : List ℕ). map an_end sessions ++ last.last) same;
+          flush = flush_still (closed_by second.calls) closed (closed_later first.calls second.calls) last.last last.flush;
+        }) cut;
+      })
+
+  pub ends_stopped : (count : ℕ) (old new : C) (streams : List S) → CoreReached M old new (IsInterrupted (λ steps. steps ≡ map an_end (live_below count (M.ended old []))))
+      → Reached M N old new streams streams (λ calls. IsInterrupted (IsLastFlush count (M.ended old []) (closed_by calls)))
+  ends_stopped count old new streams h =
+      reached_as old new streams streams
+      (λ calls steps cut. cut_before (a_flush ∷ []) steps (λ all are. record { last = a_flush ∷ []; are = ap (λ (front : List StepData). front ++ a_flush ∷ []) are; flush = one_flush (closed_by calls) }) cut)
+      (core_reached {Shape = λ calls. IsInterrupted (λ steps. steps ≡ map an_end (live_below count (M.ended old [])))} old new streams h)
+
+  pub last_stopped : (count : ℕ) (old mid new : C) (before after : List S) → CoreTransition M old mid (AreEndsBelow count (M.ended old [])) → Reached M N mid new before after (λ calls. IsInterrupted (IsFlushAndEnds (closed_by calls)))
+      → Reached M N old new before after (λ calls. IsInterrupted (IsLastFlush count (M.ended old []) (closed_by calls)))
+  last_stopped count old mid new before after first second =
+      ends_then old mid new before after count (M.ended old []) first second
+      λ cut. cut_after first.steps second.steps (λ all flush. record { last = all; are = ap (λ (front : List StepData). front ++ all) first.shape.each; flush = flush }) cut

@@ -1,15 +1,17 @@
 -- Turns, passes and whole runs.
-use Rattle.std.proofs.Common.{◌≡◌, ◌≢◌, ℕ, zero, suc, ◌<◌, ◌≤◌, Bool, true, false, cond, List, [], ◌∷◌, ◌++◌, length, map, set, refl, sym, ap, subst, ◌∙◌, arith, inl, inr}
+use Rattle.std.proofs.Common.{◌≡◌, ◌≢◌, ◌⊎◌, ℕ, zero, suc, ◌<◌, ◌≤◌, Bool, true, false, ◌||◌, cond, List, [], ◌∷◌, ◌++◌, length, map, set, get_or, refl, sym, ap, subst, ◌∙◌, arith, inl, inr, true≢false}
 use Rattle.std.proofs.lemmas.Bool.{cases_eq, cases_lt}
 use Rattle.std.proofs.lemmas.List.{append-nil, map-append}
 use Rattle.audit_serve_passes.specs.declared.limits.TheConstants.{MAX_TURNS}
-use Rattle.audit_serve_passes.specs.Steps.{StepData, a_piece, an_end, a_flush, IsAbout}
-use Rattle.audit_serve_passes.specs.Streams.{StreamView, view_at, NoneFailed}
+use Rattle.audit_serve_passes.specs.Steps.{StepData, a_piece, an_end, a_flush, IsAbout, bytes_fed}
+use Rattle.audit_serve_passes.specs.Streams.{StreamCall, StreamModel, IsStreamed, has_failed_write}
 use Rattle.audit_serve_passes.specs.Core.{CoreModel, no_bytes}
-use Rattle.audit_serve_passes.specs.Rounds.{live_below, IsVisit, AreVisits, IsPass, ArePasses}
-use Rattle.audit_serve_passes.specs.Transition.{Transition, SessionTransition, CoreTransition, EndsAs, IsOneVisit, AreElsewhere, AreVisitsBelow, AreEndsBelow, IsOutputTaken, AreTaken, IsFlushStep, IsServed, IsCut}
-use Rattle.audit_serve_passes.proofs.StreamSteps.{elsewhere-append, streamed_elsewhere}
-use Rattle.audit_serve_passes.proofs.Transitions.{none_of_both, goes_nowhere, goes_on, session_goes, ended_elsewhere}
+use Rattle.audit_serve_passes.specs.Rounds.{live_below, IsVisit, AreVisits, AreClosed, AreEndsOfClosed, IsFlushAndEnds, IsPass, ArePasses}
+use Rattle.audit_serve_passes.specs.Transition.{Transition, SessionTransition, CoreTransition, EndsAs, IsOneVisit, AreElsewhere, AreVisitsBelow, AreEndsBelow, IsOutputTaken, AreTaken, IsFlushStep, IsServed, IsCut, NoneClosed, closed_by}
+use Rattle.audit_serve_passes.specs.CallLaws.{failed-append}
+use Rattle.audit_serve_passes.proofs.Calls.{or_left, or_right}
+use Rattle.audit_serve_passes.proofs.StreamSteps.{elsewhere-append, streamed_none, streamed_on}
+use Rattle.audit_serve_passes.proofs.Transitions.{none_of_both, no_calls, goes_nowhere, goes_on, session_goes, ended_elsewhere}
 
 -- ---- the sessions that are live
 
@@ -54,7 +56,7 @@ turn_elsewhere k other (a_piece session piece) apart turn about = apart (sym abo
 turn_elsewhere k other (an_end session) apart turn about = apart (sym about ∙ turn)
 turn_elsewhere k other a_flush apart turn about = about
 
-below_more : (k : ℕ) (ended : ℕ → Bool) (steps last : List StepData) → ended k ≡ false → AreVisitsBelow k ended steps → IsOneVisit k last → AreVisitsBelow (suc k) ended (steps ++ last)
+pub below_more : (k : ℕ) (ended : ℕ → Bool) (steps last : List StepData) → ended k ≡ false → AreVisitsBelow k ended steps → IsOneVisit k last → AreVisitsBelow (suc k) ended (steps ++ last)
 below_more k ended steps last live turns one =
     let step = one.0 in
     subst (λ (more : List StepData). AreVisitsBelow (suc k) ended (steps ++ more)) (sym one.1) (record {
@@ -68,7 +70,7 @@ below_skipped k ended steps over turns = record {
   below = λ other above. turns.below other (omega arith);
 }
 
-ends_more : (k : ℕ) (ended : ℕ → Bool) (steps : List StepData) → ended k ≡ false → AreEndsBelow k ended steps → AreEndsBelow (suc k) ended (steps ++ an_end k ∷ [])
+pub ends_more : (k : ℕ) (ended : ℕ → Bool) (steps : List StepData) → ended k ≡ false → AreEndsBelow k ended steps → AreEndsBelow (suc k) ended (steps ++ an_end k ∷ [])
 ends_more k ended steps live ends = record {
   each = ap (λ (front : List StepData). front ++ an_end k ∷ []) ends.each ∙ sym (map-append an_end (live_below k ended) (k ∷ [])) ∙ ap (map an_end) (sym (live_more k ended live));
   below = λ other above. elsewhere-append other steps (an_end k ∷ []) (ends.below other (omega arith)) ((λ same. omega arith), tt);
@@ -80,42 +82,84 @@ ends_skipped k ended steps over ends = record {
   below = λ other above. ends.below other (omega arith);
 }
 
+ends_bring_nothing : (k : ℕ) (sessions : List ℕ) → bytes_fed k (map an_end sessions) ≡ []
+ends_bring_nothing k [] = refl
+ends_bring_nothing k (session ∷ sessions) = ends_bring_nothing k sessions
+
+pub ends_bring : (count : ℕ) (ended : ℕ → Bool) (steps : List StepData) → AreEndsBelow count ended steps → (k : ℕ) → bytes_fed k steps ≡ []
+ends_bring count ended steps h k = ap (bytes_fed k) h.each ∙ ends_bring_nothing k (live_below count ended)
+
+-- ---- streams of which a write failed
+
+-- a stream that was closed by the first calls, or by the later ones
+pub closed_first : (calls later : ℕ → List StreamCall) (k : ℕ) → closed_by calls k ≡ true → closed_by (λ j. calls j ++ later j) k ≡ true
+closed_first calls later k is = failed-append (calls k) (later k) ∙ or_left (has_failed_write (calls k)) (has_failed_write (later k)) is
+
+pub closed_later : (calls later : ℕ → List StreamCall) (k : ℕ) → closed_by later k ≡ true → closed_by (λ j. calls j ++ later j) k ≡ true
+closed_later calls later k is = failed-append (calls k) (later k) ∙ or_right (has_failed_write (calls k)) (has_failed_write (later k)) is
+
+no_first : (x y : Bool) → (x || y) ≡ false → x ≡ false
+no_first true y none = absurd (true≢false none)
+no_first false y none = refl
+
+no_second : (x y : Bool) → (x || y) ≡ false → y ≡ false
+no_second true y none = absurd (true≢false none)
+no_second false y none = none
+
+pub none_first : (calls later : ℕ → List StreamCall) → NoneClosed (λ j. calls j ++ later j) → NoneClosed calls
+none_first calls later none k = no_first (has_failed_write (calls k)) (has_failed_write (later k)) (sym (failed-append (calls k) (later k)) ∙ none k)
+
+pub none_later : (calls later : ℕ → List StreamCall) → NoneClosed (λ j. calls j ++ later j) → NoneClosed later
+none_later calls later none k = no_second (has_failed_write (calls k)) (has_failed_write (later k)) (sym (failed-append (calls k) (later k)) ∙ none k)
+
+closed_still : (closed now : ℕ → Bool) → ((k : ℕ) → closed k ≡ true → now k ≡ true) → (sessions : List ℕ) → AreClosed closed sessions → AreClosed now sessions
+closed_still closed now still [] each = tt
+closed_still closed now still (k ∷ sessions) each = (still k each.0, closed_still closed now still sessions each.1)
+
+closed_and : (closed : ℕ → Bool) (sessions : List ℕ) (k : ℕ) → AreClosed closed sessions → closed k ≡ true → AreClosed closed (sessions ++ k ∷ [])
+closed_and closed [] k each also = (also, tt)
+closed_and closed (first ∷ sessions) k each also = (each.0, closed_and closed sessions k each.1 also)
+
+pub ends_still : (closed now : ℕ → Bool) → ((k : ℕ) → closed k ≡ true → now k ≡ true) → (steps : List StepData) → AreEndsOfClosed closed steps → AreEndsOfClosed now steps
+ends_still closed now still steps h = record { sessions = h.sessions; are = h.are; each = closed_still closed now still h.sessions h.each }
+
+pub flush_still : (closed now : ℕ → Bool) → ((k : ℕ) → closed k ≡ true → now k ≡ true) → (steps : List StepData) → IsFlushAndEnds closed steps → IsFlushAndEnds now steps
+flush_still closed now still steps h = record { ends = h.ends; are = h.are; each = ends_still closed now still h.ends h.each }
+
+pub pass_still : (count : ℕ) (ended : ℕ → Bool) (closed now : ℕ → Bool) → ((k : ℕ) → closed k ≡ true → now k ≡ true) → (steps : List StepData) → IsPass count ended closed steps → IsPass count ended now steps
+pass_still count ended closed now still steps h = record { turns = h.turns; last = h.last; are = h.are; each = h.each; flush = flush_still closed now still h.last h.flush }
+
+pub passes_still : (count : ℕ) (ended : List StepData → ℕ → Bool) (closed now : ℕ → Bool) → ((k : ℕ) → closed k ≡ true → now k ≡ true) → (turns : ℕ) (steps : List StepData) → ArePasses count ended closed turns steps
+    → ArePasses count ended now turns steps
+passes_still count ended closed now still zero steps h = h
+passes_still count ended closed now still (suc turns) steps (earlier, round, are, before, live, pass) =
+    (earlier, round, are, passes_still count ended closed now still turns earlier before, live, pass_still count (ended earlier) closed now still round pass)
+
+-- the end of one more
+pub ends_and : (closed : ℕ → Bool) (steps : List StepData) (k : ℕ) → AreEndsOfClosed closed steps → closed k ≡ true → AreEndsOfClosed closed (steps ++ an_end k ∷ [])
+ends_and closed steps k h also = record {
+  sessions = h.sessions ++ k ∷ [];
+  are = ap (λ (front : List StepData). front ++ an_end k ∷ []) h.are ∙ sym (map-append an_end h.sessions (k ∷ []));
+  each = closed_and closed h.sessions k h.each also;
+}
+
+pub no_ends_of : (closed : ℕ → Bool) → AreEndsOfClosed closed []
+no_ends_of closed = record { sessions = []; are = refl; each = tt }
+
+pub one_flush : (closed : ℕ → Bool) → IsFlushAndEnds closed (a_flush ∷ [])
+one_flush closed = record { ends = []; are = refl; each = no_ends_of closed }
+
 module _ {C : Type 0} (M : CoreModel C) where
   -- ---- whether a session has ended, after steps about others
 
-  ended_now : (old new : C) (steps : List StepData) (taken : ℕ → List ℕ) (k : ℕ) → M.DidSteps old new steps taken → M.ended new [] k ≡ M.ended old steps k
+  pub ended_now : (old new : C) (steps : List StepData) (taken : ℕ → List ℕ) (k : ℕ) → M.DidSteps old new steps taken → M.ended new [] k ≡ M.ended old steps k
   ended_now old new steps taken k did = M.ended_by_steps old new steps [] taken k did ∙ ap (λ (all : List StepData). M.ended old all k) (append-nil steps)
 
-  ended_still : (old new : C) (steps : List StepData) (taken : ℕ → List ℕ) (k : ℕ) → M.DidSteps old new steps taken → AreElsewhere k steps → M.ended new [] k ≡ M.ended old [] k
+  pub ended_still : (old new : C) (steps : List StepData) (taken : ℕ → List ℕ) (k : ℕ) → M.DidSteps old new steps taken → AreElsewhere k steps → M.ended new [] k ≡ M.ended old [] k
   ended_still old new steps taken k did others = ended_now old new steps taken k did ∙ ended_elsewhere M old [] steps k others
 
-  -- ---- turns of the sessions in a row
-
-  pub turn_more : (k : ℕ) (old mid new : C) (before between : List StreamView) (view after : StreamView) → Transition M old mid before between (AreVisitsBelow k (M.ended old [])) → M.ended mid [] k ≡ false
-      → k < length between → view_at k between ≡ view → SessionTransition M k mid new view after (IsOneVisit k)
-      → Transition M old new before (set between k after) (AreVisitsBelow (suc k) (M.ended old []))
-  turn_more k old mid new before between view after first live within is turn =
-      let second = session_goes k between view after within is turn in
-      goes_on first second
-      λ turns one. below_more k (M.ended old []) first.steps second.steps (sym (ended_still old mid first.steps first.taken k first.did (turns.below k (omega arith))) ∙ live) turns one
-
-  pub turn_skipped : (k : ℕ) (old mid : C) (before between : List StreamView) → Transition M old mid before between (AreVisitsBelow k (M.ended old [])) → M.ended mid [] k ≡ true
-      → Transition M old mid before between (AreVisitsBelow (suc k) (M.ended old []))
-  turn_skipped k old mid before between first over = record {
-    count = first.count;
-    steps = first.steps;
-    taken = first.taken;
-    did = first.did;
-    others = first.others;
-    calm = λ none.
-        let turns = first.calm none in
-        below_skipped k (M.ended old []) first.steps (sym (ended_still old mid first.steps first.taken k first.did (turns.below k (omega arith))) ∙ over) turns;
-    sound = first.sound;
-    known = first.known;
-  }
-
-  pub no_turns : (core : C) (views : List StreamView) → Transition M core core views views (AreVisitsBelow 0 (M.ended core []))
-  no_turns core views = goes_nowhere core views (record { each = tt; below = λ k above. tt })
+  pub live_now : (old new : C) (steps : List StepData) (taken : ℕ → List ℕ) (count : ℕ) → M.DidSteps old new steps taken → live_below count (M.ended new []) ≡ live_below count (M.ended old steps)
+  live_now old new steps taken count did = live_same count (M.ended new []) (M.ended old steps) (λ k. ended_now old new steps taken k did)
 
   -- ---- ends of the sessions in a row
 
@@ -141,115 +185,200 @@ module _ {C : Type 0} (M : CoreModel C) where
     shape = ends_skipped k (M.ended old []) first.steps (sym (ended_still old mid first.steps first.taken k first.did (first.shape.below k (omega arith))) ∙ over) first.shape;
   }
 
+module _ {C S : Type 0} (M : CoreModel C) (N : StreamModel S) where
+  -- ---- turns of the sessions in a row
+
+  pub turn_more : (k : ℕ) (old mid new : C) (before between : List S) (at after : S) → Transition M N old mid before between (λ calls. AreVisitsBelow k (M.ended old [])) → M.ended mid [] k ≡ false
+      → k < length between → SessionTransition M N k mid new (get_or between k at) after (λ calls. IsOneVisit k)
+      → Transition M N old new before (set between k after) (λ calls. AreVisitsBelow (suc k) (M.ended old []))
+  turn_more k old mid new before between at after first live within turn =
+      let second = session_goes k between at after within turn in
+      goes_on first second
+      λ turns one. below_more k (M.ended old []) first.steps second.steps (sym (ended_still M old mid first.steps first.taken k first.did (turns.below k (omega arith))) ∙ live) turns one
+
+  pub turn_skipped : (k : ℕ) (old mid : C) (before between : List S) → Transition M N old mid before between (λ calls. AreVisitsBelow k (M.ended old [])) → M.ended mid [] k ≡ true
+      → Transition M N old mid before between (λ calls. AreVisitsBelow (suc k) (M.ended old []))
+  turn_skipped k old mid before between first over = record {
+    count = first.count;
+    steps = first.steps;
+    taken = first.taken;
+    calls = first.calls;
+    did = first.did;
+    others = first.others;
+    shape = below_skipped k (M.ended old []) first.steps (sym (ended_still M old mid first.steps first.taken k first.did (first.shape.below k (omega arith))) ∙ over) first.shape;
+    streamed = first.streamed;
+    ends = first.ends;
+  }
+
+  pub no_turns : (core : C) (streams : List S) → Transition M N core core streams streams (λ calls. AreVisitsBelow 0 (M.ended core []))
+  no_turns core streams = goes_nowhere core streams (record { each = tt; below = λ k above. tt })
+
   -- ---- writes in a row
 
-  pub none_taken : (core : C) (views : List StreamView) → Transition M core core views views (AreTaken M 0 core)
-  none_taken core views = goes_nowhere core views (record { none = refl; empty = λ k within. absurd (omega arith) })
+  pub none_taken : (core : C) (streams : List S) → Transition M N core core streams streams (AreTaken M 0 core)
+  none_taken core streams = goes_nowhere core streams (record { ends = no_ends_of (closed_by no_calls); empty = λ none k within. absurd (omega (arith, within)) })
 
-  pub take_more : (k : ℕ) (old mid new : C) (before between : List StreamView) (view after : StreamView) → Transition M old mid before between (AreTaken M k mid)
-      → k < length between → view_at k between ≡ view → SessionTransition M k mid new view after (IsOutputTaken M k mid new)
-      → Transition M old new before (set between k after) (AreTaken M (suc k) new)
-  take_more k old mid new before between view after first within is turn =
-      let second = session_goes k between view after within is turn in
-      goes_on first second
-      λ taken one. record {
-        none = ap (λ (front : List StepData). front ++ second.steps) taken.none ∙ one.none;
-        empty = λ other below. elim (cases_eq other k) [
-          | inl same ↦ ap (M.output new) same ∙ one.empty
-          | inr apart ↦ one.others other apart ∙ taken.empty other (omega arith)
+  -- the output of one session more
+  taken_and : (k : ℕ) (mid new : C) (calls later : ℕ → List StreamCall) (steps more : List StepData) → AreTaken M k mid calls steps → IsOutputTaken M k mid new later more
+      → AreTaken M (suc k) new (λ j. calls j ++ later j) (steps ++ more)
+  taken_and k mid new calls later steps more taken one = record {
+    ends =
+        let before = ends_still (closed_by calls) (closed_by (λ j. calls j ++ later j)) (closed_first calls later) steps taken.ends in
+        elim one.ends [
+          | inl none ↦ subst (λ (all : List StepData). AreEndsOfClosed (closed_by (λ j. calls j ++ later j)) all) (sym (ap (λ (rest : List StepData). steps ++ rest) none ∙ append-nil steps)) before
+          | inr end ↦ subst (λ (rest : List StepData). AreEndsOfClosed (closed_by (λ j. calls j ++ later j)) (steps ++ rest)) (sym end.one) (ends_and (closed_by (λ j. calls j ++ later j)) steps k before (closed_later calls later k end.closed))
         ];
-      }
+    empty = λ none other below.
+        let now = none_later calls later none k in
+        elim (cases_eq other k) [
+          | inl same ↦ ap (M.output new) same ∙ one.empty now
+          | inr apart ↦ one.others now other apart ∙ taken.empty (none_first calls later none) other (omega (arith, below, apart))
+        ];
+  }
+
+  pub take_more : (k : ℕ) (old mid new : C) (before between : List S) (at after : S) → Transition M N old mid before between (AreTaken M k mid)
+      → k < length between → SessionTransition M N k mid new (get_or between k at) after (IsOutputTaken M k mid new)
+      → Transition M N old new before (set between k after) (AreTaken M (suc k) new)
+  take_more k old mid new before between at after first within turn =
+      let second = session_goes k between at after within turn in
+      goes_on first second λ taken one. taken_and k mid new first.calls second.calls first.steps second.steps taken one
 
   -- ---- a flush, a pass
 
-  pub flushed : (old new : C) (views : List StreamView) → M.DidSteps old new (a_flush ∷ []) no_bytes → Transition M old new views views (λ steps. steps ≡ a_flush ∷ [])
-  flushed old new views did = record {
+  abbrev pub flushed : (old new : C) (streams : List S) → M.DidSteps old new (a_flush ∷ []) no_bytes → Transition M N old new streams streams (λ calls steps. steps ≡ a_flush ∷ [])
+  flushed old new streams did = record {
     count = refl;
     steps = a_flush ∷ [];
     taken = no_bytes;
+    calls = no_calls;
     did = did;
     others = λ k above. refl;
-    calm = λ none. refl;
-    sound = λ k fine. fine;
-    known = λ k within known fine. (known, streamed_elsewhere k (a_flush ∷ []) (view_at k views) ((λ about. about), tt));
+    shape = refl;
+    streamed = λ k none within. streamed_none N k (a_flush ∷ []) (get_or streams k none) refl;
+    ends = λ k within. refl;
   }
 
-  pub flush_then : (count : ℕ) (old mid new : C) (before after : List StreamView) → M.DidSteps old mid (a_flush ∷ []) no_bytes → Transition M mid new before after (AreTaken M count new)
-      → Transition M old new before after (IsFlushStep M count new)
+  pub flush_then : (count : ℕ) (old mid new : C) (before after : List S) → M.DidSteps old mid (a_flush ∷ []) no_bytes → Transition M N mid new before after (AreTaken M count new)
+      → Transition M N old new before after (IsFlushStep M count new)
   flush_then count old mid new before after did taken =
-      goes_on (flushed old mid before did) taken λ one none. record { one = ap (λ (front : List StepData). front ++ taken.steps) one ∙ ap (λ (more : List StepData). a_flush ∷ more) none.none; empty = none.empty }
+      goes_on (flushed old mid before did) taken λ one rest. record {
+        one = record { ends = taken.steps; are = ap (λ (front : List StepData). front ++ taken.steps) one; each = rest.ends };
+        empty = rest.empty;
+      }
 
-  pub one_round : (count : ℕ) (old mid new : C) (before between after : List StreamView) → Transition M old mid before between (AreVisitsBelow count (M.ended old []))
-      → Transition M mid new between after (IsFlushStep M count new) → Transition M old new before after (IsPass count (M.ended old []))
+  pub one_round : (count : ℕ) (old mid new : C) (before between after : List S) → Transition M N old mid before between (λ calls. AreVisitsBelow count (M.ended old []))
+      → Transition M N mid new between after (IsFlushStep M count new) → Transition M N old new before after (λ calls. IsPass count (M.ended old []) (closed_by calls))
   one_round count old mid new before between after first second =
-      goes_on first second λ turns flush. record { turns = first.steps; are = ap (λ (more : List StepData). first.steps ++ more) flush.one; each = turns.each }
+      goes_on first second λ turns flush. record {
+        turns = first.steps;
+        last = second.steps;
+        are = refl;
+        each = turns.each;
+        flush = flush_still (closed_by second.calls) (closed_by (λ k. first.calls k ++ second.calls k)) (closed_later first.calls second.calls) second.steps flush.one;
+      }
 
   -- ---- passes
 
-  pub no_rounds : (count : ℕ) (core : C) (views : List StreamView) → Transition M core core views views (ArePasses count (M.ended core) 0)
-  no_rounds count core views = goes_nowhere core views refl
+  pub no_rounds : (count : ℕ) (core : C) (streams : List S) → Transition M N core core streams streams (λ calls. ArePasses count (M.ended core) (closed_by calls) 0)
+  no_rounds count core streams = goes_nowhere core streams refl
 
-  pub round_more : (count turns : ℕ) (old mid new : C) (before between after : List StreamView) → Transition M old mid before between (ArePasses count (M.ended old) turns)
-      → live_below count (M.ended mid []) ≢ [] → Transition M mid new between after (IsPass count (M.ended mid []))
-      → Transition M old new before after (ArePasses count (M.ended old) (suc turns))
+  -- a pass, from where the steps before it led
+  pub pass_then : (count : ℕ) (old mid : C) (earlier : List StepData) (taken : ℕ → List ℕ) (closed : ℕ → Bool) (steps : List StepData) → M.DidSteps old mid earlier taken → IsPass count (M.ended mid []) closed steps
+      → IsPass count (M.ended old earlier) closed steps
+  pass_then count old mid earlier taken closed steps did pass = record {
+    turns = pass.turns;
+    last = pass.last;
+    are = pass.are;
+    each = subst (λ (sessions : List ℕ). AreVisits sessions pass.turns) (live_now M old mid earlier taken count did) pass.each;
+    flush = pass.flush;
+  }
+
+  pub round_more : (count turns : ℕ) (old mid new : C) (before between after : List S) → Transition M N old mid before between (λ calls. ArePasses count (M.ended old) (closed_by calls) turns)
+      → live_below count (M.ended mid []) ≢ [] → Transition M N mid new between after (λ calls. IsPass count (M.ended mid []) (closed_by calls))
+      → Transition M N old new before after (λ calls. ArePasses count (M.ended old) (closed_by calls) (suc turns))
   round_more count turns old mid new before between after first some second =
-      let same : live_below count (M.ended mid []) ≡ live_below count (M.ended old first.steps) =
-      live_same count (M.ended mid []) (M.ended old first.steps) (λ k. ended_now old mid first.steps first.taken k first.did) in
       goes_on first second λ rounds round. (
         first.steps,
         second.steps,
         refl,
-        rounds,
-        (λ none. some (same ∙ none)),
-        record { turns = round.turns; are = round.are; each = subst (λ (sessions : List ℕ). AreVisits sessions round.turns) same round.each },
+        passes_still count (M.ended old) (closed_by first.calls) (closed_by (λ k. first.calls k ++ second.calls k)) (closed_first first.calls second.calls) turns first.steps rounds,
+        (λ none. some (live_now M old mid first.steps first.taken count first.did ∙ none)),
+        pass_still count (M.ended old first.steps) (closed_by second.calls) (closed_by (λ k. first.calls k ++ second.calls k)) (closed_later first.calls second.calls) second.steps
+            (pass_then count old mid first.steps first.taken (closed_by second.calls) second.steps first.did round),
       )
 
   -- ---- the end
 
-  pub whole_run : (count turns : ℕ) (old mid new : C) (before between after : List StreamView) → Transition M old mid before between (ArePasses count (M.ended old) turns)
-      → live_below count (M.ended mid []) ≡ [] → Transition M mid new between after (IsFlushStep M count new) → Transition M old new before after (IsServed M count turns old new)
+  pub whole_run : (count turns : ℕ) (old mid new : C) (before between after : List S) → Transition M N old mid before between (λ calls. ArePasses count (M.ended old) (closed_by calls) turns)
+      → live_below count (M.ended mid []) ≡ [] → Transition M N mid new between after (IsFlushStep M count new) → Transition M N old new before after (IsServed M count turns old new)
   whole_run count turns old mid new before between after first none second =
-      let same : live_below count (M.ended mid []) ≡ live_below count (M.ended old first.steps) =
-      live_same count (M.ended mid []) (M.ended old first.steps) (λ k. ended_now old mid first.steps first.taken k first.did) in
-      goes_on first second λ rounds flush. record {
-        run = record { rounds = first.steps; are = ap (λ (more : List StepData). first.steps ++ more) flush.one; each = rounds; all_ended = sym same ∙ none };
-        empty = flush.empty;
+      goes_on first second λ rounds last. record {
+        run = record {
+          rounds = first.steps;
+          last = second.steps;
+          are = refl;
+          each = passes_still count (M.ended old) (closed_by first.calls) (closed_by (λ k. first.calls k ++ second.calls k)) (closed_first first.calls second.calls) turns first.steps rounds;
+          all_ended = sym (live_now M old mid first.steps first.taken count first.did) ∙ none;
+          flush = flush_still (closed_by second.calls) (closed_by (λ k. first.calls k ++ second.calls k)) (closed_later first.calls second.calls) second.steps last.one;
+        };
+        empty = λ still. last.empty (none_later first.calls second.calls still);
       }
 
-  pub cut_run : (count : ℕ) (old mid over new : C) (before between after : List StreamView) → Transition M old mid before between (ArePasses count (M.ended old) MAX_TURNS)
-      → live_below count (M.ended mid []) ≢ [] → CoreTransition M mid over (AreEndsBelow count (M.ended mid [])) → Transition M over new between after (IsFlushStep M count new)
-      → EndsAs M old new before after (IsCut M count old new)
+  -- steps that bring nothing before the others
+  pub streamed_after : (k : ℕ) (steps later : List StepData) (lost sent more : List ℕ) (calls : List StreamCall) (before after : S) → bytes_fed k steps ≡ [] → sent ≡ [] → IsStreamed N k later lost more calls before after
+      → IsStreamed N k (steps ++ later) lost (sent ++ more) calls before after
+  streamed_after k steps later lost sent more calls before after none nothing h =
+      subst (λ (front : List ℕ). IsStreamed N k (steps ++ later) lost (front ++ more) calls before after) (sym nothing)
+      (streamed_on N k steps later lost [] more [] calls before before after (streamed_none N k steps before none) h)
+
+  pub cut_run : (count : ℕ) (old mid over new : C) (before between after : List S) → Transition M N old mid before between (λ calls. ArePasses count (M.ended old) (closed_by calls) MAX_TURNS)
+      → live_below count (M.ended mid []) ≢ [] → CoreTransition M mid over (AreEndsBelow count (M.ended mid [])) → Transition M N over new between after (IsFlushStep M count new)
+      → EndsAs M N old new before after (IsCut M count old new)
   cut_run count old mid over new before between after first some ends second =
-      let same : live_below count (M.ended mid []) ≡ live_below count (M.ended old first.steps) =
-      live_same count (M.ended mid []) (M.ended old first.steps) (λ k. ended_now old mid first.steps first.taken k first.did) in
+      let same = live_now M old mid first.steps first.taken count first.did in
       let later = M.more_done mid over new ends.steps second.steps ends.taken second.taken ends.did second.did in
+      let calls = λ (k : ℕ). first.calls k ++ second.calls k in
       record {
         count = second.count ∙ first.count;
         steps = first.steps ++ (ends.steps ++ second.steps);
         taken = λ session. first.taken session ++ (ends.taken session ++ second.taken session);
+        calls = calls;
         did = M.more_done old mid new first.steps (ends.steps ++ second.steps) first.taken (λ session. ends.taken session ++ second.taken session) first.did later;
         others = λ k above. none_of_both (first.taken k) (ends.taken k ++ second.taken k) (first.others k above)
             (none_of_both (ends.taken k) (second.taken k) (ends.none k) (second.others k (omega (arith, above, first.count))));
-        calm = λ none.
-            let before_it : NoneFailed between = λ k. second.sound k (none k) in
-            let last = second.calm none in (
-              (λ k. first.sound k (before_it k)),
-              record {
-                run = record {
-                  rounds = first.steps;
-                  are = ap (λ (more : List StepData). first.steps ++ (more ++ second.steps)) (ends.shape.each ∙ ap (map an_end) same)
-                      ∙ ap (λ (more : List StepData). first.steps ++ (map an_end (live_below count (M.ended old first.steps)) ++ more)) last.one;
-                  each = first.calm before_it;
-                  live = λ none. some (same ∙ none);
-                };
-                empty = last.empty;
-              },
-            );
+        shape = record {
+          run = record {
+            rounds = first.steps;
+            last = ends.steps ++ second.steps;
+            are = refl;
+            each = passes_still count (M.ended old) (closed_by first.calls) (closed_by calls) (closed_first first.calls second.calls) MAX_TURNS first.steps first.shape;
+            live = λ none. some (same ∙ none);
+            ends = record {
+              last = second.steps;
+              are = ap (λ (front : List StepData). front ++ second.steps) (ends.shape.each ∙ ap (map an_end) same);
+              flush = flush_still (closed_by second.calls) (closed_by calls) (closed_later first.calls second.calls) second.steps second.shape.one;
+            };
+          };
+          empty = λ still. second.shape.empty (none_later first.calls second.calls still);
+        };
+        streamed = λ k none within.
+            streamed_on N k first.steps (ends.steps ++ second.steps) [] (first.taken k) (ends.taken k ++ second.taken k) (first.calls k) (second.calls k) (get_or before k none) (get_or between k none) (get_or after k none)
+            (first.streamed k none within)
+            (streamed_after k ends.steps second.steps [] (ends.taken k) (second.taken k) (second.calls k) (get_or between k none) (get_or after k none) (ends_bring count (M.ended mid []) ends.steps ends.shape k) (ends.none k)
+            (second.streamed k none (omega (arith, within, first.count))));
       }
 
+module _ {C : Type 0} (M : CoreModel C) where
   -- passes of which fewer than may be leave no session live
   pub all_rounds : (count turns : ℕ) (core : C) → turns ≤ MAX_TURNS → (turns < MAX_TURNS → live_below count (M.ended core []) ≡ []) → live_below count (M.ended core []) ≢ [] → turns ≡ MAX_TURNS
   all_rounds count turns core most all some = elim (cases_lt turns MAX_TURNS) [
     | inl fewer ↦ absurd (some (all fewer))
     | inr enough ↦ omega (arith, most, enough)
+  ]
+
+  -- the same, where it isn't known whether sessions are live
+  pub over_rounds : (count turns : ℕ) (core : C) → turns ≤ MAX_TURNS → (turns < MAX_TURNS → live_below count (M.ended core []) ≡ []) → (live_below count (M.ended core []) ≡ []) ⊎ (turns ≡ MAX_TURNS)
+  over_rounds count turns core most all = elim (cases_lt turns MAX_TURNS) [
+    | inl fewer ↦ inl (all fewer)
+    | inr enough ↦ inr (omega (arith, most, enough))
   ]

@@ -1,10 +1,12 @@
 -- What steps bring of the stream of one session.
-use Rattle.std.proofs.Common.{◌≡◌, ℕ, Bool, true, false, ◌||◌, eqb, List, [], ◌∷◌, ◌++◌, length, refl, sym, ap, ◌∙◌, append_assoc, arith, inl, inr, true≢false, length-append}
-use Rattle.std.proofs.lemmas.List.{append-nil, nil_from_length}
-use Rattle.std.proofs.lemmas.Bool.{or_cases, ne_eqb, cond-false}
-use Rattle.audit_serve_passes.specs.Steps.{StepData, a_piece, an_end, a_flush, IsAbout, AreAbout, bytes_in, bytes_fed, is_end, has_end}
-use Rattle.audit_serve_passes.specs.Streams.{StreamView, IsStreamed}
+use Rattle.std.proofs.Common.{◌≡◌, ℕ, ◌+◌, Bool, true, false, ◌||◌, eqb, List, [], ◌∷◌, ◌++◌, refl, sym, ap, subst, ◌∙◌, append_assoc, arith, inl, inr, true≢false}
+use Rattle.std.proofs.lemmas.List.{append-nil}
+use Rattle.std.proofs.lemmas.Bool.{cases_Bool, ne_eqb, cond-false}
+use Rattle.audit_serve_passes.specs.Steps.{StepData, a_piece, an_end, a_flush, IsAbout, AreAbout, bytes_in, bytes_fed, ends_in_step, ends_in}
+use Rattle.audit_serve_passes.specs.Streams.{StreamCall, StreamModel, IsStreamed, AreWrittenWhole, bytes_read, bytes_sent, has_failed_write}
 use Rattle.audit_serve_passes.specs.Transition.{AreElsewhere}
+use Rattle.audit_serve_passes.specs.CallLaws.{bytes_read-append, bytes_sent-append}
+use Rattle.audit_serve_passes.proofs.Calls.{nothing_sent, whole-append}
 
 -- ---- steps one after another
 
@@ -12,13 +14,9 @@ pub bytes_of-append : (k : ℕ) (steps later : List StepData) → bytes_fed k (s
 bytes_of-append k [] later = refl
 bytes_of-append k (step ∷ steps) later = ap (λ (bytes : List ℕ). bytes_in k step ++ bytes) (bytes_of-append k steps later) ∙ sym (append_assoc (bytes_in k step) (bytes_fed k steps) (bytes_fed k later))
 
-or_assoc : (x y z : Bool) → (x || (y || z)) ≡ ((x || y) || z)
-or_assoc true y z = refl
-or_assoc false y z = refl
-
-pub has_end-append : (k : ℕ) (steps later : List StepData) → has_end k (steps ++ later) ≡ (has_end k steps || has_end k later)
-has_end-append k [] later = refl
-has_end-append k (step ∷ steps) later = ap (λ (more : Bool). is_end k step || more) (has_end-append k steps later) ∙ or_assoc (is_end k step) (has_end k steps) (has_end k later)
+pub ends_in-append : (k : ℕ) (steps later : List StepData) → ends_in k (steps ++ later) ≡ ends_in k steps + ends_in k later
+ends_in-append k [] later = omega arith
+ends_in-append k (step ∷ steps) later = ap (λ (n : ℕ). ends_in_step k step + n) (ends_in-append k steps later) ∙ omega arith
 
 -- ---- steps of other sessions
 
@@ -27,19 +25,19 @@ bytes_elsewhere_in k (a_piece session piece) other = cond-false (eqb session k) 
 bytes_elsewhere_in k (an_end session) other = refl
 bytes_elsewhere_in k a_flush other = refl
 
-end_elsewhere_in : (k : ℕ) (step : StepData) → (IsAbout k step → ⊥) → is_end k step ≡ false
-end_elsewhere_in k (a_piece session piece) other = refl
-end_elsewhere_in k (an_end session) other = ne_eqb session k other
-end_elsewhere_in k a_flush other = refl
+ends_elsewhere_in : (k : ℕ) (step : StepData) → (IsAbout k step → ⊥) → ends_in_step k step ≡ 0
+ends_elsewhere_in k (a_piece session piece) other = refl
+ends_elsewhere_in k (an_end session) other = cond-false (eqb session k) 1 0 (ne_eqb session k other)
+ends_elsewhere_in k a_flush other = refl
 
 pub bytes_elsewhere : (k : ℕ) (steps : List StepData) → AreElsewhere k steps → bytes_fed k steps ≡ []
 bytes_elsewhere k [] others = refl
 bytes_elsewhere k (step ∷ steps) others =
     ap (λ (bytes : List ℕ). bytes ++ bytes_fed k steps) (bytes_elsewhere_in k step others.0) ∙ bytes_elsewhere k steps others.1
 
-pub end_elsewhere : (k : ℕ) (steps : List StepData) → AreElsewhere k steps → has_end k steps ≡ false
-end_elsewhere k [] others = refl
-end_elsewhere k (step ∷ steps) others = ap (λ (found : Bool). found || has_end k steps) (end_elsewhere_in k step others.0) ∙ end_elsewhere k steps others.1
+pub ends_elsewhere : (k : ℕ) (steps : List StepData) → AreElsewhere k steps → ends_in k steps ≡ 0
+ends_elsewhere k [] others = refl
+ends_elsewhere k (step ∷ steps) others = omega (arith, ends_elsewhere_in k step others.0, ends_elsewhere k steps others.1)
 
 one_elsewhere : (k other : ℕ) (step : StepData) → (other ≡ k → ⊥) → IsAbout k step → IsAbout other step → ⊥
 one_elsewhere k other (a_piece session piece) apart about also = apart (sym also ∙ about)
@@ -56,24 +54,55 @@ elsewhere-append k (step ∷ steps) later first second = (first.0, elsewhere-app
 
 -- ---- the stream
 
-pub streamed_elsewhere : (k : ℕ) (steps : List StepData) (view : StreamView) → AreElsewhere k steps → IsStreamed k steps [] view view
-streamed_elsewhere k steps view others = record {
-  read = ap (λ (bytes : List ℕ). bytes ++ view.unread) (sym (bytes_elsewhere k steps others));
-  at_end = λ ended. absurd (true≢false (sym ended ∙ end_elsewhere k steps others));
-  written = sym (append-nil view.written);
-}
+-- what is not closed wasn't before
+open_before : (closed second after : Bool) → after ≡ (closed || second) → after ≡ false → closed ≡ false
+open_before true second after is now = absurd (true≢false (sym is ∙ now))
+open_before false second after is now = refl
 
-nothing_left : (front rest : List ℕ) → front ++ rest ≡ [] → rest ≡ []
-nothing_left front rest none = nil_from_length rest (omega (arith, ap length none, length-append front rest))
+module _ {S : Type 0} (N : StreamModel S) where
+  -- no call, and the steps bring nothing
+  pub streamed_none : (k : ℕ) (steps : List StepData) (stream : S) → bytes_fed k steps ≡ [] → IsStreamed N k steps [] [] [] stream stream
+  streamed_none k steps stream none = record {
+    did = N.calls.nothing_called stream;
+    read = ap (λ (bytes : List ℕ). bytes ++ []) (sym none);
+    dropped = [];
+    written = refl;
+    none_dropped = λ now. refl;
+    whole = tt;
+  }
 
-pub streamed_on : (k : ℕ) (steps later : List StepData) (sent more : List ℕ) (before mid after : StreamView) → IsStreamed k steps sent before mid → IsStreamed k later more mid after
-    → IsStreamed k (steps ++ later) (sent ++ more) before after
-streamed_on k steps later sent more before mid after first second = record {
-  read = first.read ∙ ap (λ (rest : List ℕ). bytes_fed k steps ++ rest) second.read ∙ sym (append_assoc (bytes_fed k steps) (bytes_fed k later) after.unread)
-      ∙ ap (λ (bytes : List ℕ). bytes ++ after.unread) (sym (bytes_of-append k steps later));
-  at_end = λ ended. elim (or_cases (has_end k steps) (has_end k later) (sym (has_end-append k steps later) ∙ ended)) [
-    | inl e ↦ nothing_left (bytes_fed k later) after.unread (sym second.read ∙ first.at_end e)
-    | inr e ↦ second.at_end e
-  ];
-  written = second.written ∙ ap (λ (bytes : List ℕ). bytes ++ more) first.written ∙ append_assoc before.written sent more;
-}
+  pub streamed_elsewhere : (k : ℕ) (steps : List StepData) (stream : S) → AreElsewhere k steps → IsStreamed N k steps [] [] [] stream stream
+  streamed_elsewhere k steps stream others = streamed_none k steps stream (bytes_elsewhere k steps others)
+
+  -- what was dropped of both
+  pub streamed_on : (k : ℕ) (steps later : List StepData) (lost sent more : List ℕ) (calls further : List StreamCall) (before mid after : S)
+      → IsStreamed N k steps [] sent calls before mid → IsStreamed N k later lost more further mid after
+      → IsStreamed N k (steps ++ later) lost (sent ++ more) (calls ++ further) before after
+  streamed_on k steps later lost sent more calls further before mid after first second = record {
+    did = N.calls.more_called before mid after calls further first.did second.did;
+    read = bytes_read-append calls further
+        ∙ ap (λ (front : List ℕ). front ++ bytes_read further) (first.read ∙ append-nil (bytes_fed k steps))
+        ∙ ap (λ (rest : List ℕ). bytes_fed k steps ++ rest) second.read
+        ∙ sym (append_assoc (bytes_fed k steps) (bytes_fed k later) lost)
+        ∙ ap (λ (bytes : List ℕ). bytes ++ lost) (sym (bytes_of-append k steps later));
+    dropped = first.dropped ++ second.dropped;
+    written = elim (cases_Bool (N.closed mid)) [
+      | inl e ↦
+          let none = nothing_sent (N.closed mid) further e second.whole in
+          ap (λ (front : List ℕ). front ++ more) first.written
+          ∙ ap (λ (rest : List ℕ). (bytes_sent calls ++ first.dropped) ++ rest) (second.written ∙ ap (λ (front : List ℕ). front ++ second.dropped) none)
+          ∙ append_assoc (bytes_sent calls) first.dropped second.dropped
+          ∙ ap (λ (front : List ℕ). front ++ (first.dropped ++ second.dropped)) (sym (bytes_sent-append calls further ∙ ap (λ (rest : List ℕ). bytes_sent calls ++ rest) none ∙ append-nil (bytes_sent calls)))
+      | inr e ↦
+          let none = first.none_dropped e in
+          ap (λ (front : List ℕ). front ++ more) (first.written ∙ ap (λ (rest : List ℕ). bytes_sent calls ++ rest) none ∙ append-nil (bytes_sent calls))
+          ∙ ap (λ (rest : List ℕ). bytes_sent calls ++ rest) second.written
+          ∙ sym (append_assoc (bytes_sent calls) (bytes_sent further) second.dropped)
+          ∙ ap (λ (front : List ℕ). front ++ second.dropped) (sym (bytes_sent-append calls further))
+          ∙ ap (λ (front : List ℕ). bytes_sent (calls ++ further) ++ (front ++ second.dropped)) (sym none)
+    ];
+    none_dropped = λ now.
+        let open_mid = open_before (N.closed mid) (has_failed_write further) (N.closed after) (N.closed_by_calls mid after further second.did) now in
+        ap (λ (front : List ℕ). front ++ second.dropped) (first.none_dropped open_mid) ∙ second.none_dropped now;
+    whole = whole-append (N.closed before) calls further first.whole (subst (λ (now : Bool). AreWrittenWhole now further) (N.closed_by_calls before mid calls first.did) second.whole);
+  }

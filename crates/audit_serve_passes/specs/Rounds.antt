@@ -1,7 +1,8 @@
--- Passes: in turn, each session that is live has one step, and then comes a flush.
-use Rattle.std.specs.Prelude.{◌≡◌, ◌≢◌, ℕ, zero, suc, ◌≤◌, Bool, if◌then◌else◌, List, [], ◌∷◌, ◌++◌, length, map}
+-- Passes: in turn, each live session has one step, and then comes a flush.
+use Rattle.std.specs.Prelude.{◌≡◌, ◌≢◌, ◌⊎◌, ℕ, zero, suc, ◌≤◌, Bool, true, if◌then◌else◌, List, [], ◌∷◌, ◌++◌}
+use Rattle.std.specs.Prelude.{length, map}
 use Rattle.audit_serve_passes.specs.declared.limits.TheConstants.{MAX_PIECE, MAX_TURNS}
-use Rattle.audit_serve_passes.specs.Steps.{StepData, a_piece, an_end, a_flush}
+use Rattle.audit_serve_passes.specs.Steps.{StepData, a_piece, an_end, a_flush, IsPartOf}
 
 -- the sessions below a number that have not ended, in rising order
 abbrev pub live_below : ℕ → (ℕ → Bool) → List ℕ
@@ -21,30 +22,95 @@ AreVisits [] (step ∷ steps) = ⊥
 AreVisits (k ∷ sessions) [] = ⊥
 AreVisits (k ∷ sessions) (step ∷ steps) = IsVisit k step × AreVisits sessions steps
 
--- a visit of each live session below a number, and then a flush
-pub record IsPass (count : ℕ) (ended : ℕ → Bool) (steps : List StepData) : Type 0 where
-  pub turns : List StepData
-  pub are : steps ≡ turns ++ a_flush ∷ []
-  pub each : AreVisits (live_below count ended) turns
+-- these sessions have streams of which a write failed
+abbrev pub AreClosed : (ℕ → Bool) → List ℕ → Type 0
+AreClosed closed [] = Unit {0}
+AreClosed closed (k ∷ sessions) = (closed k ≡ true) × AreClosed closed sessions
 
--- so many passes, each from the sessions that the steps before it left live, and of one at least
-abbrev pub ArePasses : ℕ → (List StepData → ℕ → Bool) → ℕ → List StepData → Type 0
-ArePasses count ended zero steps = steps ≡ []
-ArePasses count ended (suc turns) steps =
+-- the ends of sessions of whose streams a write failed
+pub record AreEndsOfClosed (closed : ℕ → Bool) (steps : List StepData) : Type 0 where
+  pub sessions : List ℕ
+  pub are : steps ≡ map an_end sessions
+  pub each : AreClosed closed sessions
+
+-- a flush, and the ends of sessions to which its replies couldn't be written
+pub record IsFlushAndEnds (closed : ℕ → Bool) (steps : List StepData) : Type 0 where
+  pub ends : List StepData
+  pub are : steps ≡ a_flush ∷ ends
+  pub each : AreEndsOfClosed closed ends
+
+-- a visit of each live session below a number, and then a flush
+pub record IsPass (count : ℕ) (ended closed : ℕ → Bool) (steps : List StepData) : Type 0 where
+  pub turns : List StepData
+  pub last : List StepData
+  pub are : steps ≡ turns ++ last
+  pub each : AreVisits (live_below count ended) turns
+  pub flush : IsFlushAndEnds closed last
+
+-- this many passes, each of the sessions that the steps before it left live, one at least
+abbrev pub ArePasses : ℕ → (List StepData → ℕ → Bool) → (ℕ → Bool) → ℕ → List StepData → Type 0
+ArePasses count ended closed zero steps = steps ≡ []
+ArePasses count ended closed (suc turns) steps =
     (earlier : List StepData) × (round : List StepData) × (steps ≡ earlier ++ round)
-    × ArePasses count ended turns earlier
-    × (live_below count (ended earlier) ≢ []) × IsPass count (ended earlier) round
+    × ArePasses count ended closed turns earlier
+    × (live_below count (ended earlier) ≢ []) × IsPass count (ended earlier) closed round
+
+-- what comes after the passes: the end of each session that is live, and one flush more
+pub record IsLastFlush (count : ℕ) (ended closed : ℕ → Bool) (steps : List StepData) : Type 0 where
+  pub last : List StepData
+  pub are : steps ≡ map an_end (live_below count ended) ++ last
+  pub flush : IsFlushAndEnds closed last
 
 -- passes up to the end of the last session, and one flush more
-pub record IsWholeRun (count : ℕ) (ended : List StepData → ℕ → Bool) (turns : ℕ) (steps : List StepData) : Type 0 where
+pub record IsWholeRun (count : ℕ) (ended : List StepData → ℕ → Bool) (closed : ℕ → Bool) (turns : ℕ)
+    (steps : List StepData) : Type 0 where
   pub rounds : List StepData
-  pub are : steps ≡ rounds ++ a_flush ∷ []
-  pub each : ArePasses count ended turns rounds
+  pub last : List StepData
+  pub are : steps ≡ rounds ++ last
+  pub each : ArePasses count ended closed turns rounds
   pub all_ended : live_below count (ended rounds) ≡ []
+  pub flush : IsFlushAndEnds closed last
 
 -- as many passes as may be, after which sessions are live: the end of each of them, and one flush more
-pub record IsCutRun (count : ℕ) (ended : List StepData → ℕ → Bool) (steps : List StepData) : Type 0 where
+pub record IsCutRun (count : ℕ) (ended : List StepData → ℕ → Bool) (closed : ℕ → Bool)
+    (steps : List StepData) : Type 0 where
   pub rounds : List StepData
-  pub are : steps ≡ rounds ++ (map an_end (live_below count (ended rounds)) ++ a_flush ∷ [])
-  pub each : ArePasses count ended MAX_TURNS rounds
+  pub last : List StepData
+  pub are : steps ≡ rounds ++ last
+  pub each : ArePasses count ended closed MAX_TURNS rounds
   pub live : live_below count (ended rounds) ≢ []
+  pub ends : IsLastFlush count (ended rounds) closed last
+
+-- ---- steps of which the last was refused
+
+-- steps of a shape up to one that was refused, and a part of that one
+pub record IsInterrupted (Shape : List StepData → Type 0) (steps : List StepData) : Type 0 where
+  pub front : List StepData
+  pub step : StepData
+  pub part : List StepData
+  pub later : List StepData
+  pub are : steps ≡ front ++ part
+  pub of : IsPartOf step part
+  pub shape : Shape (front ++ step ∷ later)
+
+-- so many passes were begun, and in the last of them a step was refused
+pub record IsStoppedInPass (count : ℕ) (ended : List StepData → ℕ → Bool) (closed : ℕ → Bool) (turns : ℕ)
+    (steps : List StepData) : Type 0 where
+  pub earlier : List StepData
+  pub last : List StepData
+  pub are : steps ≡ earlier ++ last
+  pub whole : ℕ
+  pub begun : turns ≡ suc whole
+  pub each : ArePasses count ended closed whole earlier
+  pub live : live_below count (ended earlier) ≢ []
+  pub pass : IsInterrupted (IsPass count (ended earlier) closed) last
+
+-- so many passes were made, all that there had to be or as many as may be, and a step after them was refused
+pub record IsStoppedAfter (count : ℕ) (ended : List StepData → ℕ → Bool) (closed : ℕ → Bool) (turns : ℕ)
+    (steps : List StepData) : Type 0 where
+  pub rounds : List StepData
+  pub last : List StepData
+  pub are : steps ≡ rounds ++ last
+  pub each : ArePasses count ended closed turns rounds
+  pub over : (live_below count (ended rounds) ≡ []) ⊎ (turns ≡ MAX_TURNS)
+  pub ends : IsInterrupted (IsLastFlush count (ended rounds) closed) last

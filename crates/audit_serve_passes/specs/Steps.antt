@@ -1,5 +1,5 @@
 -- The steps of a core that serves sessions, and what they bring of the stream of one session.
-use Rattle.std.specs.Prelude.{◌≡◌, ◌⊎◌, ℕ, Bool, false, ◌||◌, ◌==◌, if◌then◌else◌, List, [], ◌∷◌, ◌++◌}
+use Rattle.std.specs.Prelude.{◌≡◌, ◌⊎◌, ℕ, ◌+◌, Bool, false, ◌||◌, ◌==◌, if◌then◌else◌, List, [], ◌∷◌, ◌++◌}
 
 pub data StepData : Type 0 where
   -- the next bytes of a session
@@ -45,3 +45,13 @@ is_end k a_flush = false
 abbrev pub has_end : ℕ → List StepData → Bool
 has_end k [] = false
 has_end k (step ∷ steps) = is_end k step || has_end k steps
+
+-- how often a session ends by a step, and by steps in turn
+abbrev pub ends_in_step : ℕ → StepData → ℕ
+ends_in_step k (a_piece session piece) = 0
+ends_in_step k (an_end session) = if session == k then 1 else 0
+ends_in_step k a_flush = 0
+
+abbrev pub ends_in : ℕ → List StepData → ℕ
+ends_in k [] = 0
+ends_in k (step ∷ steps) = ends_in_step k step + ends_in k steps

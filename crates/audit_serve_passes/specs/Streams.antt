@@ -1,60 +1,110 @@
--- What is known of the stream of a session, and what the calls of a stream do.
-use Rattle.std.specs.Prelude.{◌≡◌, ℕ, ◌≤◌, Bool, true, false, List, [], ◌++◌, length, take, slice_index_or, Result}
-use Rattle.std.specs.Prelude.{IsOk, IfOk, OnOk}
+-- The calls of the stream of a session, and what they have to do with the steps of its core.
+use Rattle.std.specs.Prelude.{◌≡◌, ℕ, ◌+◌, Bool, true, false, ◌||◌, ◌==◌, if◌then◌else◌, List, [], ◌∷◌, ◌++◌, take}
+use Rattle.std.specs.Prelude.{Result, Ok, Err}
 use Rattle.audit_serve_passes.specs.declared.stream_fault.StreamError.{StreamError}
-use Rattle.audit_serve_passes.specs.Steps.{StepData, bytes_fed, has_end}
+use Rattle.audit_serve_passes.specs.Steps.{StepData, bytes_fed}
 
-pub record StreamView : Type 0 where
-  -- the bytes that reads will give from here on, up to the end of the stream
-  pub unread : List ℕ
-  -- the bytes that were written
-  pub written : List ℕ
-  -- the two lists are those of the stream
-  pub known : Bool
-  -- a call has failed
-  pub failed : Bool
+pub data StreamCall : Type 0 where
+  -- a read gave these bytes: none only at the end of the stream
+  a_read : List ℕ → StreamCall
+  -- a read failed
+  a_failed_read : StreamCall
+  -- all of these bytes were written
+  a_write : List ℕ → StreamCall
+  -- a write of these bytes failed: some of them may be written
+  a_failed_write : List ℕ → StreamCall
 
--- a read gave the first bytes that were unread into a buffer, and none only at the end
-pub record HasRead (old new : StreamView) (count : ℕ) (buffer : List ℕ) : Type 0 where
-  pub known : new.known ≡ true
-  pub bytes : old.unread ≡ take count buffer ++ new.unread
-  pub at_end : count ≡ 0 → new.unread ≡ []
-  pub written : new.written ≡ old.written
+-- the call that had this result
+abbrev pub read_call : Result ℕ StreamError → List ℕ → StreamCall
+read_call (Ok count) buffer = a_read (take count buffer)
+read_call (Err fault) buffer = a_failed_read
 
--- all of these bytes were written
-pub record HasWritten (old new : StreamView) (bytes : List ℕ) : Type 0 where
-  pub known : new.known ≡ true
-  pub written : new.written ≡ old.written ++ bytes
-  pub unread : new.unread ≡ old.unread
+abbrev pub write_call : Result (Unit {0}) StreamError → List ℕ → StreamCall
+write_call (Ok unit) bytes = a_write bytes
+write_call (Err fault) bytes = a_failed_write bytes
 
--- what a read does
-pub record IsStreamRead (old new : StreamView) (buffer : List ℕ) (result : Result ℕ StreamError) : Type 0 where
-  pub within : IfOk result (λ count. count ≤ length buffer)
-  pub calm : new.failed ≡ false → IsOk result × (old.failed ≡ false)
-  pub when_known : old.known ≡ true → IfOk result (λ count. HasRead old new count buffer)
+-- the bytes that a call gave, and calls in turn: a failed one gives none
+abbrev pub bytes_given : StreamCall → List ℕ
+bytes_given (a_read bytes) = bytes
+bytes_given a_failed_read = []
+bytes_given (a_write bytes) = []
+bytes_given (a_failed_write bytes) = []
 
--- what a write does
-pub record IsStreamWrite (old new : StreamView) (bytes : List ℕ) (result : Result Unit StreamError) : Type 0 where
-  pub calm : new.failed ≡ false → IsOk result × (old.failed ≡ false)
-  pub when_known : old.known ≡ true → OnOk result (HasWritten old new bytes)
+abbrev pub bytes_read : List StreamCall → List ℕ
+bytes_read [] = []
+bytes_read (call ∷ calls) = bytes_given call ++ bytes_read calls
 
--- ---- several streams
+-- the bytes that a call had to write, and calls in turn
+abbrev pub bytes_asked : StreamCall → List ℕ
+bytes_asked (a_read bytes) = []
+bytes_asked a_failed_read = []
+bytes_asked (a_write bytes) = bytes
+bytes_asked (a_failed_write bytes) = bytes
 
--- where there is no stream
-abbrev pub no_stream : StreamView
-no_stream = record { unread = []; written = []; known = true; failed = false }
+abbrev pub bytes_sent : List StreamCall → List ℕ
+bytes_sent [] = []
+bytes_sent (call ∷ calls) = bytes_asked call ++ bytes_sent calls
 
-abbrev pub view_at : ℕ → List StreamView → StreamView
-view_at k views = slice_index_or views k no_stream
+-- a write failed
+abbrev pub is_failed_write : StreamCall → Bool
+is_failed_write (a_read bytes) = false
+is_failed_write a_failed_read = false
+is_failed_write (a_write bytes) = false
+is_failed_write (a_failed_write bytes) = true
 
-abbrev pub NoneFailed : List StreamView → Type 0
-NoneFailed views = (k : ℕ) → (view_at k views).failed ≡ false
+abbrev pub has_failed_write : List StreamCall → Bool
+has_failed_write [] = false
+has_failed_write (call ∷ calls) = is_failed_write call || has_failed_write calls
+
+-- how often calls end a session: a read at the end of the stream does, and a call that failed
+abbrev pub ends_of_call : StreamCall → ℕ
+ends_of_call (a_read []) = 1
+ends_of_call (a_read (byte ∷ bytes)) = 0
+ends_of_call a_failed_read = 1
+ends_of_call (a_write bytes) = 0
+ends_of_call (a_failed_write bytes) = 1
+
+abbrev pub ends_of_calls : List StreamCall → ℕ
+ends_of_calls [] = 0
+ends_of_calls (call ∷ calls) = ends_of_call call + ends_of_calls calls
+
+-- nothing is written after a write that failed
+abbrev pub AreWrittenWhole : Bool → List StreamCall → Type 0
+AreWrittenWhole closed [] = Unit {0}
+AreWrittenWhole closed (a_read bytes ∷ calls) = AreWrittenWhole closed calls
+AreWrittenWhole closed (a_failed_read ∷ calls) = AreWrittenWhole closed calls
+AreWrittenWhole closed (a_write bytes ∷ calls) = (closed ≡ false) × AreWrittenWhole closed calls
+AreWrittenWhole closed (a_failed_write bytes ∷ calls) = (closed ≡ false) × AreWrittenWhole true calls
+
+-- How contracts see a value that reads and writes.
+pub record CallModel (S : Type 0) : Type 1 where
+  -- it came from one state to another by these calls
+  pub DidCalls : S → S → List StreamCall → Type 0
+  pub nothing_called : (stream : S) → DidCalls stream stream []
+  pub more_called : (old mid new : S) (calls later : List StreamCall) → DidCalls old mid calls
+      → DidCalls mid new later → DidCalls old new (calls ++ later)
+
+-- How contracts see a stream.
+pub record StreamModel (S : Type 0) : Type 1 where
+  pub calls : CallModel S
+  -- a write has failed
+  pub closed : S → Bool
+  pub closed_by_calls : (old new : S) (done : List StreamCall) → calls.DidCalls old new done
+      → closed new ≡ (closed old || has_failed_write done)
 
 -- ---- streams and steps
 
--- Of the stream of a session the steps brought what was read, all of it where they have its end; and these bytes were
--- written to it.
-pub record IsStreamed (k : ℕ) (steps : List StepData) (sent : List ℕ) (before after : StreamView) : Type 0 where
-  pub read : before.unread ≡ bytes_fed k steps ++ after.unread
-  pub at_end : has_end k steps ≡ true → after.unread ≡ []
-  pub written : after.written ≡ before.written ++ sent
+-- the calls of one stream, and none of the others
+abbrev pub calls_for : ℕ → List StreamCall → ℕ → List StreamCall
+calls_for k calls session = if session == k then calls else []
+
+-- By these calls the stream of a session gave the bytes that the steps bring, and those that were lost; and took what
+-- was sent, or dropped it once a write had failed.
+pub record IsStreamed {S : Type 0} (N : StreamModel S) (k : ℕ) (steps : List StepData) (lost sent : List ℕ)
+    (calls : List StreamCall) (before after : S) : Type 0 where
+  pub did : N.calls.DidCalls before after calls
+  pub read : bytes_read calls ≡ bytes_fed k steps ++ lost
+  pub dropped : List ℕ
+  pub written : sent ≡ bytes_sent calls ++ dropped
+  pub none_dropped : N.closed after ≡ false → dropped ≡ []
+  pub whole : AreWrittenWhole (N.closed before) calls

@@ -1,36 +1,47 @@
 -- What a call does that serves the sessions of several streams.
-use Rattle.std.specs.Prelude.{◌≡◌, ℕ, ◌<◌, ◌≤◌, Bool, true, false, List, [], ◌∷◌, ◌++◌, length, map}
+use Rattle.std.specs.Prelude.{◌≡◌, ◌⊎◌, ℕ, ◌<◌, ◌≤◌, Bool, true, false, List, [], ◌∷◌, length, map, slice_index_or}
 use Rattle.audit_serve_passes.specs.declared.limits.TheConstants.{MAX_PIECE}
-use Rattle.audit_serve_passes.specs.Steps.{StepData, an_end, a_flush, IsAbout, AreAbout, bytes_fed}
-use Rattle.audit_serve_passes.specs.Rounds.{live_below, IsVisit, AreVisits, IsWholeRun, IsCutRun}
-use Rattle.audit_serve_passes.specs.Streams.{StreamView, view_at, NoneFailed, IsStreamed}
+use Rattle.audit_serve_passes.specs.Steps.{StepData, an_end, IsAbout, AreAbout, bytes_fed, ends_in}
+use Rattle.audit_serve_passes.specs.Rounds.{live_below, IsVisit, AreVisits, AreEndsOfClosed, IsFlushAndEnds}
+use Rattle.audit_serve_passes.specs.Rounds.{IsWholeRun, IsCutRun, IsStoppedInPass, IsStoppedAfter}
+use Rattle.audit_serve_passes.specs.Streams.{StreamCall, StreamModel, IsStreamed, calls_for, ends_of_calls}
+use Rattle.audit_serve_passes.specs.Streams.{has_failed_write}
 use Rattle.audit_serve_passes.specs.Core.{CoreModel, bytes_for}
 
--- The core did some steps, of a shape where no stream failed. Of each stream that was known and didn't fail, they
--- brought what was read, and what was taken of the session's output was written to it.
-pub record Transition {C : Type 0} (M : CoreModel C) (old new : C) (before after : List StreamView)
-    (Shape : List StepData → Type 0) : Type 0 where
+-- whether a write failed to the stream of a session, and to none
+abbrev pub closed_by : (ℕ → List StreamCall) → ℕ → Bool
+closed_by calls k = has_failed_write (calls k)
+
+abbrev pub NoneClosed : (ℕ → List StreamCall) → Type 0
+NoneClosed calls = (k : ℕ) → closed_by calls k ≡ false
+
+-- The core did steps of a shape, and each stream had its calls: they gave what the steps bring, took what was taken of
+-- the session's output, and ended the session as often as the steps do.
+pub record Transition {C S : Type 0} (M : CoreModel C) (N : StreamModel S) (old new : C) (before after : List S)
+    (Shape : (ℕ → List StreamCall) → List StepData → Type 0) : Type 0 where
   pub count : length after ≡ length before
   pub steps : List StepData
   pub taken : ℕ → List ℕ
+  pub calls : ℕ → List StreamCall
   pub did : M.DidSteps old new steps taken
   -- nothing was taken of the output of a session that has no stream
   pub others : (k : ℕ) → length before ≤ k → taken k ≡ []
-  pub calm : NoneFailed after → Shape steps
-  -- a stream that has not failed now hadn't before
-  pub sound : (k : ℕ) → (view_at k after).failed ≡ false → (view_at k before).failed ≡ false
-  pub known : (k : ℕ) → k < length before → (view_at k before).known ≡ true → (view_at k after).failed ≡ false
-      → ((view_at k after).known ≡ true) × IsStreamed k steps (taken k) (view_at k before) (view_at k after)
+  pub shape : Shape calls steps
+  pub streamed : (k : ℕ) (none : S) → k < length before → IsStreamed N k steps [] (taken k) (calls k)
+      (slice_index_or before k none) (slice_index_or after k none)
+  pub ends : (k : ℕ) → k < length before → ends_in k steps ≡ ends_of_calls (calls k)
 
 -- The same of one session and its stream.
-pub record SessionTransition {C : Type 0} (M : CoreModel C) (k : ℕ) (old new : C) (before after : StreamView)
-    (Shape : List StepData → Type 0) : Type 0 where
+pub record SessionTransition {C S : Type 0} (M : CoreModel C) (N : StreamModel S) (k : ℕ) (old new : C)
+    (before after : S) (Shape : (ℕ → List StreamCall) → List StepData → Type 0) : Type 0 where
   pub steps : List StepData
   pub sent : List ℕ
+  pub calls : List StreamCall
   pub did : M.DidSteps old new steps (bytes_for k sent)
   pub about : AreAbout k steps
-  pub calm : after.failed ≡ false → (before.failed ≡ false) × Shape steps
-  pub known : before.known ≡ true → after.failed ≡ false → (after.known ≡ true) × IsStreamed k steps sent before after
+  pub shape : Shape (calls_for k calls) steps
+  pub streamed : IsStreamed N k steps [] sent calls before after
+  pub ends : ends_in k steps ≡ ends_of_calls calls
 
 -- The core did some steps of a shape, and no stream was used.
 pub record CoreTransition {C : Type 0} (M : CoreModel C) (old new : C) (Shape : List StepData → Type 0) : Type 0 where
@@ -40,31 +51,30 @@ pub record CoreTransition {C : Type 0} (M : CoreModel C) (old new : C) (Shape : 
   pub none : (k : ℕ) → taken k ≡ []
   pub shape : Shape steps
 
--- The core did some steps, of a shape where no stream failed.
-pub record EndsAs {C : Type 0} (M : CoreModel C) (old new : C) (before after : List StreamView)
-    (Shape : List StepData → Type 0) : Type 0 where
+-- The same, but sessions may have been ended whose streams weren't at an end.
+pub record EndsAs {C S : Type 0} (M : CoreModel C) (N : StreamModel S) (old new : C) (before after : List S)
+    (Shape : (ℕ → List StreamCall) → List StepData → Type 0) : Type 0 where
   pub count : length after ≡ length before
   pub steps : List StepData
   pub taken : ℕ → List ℕ
+  pub calls : ℕ → List StreamCall
   pub did : M.DidSteps old new steps taken
   -- nothing was taken of the output of a session that has no stream
   pub others : (k : ℕ) → length before ≤ k → taken k ≡ []
-  pub calm : NoneFailed after → NoneFailed before × Shape steps
+  pub shape : Shape calls steps
+  pub streamed : (k : ℕ) (none : S) → k < length before → IsStreamed N k steps [] (taken k) (calls k)
+      (slice_index_or before k none) (slice_index_or after k none)
 
 -- ---- calls of which the last may have been refused
 
--- Of the stream of a session the steps brought what was read, but for its last bytes, which were lost; and these bytes
--- were written to it.
-pub record IsReadOf (k : ℕ) (steps : List StepData) (lost sent : List ℕ) (before after : StreamView) : Type 0 where
-  pub read : before.unread ≡ bytes_fed k steps ++ (lost ++ after.unread)
-  pub written : after.written ≡ before.written ++ sent
-
--- The core went by some steps. Of each stream that was known and didn't fail, they brought what was read, and what was
--- taken of the session's output was written to it. Of one session at most a piece was read that a refused call lost.
-pub record Reached {C : Type 0} (M : CoreModel C) (old new : C) (before after : List StreamView) : Type 0 where
+-- The core went by steps of a shape, and each stream had its calls. Of one session at most a piece was read that a
+-- refused call lost.
+pub record Reached {C S : Type 0} (M : CoreModel C) (N : StreamModel S) (old new : C) (before after : List S)
+    (Shape : (ℕ → List StreamCall) → List StepData → Type 0) : Type 0 where
   pub count : length after ≡ length before
   pub steps : List StepData
   pub taken : ℕ → List ℕ
+  pub calls : ℕ → List StreamCall
   pub reaches : M.DidStepsInPart old new steps taken
   -- nothing was taken of the output of a session that has no stream
   pub others : (k : ℕ) → length before ≤ k → taken k ≡ []
@@ -72,21 +82,23 @@ pub record Reached {C : Type 0} (M : CoreModel C) (old new : C) (before after : 
   pub refused : ℕ
   pub lost : List ℕ
   pub most : length lost ≤ MAX_PIECE
-  pub sound : (k : ℕ) → (view_at k after).failed ≡ false → (view_at k before).failed ≡ false
-  pub known : (k : ℕ) → k < length before → (view_at k before).known ≡ true → (view_at k after).failed ≡ false
-      → IsReadOf k steps (bytes_for refused lost k) (taken k) (view_at k before) (view_at k after)
+  pub shape : Shape calls steps
+  pub streamed : (k : ℕ) (none : S) → k < length before
+      → IsStreamed N k steps (bytes_for refused lost k) (taken k) (calls k)
+      (slice_index_or before k none) (slice_index_or after k none)
 
 -- The same of one session and its stream.
-pub record SessionReached {C : Type 0} (M : CoreModel C) (k : ℕ) (old new : C)
-    (before after : StreamView) : Type 0 where
+pub record SessionReached {C S : Type 0} (M : CoreModel C) (N : StreamModel S) (k : ℕ) (old new : C)
+    (before after : S) (Shape : (ℕ → List StreamCall) → List StepData → Type 0) : Type 0 where
   pub steps : List StepData
   pub sent : List ℕ
+  pub calls : List StreamCall
   pub reaches : M.DidStepsInPart old new steps (bytes_for k sent)
   pub about : AreAbout k steps
   pub lost : List ℕ
   pub most : length lost ≤ MAX_PIECE
-  pub calm : after.failed ≡ false → before.failed ≡ false
-  pub known : before.known ≡ true → after.failed ≡ false → IsReadOf k steps lost sent before after
+  pub shape : Shape (calls_for k calls) steps
+  pub streamed : IsStreamed N k steps lost sent calls before after
 
 -- The core went by some steps of a shape, and no stream was used.
 pub record CoreReached {C : Type 0} (M : CoreModel C) (old new : C) (Shape : List StepData → Type 0) : Type 0 where
@@ -94,9 +106,14 @@ pub record CoreReached {C : Type 0} (M : CoreModel C) (old new : C) (Shape : Lis
   pub taken : ℕ → List ℕ
   pub reaches : M.DidStepsInPart old new steps taken
   pub none : (k : ℕ) → taken k ≡ []
+  pub brings : (k : ℕ) → bytes_fed k steps ≡ []
   pub shape : Shape steps
 
 -- ---- shapes
+
+-- any steps
+abbrev pub AnySteps : (ℕ → List StreamCall) → List StepData → Type 0
+AnySteps calls steps = Unit {0}
 
 -- one visit of a session
 abbrev pub IsOneVisit : ℕ → List StepData → Type 0
@@ -106,10 +123,6 @@ IsOneVisit k steps = (step : StepData) × (steps ≡ step ∷ []) × IsVisit k s
 abbrev pub AreElsewhere : ℕ → List StepData → Type 0
 AreElsewhere k [] = Unit {0}
 AreElsewhere k (step ∷ steps) = (IsAbout k step → ⊥) × AreElsewhere k steps
-
--- of no session do steps bring bytes
-abbrev pub BringNothing : List StepData → Type 0
-BringNothing steps = (k : ℕ) → bytes_fed k steps ≡ []
 
 -- a visit of each live session below a number, and no step about another
 pub record AreVisitsBelow (count : ℕ) (ended : ℕ → Bool) (steps : List StepData) : Type 0 where
@@ -125,27 +138,42 @@ pub record AreEndsBelow (count : ℕ) (ended : ℕ → Bool) (steps : List StepD
 abbrev pub AreEmpty : {C : Type 0} → CoreModel C → ℕ → C → Type 0
 AreEmpty M count core = (k : ℕ) → k < count → M.output core k ≡ []
 
--- no step, but the output of a session, or of those below a number, was taken
-pub record IsOutputTaken {C : Type 0} (M : CoreModel C) (k : ℕ) (old new : C) (steps : List StepData) : Type 0 where
-  pub none : steps ≡ []
-  pub empty : M.output new k ≡ []
-  pub others : (other : ℕ) → (other ≡ k → ⊥) → M.output new other ≡ M.output old other
+-- the end of a session of whose stream a write failed
+pub record IsEndOfClosed (k : ℕ) (calls : ℕ → List StreamCall) (steps : List StepData) : Type 0 where
+  pub one : steps ≡ an_end k ∷ []
+  pub closed : closed_by calls k ≡ true
 
-pub record AreTaken {C : Type 0} (M : CoreModel C) (count : ℕ) (new : C) (steps : List StepData) : Type 0 where
-  pub none : steps ≡ []
-  pub empty : AreEmpty M count new
-
--- one flush, after which nothing waits for the sessions below a number
-pub record IsFlushStep {C : Type 0} (M : CoreModel C) (count : ℕ) (new : C) (steps : List StepData) : Type 0 where
-  pub one : steps ≡ a_flush ∷ []
-  pub empty : AreEmpty M count new
-
--- passes up to the end of the last session, or as many as may be, after which nothing waits
-pub record IsServed {C : Type 0} (M : CoreModel C) (count turns : ℕ) (old new : C)
+-- The output of a session was taken. There is no step but its end, where it couldn't be written.
+pub record IsOutputTaken {C : Type 0} (M : CoreModel C) (k : ℕ) (old new : C) (calls : ℕ → List StreamCall)
     (steps : List StepData) : Type 0 where
-  pub run : IsWholeRun count (M.ended old) turns steps
-  pub empty : AreEmpty M count new
+  pub ends : (steps ≡ []) ⊎ IsEndOfClosed k calls steps
+  pub empty : closed_by calls k ≡ false → M.output new k ≡ []
+  pub others : closed_by calls k ≡ false → (other : ℕ) → (other ≡ k → ⊥) → M.output new other ≡ M.output old other
 
-pub record IsCut {C : Type 0} (M : CoreModel C) (count : ℕ) (old new : C) (steps : List StepData) : Type 0 where
-  pub run : IsCutRun count (M.ended old) steps
-  pub empty : AreEmpty M count new
+-- The outputs of the sessions below a number were taken, and unless a write failed nothing waits for them.
+pub record AreTaken {C : Type 0} (M : CoreModel C) (count : ℕ) (new : C) (calls : ℕ → List StreamCall)
+    (steps : List StepData) : Type 0 where
+  pub ends : AreEndsOfClosed (closed_by calls) steps
+  pub empty : NoneClosed calls → AreEmpty M count new
+
+-- one flush, after which, unless a write failed, nothing waits for the sessions below a number
+pub record IsFlushStep {C : Type 0} (M : CoreModel C) (count : ℕ) (new : C) (calls : ℕ → List StreamCall)
+    (steps : List StepData) : Type 0 where
+  pub one : IsFlushAndEnds (closed_by calls) steps
+  pub empty : NoneClosed calls → AreEmpty M count new
+
+-- passes up to the end of the last session, or as many as may be, after which nothing waits unless a write failed
+pub record IsServed {C : Type 0} (M : CoreModel C) (count turns : ℕ) (old new : C) (calls : ℕ → List StreamCall)
+    (steps : List StepData) : Type 0 where
+  pub run : IsWholeRun count (M.ended old) (closed_by calls) turns steps
+  pub empty : NoneClosed calls → AreEmpty M count new
+
+pub record IsCut {C : Type 0} (M : CoreModel C) (count : ℕ) (old new : C) (calls : ℕ → List StreamCall)
+    (steps : List StepData) : Type 0 where
+  pub run : IsCutRun count (M.ended old) (closed_by calls) steps
+  pub empty : NoneClosed calls → AreEmpty M count new
+
+-- passes up to a step that was refused, in the last of them or after it
+abbrev pub IsStoppedBy : {C : Type 0} → CoreModel C → ℕ → ℕ → C → (ℕ → List StreamCall) → List StepData → Type 0
+IsStoppedBy M count turns old calls steps = IsStoppedInPass count (M.ended old) (closed_by calls) turns steps
+    ⊎ IsStoppedAfter count (M.ended old) (closed_by calls) turns steps

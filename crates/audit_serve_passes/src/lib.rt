@@ -5,8 +5,9 @@
 //! sessions is a [`SessionCore`].
 #![tactic(auto)]
 
+mod duplex;
 mod duplex_stream;
-mod health;
+pub mod laws;
 mod limits;
 mod reading;
 mod rounds;
@@ -18,6 +19,7 @@ mod stream_fault;
 mod stream_pair;
 mod writing;
 
+pub use duplex::Duplex;
 pub use duplex_stream::DuplexStream;
 pub use limits::{MAX_PIECE, MAX_TURNS};
 pub use serve_end::{ServeEnd, ServeFault};

@@ -1,6 +1,7 @@
-ghost use Rattle.std.specs.Prelude.{◌≡◌, ◌<◌, ◌≤◌, [], length, map, IfErr, OnOk};
+ghost use Rattle.std.specs.Prelude.{◌≡◌, ◌<◌, ◌≤◌, [], length, IfErr, OnOk, OnErr};
 ghost use Rattle.audit_base.specs.declared.limits.TheConstants.{SESSIONS};
 ghost use Rattle.audit_serve_passes.specs.declared.limits.TheConstants.{MAX_PIECE};
+ghost use Rattle.audit_serve_passes.specs.Rounds.{live_below, AreVisits, IsInterrupted};
 ghost use Rattle.audit_serve_passes.specs.Transition.{Transition, SessionTransition, Reached, SessionReached};
 ghost use Rattle.audit_serve_passes.specs.Transition.{IsOneVisit, AreVisitsBelow};
 
@@ -17,10 +18,11 @@ fn read_turn<C: SessionCore, S: SessionStream>(
     requires session { session < SESSIONS }
     requires room { 0 < length buffer.old }
     requires most { length buffer.old ≤ MAX_PIECE }
-    ensures reaches { SessionReached C.model session core.old core.new (S.view stream.old) (S.view stream.new) }
+    ensures stopped { OnErr result (SessionReached C.model S.model session core.old core.new stream.old stream.new
+        (λ calls. IsInterrupted (IsOneVisit session))) }
     ensures refused { IfErr result (C.refuses core.old core.new) }
-    ensures done { OnOk result (SessionTransition C.model session core.old core.new
-        (S.view stream.old) (S.view stream.new) (IsOneVisit session)) }
+    ensures done { OnOk result (SessionTransition C.model S.model session core.old core.new stream.old stream.new
+        (λ calls. IsOneVisit session)) }
 {
     match stream.read(buffer) {
         Ok(count) if count > 0 => core.feed(session, &buffer[..count]),
@@ -37,10 +39,11 @@ pub fn read_turns<C: SessionCore, S: SessionStream>(
     requires count { length streams.old ≤ SESSIONS }
     requires room { 0 < length buffer.old }
     requires most { length buffer.old ≤ MAX_PIECE }
-    ensures reaches { Reached C.model core.old core.new (map S.view streams.old) (map S.view streams.new) }
+    ensures stopped { OnErr result (Reached C.model S.model core.old core.new streams.old streams.new
+        (λ calls. IsInterrupted (AreVisits (live_below (length streams.old) (C.model.ended core.old []))))) }
     ensures refused { IfErr result (C.refuses core.old core.new) }
-    ensures done { OnOk result (Transition C.model core.old core.new (map S.view streams.old) (map S.view streams.new)
-        (AreVisitsBelow (length streams.old) (C.model.ended core.old []))) }
+    ensures done { OnOk result (Transition C.model S.model core.old core.new streams.old streams.new
+        (λ calls. AreVisitsBelow (length streams.old) (C.model.ended core.old []))) }
 {
     for session in 0..streams.len() {
         if !core.ended(session) {

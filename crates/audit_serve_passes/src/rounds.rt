@@ -1,8 +1,9 @@
-ghost use Rattle.std.specs.Prelude.{◌≡◌, ◌≢◌, ◌<◌, ◌≤◌, ◌+◌, ℕ, [], true, false, length, map, IfErr, OnOk};
+ghost use Rattle.std.specs.Prelude.{◌≡◌, ◌≢◌, ◌<◌, ◌≤◌, ◌+◌, ℕ, [], true, false, length, map, IfErr, OnOk, OnErr};
 ghost use Rattle.audit_base.specs.declared.limits.TheConstants.{SESSIONS};
 ghost use Rattle.audit_serve_passes.specs.declared.limits.TheConstants.{MAX_PIECE, MAX_TURNS};
-ghost use Rattle.audit_serve_passes.specs.Rounds.{live_below, IsPass, ArePasses};
-ghost use Rattle.audit_serve_passes.specs.Transition.{Transition, CoreTransition, Reached, CoreReached, BringNothing};
+ghost use Rattle.audit_serve_passes.specs.Steps.{an_end};
+ghost use Rattle.audit_serve_passes.specs.Rounds.{live_below, IsPass, ArePasses, IsInterrupted, IsStoppedInPass};
+ghost use Rattle.audit_serve_passes.specs.Transition.{Transition, CoreTransition, Reached, CoreReached, closed_by};
 ghost use Rattle.audit_serve_passes.specs.Transition.{AreEndsBelow};
 
 use crate::limits::MAX_TURNS;
@@ -28,7 +29,8 @@ pub fn has_live<C: SessionCore>(core: &C, count: usize) -> bool
 /// Ends each of the first `count` sessions that is still live.
 pub fn end_live<C: SessionCore>(core: &mut C, count: usize) -> Result<(), C::Error>
     requires { count ≤ SESSIONS }
-    ensures reaches { CoreReached C.model core.old core.new BringNothing }
+    ensures stopped { OnErr result (CoreReached C.model core.old core.new
+        (IsInterrupted (λ steps. steps ≡ map an_end (live_below count (C.model.ended core.old []))))) }
     ensures refused { IfErr result (C.refuses core.old core.new) }
     ensures done { OnOk result (CoreTransition C.model core.old core.new
         (AreEndsBelow count (C.model.ended core.old []))) }
@@ -50,10 +52,11 @@ fn serve_round<C: SessionCore, S: SessionStream>(
     requires count { length streams.old ≤ SESSIONS }
     requires room { 0 < length buffer.old }
     requires most { length buffer.old ≤ MAX_PIECE }
-    ensures reaches { Reached C.model core.old core.new (map S.view streams.old) (map S.view streams.new) }
+    ensures stopped { OnErr result (Reached C.model S.model core.old core.new streams.old streams.new
+        (λ calls. IsInterrupted (IsPass (length streams.old) (C.model.ended core.old []) (closed_by calls)))) }
     ensures refused { IfErr result (C.refuses core.old core.new) }
-    ensures done { OnOk result (Transition C.model core.old core.new (map S.view streams.old) (map S.view streams.new)
-        (IsPass (length streams.old) (C.model.ended core.old []))) }
+    ensures done { OnOk result (Transition C.model S.model core.old core.new streams.old streams.new
+        (λ calls. IsPass (length streams.old) (C.model.ended core.old []) (closed_by calls))) }
 {
     read_turns(core, streams, buffer)?;
     flush_and_write(core, streams)
@@ -70,11 +73,12 @@ pub fn serve_passes<C: SessionCore, S: SessionStream>(
     requires room { 0 < length buffer.old }
     requires most { length buffer.old ≤ MAX_PIECE }
     ensures most { turns.new ≤ MAX_TURNS }
-    ensures reaches { Reached C.model core.old core.new (map S.view streams.old) (map S.view streams.new) }
+    ensures stopped { OnErr result (Reached C.model S.model core.old core.new streams.old streams.new
+        (λ calls. IsStoppedInPass (length streams.old) (C.model.ended core.old) (closed_by calls) turns.new)) }
     ensures refused { IfErr result (C.refuses core.old core.new) }
-    ensures done { OnOk result (Transition C.model core.old core.new (map S.view streams.old) (map S.view streams.new)
-        (ArePasses (length streams.old) (C.model.ended core.old) turns.new)) }
-    // Only where there were as many passes as may be are sessions left live.
+    ensures done { OnOk result (Transition C.model S.model core.old core.new streams.old streams.new
+        (λ calls. ArePasses (length streams.old) (C.model.ended core.old) (closed_by calls) turns.new)) }
+    // Sessions are left live only after as many passes as may be.
     ensures all { OnOk result (turns.new < MAX_TURNS
         → live_below (length streams.old) (C.model.ended core.new []) ≡ []) }
 {

@@ -1,8 +1,9 @@
-ghost use Rattle.std.specs.Prelude.{◌≡◌, ◌<◌, ◌≤◌, [], true, false, length, map, IfOk, IfErr, OnOk, None, Some};
+ghost use Rattle.std.specs.Prelude.{◌≡◌, ◌<◌, ◌≤◌, [], true, false, length, IfOk, IfErr, OnOk, OnErr, None, Some};
 ghost use Rattle.audit_base.specs.declared.limits.TheConstants.{SESSIONS};
 ghost use Rattle.audit_serve_passes.specs.declared.limits.TheConstants.{MAX_PIECE, MAX_TURNS};
 ghost use Rattle.audit_serve_passes.specs.declared.serve_end.ServeFault.TheVariants as fault;
-ghost use Rattle.audit_serve_passes.specs.Transition.{Transition, EndsAs, Reached, IsServed, IsCut};
+ghost use Rattle.audit_serve_passes.specs.Transition.{Transition, EndsAs, Reached, IsServed, IsCut, IsStoppedBy};
+ghost use Rattle.audit_serve_passes.specs.Transition.{AnySteps};
 
 use crate::limits::MAX_PIECE;
 use crate::rounds::{end_live, has_live, serve_passes};
@@ -26,19 +27,22 @@ pub fn serve<C: SessionCore, S: SessionStream>(
 ) -> ServeEnd<C::Error>
     requires { length streams.old ≤ SESSIONS }
     ensures most { result.turns ≤ MAX_TURNS }
-    // Whatever happens, the core went by steps and `take_output` alone. Of each stream that reports its bytes and
-    // didn't fail, the steps bring what was read, but for what a refused call lost; and what was taken was written to
-    // it.
-    ensures reaches { Reached C.model core.old core.new (map S.view streams.old) (map S.view streams.new) }
+    // Whatever happens, the core went by steps and `take_output` alone. Of each stream the steps bring what its reads
+    // gave, but for what a refused call lost; and what was taken of a session's output was written to its stream, or
+    // dropped once a write to it had failed.
+    ensures reaches { Reached C.model S.model core.old core.new streams.old streams.new AnySteps }
     // A refusal is the one that ended it: what the core says by it is so.
     ensures refused { (error : C.Error) → result.fault ≡ Some (fault.Core error) → C.refuses core.old core.new error }
-    // Without a fault it did, where no stream failed, whole passes up to the end of the last session, and a flush; and
-    // each stream that reports its bytes and didn't fail was read and written as the steps say.
-    ensures served { result.fault ≡ None → Transition C.model core.old core.new
-        (map S.view streams.old) (map S.view streams.new)
+    // It came in the last pass that was begun, or after all passes.
+    ensures stopped { (error : C.Error) → result.fault ≡ Some (fault.Core error)
+        → Reached C.model S.model core.old core.new streams.old streams.new
+        (IsStoppedBy C.model (length streams.old) result.turns core.old) }
+    // Without a fault there were whole passes up to the end of the last session, and a flush. A session was ended where
+    // a read found the end of its stream, or a call of it failed, and nowhere else.
+    ensures served { result.fault ≡ None → Transition C.model S.model core.old core.new streams.old streams.new
         (IsServed C.model (length streams.old) result.turns core.old core.new) }
     ensures cut { result.fault ≡ Some fault.ReadFault → (result.turns ≡ MAX_TURNS)
-        × EndsAs C.model core.old core.new (map S.view streams.old) (map S.view streams.new)
+        × EndsAs C.model S.model core.old core.new streams.old streams.new
         (IsCut C.model (length streams.old) core.old core.new) }
 {
     let mut turns = 0;
@@ -62,13 +66,13 @@ fn serve_all<C: SessionCore, S: SessionStream>(
     requires room { 0 < length buffer.old }
     requires most { length buffer.old ≤ MAX_PIECE }
     ensures most { turns.new ≤ MAX_TURNS }
-    ensures reaches { Reached C.model core.old core.new (map S.view streams.old) (map S.view streams.new) }
     ensures refused { IfErr result (C.refuses core.old core.new) }
-    ensures served { IfOk result (λ cut. cut ≡ false → Transition C.model core.old core.new
-        (map S.view streams.old) (map S.view streams.new)
-        (IsServed C.model (length streams.old) turns.new core.old core.new)) }
+    ensures stopped { OnErr result (Reached C.model S.model core.old core.new streams.old streams.new
+        (IsStoppedBy C.model (length streams.old) turns.new core.old)) }
+    ensures served { IfOk result (λ cut. cut ≡ false → Transition C.model S.model core.old core.new
+        streams.old streams.new (IsServed C.model (length streams.old) turns.new core.old core.new)) }
     ensures cut { IfOk result (λ cut. cut ≡ true → (turns.new ≡ MAX_TURNS)
-        × EndsAs C.model core.old core.new (map S.view streams.old) (map S.view streams.new)
+        × EndsAs C.model S.model core.old core.new streams.old streams.new
         (IsCut C.model (length streams.old) core.old core.new)) }
 {
     serve_passes(core, streams, buffer, turns)?;

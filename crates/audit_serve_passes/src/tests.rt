@@ -1,7 +1,14 @@
 // What a stream gives and takes is set by each test; the steps that the core is asked for, in order, are the promise.
+ghost use Rattle.std.specs.Prelude.{◌<◌, ◌≤◌, [], ◌∷◌, length, IfOk};
+ghost use Rattle.audit_serve_passes.specs.Streams.{read_call, write_call};
+ghost use Rattle.audit_serve_passes.specs.Pairs.{unknown_calls};
+
 mod recorder;
 
-use crate::{DuplexStream, MAX_TURNS, ServeEnd, ServeFault, SessionCore, StreamPair, serve};
+use crate::{
+    Duplex, DuplexStream, MAX_TURNS, ServeEnd, ServeFault, SessionCore, StreamError, StreamPair,
+    serve,
+};
 use recorder::{Asked, Recorder};
 use std::alloc::{AllocError, Global};
 use std::io::{self, ErrorKind, Read, Write};
@@ -183,26 +190,22 @@ struct Polite {
     replies: usize,
 }
 
-impl Read for Polite {
-    fn read(&mut self, buf: &mut [u8]) -> io::Result<usize> {
+impl Duplex for Polite {
+    ghost calls = { unknown_calls };
+
+    fn receive(&mut self, buffer: &mut [u8]) -> Result<usize, StreamError> {
         if self.replies < self.sent {
-            return Err(io::Error::from(ErrorKind::Other));
+            return Err(StreamError);
         }
         if self.sent >= 2 {
             return Ok(0);
         }
         self.sent += 1;
-        Ok(buf.len().min(1))
-    }
-}
-
-impl Write for Polite {
-    fn write(&mut self, buf: &[u8]) -> io::Result<usize> {
-        self.replies = self.replies.saturating_add(buf.len());
-        Ok(buf.len())
+        Ok(buffer.len().min(1))
     }
 
-    fn flush(&mut self) -> io::Result<()> {
+    fn send(&mut self, bytes: &[u8]) -> Result<(), StreamError> {
+        self.replies = self.replies.saturating_add(bytes.len());
         Ok(())
     }
 }
@@ -242,18 +245,14 @@ fn replies_are_written_in_their_round(rt: HostRuntime) -> Result<(), Fail> {
 #[derive(Drop)]
 struct Endless;
 
-impl Read for Endless {
-    fn read(&mut self, buf: &mut [u8]) -> io::Result<usize> {
-        Ok(buf.len().min(1))
-    }
-}
+impl Duplex for Endless {
+    ghost calls = { unknown_calls };
 
-impl Write for Endless {
-    fn write(&mut self, buf: &[u8]) -> io::Result<usize> {
-        Ok(buf.len())
+    fn receive(&mut self, buffer: &mut [u8]) -> Result<usize, StreamError> {
+        Ok(buffer.len().min(1))
     }
 
-    fn flush(&mut self) -> io::Result<()> {
+    fn send(&mut self, _bytes: &[u8]) -> Result<(), StreamError> {
         Ok(())
     }
 }

@@ -1,7 +1,8 @@
-ghost use Rattle.std.specs.Prelude.{◌≡◌, ◌<◌, ◌≤◌, [], length, map, IfErr, OnOk};
+ghost use Rattle.std.specs.Prelude.{◌≡◌, ◌<◌, ◌≤◌, [], length, IfErr, OnOk, OnErr};
 ghost use Rattle.audit_base.specs.declared.limits.TheConstants.{SESSIONS};
+ghost use Rattle.audit_serve_passes.specs.Rounds.{AreEndsOfClosed, IsFlushAndEnds, IsInterrupted};
 ghost use Rattle.audit_serve_passes.specs.Transition.{Transition, SessionTransition, Reached, SessionReached};
-ghost use Rattle.audit_serve_passes.specs.Transition.{IsOutputTaken, AreTaken, IsFlushStep};
+ghost use Rattle.audit_serve_passes.specs.Transition.{IsOutputTaken, IsEndOfClosed, AreTaken, IsFlushStep, closed_by};
 
 use crate::session_core::SessionCore;
 use crate::session_stream::SessionStream;
@@ -14,10 +15,11 @@ fn write_turn<C: SessionCore, S: SessionStream>(
     stream: &mut S,
 ) -> Result<(), C::Error>
     requires { session < SESSIONS }
-    ensures reaches { SessionReached C.model session core.old core.new (S.view stream.old) (S.view stream.new) }
+    ensures stopped { OnErr result (SessionReached C.model S.model session core.old core.new stream.old stream.new
+        (λ calls. IsInterrupted (IsEndOfClosed session calls))) }
     ensures refused { IfErr result (C.refuses core.old core.new) }
-    ensures done { OnOk result (SessionTransition C.model session core.old core.new
-        (S.view stream.old) (S.view stream.new) (IsOutputTaken C.model session core.old core.new)) }
+    ensures done { OnOk result (SessionTransition C.model S.model session core.old core.new stream.old stream.new
+        (IsOutputTaken C.model session core.old core.new)) }
 {
     let output = core.take_output(session);
     if stream.is_closed() || stream.write_all(&output).is_ok() {
@@ -32,9 +34,10 @@ pub fn write_turns<C: SessionCore, S: SessionStream>(
     streams: &mut [S],
 ) -> Result<(), C::Error>
     requires { length streams.old ≤ SESSIONS }
-    ensures reaches { Reached C.model core.old core.new (map S.view streams.old) (map S.view streams.new) }
+    ensures stopped { OnErr result (Reached C.model S.model core.old core.new streams.old streams.new
+        (λ calls. IsInterrupted (AreEndsOfClosed (closed_by calls)))) }
     ensures refused { IfErr result (C.refuses core.old core.new) }
-    ensures done { OnOk result (Transition C.model core.old core.new (map S.view streams.old) (map S.view streams.new)
+    ensures done { OnOk result (Transition C.model S.model core.old core.new streams.old streams.new
         (AreTaken C.model (length streams.old) core.new)) }
 {
     for session in 0..streams.len() {
@@ -49,9 +52,10 @@ pub fn flush_and_write<C: SessionCore, S: SessionStream>(
     streams: &mut [S],
 ) -> Result<(), C::Error>
     requires { length streams.old ≤ SESSIONS }
-    ensures reaches { Reached C.model core.old core.new (map S.view streams.old) (map S.view streams.new) }
+    ensures stopped { OnErr result (Reached C.model S.model core.old core.new streams.old streams.new
+        (λ calls. IsInterrupted (IsFlushAndEnds (closed_by calls)))) }
     ensures refused { IfErr result (C.refuses core.old core.new) }
-    ensures done { OnOk result (Transition C.model core.old core.new (map S.view streams.old) (map S.view streams.new)
+    ensures done { OnOk result (Transition C.model S.model core.old core.new streams.old streams.new
         (IsFlushStep C.model (length streams.old) core.new)) }
 {
     core.flush()?;

@@ -8,7 +8,8 @@ use Rattle.audit_serve_passes.specs.Steps.{StepData, a_piece, an_end, a_flush, I
 use Rattle.audit_serve_passes.specs.Core.{CoreModel, GoesBy, no_bytes, bytes_for}
 use Rattle.audit_serve_passes.specs.Transition.{CoreTransition, AreElsewhere}
 use Rattle.audit_serve_passes.proofs.StreamSteps.{bytes_of-append, elsewhere-append}
-use Rattle.audit_serve_passes.proofs.Reaching.{end_brings_nothing, flush_brings_nothing}
+use Rattle.audit_serve_passes.proofs.Turns.{end_brings_nothing}
+use Rattle.audit_serve_passes.proofs.Reaching.{flush_brings_nothing}
 use Rattle.audit_serve_sockets.specs.Input.{spelled, SpellsInput, SpellsFirst}
 use Rattle.audit_serve_sockets.specs.Looping.{ArePieces, Brings, BringsFront, BringsLines, IsLinePass, AreLinePasses, LoopTransition, LoopReached}
 use Rattle.audit_serve_sockets.proofs.Inputs.{HasSpelled}

@@ -5,8 +5,10 @@
 mod carrying;
 mod frame_line;
 mod input_line;
+pub mod laws;
 mod limits;
 mod link;
+mod listener;
 mod loop_fault;
 mod looping;
 mod owner_only;
@@ -18,6 +20,7 @@ pub use frame_line::bytes_of_line;
 pub use input_line::next_line;
 pub use limits::MAX_DIGITS;
 pub use link::Link;
+pub use listener::Listener;
 pub use loop_fault::LoopError;
 pub use looping::run_lines;
 pub use replying::write_frames;

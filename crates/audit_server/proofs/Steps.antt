@@ -22,7 +22,7 @@ use Rattle.audit_server.specs.Running.{AddsReplies, IsBrokenByDevice, AdvancesBy
 use Rattle.audit_server.specs.Core.{committer_of, sessions_of, is_core_broken, IsSound, IsCoreUntouched, Refuses, PieceOutcome, EndOutcome, HasDone}
 use Rattle.audit_server.specs.declared.step.Step.{Step}
 use Rattle.audit_server.specs.declared.drive_fault.DriveFault.{DriveFault}
-use Rattle.audit_server.specs.Driving.{step_data, IsStepRefused, IsDriveStopped}
+use Rattle.audit_server.specs.Driving.{step_data, broken_drive, IsStepRefused, IsDriveStopped}
 use Rattle.audit_server.proofs.Sound.{flushed_sound, all_sound}
 use Rattle.audit_server.proofs.Refusals.{failures_of, flushed_counts, all_count}
 use Rattle.audit_server.proofs.Replies.{adds_none, adds_more, flush_adds, all_add, broken_after}
@@ -31,6 +31,9 @@ use Rattle.audit_server.proofs.Runs.{advances_none, advances_more, advances_as}
 
 abbrev refusal_of : FeedFault → Result (Unit {0}) FeedFault
 refusal_of fault = Err fault
+
+abbrev pass_of : Unit {0} → Result (Unit {0}) DriveFault
+pass_of done = Ok done
 
 abbrev stop_of : DriveFault → Result (Unit {0}) DriveFault
 stop_of fault = Err fault
@@ -170,3 +173,14 @@ module _ {D : Type 0} {g : sectors.Ghosts D} where
             ∙ ap (λ (n : ℕ). stop_of (record { step = n; taken = 0; error = Broken })) before.0,
         record { committer = now_refused.1.committer ∙ before.1.committer; sessions = now_refused.1.sessions ∙ before.1.sessions },
       )
+
+  -- of no steps none is refused
+  pub drive_all : {steps : List Step} {number : ℕ} {old now : Core D g} → DoneTo steps number old now → length steps ≤ number → is_core_broken old → (pass_of tt ≡ broken_drive steps) × IsCoreUntouched old now
+  drive_all {steps = []} to past broken = (refl, (to.none broken).1)
+  drive_all {steps = step ∷ later} to past broken = absurd (omega (arith, past, (to.none broken).0))
+
+  -- of some the first
+  pub drive_first : {steps : List Step} {number : ℕ} {old now new : Core D g} (fault : FeedFault) → DoneTo steps number old now → number < length steps → (is_core_broken now → (refusal_of fault ≡ refusal_of (record { taken = 0; error = Broken })) × IsCoreUntouched now new) → is_core_broken old
+      → (stop_of (record { step = number; taken = fault.taken; error = fault.error }) ≡ broken_drive steps) × IsCoreUntouched old new
+  drive_first {steps = []} fault to within refused broken = absurd (omega (arith, within))
+  drive_first {steps = step ∷ later} fault to within refused broken = drive_refused fault to refused broken

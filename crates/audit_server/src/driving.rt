@@ -1,5 +1,5 @@
 //! Steps done in turn.
-ghost use Rattle.std.specs.Prelude.{◌≡◌, ◌≢◌, [], ◌∷◌, Err, OnOk, IfErr, map};
+ghost use Rattle.std.specs.Prelude.{◌≡◌, [], ◌∷◌, Err, OnOk, IfErr, map};
 ghost use Rattle.std.specs.List.{AllByRecursion};
 ghost use Rattle.audit_store.specs.declared.store_error.StoreError.TheVariants.{Broken, Device};
 ghost use Rattle.audit_serve_passes.specs.Core.{no_bytes};
@@ -8,7 +8,7 @@ ghost use Rattle.audit_server.specs.Running.{IsBrokenByDevice};
 ghost use Rattle.audit_server.specs.Core.{committer_of, data_of, is_core_broken, IsSound, IsCoreUntouched, Refuses};
 ghost use Rattle.audit_server.specs.Core.{HasDone};
 ghost use Rattle.audit_server.specs.Driving.{step_data, step_done, steps_done, IsOfSession, IsStepRefused};
-ghost use Rattle.audit_server.specs.Driving.{IsDriveStopped};
+ghost use Rattle.audit_server.specs.Driving.{IsDriveStopped, broken_drive};
 
 use crate::drive_fault::DriveFault;
 use crate::feed_fault::FeedFault;
@@ -19,9 +19,8 @@ use audit_disk_model::Sectors;
 /// Does these steps in turn, and stops at the first one that is refused.
 pub fn drive<D: Sectors>(core: &mut Core<D>, steps: &[Step]) -> Result<(), DriveFault>
     requires { AllByRecursion IsOfSession steps.now }
-    // A core that met a fault of the device before does none.
-    ensures broken { is_core_broken core.old → steps.now ≢ []
-        → (result ≡ Err (record { step = 0; taken = 0; error = Broken })) × IsCoreUntouched core.old core.new }
+    // A core that met a fault of the device before does none, and refuses the first.
+    ensures broken { is_core_broken core.old → (result ≡ broken_drive steps.now) × IsCoreUntouched core.old core.new }
     // Else all steps were done, or those before one that was refused.
     ensures done { IsSound core.old → OnOk result (HasDone (map step_data steps.now) core.old core.new) }
     ensures stopped { IsSound core.old → IfErr result (λ fault. IsDriveStopped steps.now fault core.old core.new) }

@@ -1,9 +1,12 @@
 use Rattle.std.proofs.Common.{◌≡◌, vec_len, vec_capacity}
+use Rattle.std.specs.List.{AllByRecursion}
+use Rattle.audit_cli_serve.specs.Served.{HasArrived}
 use Rattle.audit_cli_serve.proofs.rounds.accept_streams.Given as goal
 
--- one for each connection, with room for all
+-- one for each connection that arrived, with room for all
 abbrev pub invariant-loop : goal.invariant-loop
-invariant-loop l = record {
+invariant-loop g l = record {
   each : vec_len l.streams ≡ l.counter;
   room : vec_capacity l.streams ≡ l.fn.count;
+  accepted : AllByRecursion (HasArrived (g.L.Listener.arrived l.fn.socket)) l.streams.items;
 }

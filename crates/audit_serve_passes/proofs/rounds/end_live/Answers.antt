@@ -1,7 +1,8 @@
 use Rattle.std.proofs.Common.{◌≡◌, ℕ, suc, [], true, false, sym, subst, rules, add-one}
 use Rattle.audit_serve_passes.specs.Transition.{CoreTransition, AreEndsBelow}
 use Rattle.audit_serve_passes.proofs.Runs.{no_ends, end_more, end_skipped}
-use Rattle.audit_serve_passes.proofs.Reaching.{end_refused, ends_reached}
+use Rattle.audit_serve_passes.proofs.Turns.{if_err}
+use Rattle.audit_serve_passes.proofs.Reaching.{end_stops}
 use Rattle.audit_serve_passes.proofs.rounds.end_live.Goals as goal
 use Rattle.audit_serve_passes.proofs.rounds.end_live.Goals.{then-not-ended+in_ok-end, else-not-ended}
 
@@ -24,10 +25,10 @@ loop-session-preserved g c =
           (end_skipped M l.session c.args.core.now l.core l.invariant over)
     ])
 
-pub returns-in_err-end-clause-reaches : goal.returns-in_err-end-clause-reaches
-returns-in_err-end-clause-reaches g c =
+pub returns-in_err-end-clause-stopped : goal.returns-in_err-end-clause-stopped
+returns-in_err-end-clause-stopped g c =
+    let M = g.C.SessionCore.model in
     let l = c.loop-session in
-    end_refused g.C.SessionCore.model l.session c.args.core.now l.core c.end.new.self l.session _ l.invariant c.end.ensures.reaches
-
-pub returns-clause-reaches : goal.returns-clause-reaches
-returns-clause-reaches g c = ends_reached g.C.SessionCore.model c.args.core.now c.loop-session.core _ _ c.loop-session.invariant
+    let live : M.ended l.core [] l.session ≡ false = search rules in
+    if_err c.from_residual.result
+    (end_stops M c.args.count l.session c.args.core.now l.core c.end.new.self l.invariant live (search rules) c.end.ensures.reaches)
