@@ -76,8 +76,8 @@ impl Session {
         self.ended
     }
 
-    /// Takes the next bytes of the session, whose number is `session`. If a frame is refused, all bytes before its
-    /// last one have been taken.
+    /// Takes the next bytes of the session, whose number is `session`. If a request or a malformed place is refused,
+    /// the bytes before the one that completed it have been taken.
     pub(crate) fn feed<D: Sectors>(
         &mut self,
         committer: &mut Committer<D>,
