@@ -26,7 +26,7 @@ pub trait SessionCore {
         ensures did { OnOk result (model.DidSteps self.old self.new (a_piece session piece.now ∷ []) no_bytes) }
         ensures refused { IfErr result (refuses self.old self.new) };
 
-    /// Ends a session, whose stream has ended.
+    /// Ends a session: no more of its bytes follow.
     fn end(&mut self, session: usize) -> Result<(), Self::Error>
         requires { session < SESSIONS }
         ensures reaches { GoesBy model (an_end session) self.old self.new }
