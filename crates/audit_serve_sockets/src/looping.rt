@@ -45,7 +45,7 @@ where
     // If the core refused a step, what its refusal states is true.
     ensures refused { (error : C.Error) → result ≡ Err (fault.Core error) → C.refuses core.old core.new error }
     // On success each line was fed and flushed, one after the other. Then the session was ended, and the replies were
-    // written. If the reader's bytes are known, the lines are all that they spell.
+    // written. If the reader's bytes are known, `lines` is what all their lines spell.
     ensures done { OnOk result ((lines : List (List ℕ)) × LoopTransition C.model core.old core.new
         (W.contents writer.old) (W.contents writer.new) (IsWholeLoop lines)
         × IfSome (R.remaining reader.old) (SpellsInput lines)) }

@@ -7,8 +7,8 @@ use std::os::fd::{AsRawFd, BorrowedFd, OwnedFd};
 use std::os::unix::fs::PermissionsExt;
 use std::os::unix::net::{self as unix, UnixStream};
 
-/// A runtime that creates a socket's file with access for its owner alone, whatever the process's mask. All else is
-/// done by the runtime that it wraps.
+/// A runtime that creates a socket's file with access for its owner alone, from the first moment on and whatever the
+/// process's mask. All else is done by the runtime that it wraps.
 #[derive(Drop)]
 pub(crate) struct OwnerOnly<'a, R> {
     rt: &'a R,
