@@ -34,7 +34,7 @@ where
     // If a core was made, it did steps that feed a prefix of what the first lines spell.
     ensures reached { (result.0 ≡ store) ⊎ LoopReachesOver store result.0 (R.remaining reader.old) }
     // On success each line was fed to a new core over the store and flushed, one after the other. Then the session was
-    // ended, and the replies were written. If the reader's bytes are known, the lines are all that they spell.
+    // ended, and the replies were written. If the reader's bytes are known, `lines` is what all their lines spell.
     ensures done { OnOk result.1 ((lines : List (List ℕ))
         × LoopsOver store result.0 (W.contents writer.old) (W.contents writer.new) (IsWholeLoop lines)
         × IfSome (R.remaining reader.old) (SpellsInput lines)) }
