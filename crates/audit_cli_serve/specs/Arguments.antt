@@ -13,7 +13,7 @@ or_bad (Some rounds) = Ok rounds
 abbrev pub rounds_asked : List ℕ → Result ℕ CommandError
 rounds_asked word = or_bad (number_in_text word)
 
--- a number of sessions that a core can have, and one at least
+-- a number of sessions that a core can have, at least one
 abbrev pub judged_sessions : Option ℕ → Result ℕ CommandError
 judged_sessions None = Err BadArgument
 judged_sessions (Some sessions) = if nat_le 1 sessions && nat_le sessions SESSIONS then Ok sessions else Err BadArgument

@@ -1,4 +1,4 @@
--- How the program ends with each fault of a command that serves sessions, and which fault that is.
+-- The error of a command that serves sessions, and the status with which the program exits after it.
 use Rattle.audit_store.specs.declared.store_error.StoreError.{StoreError}
 use Rattle.audit_serve_passes.specs.declared.serve_end.ServeFault.{ServeFault}
 use Rattle.audit_serve_passes.specs.declared.serve_end.ServeFault.TheVariants as serving
@@ -16,12 +16,12 @@ serving_status (Command fault) = commands.status_of fault
 serving_status (BadFrameLine line) = ends.Refused
 serving_status TooManyPasses = ends.Device
 
--- a refusal of the core is one of its store
+-- a refusal of the core is a refusal of its store
 abbrev pub of_serving : ServeFault StoreError → ServingError
 of_serving (serving.Core error) = Command (Refused error)
 of_serving serving.ReadFault = TooManyPasses
 
--- a connection is a file
+-- a connection error is reported as a file error
 abbrev pub of_loop : LoopError StoreError → ServingError
 of_loop looping.Connection = Command File
 of_loop (looping.Lines fault) = Command (Lines fault)

@@ -24,12 +24,12 @@ use Rattle.audit_cli_store.specs.declared.fault.CommandError.TheVariants.{File, 
 use Rattle.audit_cli_serve.specs.declared.fault.ServingError.{ServingError}
 use Rattle.audit_cli_serve.specs.declared.fault.ServingError.TheVariants.{Command, BadFrameLine, TooManyPasses}
 
--- the line of a round couldn't be made for want of memory, or couldn't be written whole
+-- memory was refused for the line of a round, or the line couldn't be written whole
 abbrev pub IsLineLost : ServingError → Type 0
 IsLineLost fault = (fault ≡ Command (Lines Write)) ⊎ (fault ≡ Command (Lines Memory))
 
 module _ {D : Type 0} {g : sectors.Ghosts D} where
-  -- a core over the store, with nothing that waits and every session at the front of its stream
+  -- a core over the store; nothing waits, and every session is at the start of its stream
   pub record IsNewCore (store : Store D g) (core : Core D g) : Type 0 where
     pub store_is : store_of (committer_of core) ≡ store
     pub waiting : waiting_of (committer_of core) ≡ nothing_waits
@@ -129,7 +129,7 @@ module _ {D : Type 0} {g : sectors.Ghosts D} {T : Type 0} (M : CallModel T) (Arr
   StopsRound sessions old new fault = HasRefused old new fault
       ⊎ (((fault ≡ Command File) × (new ≡ old)) ⊎ ((fault ≡ TooManyPasses) × CutsRound sessions old new))
 
-  -- Rounds were served, and then one stopped for this, or the line of the last one wasn't written.
+  -- Rounds were served. Then one stopped with this error, or the line of the last one wasn't written.
   pub record StopsRounds (sessions : ℕ) (old new : Store D g) (fault : ServingError) : Type 0 where
     pub turns : List ℕ
     pub mid : Store D g

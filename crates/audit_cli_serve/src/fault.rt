@@ -12,19 +12,19 @@ use audit_text::LinesError;
 use std::io;
 use std::io::Write;
 
-/// Why a command that serves sessions wasn't done.
+/// Why a command that serves sessions failed.
 #[derive(Clone, Copy, Debug, PartialEq, Eq)]
 pub enum ServingError {
-    /// As other commands: an argument, a file, the socket, the store or memory.
+    /// An error that other commands have too: an argument, a file, the socket, the store or memory.
     Command(CommandError),
-    /// The line of this number, counted from 1, doesn't spell bytes.
+    /// The line with this number, counted from 1, doesn't spell bytes.
     BadFrameLine(u64),
-    /// Sessions were still live when the limit of turns was reached: refusal number 45.
+    /// The limit of passes was reached while sessions were still live: refusal number 45.
     TooManyPasses,
 }
 
 impl ServingError {
-    /// The status with which the program ends after it.
+    /// Returns the status with which the program exits.
     pub fn status(self) -> Status
         ensures { result ≡ serving_status self }
     {
@@ -35,7 +35,7 @@ impl ServingError {
         }
     }
 
-    /// Prints it in one line, and returns the status with which the program ends. It takes no memory.
+    /// Prints the error in one line, and returns the status with which the program exits. It allocates nothing.
     pub fn report<M: Write>(self, messages: &mut M) -> Status
         ensures { result ≡ serving_status self }
     {
@@ -88,7 +88,7 @@ impl From<io::Error> for ServingError {
     }
 }
 
-/// The fault of a command whose round stopped: a refusal of the core is one of its store.
+/// The error of a command whose round stopped. A refusal of the core is a refusal of its store.
 pub fn fault_of_serving(fault: ServeFault<StoreError>) -> ServingError
     ensures { result ≡ of_serving fault }
 {
@@ -98,14 +98,14 @@ pub fn fault_of_serving(fault: ServeFault<StoreError>) -> ServingError
     }
 }
 
-/// The fault of a command for which memory was refused: for a core, or for its streams.
+/// The error of a command for which memory was refused, for a core or for its streams.
 pub fn no_memory() -> ServingError
     ensures { result ≡ Command (Refused Memory) }
 {
     ServingError::Command(CommandError::Refused(StoreError::Memory))
 }
 
-/// The fault of a command whose session over lines stopped: a connection is a file.
+/// The error of a command whose session over lines stopped. A connection error is reported as a file error.
 pub fn fault_of_loop(fault: LoopError<StoreError>) -> ServingError
     ensures { result ≡ of_loop fault }
 {

@@ -1,4 +1,4 @@
-//! A session over lines, by a core over a store.
+//! A session over lines, served by a core over a store.
 ghost use Rattle.std.specs.Prelude.{◌≡◌, ◌⊎◌, ◌+◌, List, ℕ, length, IfSome, IfErr, OnOk, Err};
 ghost use Rattle.audit_server_model.specs.Serving.{StoreKeepsOn};
 ghost use Rattle.audit_serve_sockets.specs.Input.{SpellsInput, SpellsUpToBad};
@@ -14,8 +14,8 @@ use audit_store::Store;
 use std::alloc::Global;
 use std::io::{BufRead, Read, Write};
 
-/// Serves a session whose bytes come as lines of hex digits, through a connection, by a core over the store, and
-/// writes each frame of its replies as a line. The store is handed back, as the session left it.
+/// Serves a session whose bytes are given as lines of hex digits, through a connection, by a core over the store. Each
+/// frame of the replies is written as a line. The store is returned as the session left it.
 pub fn loop_over<D, A, B, R, W>(
     alloc: Global,
     store: Store<D>,
@@ -29,21 +29,21 @@ where
     B: Read + Write + Drop,
     R: BufRead,
     W: Write,
-    // Whatever happens, a stop at any moment leaves the events that the store held, and so does the end.
+    // A crash at any moment keeps the events that the store held, and so does the store that is returned.
     ensures kept { StoreKeepsOn store result.0 }
-    // A new core over the store, where one was made, went by steps that bring the first of what the first lines spell.
+    // If a core was made, it did steps that feed a prefix of what the first lines spell.
     ensures reached { (result.0 ≡ store) ⊎ LoopReachesOver store result.0 (R.remaining reader.old) }
-    // Without a fault each line was fed to a new core over the store and flushed in turn, then the session was ended;
-    // and the replies were written. Where the reader's bytes are known, these are what all their lines spell.
+    // On success each line was fed to a new core over the store and flushed, one after the other. Then the session was
+    // ended, and the replies were written. If the reader's bytes are known, `lines` is what all their lines spell.
     ensures done { OnOk result.1 ((lines : List (List ℕ))
         × LoopsOver store result.0 (W.contents writer.old) (W.contents writer.new) (IsWholeLoop lines)
         × IfSome (R.remaining reader.old) (SpellsInput lines)) }
-    // A line that spells no bytes comes after the replies to all lines before it.
+    // If a line spells no bytes, the replies to all lines before it were written.
     ensures bad { (number : ℕ) → result.1 ≡ Err (BadFrameLine number)
         → (lines : List (List ℕ)) × (length lines + 1 ≡ number)
         × LoopsOver store result.0 (W.contents writer.old) (W.contents writer.new) (AreLinePasses lines)
         × IfSome (R.remaining reader.old) (SpellsUpToBad lines) }
-    // The fault is what stopped it: of a refusal the store is left as it says.
+    // The error states why serving stopped, and what a refusal states about the store is true.
     ensures fault { IfErr result.1 (StopsLoop store result.0) }
 {
     let mut core = match Core::new(alloc, store) {

@@ -1,4 +1,4 @@
-//! What the program is asked to serve, and serving it.
+//! The requests to serve sessions, and how they are carried out.
 ghost use Rattle.std.specs.Prelude.{◌≤◌};
 ghost use Rattle.audit_base.specs.declared.limits.TheConstants.{SESSIONS};
 
@@ -17,42 +17,42 @@ use std::net::Net;
 use std::os::unix::net::UnixStream;
 use std::time::Duration;
 
-// The random text by which the program knows its own connection, in bytes.
+// The length in bytes of the random text by which the program recognises its own connection.
 const TEXT_LEN: usize = 32;
 
-// How many connections of others are closed before the program gives up.
+// How many connections of other clients are closed before the program gives up.
 const STRANGERS: usize = 64;
 
-/// What the program is asked to serve, with the words of the command line as they were given.
+/// A request to serve sessions, with the words of the command line as they were given.
 #[derive(Clone, Copy, Debug)]
 pub enum Request<'a> {
-    /// Serve rounds of sessions of the store in a file over a socket.
+    /// Serves rounds of sessions of the store in a file over a socket.
     Serve {
-        /// The file.
+        /// The store's file.
         file: &'a str,
         /// The path of the socket's file.
         socket: &'a str,
-        /// How many rounds.
+        /// The number of rounds.
         rounds: &'a str,
-        /// How many sessions each round has: one where there is no word.
+        /// The number of sessions in each round. Without this word it is 1.
         sessions: Option<&'a str>,
-        /// The permissions of the socket's file, in three octal digits: its owner's alone where there is no word.
+        /// The permissions of the socket's file, in three octal digits. Without this word only its owner has access.
         socket_mode: Option<&'a str>,
     },
-    /// Serve a session of the store in a file, whose bytes are the lines of the input, over a socket.
+    /// Serves one session of the store in a file over a socket. The lines of the input are the session's bytes.
     Loop {
-        /// The file.
+        /// The store's file.
         file: &'a str,
         /// The path of the socket's file.
         socket: &'a str,
-        /// The permissions of the socket's file, as above.
+        /// The permissions of the socket's file, as for `Serve`.
         socket_mode: Option<&'a str>,
     },
 }
 
-/// Does what is asked. Lines that begin with `audit: ` go to `messages`, and every other one to `output`, which is
-/// flushed after each round, after the replies to each line, and at the end. It returns the status with which the
-/// program ends.
+/// Carries out a request. Lines that begin with `audit: ` are written to `messages`, all others to `output`. The
+/// output is flushed after each round, after the replies to each line, and at the end. Returns the status with which
+/// the program exits.
 pub fn run<F: Files + Net, R: Read, W: Write, M: Write>(
     rt: &F,
     alloc: Global,
@@ -73,8 +73,8 @@ where
     report_flush(status, flushed, messages)
 }
 
-// The words are judged before the store is opened, and that before the socket's file is made, which is removed in the
-// end.
+// The words are judged before the store is opened, and the store is opened before the socket's file is made. The
+// socket's file is removed at the end.
 fn perform<F: Files + Net, R: Read, W: Write>(
     rt: &F,
     alloc: Global,
@@ -112,7 +112,6 @@ where
     }
 }
 
-// The permissions of a socket that a word asks for.
 fn socket_mode_asked(word: Option<&str>) -> Result<u32, CommandError> {
     match word {
         Some(word) => mode_asked(word),
@@ -155,7 +154,8 @@ where
     F::File: SystemFile,
 {
     let store = open_store(rt, alloc, file)?.content;
-    // Room for the input is taken first: whatever is refused later, the socket's file is removed.
+    // The input's buffer is allocated before the socket's file is made, so that the file is removed whatever is
+    // refused later.
     let Ok(mut reader) = BufReader::new(alloc, input) else {
         return Err(LinesError::Memory.into());
     };
@@ -169,8 +169,8 @@ where
     Ok(removed?)
 }
 
-// The two ends of a connection through the socket. Somebody else may connect first: the other end is the one at which a
-// random text arrives that was sent from this one.
+// Makes both ends of a connection through the socket. Another client may connect first, so the client's end sends a
+// random text, and the server's end is the connection on which it arrives.
 fn connect<F: Files + Net>(
     rt: &F,
     bound: &SocketFile,
@@ -194,7 +194,7 @@ fn random_text<F: Files>(rt: &F) -> io::Result<[u8; TEXT_LEN]> {
     Ok(text)
 }
 
-// Whether this text arrives at a stream before a second has passed.
+// Returns whether this text arrives on a stream within a second.
 fn is_other_end(stream: &mut UnixStream, text: &[u8; TEXT_LEN]) -> io::Result<bool> {
     let mut arrived = [0; TEXT_LEN];
     stream.set_read_timeout(Some(Duration::from_secs(1)))?;

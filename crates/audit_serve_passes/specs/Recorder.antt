@@ -1,11 +1,11 @@
--- For the tests: a core whose sessions end by `end` alone.
+-- For the tests: a core whose sessions end only by `end`.
 use Rattle.std.specs.Prelude.{◌≡◌, ℕ, Bool, true, false, ◌||◌, List, [], ◌∷◌, ◌++◌, slice_index_or}
 use Rattle.std.proofs.Common.{refl, sym, ap, ◌∙◌}
 use Rattle.std.proofs.lemmas.Bool.{ne_eqb}
 use Rattle.audit_serve_passes.specs.Steps.{StepData, a_piece, an_end, a_flush, IsAbout, is_end, has_end}
 use Rattle.audit_serve_passes.specs.Core.{CoreModel}
 
--- which sessions have ended, and what waits for them
+-- which sessions have ended, and the bytes that wait for each
 pub record RecorderData : Type 0 where
   pub ended : List Bool
   pub outputs : List (List ℕ)
@@ -16,7 +16,7 @@ has_ended core k = slice_index_or core.ended k false
 abbrev pub recorded_output : RecorderData → ℕ → List ℕ
 recorded_output core k = slice_index_or core.outputs k []
 
--- the sessions that have ended are those that had, and those of which there is an end among the steps
+-- a session has ended afterwards if it had ended before or the steps contain its end
 abbrev pub EndedBy : RecorderData → RecorderData → List StepData → Type 0
 EndedBy old new steps = (k : ℕ) → has_ended new k ≡ (has_ended old k || has_end k steps)
 
@@ -38,7 +38,7 @@ no_end k (a_piece session piece) other = refl
 no_end k (an_end session) other = ne_eqb session k other
 no_end k a_flush other = refl
 
--- a session had ended, or ends among these steps, or among those after them
+-- a session had ended before, or ends in the first steps or in the later ones
 pub ended_then : (had : Bool) (k : ℕ) (steps later : List StepData)
     → ((had || has_end k steps) || has_end k later) ≡ (had || has_end k (steps ++ later))
 ended_then had k steps later = sym (or_assoc had (has_end k steps) (has_end k later))

@@ -9,7 +9,7 @@ pub data StepData : Type 0 where
   -- what waits is committed and answered
   a_flush : StepData
 
--- a step, and each of several steps, is of session k
+-- a step is about session k, and so is each of several steps
 abbrev pub IsAbout : ℕ → StepData → Type 0
 IsAbout k (a_piece session piece) = session ≡ k
 IsAbout k (an_end session) = session ≡ k
@@ -19,14 +19,14 @@ abbrev pub AreAbout : ℕ → List StepData → Type 0
 AreAbout k [] = Unit {0}
 AreAbout k (step ∷ steps) = IsAbout k step × AreAbout k steps
 
--- what is taken of a step that may be refused: all of it, of a piece its first bytes, or nothing
+-- the part that is done of a step that may be refused: all of it, a prefix of its piece, or nothing
 abbrev pub IsPartOf : StepData → List StepData → Type 0
 IsPartOf (a_piece k piece) part = (part ≡ [])
     ⊎ ((front : List ℕ) × (rest : List ℕ) × (piece ≡ front ++ rest) × (part ≡ a_piece k front ∷ []))
 IsPartOf (an_end k) part = (part ≡ []) ⊎ (part ≡ an_end k ∷ [])
 IsPartOf a_flush part = (part ≡ []) ⊎ (part ≡ a_flush ∷ [])
 
--- the bytes of a session that a step brings, and that steps bring in turn
+-- the bytes that a step feeds to a session, and the bytes that several steps feed to it in order
 abbrev pub bytes_in : ℕ → StepData → List ℕ
 bytes_in k (a_piece session piece) = if session == k then piece else []
 bytes_in k (an_end session) = []
@@ -36,7 +36,7 @@ abbrev pub bytes_fed : ℕ → List StepData → List ℕ
 bytes_fed k [] = []
 bytes_fed k (step ∷ steps) = bytes_in k step ++ bytes_fed k steps
 
--- whether a session ends by a step, and by one of several
+-- whether a step ends a session, and whether one of several steps does
 abbrev pub is_end : ℕ → StepData → Bool
 is_end k (a_piece session piece) = false
 is_end k (an_end session) = session == k

@@ -8,7 +8,7 @@ ghost use Rattle.audit_serve_passes.specs.Transition.{IsOneVisit, AreVisitsBelow
 use crate::session_core::SessionCore;
 use crate::session_stream::SessionStream;
 
-/// One visit of a session: what one read of its stream gave is fed, and its end, or a fault, ends the session.
+/// Visits a session: feeds it what one read of its stream gave. The end of the stream, or a fault, ends the session.
 fn read_turn<C: SessionCore, S: SessionStream>(
     core: &mut C,
     session: usize,
@@ -30,7 +30,7 @@ fn read_turn<C: SessionCore, S: SessionStream>(
     }
 }
 
-/// A visit of each live session, in rising order.
+/// Visits each live session, in rising order.
 pub fn read_turns<C: SessionCore, S: SessionStream>(
     core: &mut C,
     streams: &mut [S],

@@ -12,7 +12,7 @@ use crate::session_core::SessionCore;
 use crate::session_stream::SessionStream;
 use crate::writing::flush_and_write;
 
-/// Whether one of the first `count` sessions is still live.
+/// Returns whether one of the first `count` sessions is still live.
 pub fn has_live<C: SessionCore>(core: &C, count: usize) -> bool
     requires { count ≤ SESSIONS }
     ensures live { result ≡ true → live_below count (C.model.ended core.now []) ≢ [] }
@@ -43,7 +43,7 @@ pub fn end_live<C: SessionCore>(core: &mut C, count: usize) -> Result<(), C::Err
     Ok(())
 }
 
-/// A visit of each live session, a flush, and what waits for each session is written to its stream.
+/// Visits each live session, flushes, and writes what waits for each session to its stream.
 fn serve_round<C: SessionCore, S: SessionStream>(
     core: &mut C,
     streams: &mut [S],

@@ -12,15 +12,16 @@ use crate::session_core::SessionCore;
 use crate::session_stream::SessionStream;
 use crate::writing::flush_and_write;
 
-/// Serves the sessions of these streams, the first of which is session 0, in passes up to the end of the last one.
+/// Serves the sessions of these streams in passes until the last one has ended. The first stream is that of session 0.
 ///
-/// In each pass every live session has one read of at most [`MAX_PIECE`] bytes, in rising order; then the core
-/// flushes, and then what waits for each session is written whole. The end of a stream, or a fault of a read, ends its
-/// session. A fault of a write does too, and what was to be written to it is dropped, now and later. After the last
-/// session has ended there is one flush more, and what waits is written. Where sessions are live after
-/// [`MAX_TURNS`](crate::MAX_TURNS) passes, each of them is ended, with one flush more, and the fault is `ReadFault`.
-/// A refusal of the core ends it at once. Whatever happens, the core went by steps that bring the bytes read, of which
-/// a refused call may have lost some.
+/// A pass reads at most [`MAX_PIECE`] bytes from each live session, in rising order. Then the core flushes, and all
+/// that waits for each session is written to its stream. The end of a stream, or a fault of a read, ends its session.
+/// So does a fault of a write; all output for that session is then dropped, now and later. After the last session has
+/// ended the core flushes once more, and what waits is written.
+///
+/// If sessions are still live after [`MAX_TURNS`](crate::MAX_TURNS) passes, each of them is ended, the core flushes
+/// once more, and the fault is `ReadFault`. If the core refuses a step, serving stops at once. Whatever happens, the
+/// core did steps that feed it the bytes read, except those that a refused call may have lost.
 pub fn serve<C: SessionCore, S: SessionStream>(
     core: &mut C,
     streams: &mut [S],
@@ -55,7 +56,7 @@ pub fn serve<C: SessionCore, S: SessionStream>(
     ServeEnd { turns, fault }
 }
 
-/// Serves up to the end, and reports whether sessions were still live when the limit of passes was reached.
+/// Serves until the end. Returns whether sessions were still live when the limit of passes was reached.
 fn serve_all<C: SessionCore, S: SessionStream>(
     core: &mut C,
     streams: &mut [S],

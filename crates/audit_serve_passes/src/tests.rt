@@ -33,7 +33,7 @@ impl Read for Source<'_> {
     }
 }
 
-/// A writer of one byte a write, which fails after so many bytes.
+/// A writer that takes one byte a write, and fails after `room` bytes.
 #[derive(Drop)]
 struct Sink {
     bytes: Vec<u8>,
@@ -75,12 +75,12 @@ fn end(session: usize) -> Asked {
     Asked::End { session }
 }
 
-// The bytes that were written to a stream are these.
+// Returns whether exactly these bytes were written to a stream.
 fn wrote(stream: &Stream, bytes: &[u8]) -> bool {
     stream.writer().bytes.as_slice() == bytes
 }
 
-// With no stream there is no pass, and one flush.
+// Without streams there is no pass, and one flush.
 #[test]
 fn no_stream(rt: HostRuntime) -> Result<(), Fail> {
     let alloc = rt.alloc();
@@ -97,7 +97,7 @@ fn no_stream(rt: HostRuntime) -> Result<(), Fail> {
     Ok(())
 }
 
-// One stream gives a byte a read, the other all at once: each live session has one read a pass.
+// One stream gives one byte a read, the other all bytes at once. Each live session has one read in each pass.
 #[test]
 fn streams_are_read_in_turns(rt: HostRuntime) -> Result<(), Fail> {
     let alloc = rt.alloc();
@@ -131,7 +131,7 @@ fn streams_are_read_in_turns(rt: HostRuntime) -> Result<(), Fail> {
     Ok(())
 }
 
-// A read that fails ends its session, and a write that fails ends its own and drops what comes later.
+// A failed read ends its session. A failed write ends its own session, and later output for it is dropped.
 #[test]
 fn faults_end_their_session(rt: HostRuntime) -> Result<(), Fail> {
     let alloc = rt.alloc();
@@ -166,7 +166,7 @@ fn faults_end_their_session(rt: HostRuntime) -> Result<(), Fail> {
     Ok(())
 }
 
-// The core refuses its fourth step, and that is the end.
+// The core refuses its fourth step, which stops serving.
 #[test]
 fn a_refusal_of_the_core(rt: HostRuntime) -> Result<(), Fail> {
     let alloc = rt.alloc();
@@ -183,7 +183,7 @@ fn a_refusal_of_the_core(rt: HostRuntime) -> Result<(), Fail> {
     Ok(())
 }
 
-/// A client that sends two bytes, the second of them once it got a reply to the first.
+/// A client that sends two bytes, the second only after a reply to the first.
 #[derive(Drop)]
 struct Polite {
     sent: usize,

@@ -1,4 +1,4 @@
--- The steps of a session over lines, one more at a time.
+-- The steps of a session over lines, extended by one step at a time.
 use Rattle.std.proofs.Common.{◌≡◌, ℕ, ◌≤◌, eqb, Option, List, [], ◌∷◌, ◌++◌, length, refl, sym, ap, ◌∙◌, subst, append_assoc, append-nil}
 use Rattle.std.proofs.lemmas.Bool.{ne_eqb, cond-false}
 use Rattle.audit_serve_passes.specs.declared.limits.TheConstants.{MAX_PIECE}

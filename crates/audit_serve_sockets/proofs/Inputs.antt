@@ -1,4 +1,4 @@
--- Lines of an input, one more at a time, and what they spell.
+-- The lines of an input, extended by one line at a time, and the bytes that they spell.
 use Rattle.std.proofs.Common.{◌≡◌, ◌<◌, ℕ, zero, suc, Bool, not, eqb, cond, true, inl, inr, ◌⊎◌, Option, Some, None, List, [], ◌∷◌, ◌++◌, length, map, refl, sym, ap, ◌∙◌, arith, append_assoc, append-nil, length-append}
 use Rattle.std.proofs.lemmas.Bool.{ne_eqb, lt-ltb, false≢true}
 use Rattle.std.specs.Prelude.{IfSome}

@@ -1,4 +1,4 @@
--- A session over lines, of which the last call may have been refused.
+-- A session over lines whose last call may have been refused.
 use Rattle.std.proofs.Common.{◌≡◌, ℕ, ◌≤◌, eqb, Option, Some, None, List, [], ◌∷◌, ◌++◌, length, refl, sym, ap, ◌∙◌, subst, arith, inl, inr, append_assoc, append-nil, length-append}
 use Rattle.std.proofs.lemmas.Bool.{ne_eqb, cond-false}
 use Rattle.std.specs.Prelude.{IfSome}

@@ -5,16 +5,16 @@ use Rattle.std.specs.Io.KnownBytes.{Appends}
 use Rattle.hex.specs.Hex.{encode_lower}
 use Rattle.audit_wire.specs.Frame.{frame}
 
--- two bytes can state the length of each of these bodies
+-- two bytes can hold the length of each body
 abbrev pub AreBodies : List (List ℕ) → Type 0
 AreBodies [] = Unit {0}
 AreBodies (body ∷ bodies) = (length body < 2 ^ 16) × AreBodies bodies
 
--- the frame of a body in lower hex digits, and a line feed
+-- the frame of a body in lower-case hex digits, and a line feed
 abbrev pub frame_line : List ℕ → List ℕ
 frame_line body = encode_lower (frame body) ++ codes "\n"
 
--- The bytes are frames, and a line of each of them was written.
+-- The bytes are frames, and a line was written for each of them.
 pub record HasLines (old new : Option (List ℕ)) (bytes : List ℕ) : Type 0 where
   pub bodies : List (List ℕ)
   pub are : AreBodies bodies

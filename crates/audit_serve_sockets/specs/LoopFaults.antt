@@ -1,15 +1,15 @@
--- Faults of a session over lines.
+-- Errors of a session over lines.
 use Rattle.audit_serve_sockets.specs.declared.loop_fault.RelayError.{RelayError}
 use Rattle.audit_serve_sockets.specs.declared.loop_fault.RelayError.TheVariants as reply
 use Rattle.audit_serve_sockets.specs.declared.loop_fault.LoopError.{LoopError}
 use Rattle.audit_serve_sockets.specs.declared.loop_fault.LoopError.TheVariants.{Connection, Lines, BadLine, Core}
 
--- the fault of the same meaning
+-- the error of the same meaning
 abbrev pub of_reply : {E : Type 0} → RelayError → LoopError E
 of_reply reply.Connection = Connection
 of_reply (reply.Lines fault) = Lines fault
 
--- the fault isn't that of a line that spells no bytes
+-- the error isn't about a line that spells no bytes
 abbrev pub IsNoLinesError : {E : Type 0} → LoopError E → Type 0
 IsNoLinesError Connection = Unit {0}
 IsNoLinesError (Lines fault) = Unit {0}

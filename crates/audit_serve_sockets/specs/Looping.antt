@@ -1,4 +1,4 @@
--- What a session over lines asks of a core, and what it writes.
+-- The steps that a session over lines makes a core do, and what it writes.
 use Rattle.std.specs.Prelude.{◌≡◌, ℕ, ◌≤◌, Option, IfSome, List, [], ◌∷◌, ◌++◌, length}
 use Rattle.std.specs.List.{flat_map}
 use Rattle.audit_serve_passes.specs.declared.limits.TheConstants.{MAX_PIECE}
@@ -8,14 +8,14 @@ use Rattle.audit_serve_passes.specs.Transition.{AreElsewhere}
 use Rattle.audit_serve_sockets.specs.Frames.{HasLines}
 use Rattle.audit_serve_sockets.specs.Input.{SpellsFirst}
 
--- pieces of the stream of session 0 alone
+-- the steps feed pieces to session 0, and nothing else
 abbrev pub ArePieces : List StepData → Type 0
 ArePieces [] = Unit {0}
 ArePieces (a_piece session piece ∷ steps) = (session ≡ 0) × (length piece ≤ MAX_PIECE) × ArePieces steps
 ArePieces (an_end session ∷ steps) = ⊥
 ArePieces (a_flush ∷ steps) = ⊥
 
--- these bytes come in pieces of session 0, and the rest is still to come
+-- pieces of session 0 feed a prefix of these bytes, and `rest` is left
 pub record Brings (bytes rest : List ℕ) (steps : List StepData) : Type 0 where
   pub pieces : ArePieces steps
   pub all : bytes_fed 0 steps ++ rest ≡ bytes
@@ -26,24 +26,24 @@ pub record IsLinePass (bytes : List ℕ) (steps : List StepData) : Type 0 where
   pub are : steps ≡ pieces ++ a_flush ∷ []
   pub brings : Brings bytes [] pieces
 
--- a turn for each line
+-- one pass for each line
 abbrev pub AreLinePasses : List (List ℕ) → List StepData → Type 0
 AreLinePasses [] steps = steps ≡ []
 AreLinePasses (bytes ∷ lines) steps =
     (first : List StepData) × (later : List StepData) × (steps ≡ first ++ later) × IsLinePass bytes first
     × AreLinePasses lines later
 
--- a turn for each line, the end of the session, and one flush more
+-- one pass for each line, the end of the session, and one more flush
 pub record IsWholeLoop (lines : List (List ℕ)) (steps : List StepData) : Type 0 where
   pub turns : List StepData
   pub are : steps ≡ turns ++ (an_end 0 ∷ a_flush ∷ [])
   pub each : AreLinePasses lines turns
 
--- the first of these bytes come in pieces of session 0
+-- pieces of session 0 feed a prefix of these bytes
 abbrev pub BringsFront : List ℕ → List StepData → Type 0
 BringsFront bytes steps = (rest : List ℕ) × Brings bytes rest steps
 
--- The bytes of session 0 are the first of what the first lines spell, and no step is about another session.
+-- The bytes fed to session 0 are a prefix of what the first lines spell, and no step is about another session.
 pub record BringsLines (known : Option (List ℕ)) (steps : List StepData) : Type 0 where
   pub lines : List (List ℕ)
   pub rest : List ℕ
@@ -51,8 +51,7 @@ pub record BringsLines (known : Option (List ℕ)) (steps : List StepData) : Typ
   pub spells : IfSome known (SpellsFirst lines)
   pub elsewhere : (k : ℕ) → (k ≡ 0 → ⊥) → AreElsewhere k steps
 
--- The core did steps of a shape. Of its outputs that of session 0 alone was taken, and its frames were written as
--- lines.
+-- The core did steps of this shape. Output was taken only from session 0, and its frames were written as lines.
 pub record LoopTransition {C : Type 0} (M : CoreModel C) (old new : C) (before after : Option (List ℕ))
     (Shape : List StepData → Type 0) : Type 0 where
   pub steps : List StepData
@@ -62,8 +61,8 @@ pub record LoopTransition {C : Type 0} (M : CoreModel C) (old new : C) (before a
   pub shape : Shape steps
   pub written : HasLines before after (taken 0)
 
--- The core went by steps of a shape, of which the last may be a part of one that was refused. Of its outputs that of
--- session 0 alone was taken.
+-- The core did steps of this shape, of which the last may be a part of a refused step. Output was taken only from
+-- session 0.
 pub record LoopReached {C : Type 0} (M : CoreModel C) (old new : C) (Shape : List StepData → Type 0) : Type 0 where
   pub steps : List StepData
   pub taken : ℕ → List ℕ

@@ -6,8 +6,8 @@ use std::io::{Read, Write};
 #[derive(Clone, Copy, Debug, PartialEq, Eq)]
 pub struct ConnectionError;
 
-/// Writes a piece to one end of a connection and reads as many bytes at the other, to the front of the buffer. Other
-/// bytes than those are a fault.
+/// Writes a piece to one end of a connection, and reads the same number of bytes at the other end into the front of
+/// the buffer. It returns the bytes read. The only error is that the connection fails or delivers other bytes.
 pub fn carry<'a, W: Write, R: Read>(
     from: &mut W,
     to: &mut R,

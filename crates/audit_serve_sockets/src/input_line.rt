@@ -8,15 +8,15 @@ use crate::limits::MAX_DIGITS;
 use audit_text::LinesError;
 use std::io::{BufRead, Read};
 
-/// Reads the next line into the buffer, in place of what it holds, without its line feed, and reports whether there
-/// was one. Of a line that is longer than [`MAX_DIGITS`] only the front is read, which is one byte longer than that.
+/// Reads the next line without its line feed into the buffer, whose old content is dropped. Returns whether there was
+/// a line. Of a line longer than [`MAX_DIGITS`] only the first `MAX_DIGITS` + 1 bytes are read.
 ///
-/// The faults are `Read` and `Memory`: the buffer then holds what was read of the line.
+/// Errors: `Read` and `Memory`. The buffer then holds what was read of the line.
 pub fn next_line<R: BufRead>(reader: &mut R, line: &mut Vec<u8>) -> Result<bool, LinesError>
-    // At any reader.
+    // On any reader.
     ensures within { vec_len line.new ≤ MAX_DIGITS + 1 }
     ensures fault { IfErr result (λ cause. (cause ≡ fault.Read) ⊎ (cause ≡ fault.Memory)) }
-    // Where its bytes are known.
+    // On a reader whose bytes are known.
     ensures none { result ≡ Ok false → IsAtEnd (R.remaining reader.old) }
     ensures read { result ≡ Ok true → ReadsLine (R.remaining reader.old) (R.remaining reader.new) line.new.items }
 {
@@ -31,7 +31,7 @@ pub fn next_line<R: BufRead>(reader: &mut R, line: &mut Vec<u8>) -> Result<bool,
     Ok(true)
 }
 
-// The next byte, or none at the end.
+// Returns the next byte, or none at the end.
 fn next_byte<R: BufRead>(reader: &mut R) -> Result<Option<u8>, LinesError>
     ensures taken { IfOk result (λ byte. TakesByte (R.remaining reader.old) (R.remaining reader.new) byte) }
     ensures fault { IfErr result (λ cause. cause ≡ fault.Read) }

@@ -3,8 +3,8 @@ ghost use Rattle.std.specs.Prelude.{◌≡◌, ◌≤◌, length, IfOk};
 use crate::carrying::{ConnectionError, carry};
 use std::io::{Read, Write};
 
-/// A connection of which both ends are in this process. A piece is written to one end, and then read at the other, so
-/// that neither waits for the other where pieces are short.
+/// A connection with both ends in this process. A piece is written to one end and then read at the other. The pieces
+/// must be short enough for the connection to buffer: then neither end blocks.
 #[derive(Drop)]
 pub struct Link<A, B> {
     client: A,
@@ -12,13 +12,13 @@ pub struct Link<A, B> {
 }
 
 impl<A: Read + Write, B: Read + Write> Link<A, B> {
-    /// The connection of these two ends.
+    /// Makes a link of the two ends of a connection.
     pub fn new(client: A, server: B) -> Link<A, B> {
         Link { client, server }
     }
 
-    /// Sends a piece from the client's end, and hands out what arrived at the server's, which is the same. It takes
-    /// the front of the buffer.
+    /// Sends a piece from the client's end, and returns what arrived at the server's end, which is the same. It is
+    /// read into the front of the buffer.
     pub fn to_server<'a>(
         &mut self,
         piece: &[u8],
@@ -30,8 +30,8 @@ impl<A: Read + Write, B: Read + Write> Link<A, B> {
         carry(&mut self.client, &mut self.server, piece, buffer)
     }
 
-    /// Sends a piece from the server's end, and hands out what arrived at the client's, which is the same. It takes
-    /// the front of the buffer.
+    /// Sends a piece from the server's end, and returns what arrived at the client's end, which is the same. It is
+    /// read into the front of the buffer.
     pub fn to_client<'a>(
         &mut self,
         piece: &[u8],

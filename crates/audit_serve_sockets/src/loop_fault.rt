@@ -5,11 +5,11 @@ use std::alloc::AllocError;
 /// Why a session over lines stopped.
 #[derive(Clone, Copy, Debug, PartialEq, Eq)]
 pub enum LoopError<E> {
-    /// The connection failed, or delivered bytes that weren't sent, or that aren't frames.
+    /// The connection failed, or delivered bytes that weren't sent or that aren't frames.
     Connection,
     /// The lines couldn't be read, the replies couldn't be written, or memory was refused.
     Lines(LinesError),
-    /// The line of this number, counted from 1, isn't hex digits, or has too many of them.
+    /// The line with this number, counted from 1, isn't hex digits, or has too many of them.
     BadLine(u64),
     /// The core refused a step.
     Core(E),
@@ -66,7 +66,7 @@ impl<E> From<RelayError> for LoopError<E> {
 /// Why replies weren't written as lines.
 #[derive(Clone, Copy, Debug, PartialEq, Eq)]
 pub enum RelayError {
-    /// The connection failed, or delivered bytes that weren't sent, or that aren't frames.
+    /// The connection failed, or delivered bytes that weren't sent or that aren't frames.
     Connection,
     /// A line couldn't be written, or memory was refused.
     Lines(LinesError),

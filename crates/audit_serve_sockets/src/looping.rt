@@ -18,14 +18,15 @@ use audit_text::LinesError;
 use std::alloc::Global;
 use std::io::{BufRead, Read, Write};
 
-// The session that lines are for.
+// The session that the lines belong to.
 const SESSION: usize = 0;
 
-/// Serves a session whose bytes come as lines of hex digits, through a connection. The bytes of each line are sent
-/// from the client's end, and what arrives at the server's is fed; then the core flushes, its replies go back, and
-/// each frame that arrives is written as a line. After the last line the session is ended, with one flush more.
+/// Serves a session whose bytes are given as lines of hex digits, through a connection. The bytes of each line are
+/// sent from the client's end, and what arrives at the server's end is fed to the core. Then the core flushes, its
+/// replies are sent back, and each frame that arrives is written as a line. After the last line the session is ended,
+/// and the core flushes once more.
 ///
-/// A line that isn't hex digits is `BadLine`, after the replies to those before it.
+/// If a line isn't hex digits, the error is `BadLine`. The replies to the lines before it have been written.
 pub fn run_lines<C, A, B, R, W>(
     alloc: Global,
     core: &mut C,
@@ -39,16 +40,16 @@ where
     B: Read + Write + Drop,
     R: BufRead,
     W: Write,
-    // Whatever happens, the core went by steps that bring the first of what the first lines spell, in order.
+    // Whatever happens, the core did steps that feed a prefix of what the first lines spell, in order.
     ensures reaches { LoopReached C.model core.old core.new (BringsLines (R.remaining reader.old)) }
-    // A refusal of the core is the one that ended it: what the core says by it is so.
+    // If the core refused a step, what its refusal states is true.
     ensures refused { (error : C.Error) → result ≡ Err (fault.Core error) → C.refuses core.old core.new error }
-    // Without a fault each line was fed and flushed in turn, then the session was ended; and the replies were written.
-    // Where the reader's bytes are known, these are what all their lines spell.
+    // On success each line was fed and flushed, one after the other. Then the session was ended, and the replies were
+    // written. If the reader's bytes are known, `lines` is what all their lines spell.
     ensures done { OnOk result ((lines : List (List ℕ)) × LoopTransition C.model core.old core.new
         (W.contents writer.old) (W.contents writer.new) (IsWholeLoop lines)
         × IfSome (R.remaining reader.old) (SpellsInput lines)) }
-    // A line that spells no bytes comes after the replies to all lines before it.
+    // If a line spells no bytes, the replies to all lines before it were written.
     ensures bad { (number : ℕ) → result ≡ Err (fault.BadLine number)
         → (lines : List (List ℕ)) × (length lines + 1 ≡ number) × LoopTransition C.model core.old core.new
         (W.contents writer.old) (W.contents writer.new) (AreLinePasses lines)
@@ -62,7 +63,7 @@ where
     reply(alloc, core, link, &mut buffer, writer)
 }
 
-// Serves each line, up to the end of the input.
+// Serves the lines up to the end of the input.
 fn serve_lines<C, A, B, R, W>(
     alloc: Global,
     core: &mut C,
@@ -102,7 +103,7 @@ where
     Err(LoopError::Lines(LinesError::Read))
 }
 
-// Sends bytes from the client's end, in pieces, and feeds what arrives at the server's.
+// Sends bytes from the client's end in pieces, and feeds what arrives at the server's end.
 fn send<C, A, B>(
     core: &mut C,
     link: &mut Link<A, B>,
@@ -163,7 +164,7 @@ where
     Ok(())
 }
 
-// Sends bytes from the server's end, in pieces, and returns all that arrive at the client's.
+// Sends bytes from the server's end in pieces, and returns all that arrive at the client's end.
 fn send_back<A: Read + Write + Drop, B: Read + Write + Drop>(
     alloc: Global,
     link: &mut Link<A, B>,

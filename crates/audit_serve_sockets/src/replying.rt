@@ -9,8 +9,7 @@ use audit_wire::{LENGTH_BYTES, first_frame};
 use std::alloc::{AllocError, Global};
 use std::io::Write;
 
-/// Writes a line of hex digits for each of the frames that the bytes consist of. Bytes after the last whole frame are
-/// an error.
+/// Writes a line of hex digits for each frame in the bytes. Bytes after the last complete frame are an error.
 pub fn write_frames<W: Write>(alloc: Global, bytes: &[u8], writer: &mut W) -> Result<(), RelayError>
     ensures written { OnOk result (HasLines (W.contents writer.old) (W.contents writer.new) bytes.now) }
 {
@@ -27,7 +26,7 @@ pub fn write_frames<W: Write>(alloc: Global, bytes: &[u8], writer: &mut W) -> Re
     Ok(())
 }
 
-// Puts the line of a frame into the buffer, in place of what it holds.
+// Replaces the content of the buffer with the line of a frame.
 fn put_frame(line: &mut Vec<u8>, body: &[u8]) -> Result<(), AllocError>
     requires { length body.now < 2 ^ 16 }
     ensures { OnOk result (line.new.items ≡ frame_line body.now) }

@@ -7,8 +7,8 @@ use audit_text::{LinesError, push_number, write_whole};
 use std::alloc::{AllocError, Global};
 use std::io::Write;
 
-/// Writes the line of a round, which has a number and had so many turns, and flushes the writer. The faults are
-/// `Write` and `Memory`: a part of the line may then be written.
+/// Writes the line that reports the number of a round and how many passes it had, and flushes the writer. Errors:
+/// `Write` and `Memory`. A part of the line may then have been written.
 pub fn write_round<W: Write>(
     alloc: Global,
     round: u64,

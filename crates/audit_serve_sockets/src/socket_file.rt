@@ -6,7 +6,7 @@ use std::net::Net;
 use std::os::unix::fs::{FileTypeExt, MetadataExt, PermissionsExt};
 use std::os::unix::net::{UnixListener, UnixStream};
 
-/// Who may connect to a socket for which nothing else is asked: its owner alone.
+/// The default permissions of a socket's file: only its owner may connect.
 pub const OWNER_ONLY: u32 = 0o600;
 
 /// A Unix socket at a path, on which connections arrive.
@@ -16,9 +16,9 @@ pub struct SocketFile {
 }
 
 impl SocketFile {
-    /// Makes the socket's file, open to its owner alone from the moment in which it is there; then `mode` is set, where
-    /// it is another one. A socket of this user that nobody serves, as a program that was killed leaves it, is
-    /// replaced. Any other file that is there is an error, and stays.
+    /// Makes the socket's file. From its creation only its owner has access; then `mode` is set if it differs. A
+    /// socket of this user on which nobody listens is replaced: a program that was killed leaves such a file. Any
+    /// other existing file is an error, and is kept.
     pub fn bind<F: Files + Net>(
         rt: &F,
         alloc: Global,
@@ -45,7 +45,7 @@ impl SocketFile {
     }
 }
 
-// Makes the file of a socket where none is.
+// Makes a socket's file if no file exists at the path.
 fn bind_new<F: Files + Net>(
     rt: &F,
     alloc: Global,
@@ -59,7 +59,7 @@ fn bind_new<F: Files + Net>(
     Ok(SocketFile { listener })
 }
 
-// Whether a file is where the socket's was to be made.
+// Returns whether making the socket failed because a file exists at its path.
 fn is_in_use(bound: &io::Result<SocketFile>) -> bool {
     match bound {
         Ok(_) => false,
@@ -67,7 +67,7 @@ fn is_in_use(bound: &io::Result<SocketFile>) -> bool {
     }
 }
 
-// Whether a socket of this user stands at the path, and nobody listens there.
+// Returns whether a socket of this user is at the path and nobody listens on it.
 fn is_abandoned<F: Files + Net>(rt: &F, path: &str) -> bool {
     is_own_socket(rt, path).unwrap_or(false) && is_refused(rt, path)
 }
@@ -79,7 +79,7 @@ fn is_refused<F: Net>(rt: &F, path: &str) -> bool {
     }
 }
 
-// The folder of a process in /proc belongs to the user as whom it runs.
+// The folder of a process in /proc belongs to the user that the process runs as.
 fn is_own_socket<F: Files>(rt: &F, path: &str) -> io::Result<bool> {
     let found = fs::symlink_metadata(rt, path)?;
     let own = fs::metadata(rt, "/proc/self")?;

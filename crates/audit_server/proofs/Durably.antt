@@ -1,4 +1,4 @@
--- Acknowledgements are durable, however a call ended.
+-- Acknowledgements are durable, whatever the outcome of a call.
 use Rattle.std.proofs.Common.{◌≡◌, ◌≢◌, ◌⊎◌, ◌∙◌, inl, inr, ℕ, ◌<◌, ◌≤◌, Bool, true, false, if◌then◌else◌, Result, Ok, Err, List, [], ◌∷◌, ◌++◌, length, map, take, drop, get_or, slice_set, refl, sym, ap, subst}
 use Rattle.std.proofs.lemmas.Bool.{false≢true}
 use Rattle.std.proofs.lemmas.List.{append-nil, set-get_or, take-map, drop-map, take_all, take-append-drop, drop_more}

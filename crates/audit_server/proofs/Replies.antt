@@ -1,4 +1,4 @@
--- What calls leave of the outputs, whatever the device; and a fault of the device in one of them.
+-- Calls append whole replies to the outputs, on any device; and a device fault in one of the calls.
 use Rattle.std.proofs.Common.{◌≡◌, ◌∙◌, inl, inr, ℕ, Bool, true, false, Result, Ok, Err, List, [], ◌∷◌, ◌++◌, refl, sym, ap, subst}
 use Rattle.std.specs.Prelude.{IfErr, IsErrOf}
 use Rattle.audit_disk_model.specs.declared.sectors.Sectors as sectors

@@ -1,4 +1,4 @@
--- Arrivals in turn.
+-- Arrivals, one after the other.
 use Rattle.std.proofs.Common.{◌≡◌, ◌∙◌, inl, inr, Result, Ok, Err, List, [], ◌∷◌, ◌++◌, refl, sym, ap, subst}
 use Rattle.std.proofs.lemmas.List.{append-nil}
 use Rattle.audit_disk_model.specs.declared.sectors.Sectors as sectors

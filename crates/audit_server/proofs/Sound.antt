@@ -1,4 +1,4 @@
--- What enters leaves a store unbroken that was.
+-- An arrival that enters doesn't break the store.
 use Rattle.std.proofs.Common.{◌≡◌, ◌≢◌, ◌∙◌, inl, inr, Bool, true, false, Ok, Err, List, [], ◌∷◌, sym, ap, subst}
 use Rattle.audit_disk_model.specs.declared.sectors.Sectors as sectors
 use Rattle.audit_chain.specs.Event.{EventData}

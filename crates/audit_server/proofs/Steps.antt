@@ -1,4 +1,4 @@
--- Steps of a core in turn.
+-- Steps of a core, one after the other.
 use Rattle.std.proofs.Common.{◌≡◌, ◌∙◌, ℕ, ◌+◌, ◌<◌, ◌≤◌, Bool, true, false, Result, Ok, Err, OnOk, List, [], ◌∷◌, ◌++◌, length, map, take, drop, get_or, slice_set, arith, refl, sym, ap, subst}
 use Rattle.std.proofs.lemmas.List.{append-nil, map-append, take_more, drop_more, take-append-drop, length-map, length-take-le}
 use Rattle.audit_disk_model.specs.declared.sectors.Sectors as sectors

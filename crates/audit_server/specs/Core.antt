@@ -1,4 +1,4 @@
--- What contracts see of a core, and what its calls do.
+-- A core as contracts see it, and the outcomes of its calls.
 use Rattle.std.specs.Prelude.{◌≡◌, ℕ, ◌≤◌, true, false, Result, List, slice_set}
 use Rattle.audit_disk_model.specs.declared.sectors.Sectors as sectors
 use Rattle.audit_server_queue.specs.Arrivals.{appends_among}
@@ -16,7 +16,7 @@ use Rattle.audit_server.specs.Feeding.{IsFed}
 use Rattle.audit_server.specs.Ending.{IsEnd}
 
 module _ {D : Type 0} {g : sectors.Ghosts D} where
-  -- its store with the queue and the outputs, and its sessions
+  -- the store of a core with its queue and its outputs, and the core's sessions
   abbrev pub committer_of : Core D g → Committer D g
   committer_of core = core.committer
 
@@ -35,7 +35,7 @@ module _ {D : Type 0} {g : sectors.Ghosts D} where
   abbrev pub IsSound : Core D g → Type 0
   IsSound core = is_broken (store_of core.committer) ≡ false
 
-  -- the sessions but one are as they were
+  -- all sessions but one are unchanged
   abbrev pub OnlySession : ℕ → Core D g → Core D g → Type 0
   OnlySession k old new = sessions_of new ≡ slice_set (sessions_of old) k (session_of k new)
 
@@ -44,7 +44,7 @@ module _ {D : Type 0} {g : sectors.Ghosts D} where
     pub committer : committer_of new ≡ committer_of old
     pub sessions : sessions_of new ≡ sessions_of old
 
-  -- what the refusal of a call says of the store
+  -- what a refused call states about the store
   abbrev pub Refuses : Core D g → Core D g → StoreError → Type 0
   Refuses old new error = IsRefusedAs error (store_of (committer_of old)) (store_of (committer_of new))
 
@@ -59,10 +59,10 @@ module _ {D : Type 0} {g : sectors.Ghosts D} where
     pub only : OnlySession k old new
     pub ended : IsEnd k (session_of k old) (session_of k new) (committer_of old) (committer_of new) result
 
-  -- ---- steps in turn
+  -- ---- steps in order
 
-  -- From a core that isn't broken: the sessions are those after the steps; and on a store that holds events
-  -- acknowledgements are durable, and where the device counted no failure the state is that of the session run.
+  -- The outcome of steps on a core that isn't broken. The sessions are those after the steps. On a store that holds
+  -- events acknowledgements are durable, and if the device counted no failure the state is that of the session run.
   pub record HasDone (steps : List StepData) (old new : Core D g) : Type 0 where
     pub sessions : sessions_of new ≡ sessions_run steps (sessions_of old)
     pub sound : IsSound new

@@ -1,4 +1,4 @@
--- A core as a core that serves sessions.
+-- How `Core` is a core that serves sessions.
 use Rattle.std.specs.Prelude.{ℕ, Bool, List, [], ◌∷◌, slice_index_or}
 use Rattle.std.proofs.Common.{◌∙◌, sym, ap}
 use Rattle.audit_disk_model.specs.declared.sectors.Sectors as sectors
@@ -15,7 +15,7 @@ use Rattle.audit_server_model.proofs.Serving.{served_none, served_more, served_d
 use Rattle.audit_server_model.proofs.Serving.{stays}
 
 module _ {D : Type 0} {g : sectors.Ghosts D} where
-  -- whether a session has ended, once a core has done these steps
+  -- whether a session has ended after a core has done these steps
   abbrev pub ended_by : Core D g → List StepData → ℕ → Bool
   ended_by core steps k = (session_at k (sessions_run steps (sessions_of core))).ended
 
@@ -44,7 +44,7 @@ module _ {D : Type 0} {g : sectors.Ghosts D} where
         (data_of new) (served_durably (data_of old) (data_of mid) first) next;
   }
 
-  -- a refusal says it of the steps before it, too
+  -- if a refusal follows other steps, what it states holds from before those steps too
   pub refuses_after : (old mid new : Core D g) (steps : List StepData) (taken : ℕ → List ℕ) (error : StoreError)
       → core_model.DidSteps old mid steps taken → Refuses mid new error → Refuses old new error
   refuses_after old mid new steps taken error did refused =

@@ -1,4 +1,4 @@
--- Steps of a core, done in turn.
+-- Steps of a core, done one after the other.
 use Rattle.std.specs.Prelude.{◌≡◌, ◌<◌, Bool, true, false, if◌then◌else◌, Result, Ok, Err, List, [], ◌∷◌, ◌++◌, length}
 use Rattle.std.specs.Prelude.{map, take, drop}
 use Rattle.audit_disk_model.specs.declared.sectors.Sectors as sectors
@@ -18,43 +18,43 @@ use Rattle.audit_server.specs.declared.drive_fault.DriveFault.{DriveFault}
 use Rattle.audit_server.specs.declared.server_core.Core.{Core}
 use Rattle.audit_server.specs.Core.{committer_of, sessions_of, PieceOutcome, EndOutcome, HasDone}
 
--- what contracts see of a step
+-- a step as contracts see it
 abbrev pub step_data : Step → StepData
 step_data (Feed session piece) = a_piece session piece.now
 step_data (End session) = an_end session
 step_data Flush = a_flush
 
--- it is of one of the sessions
+-- the step is about one of the sessions
 abbrev pub IsOfSession : Step → Type 0
 IsOfSession (Feed session piece) = session < SESSIONS
 IsOfSession (End session) = session < SESSIONS
 IsOfSession Flush = Unit {0}
 
--- ---- what was done of steps
+-- ---- the steps that were done
 
--- whether it is the refusal of a core that was broken before
+-- whether this is the error of a core that was broken before
 abbrev pub is_of_broken : StoreError → Bool
 is_of_broken Broken = true
 is_of_broken error = false
 
--- Of a step that was refused: the bytes of its piece that were taken. A core that was broken before does nothing.
+-- What was done of a refused step: the bytes of its piece that were taken. A core that was broken before does nothing.
 abbrev pub part_done : FeedFault → StepData → List StepData
 part_done fault (a_piece session piece) = if is_of_broken fault.error then []
     else a_piece session (take fault.taken piece) ∷ []
 part_done fault (an_end session) = []
 part_done fault a_flush = []
 
--- of a step: all of it, or that part
+-- what was done of a step: all of it, or the part done before it was refused
 abbrev pub step_done : StepData → Result (Unit {0}) FeedFault → List StepData
 step_done step (Ok done) = step ∷ []
 step_done step (Err fault) = part_done fault step
 
--- of a step that isn't taken in part
+-- what was done of a step that can't be done in part
 abbrev pub whole_done : StepData → Result (Unit {0}) StoreError → List StepData
 whole_done step (Ok done) = step ∷ []
 whole_done step (Err error) = []
 
--- of steps in turn: all of them, or those before the one that was refused, and that part of it
+-- what was done of several steps: all of them, or those before the refused one, and the part of that one
 abbrev pub next_done : FeedFault → List StepData → List StepData
 next_done fault [] = []
 next_done fault (step ∷ later) = part_done fault step
@@ -80,13 +80,13 @@ module _ {D : Type 0} {g : sectors.Ghosts D} where
     pub flush : (origin : Origin) (events : List EventData) → Holds (store_of (committer_of old)) origin events
         → (after : List EventData) × IsFlush origin (committer_of old) (committer_of new) events after (Err fault.error)
 
-  -- what stands after a step that was refused
+  -- the outcome of a refused step
   abbrev pub IsStepRefused : StepData → FeedFault → Core D g → Core D g → Type 0
   IsStepRefused (a_piece session piece) fault old new = PieceOutcome session piece old new (Err fault)
   IsStepRefused (an_end session) fault old new = (fault.taken ≡ 0) × EndOutcome session old new (Err fault.error)
   IsStepRefused a_flush fault old new = IsFlushRefused fault old new
 
-  -- the steps before this one were done, and this one was refused
+  -- all steps before one were done, and that one was refused
   pub record IsDriveStopped (steps : List Step) (fault : DriveFault) (old new : Core D g) : Type 0 where
     pub before : List StepData
     pub step : StepData

@@ -10,7 +10,7 @@ use Rattle.audit_server_model.specs.Sessions.{SessionData, ended_session, arriva
 use Rattle.audit_server.specs.Running.{Run, IsRefusedAfter}
 
 module _ {D : Type 0} {g : sectors.Ghosts D} where
-  -- a frame that is begun can't be queued as malformed
+  -- an incomplete frame couldn't be queued as malformed
   pub record IsEndRefused (k : ℕ) (error : StoreError) (session : SessionData)
       (before after : Committer D g) : Type 0 where
     pub begun : arrivals_by_end k session ≡ malformed_from k ∷ []
@@ -22,7 +22,7 @@ module _ {D : Type 0} {g : sectors.Ghosts D} where
   IsFrameEnd k session before after (Ok done) = Run (arrivals_by_end k session) before after
   IsFrameEnd k session before after (Err error) = IsEndRefused k error session before after
 
-  -- the session has ended; or else it is as it was
+  -- the session has ended, or on an error is unchanged
   pub record IsEnd (k : ℕ) (old new : SessionData) (before after : Committer D g)
       (result : Result (Unit {0}) StoreError) : Type 0 where
     pub session : MatchResult result (λ done. new ≡ ended_session) (λ error. new ≡ old)

@@ -1,4 +1,4 @@
--- How a request, or a malformed place, of a session enters the queue.
+-- How a session's request or malformed place enters the queue.
 use Rattle.std.specs.Prelude.{◌≡◌, ◌⊎◌, ℕ, Result, Ok, Err, Option, Some, None, List}
 use Rattle.audit_disk_model.specs.declared.sectors.Sectors as sectors
 use Rattle.audit_chain.specs.Event.{EventData}
@@ -15,25 +15,25 @@ use Rattle.audit_server_commit.specs.Entering.{IsArrivalEnd, IsEntered}
 use Rattle.audit_server.specs.declared.entering.Item.{Item}
 use Rattle.audit_server.specs.declared.entering.Item.TheVariants as item
 
--- what arrives by a body: its request, or else a malformed place
+-- the arrival in a body: its request, or a malformed place if it has none
 abbrev pub arrival_by : ℕ → Option Request → Arrival
 arrival_by k (Some request) = arrival_of k request
 arrival_by k None = malformed_from k
 
 module _ {D : Type 0} {g : sectors.Ghosts D} where
-  -- memory may also be refused before: then all is as it was
+  -- memory may also be refused earlier; the committer is then unchanged
   abbrev pub IsRequestEnd : Arrival → Committer D g → Committer D g → Result (Unit {0}) StoreError → Type 0
   IsRequestEnd arrival old new (Ok done) = IsArrivalEnd arrival old new (Ok done)
   IsRequestEnd arrival old new (Err error) = IsArrivalEnd arrival old new (Err error) ⊎ ((error ≡ Memory) × (new ≡ old))
 
   pub record Enters (arrival : Arrival) (old new : Committer D g) (result : Result (Unit {0}) StoreError) : Type 0 where
-    -- whatever the device,
+    -- on any device
     pub end : IsRequestEnd arrival old new result
-    -- and on a store that holds events
+    -- on a store that holds events
     pub entered : (origin : Origin) (events : List EventData) → Holds (store_of old) origin events
         → (after : List EventData) × IsEntered origin arrival old new events after result
 
-  -- what was found in a body, and entered
+  -- what was found in a body and entered
   abbrev pub IsItem : ℕ → List ℕ → Committer D g → Committer D g → Result Item StoreError → Type 0
   IsItem k body old new (Ok item.Request) = (request : Request) × (request_in body ≡ Some request)
       × Enters (arrival_of k request) old new (Ok tt)

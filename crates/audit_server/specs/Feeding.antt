@@ -17,22 +17,22 @@ use Rattle.audit_server_model.specs.Sessions.{SessionData, ended_session, framed
 use Rattle.audit_server.specs.Running.{HaveEntered, Run, IsRefusedAfter}
 use Rattle.audit_server.specs.Entering.{IsRequestEnd, Enters}
 
--- a session as contracts see it, by its decoder: of one that has ended nothing is kept
+-- a session as contracts see it, given its decoder; nothing is kept of a session that has ended
 abbrev pub session_view : DecoderProgress → Bool → SessionData
 session_view progress ended = record { rest = if ended then [] else rest_of progress; ended = ended }
 
--- a session that has not ended goes on with what it holds of a frame
+-- a session that has not ended can continue its incomplete frame
 abbrev pub IsLive : DecoderProgress → Bool → Type 0
 IsLive progress ended = ended ≡ false → is_spoiled progress ≡ false
 
--- how many bytes of a piece there are up to the end of a frame or of a malformed length
+-- the number of bytes of a piece up to the end of a frame or of a malformed length
 abbrev pub place_after : Fed → Option ℕ
 place_after fed.More = None
 place_after (fed.Body taken) = Some taken
 place_after (fed.Malformed taken) = Some taken
 
 module _ {D : Type 0} {g : sectors.Ghosts D} where
-  -- The front of a piece of a live session was no whole frame,
+  -- The front of a piece of a live session was an incomplete frame,
   pub record IsPart (piece : List ℕ) (old new : SessionData) (before after : Committer D g) : Type 0 where
     pub live : new.ended ≡ false
     pub framed : framed_after old piece ≡ rest_alone new.rest
@@ -55,7 +55,7 @@ module _ {D : Type 0} {g : sectors.Ghosts D} where
     pub framed : framed_after old piece ≡ spoiled
     pub enters : Enters (malformed_from k) before after (Ok tt)
 
-  -- What stood there didn't enter: the last byte of it counts as not come.
+  -- The arrival at the front didn't enter. Its last byte counts as not received.
   pub record IsUntaken (k : ℕ) (piece : List ℕ) (fault : FeedFault) (old new : SessionData)
       (before after : Committer D g) : Type 0 where
     pub within : fault.taken < length piece
@@ -75,12 +75,13 @@ module _ {D : Type 0} {g : sectors.Ghosts D} where
 
   -- ---- a whole piece
 
-  -- all that the piece brings has entered
+  -- all arrivals in the piece have entered
   pub record IsFedWhole (k : ℕ) (piece : List ℕ) (old new : SessionData) (before after : Committer D g) : Type 0 where
     pub session : new ≡ with_piece piece old
     pub run : Run (arrivals_by_piece k piece old) before after
 
-  -- The first bytes are taken, and all that they bring has entered; the next byte brings something that was refused.
+  -- A prefix of the piece was taken, and all arrivals in it have entered. The next byte completes an arrival that was
+  -- refused.
   pub record IsFedInPart (k : ℕ) (piece : List ℕ) (fault : FeedFault) (old new : SessionData)
       (before after : Committer D g) : Type 0 where
     pub within : fault.taken < length piece

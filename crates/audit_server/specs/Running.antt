@@ -1,4 +1,4 @@
--- What becomes of a store with its queue and its outputs while requests arrive.
+-- What happens to a store with its queue and its outputs while requests arrive.
 use Rattle.std.specs.Prelude.{◌≡◌, true, false, List, [], ◌∷◌}
 use Rattle.audit_disk_model.specs.declared.sectors.Sectors as sectors
 use Rattle.audit_chain.specs.Event.{EventData}
@@ -17,25 +17,24 @@ use Rattle.audit_server_commit.specs.Durable.{IsDurable}
 use Rattle.audit_server_commit.specs.Entering.{HasEntered, IsLeftByFlush}
 
 module _ {D : Type 0} {g : sectors.Ghosts D} where
-  -- whatever the device: these entered in turn
+  -- on any device: these arrivals entered, one after the other
   abbrev pub HaveEntered : List Arrival → Committer D g → Committer D g → Type 0
   HaveEntered [] old new = new ≡ old
   HaveEntered (arrival ∷ arrivals) old new = (mid : Committer D g) × HasEntered arrival old mid
       × HaveEntered arrivals mid new
 
-  -- whatever the device: the outputs are those before, and whole replies after them
+  -- on any device: whole replies were appended to the outputs
   abbrev pub AddsReplies : Committer D g → Committer D g → Type 0
   AddsReplies old new = (sent : List Sent) × (outputs_of new ≡ all_delivered (outputs_of old) sent)
 
-  -- Whatever the device: a fault of it broke the store in a commit. What waited is dropped, and of the outputs
-  -- nothing.
+  -- On any device: a device fault broke the store in a commit. What waited is dropped, and the outputs lose nothing.
   pub record IsBrokenByDevice (old new : Committer D g) : Type 0 where
     pub broken : is_broken (store_of new) ≡ true
     pub dropped : waiting_of new ≡ nothing_waits
     pub outputs : AddsReplies old new
 
-  -- From a store that holds the events, to one that holds those after: acknowledgements are durable, and where the
-  -- device counted no failure the state is what this makes of it.
+  -- From a store that holds `events` to one that holds `after`. Acknowledgements are durable. If the device counted no
+  -- failure, `made` gives the state.
   pub record Advances (origin : Origin) (arrived : List Append) (made : ServerState → ServerState)
       (old new : Committer D g) (events after : List EventData) : Type 0 where
     pub durable : IsDurable origin (store_of old) (store_of new) (state_of old events) (state_of new after) arrived
@@ -43,8 +42,8 @@ module _ {D : Type 0} {g : sectors.Ghosts D} where
     pub done : IsFaultless (device (store_of old)) (device (store_of new))
         → state_of new after ≡ made (state_of old events)
 
-  -- The same where it was refused after these arrivals: for memory the state is as they leave it, or a flush after
-  -- them.
+  -- The same if a call was refused after these arrivals. If memory was refused, the state is as these arrivals leave
+  -- it, or as a flush after them leaves it.
   pub record IsRefused (origin : Origin) (arrivals : List Arrival) (error : StoreError) (old new : Committer D g)
       (events after : List EventData) : Type 0 where
     pub durable : IsDurable origin (store_of old) (store_of new) (state_of old events) (state_of new after)
@@ -61,7 +60,7 @@ module _ {D : Type 0} {g : sectors.Ghosts D} where
       → Holds (store_of old) origin events → (after : List EventData)
       × IsRefused origin arrivals error old new events after
 
-  -- both, where these entered and all succeeded
+  -- both, if these arrivals entered and all succeeded
   pub record Run (arrivals : List Arrival) (old new : Committer D g) : Type 0 where
     pub entered : HaveEntered arrivals old new
     pub advances : AdvancesBy (appends_among arrivals) (λ origin. all_entered origin arrivals) old new

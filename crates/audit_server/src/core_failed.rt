@@ -1,9 +1,9 @@
 use audit_disk_model::Sectors;
 use audit_store::Store;
 
-/// A core couldn't be made, since memory was refused.
+/// A core couldn't be made because memory was refused.
 #[derive(Drop)]
 pub struct CoreFailed<D: Sectors> {
-    /// The store, as it was.
+    /// The store, unchanged.
     pub store: Store<D>,
 }

@@ -1,12 +1,12 @@
 use audit_store::StoreError;
 
-/// Where a list of steps stopped, and why.
+/// The step at which a list of steps stopped, and the reason.
 #[derive(Clone, Copy, Debug, Drop, PartialEq, Eq)]
 pub struct DriveFault {
-    /// How many steps were done: the next one was refused.
+    /// How many steps were done. The next step was refused.
     pub step: usize,
-    /// How many bytes of its piece were taken; 0 for an end or a flush.
+    /// How many bytes of the refused step's piece were taken. It is 0 for an end or a flush.
     pub taken: usize,
-    /// Why it was refused.
+    /// Why the step was refused.
     pub error: StoreError,
 }

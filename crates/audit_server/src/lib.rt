@@ -1,5 +1,5 @@
-//! The core that serves sessions over a store: bytes of requests come in by pieces, and bytes of replies wait to be
-//! taken.
+//! The core that serves sessions over a store: it is fed the bytes of requests in pieces, and keeps the bytes of
+//! replies until they are taken.
 #![tactic(auto)]
 
 mod core_failed;

@@ -14,11 +14,11 @@ use std::marker::Model;
 /// What was found at the front of a piece.
 #[derive(Clone, Copy, Debug, Drop, PartialEq, Eq)]
 pub(crate) enum Front {
-    /// No whole frame: all of the piece was taken.
+    /// No complete frame. The whole piece was taken.
     Part,
-    /// A request, which ended after so many bytes of the piece, and was queued.
+    /// A request, which was queued. It took the first `taken` bytes of the piece.
     Request { taken: usize },
-    /// A malformed place, which was queued: the session has ended.
+    /// A malformed place, which was queued. The session has ended.
     Malformed,
 }
 
@@ -29,7 +29,7 @@ pub(crate) struct Session {
     ended: bool,
 }
 
-// How many bytes of a piece there are up to the end of a frame or of a malformed length.
+// The number of bytes of a piece up to the end of a frame or of a malformed length.
 fn place_after(fed: Fed) -> Option<usize>
     ensures { result ≡ place_after fed }
 {
@@ -59,8 +59,8 @@ impl Session {
     ghost use Rattle.audit_server.specs.Feeding.{IsFront, IsFed};
     ghost use Rattle.audit_server.specs.Ending.{IsFrameEnd, IsEnd};
 
-    /// A session at the front of its stream. It takes the room that it will ever have; the only error is that memory
-    /// is refused.
+    /// Makes a session at the start of its stream. It reserves all the capacity that it will need. The only error is
+    /// that memory is refused.
     pub(crate) fn new(alloc: Global) -> Result<Session, AllocError>
         ensures { IfOk result (λ session. session ≡ new_session) }
     {
@@ -76,8 +76,8 @@ impl Session {
         self.ended
     }
 
-    /// Takes the next bytes of the session, which has this number. Refused, it has taken the bytes before the one that
-    /// made whole what was refused.
+    /// Takes the next bytes of the session, whose number is `session`. If a request or a malformed place is refused,
+    /// the bytes before the one that completed it have been taken.
     pub(crate) fn feed<D: Sectors>(
         &mut self,
         committer: &mut Committer<D>,
@@ -139,7 +139,7 @@ impl Session {
         let Some(taken) = place_after(fed) else {
             return Ok(Front::Part);
         };
-        // A malformed length lends no bytes, and no bytes are no request.
+        // A malformed length leaves the body empty, and an empty body isn't a request.
         match enter_body(committer, alloc, session, self.decoder.body()) {
             Ok(Item::Request) => Ok(Front::Request { taken }),
             Ok(Item::Malformed) => {
@@ -154,7 +154,8 @@ impl Session {
         }
     }
 
-    /// Ends the session, which has this number: a frame that is begun is malformed then. Refused, it has not ended.
+    /// Ends the session, whose number is `session`. An incomplete frame is malformed. On an error the session has not
+    /// ended.
     pub(crate) fn end<D: Sectors>(
         &mut self,
         committer: &mut Committer<D>,
@@ -173,7 +174,7 @@ impl Session {
         }
     }
 
-    // Queues a frame that is begun as a malformed place.
+    // Queues an incomplete frame as a malformed place.
     fn end_frame<D: Sectors>(
         &self,
         committer: &mut Committer<D>,

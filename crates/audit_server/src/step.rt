@@ -1,10 +1,10 @@
-/// A step of a core. Its session is below 16.
+/// A step of a core. Session numbers are below 16.
 #[derive(Clone, Copy, Debug, Drop)]
 pub enum Step<'a> {
-    /// The next bytes of a session.
+    /// Feeds the next bytes of a session.
     Feed { session: usize, piece: &'a [u8] },
-    /// The end of a session.
+    /// Ends a session.
     End { session: usize },
-    /// A flush: what waits is committed and answered.
+    /// Flushes: what waits is committed and answered.
     Flush,
 }

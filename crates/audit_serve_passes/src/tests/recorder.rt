@@ -1,4 +1,4 @@
-//! A core that keeps a record of the steps asked of it.
+//! A core that records the steps that it is asked to do.
 ghost use Rattle.std.specs.Prelude.{◌≡◌, ◌<◌, ℕ, [], ◌∷◌, IfOk, OnOk, length, map};
 ghost use Rattle.audit_base.specs.declared.limits.TheConstants.{SESSIONS};
 ghost use Rattle.audit_serve_passes.specs.Steps.{a_piece, an_end, a_flush};
@@ -11,7 +11,7 @@ use std::alloc::{AllocError, Global};
 use std::marker::Model;
 use std::mem;
 
-/// A step that was asked of a core.
+/// A step that a core was asked to do.
 #[derive(Clone, Copy, Debug, PartialEq, Eq)]
 pub enum Asked {
     Feed { session: usize, size: usize },
@@ -19,11 +19,11 @@ pub enum Asked {
     Flush,
 }
 
-// So many steps are recorded.
+// How many steps are recorded at most.
 const MOST: usize = 64;
 
-/// A core whose sessions end by `end` alone. A flush replies to each session of which bytes came since the one before,
-/// with one byte: how many bytes have come in all.
+/// A core whose sessions end only by `end`. A flush sends one byte to each session that was fed since the flush
+/// before: the number of bytes fed so far, over all sessions.
 #[derive(Drop)]
 pub struct Recorder {
     alloc: Global,
@@ -58,7 +58,7 @@ fn no_outputs(alloc: Global) -> Result<Vec<Vec<u8>>, AllocError>
 }
 
 impl Recorder {
-    /// A core that refuses the step after so many.
+    /// Makes a core that does `refused` steps and refuses the next one.
     pub fn new(alloc: Global, refused: usize) -> Result<Recorder, AllocError> {
         let outputs = no_outputs(alloc)?;
         let asked = Vec::with_capacity(alloc, MOST)?;
@@ -73,14 +73,14 @@ impl Recorder {
         })
     }
 
-    /// Whether these are the first of the steps that were asked of it.
+    /// Returns whether the recorded steps are these.
     pub fn was_asked(&self, steps: &[Asked]) -> bool {
         self.asked.as_slice() == steps
     }
 }
 
 impl Recorder {
-    // Room for the first steps was taken in the beginning.
+    // Capacity for all recorded steps was reserved by `new`.
     fn ask(&mut self, step: Asked) -> Result<(), AllocError>
         ensures { self.new ≡ self.old }
     {
@@ -112,7 +112,7 @@ impl SessionCore for Recorder {
 
     ghost model = { recorder_model };
 
-    // Its refusals say nothing.
+    // Its refusals state nothing.
     ghost refuses = { λ old new error. Unit {0} };
 
     fn feed(&mut self, session: usize, piece: &[u8]) -> Result<(), AllocError> {
