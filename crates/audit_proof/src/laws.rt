@@ -8,6 +8,7 @@ ghost use Rattle.audit_proof.specs.Collision.{IsCollision};
 ghost use Rattle.audit_base.specs.Bytes.{AreBytes};
 ghost use Rattle.audit_proof.specs.ProofBytes.{Member, Increment, IsMember, IsIncrement, member_bytes, member_of};
 ghost use Rattle.audit_proof.specs.ProofBytes.{increment_bytes, increment_of};
+ghost use Rattle.audit_proof.specs.declared.bytes.TheConstants.{MEMBER_MARK, INCREMENT_MARK, HEAD_LEN};
 
 use crate::collision::{CollideFault, Collision, Shown, collide, leaf_text};
 use crate::collision_across::collide_across;
@@ -139,7 +140,15 @@ pub fn commitments_are_of_texts()
         → commitment_of texts ≡ ((commitment_to texts).count, (commitment_to texts).root) }
 {}
 
-/// The bytes of a proof are read in one way only: bytes are read as a proof exactly where it is within the limits
+/// The marks of proof bytes, and the length of what comes before the hashes, each as its number. The function does
+/// nothing: its contract is the law.
+pub fn limits_are_these_numbers()
+    ensures member { MEMBER_MARK ≡ 1 }
+    ensures increment { INCREMENT_MARK ≡ 2 }
+    ensures head { HEAD_LEN ≡ 18 }
+{}
+
+/// The bytes of a proof are read in one way only: bytes are read as a proof if and only if it is within the limits
 /// and they are its bytes. The function does nothing: its contract is the law.
 pub fn one_reading_of_proof_bytes()
     ensures member { (bytes : List ℕ) (proof : Member) → AreBytes bytes
