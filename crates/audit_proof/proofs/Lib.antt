@@ -8,3 +8,4 @@ pub mod MadeIncrement
 pub mod MadeMembership
 pub mod SharedNodes
 pub mod AcrossIncrement
+pub mod Leads

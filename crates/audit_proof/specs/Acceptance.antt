@@ -48,6 +48,11 @@ pub record AcceptsLeaf (H : List ℕ → List ℕ) (commitment : Commitment) (pl
 abbrev pub AcceptsMembership : (List ℕ → List ℕ) → Commitment → ℕ → List ℕ → List (List ℕ) → Type 0
 AcceptsMembership H commitment place text hashes = AcceptsLeaf H commitment place (leaf_of H text) hashes
 
+-- from each leaf hash the hashes of a membership proof lead to a root: none is missing or left over
+abbrev pub LeadsUp : (List ℕ → List ℕ) → ℕ → ℕ → List (List ℕ) → Type 0
+LeadsUp H count place hashes =
+    (leaf : List ℕ) → (root : List ℕ) × AcceptsLeaf H (record { count = count; root = root }) place leaf hashes
+
 -- two membership proofs of one place are accepted
 pub record AcceptsBoth (H : List ℕ → List ℕ) (commitment : Commitment) (place : ℕ) (text1 : List ℕ)
     (hashes1 : List (List ℕ)) (text2 : List ℕ) (hashes2 : List (List ℕ)) : Type 0 where

@@ -1,16 +1,45 @@
-ghost use Rattle.std.specs.Prelude.{◌≡◌, ◌↔◌, ◌+◌, ◌≤◌, ℕ, List, IsTrue};
+ghost use Rattle.std.specs.Prelude.{◌≡◌, ◌↔◌, ◌+◌, ◌≤◌, ℕ, List, Some, IsTrue, IfSome};
 ghost use Rattle.sha2.specs.Sha256.{sha256};
 ghost use Rattle.audit_base.specs.declared.limits.TheConstants.{MAX_COUNT};
 ghost use Rattle.audit_tree.specs.Subtree.{depth};
-ghost use Rattle.audit_proof.specs.Acceptance.{AcceptsLeaf, AcceptsMembership, AcceptsIncrement, IsMadeMembership};
-ghost use Rattle.audit_proof.specs.Acceptance.{IsMadeIncrement, way_between};
+ghost use Rattle.audit_proof.specs.Acceptance.{AcceptsLeaf, AcceptsMembership, AcceptsIncrement, LeadsUp};
+ghost use Rattle.audit_proof.specs.Acceptance.{IsMadeMembership, IsMadeIncrement, way_between};
 
 use crate::climb::{Way, climb_from};
 use crate::commitment::Commitment;
 use crate::laws::{Sha256Texts, TextHash};
 use crate::steps::{OneValue, TwoValues, Versions};
-use audit_base::{Hash, MAX_COUNT, is_same_hash};
+use audit_base::{HASH_LEN, Hash, MAX_COUNT, is_same_hash};
 use audit_tree::{depth_of, leaf_hash};
+
+// The root to which the hashes of a membership proof lead from a leaf hash: nothing where the index isn't below the
+// count or the count is over `MAX_COUNT`, and where a hash is missing or left over.
+fn root_of_member<T: TextHash>(
+    hash: &T,
+    commitment: &Commitment,
+    index: u64,
+    leaf: Hash,
+    hashes: &[Hash],
+) -> Option<Hash>
+    ensures root { IfSome result (λ root. AcceptsLeaf T.value_of
+        (record { count = commitment.now.count; root = root }) index leaf hashes.now) }
+    ensures none { (root : List ℕ) → AcceptsLeaf T.value_of
+        (record { count = commitment.now.count; root = root }) index leaf hashes.now → result ≡ Some root }
+{
+    if commitment.count <= index || MAX_COUNT < commitment.count {
+        return None;
+    }
+    let way = Way {
+        from: 0,
+        height: depth_of(commitment.count),
+        place: index,
+        count: commitment.count,
+    };
+    match climb_from(&OneValue { hash }, way, leaf, hashes) {
+        Some(top) if top.used == hashes.len() => Some(top.value),
+        _ => None,
+    }
+}
 
 // Whether a membership proof is accepted for a leaf hash.
 pub fn accepts_leaf<T: TextHash>(
@@ -22,19 +51,20 @@ pub fn accepts_leaf<T: TextHash>(
 ) -> bool
     ensures { IsTrue result ↔ AcceptsLeaf T.value_of commitment.now index leaf hashes.now }
 {
-    if commitment.count <= index || MAX_COUNT < commitment.count {
-        return false;
-    }
-    let way = Way {
-        from: 0,
-        height: depth_of(commitment.count),
-        place: index,
-        count: commitment.count,
-    };
-    match climb_from(&OneValue { hash }, way, leaf, hashes) {
-        Some(top) => top.used == hashes.len() && is_same_hash(&top.value, &commitment.root),
+    match root_of_member(hash, commitment, index, leaf, hashes) {
+        Some(root) => is_same_hash(&root, &commitment.root),
         None => false,
     }
+}
+
+// Whether the hashes of a membership proof lead from each leaf hash to a root.
+pub fn leads_up<T: TextHash>(hash: &T, commitment: &Commitment, index: u64, hashes: &[Hash]) -> bool
+    ensures exact { IsTrue result ↔ LeadsUp T.value_of commitment.now.count index hashes.now }
+
+    // Else the proof is accepted for no leaf hash.
+    ensures accepted { (leaf : List ℕ) → AcceptsLeaf T.value_of commitment.now index leaf hashes.now → IsTrue result }
+{
+    root_of_member(hash, commitment, index, [0; HASH_LEN], hashes).is_some()
 }
 
 /// Returns whether a membership proof shows that the entry at an index is this one, under a commitment:
