@@ -1,0 +1,78 @@
+//! A store of more than 2^20 events, and what it answers when it is opened again.
+use super::*;
+
+const COUNT: u64 = (1 << 20) + 3;
+
+// The sectors of a device that has no room for another event.
+const SECTORS: u64 = COUNT + 2;
+
+// Events without a payload from that number on.
+fn empty_events(alloc: Global, first: u64, count: u64) -> Result<Vec<Event>, Fail> {
+    let mut events = Vec::new(alloc);
+    for place in 0..count {
+        events.push(event(alloc, first.wrapping_add(place), 0)?)?;
+    }
+    Ok(events)
+}
+
+// Appends so many events, in batches of 64 and a last one of the rest.
+fn fill<D: Sectors>(alloc: Global, store: &mut Store<D>, count: u64) -> Result<(), Fail> {
+    for _ in 0..count.div_ceil(64) {
+        let first = store.commitment().count;
+        let size = count.saturating_sub(first).min(64);
+        store.append(&empty_events(alloc, first, size)?)?;
+    }
+    Ok(())
+}
+
+// An index and a count of events each, around powers of 2 and at the ends.
+const MEMBERS: [(u64, u64); 8] = [
+    (0, 1),
+    (0, COUNT),
+    (255, 257),
+    (524_287, 1_048_575),
+    (1_048_575, 1_048_576),
+    (1_048_575, 1_048_577),
+    (1_048_576, COUNT),
+    (COUNT - 1, COUNT),
+];
+
+// An older and a newer count each.
+const INCREMENTS: [(u64, u64); 6] = [
+    (1, COUNT),
+    (524_288, 1_048_576),
+    (1_048_575, 1_048_576),
+    (1_048_576, 1_048_577),
+    (1_048_577, COUNT),
+    (COUNT, COUNT),
+];
+
+// The SHA-256 of the commitment and the end, and of the proofs and entries at these places.
+fn asked_at_places<D: Sectors>(store: &mut Store<D>) -> Result<[u8; 32], Fail> {
+    let mut text = Sha256::new();
+    let Commitment { count, root } = store.commitment();
+    text.update(&count.to_be_bytes());
+    text.update(&root);
+    text.update(&store.end().to_be_bytes());
+    for (index, count) in MEMBERS {
+        put_hashes(&mut text, &store.membership(index, count)?);
+        text.update(&store.entry(index)?);
+    }
+    for (older, newer) in INCREMENTS {
+        put_hashes(&mut text, &store.incremental(older, newer)?);
+    }
+    Ok(text.finalize())
+}
+
+#[test]
+fn a_store_of_more_than_2_to_the_20_events(rt: HostRuntime) -> Result<(), Fail> {
+    let alloc = rt.alloc();
+    let answers = hash("37114df4af7128a0849a7868e853d77d4ed7c0bd0d45977c00740541f0a7e9f5")?;
+    let mut store = formatted(alloc, MemDisk::new(alloc, SECTORS)?)?;
+    fill(alloc, &mut store, COUNT)?;
+    assert!(rt; store.append(&empty_events(alloc, COUNT, 1)?).err() == Some(StoreError::Full));
+    assert!(rt; asked_at_places(&mut store)? == answers);
+    let mut again = opened(alloc, store.into_disk())?;
+    assert!(rt; asked_at_places(&mut again)? == answers);
+    Ok(())
+}
