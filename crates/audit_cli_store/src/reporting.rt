@@ -50,11 +50,7 @@ pub fn report_end<M: Write>(
 
 /// Prints that the last flush of a command's output failed, if it did: in a line after the command's own fault, unless
 /// that is already a file fault. Returns the program's exit status.
-pub fn report_flush<M: Write>(
-    status: Status,
-    flushed: io::Result<()>,
-    messages: &mut M,
-) -> Status
+pub fn report_flush<M: Write>(status: Status, flushed: io::Result<()>, messages: &mut M) -> Status
     ensures whole { IsOk flushed → result ≡ status }
     ensures failed { IsErr flushed → result ≡ Status.Device }
 {
