@@ -6,16 +6,16 @@ ghost use Rattle.audit_proof.specs.ProofBytes.{number_bytes, head_of, proof_byte
 use audit_base::{HASH_LEN, Hash, MAX_ENTRY, MAX_INCREMENT_HASHES, u64_at};
 use std::alloc::{AllocError, Global};
 
-/// What the bytes of a membership proof begin with.
+/// The first bytes of an encoded membership proof.
 pub const MEMBER_MARK: u8 = 1;
 
-/// What the bytes of an incremental proof begin with.
+/// The first bytes of an encoded incremental proof.
 pub const INCREMENT_MARK: u8 = 2;
 
-/// The length of what stands before the hashes: the mark, two numbers, and the number of hashes in one byte.
+/// The number of bytes before the hashes: the mark, two numbers, and the number of hashes in one byte.
 pub const HEAD_LEN: usize = 18;
 
-/// What stands between the mark and the hashes.
+/// The fields between the mark and the hashes.
 #[derive(Clone, Copy)]
 pub struct Head {
     pub first: u64,
@@ -30,7 +30,7 @@ fn number_to_bytes(number: u64) -> [u8; 8]
     number.to_be_bytes()
 }
 
-// What stands before the hashes, where the bytes begin with the mark.
+// The fields before the hashes, if the bytes begin with the mark.
 pub fn read_head(mark: u8, bytes: &[u8]) -> Option<Head>
     ensures head { result ≡ head_of mark bytes.now }
     ensures long { IfSome result (λ _. HEAD_LEN ≤ length bytes.now) }

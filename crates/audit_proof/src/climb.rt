@@ -5,9 +5,9 @@ ghost use Rattle.audit_proof.specs.Reached.{climbed_of};
 use crate::side::Side;
 use audit_base::Hash;
 
-/// How a value goes up a tree, from a node to the one over it.
+/// How a value is carried up a tree, from a node to its parent.
 pub trait Climber {
-    /// What goes up: a value, or two of them.
+    /// What is carried up: one value, or two.
     type Value: Copy;
 
     ghost use Rattle.std.specs.Prelude.{◌≡◌, ℕ};
@@ -16,17 +16,17 @@ pub trait Climber {
     // What each step makes of a value.
     ghost steps: { Self → Steps Self.Value };
 
-    /// Up from a layer where there is nothing on the right.
+    /// One layer up from a node with no right sibling.
     fn alone(&self, layer: u32, value: &Self::Value) -> Self::Value
         ensures { result ≡ (steps self.now).alone layer value.now };
 
-    /// Up from a layer with a hash on one side.
+    /// One layer up from a node with a hash on one side.
     fn with_hash(&self, layer: u32, side: Side, value: &Self::Value, hash: &Hash) -> Self::Value
         ensures { result ≡ step_with (steps self.now) side layer value.now hash.now };
 }
 
-/// The way from a node of layer `from` that holds a place up to the node `height` layers higher, which has so many
-/// leaves from its start on.
+/// The path from a node of layer `from` that holds a place, up to the node `height` layers higher. That node holds
+/// `count` leaves, counting from its start.
 #[derive(Clone, Copy)]
 pub struct Way {
     pub from: u32,
@@ -38,7 +38,7 @@ pub struct Way {
 impl Way {
     ghost use Rattle.std.specs.Prelude.{◌≡◌, ◌-◌, ◌≤◌};
 
-    /// The way without its last step, where that comes from the left half of the node at its end.
+    /// The path without its last step, if that step comes from the left half of the end node.
     pub(crate) fn in_left_half(self) -> Way
         requires { 1 ≤ self.height }
         ensures { result
@@ -50,7 +50,7 @@ impl Way {
         }
     }
 
-    /// The same from the right half, which begins after so many leaves.
+    /// The path without its last step, if that step comes from the right half, which begins after `leaves` leaves.
     pub(crate) fn in_right_half(self, leaves: u64) -> Way
         requires height { 1 ≤ self.height }
         requires place { leaves ≤ self.place }
@@ -71,7 +71,7 @@ impl Way {
     }
 }
 
-/// What a climb has reached: a value, and how many hashes it used.
+/// What a climb has reached: a value, and the number of hashes used.
 #[derive(Clone, Copy)]
 pub struct Reached<V> {
     pub value: V,
@@ -109,7 +109,7 @@ fn reach_with<C: Climber>(
     }
 }
 
-// What a value reaches at the end of a way with the first hashes of a list.
+// The value reached at the end of a path with the first hashes of a list.
 pub fn climb_from<C: Climber>(
     climber: &C,
     way: Way,

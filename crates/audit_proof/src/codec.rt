@@ -9,10 +9,10 @@ use audit_base::{HASH_LEN, MAX_ENTRY, MAX_INCREMENT_HASHES, MAX_MEMBER_HASHES, r
 use std::alloc::{AllocError, Global};
 use thiserror::Error;
 
-/// Why bytes were not read as a proof.
+/// Why bytes couldn't be decoded as a proof.
 #[derive(Clone, Copy, Debug, PartialEq, Eq, Error)]
 pub enum ProofError {
-    /// The bytes are no proof's.
+    /// The bytes aren't the encoding of a proof.
     #[error("the bytes are not a proof")]
     BadProof,
     /// Memory was refused.
@@ -38,7 +38,7 @@ pub fn write_member(alloc: Global, proof: &MemberProof) -> Result<Vec<u8>, Alloc
     requires short { vec_len proof.now.entry ≤ MAX_ENTRY }
     ensures ok { IfOk result (λ bytes. bytes.items ≡ member_bytes (member_in proof.now)) }
 
-    // They are read as this proof.
+    // Decoding gives this proof back.
     ensures read { member_of (member_bytes (member_in proof.now)) ≡ Some (member_in proof.now) }
 {
     write_proof(
@@ -51,13 +51,13 @@ pub fn write_member(alloc: Global, proof: &MemberProof) -> Result<Vec<u8>, Alloc
     )
 }
 
-/// Decodes a membership proof. The index and the count aren't judged, since acceptance does it. Bytes that are no
-/// proof's are refused as `BadProof`, before memory is asked for.
+/// Decodes a membership proof. The index and the count aren't checked here: acceptance checks them. Bytes that encode
+/// no proof are refused as `BadProof` before any memory is requested.
 pub fn read_member(alloc: Global, bytes: &[u8]) -> Result<MemberProof, ProofError>
     ensures bad { (result ≡ Err ProofError.BadProof) ↔ (member_of bytes.now ≡ None) }
     ensures ok { IfOk result (λ proof. member_of bytes.now ≡ Some (member_in proof)) }
 
-    // They are the bytes that are written for it.
+    // The bytes are the encoding of the decoded proof.
     ensures written { IfOk result (λ proof. bytes.now ≡ member_bytes (member_in proof)) }
 {
     let Some(head) = read_head(MEMBER_MARK, bytes) else {
@@ -86,7 +86,7 @@ pub fn write_increment(alloc: Global, proof: &IncrementProof) -> Result<Vec<u8>,
     requires { vec_len proof.now.hashes ≤ MAX_INCREMENT_HASHES }
     ensures ok { IfOk result (λ bytes. bytes.items ≡ increment_bytes (increment_in proof.now)) }
 
-    // They are read as this proof.
+    // Decoding gives this proof back.
     ensures read { increment_of (increment_bytes (increment_in proof.now)) ≡ Some (increment_in proof.now) }
 {
     write_proof(
@@ -99,13 +99,13 @@ pub fn write_increment(alloc: Global, proof: &IncrementProof) -> Result<Vec<u8>,
     )
 }
 
-/// Decodes an incremental proof. The counts aren't judged, since acceptance does it. Bytes that are no proof's are
-/// refused as `BadProof`, before memory is asked for.
+/// Decodes an incremental proof. The counts aren't checked here: acceptance checks them. Bytes that encode no proof
+/// are refused as `BadProof` before any memory is requested.
 pub fn read_increment(alloc: Global, bytes: &[u8]) -> Result<IncrementProof, ProofError>
     ensures bad { (result ≡ Err ProofError.BadProof) ↔ (increment_of bytes.now ≡ None) }
     ensures ok { IfOk result (λ proof. increment_of bytes.now ≡ Some (increment_in proof)) }
 
-    // They are the bytes that are written for it.
+    // The bytes are the encoding of the decoded proof.
     ensures written { IfOk result (λ proof. bytes.now ≡ increment_bytes (increment_in proof)) }
 {
     let Some(head) = read_head(INCREMENT_MARK, bytes) else {

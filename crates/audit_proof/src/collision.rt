@@ -14,12 +14,12 @@ use audit_tree::{LEAF_MARK, depth_of, leaf_hash};
 use std::alloc::{AllocError, Global};
 use thiserror::Error;
 
-/// Two different texts with one value of a hash function.
+/// Two different texts with one hash.
 #[derive(Debug, Drop)]
 pub struct Collision {
     /// One text.
     pub left: Vec<u8>,
-    /// The other text, of the same value.
+    /// The other text, with the same hash.
     pub right: Vec<u8>,
 }
 
@@ -58,7 +58,7 @@ pub fn leaf_text(alloc: Global, entry: &[u8]) -> Result<Vec<u8>, AllocError>
     Ok(text)
 }
 
-// The collision that two accepted memberships of one index show, where their leaf texts differ.
+// The collision shown by two accepted membership proofs of one index whose leaf texts differ.
 fn disagreement<T: TextHash>(
     alloc: Global,
     hash: &T,
@@ -93,7 +93,7 @@ pub struct Shown<'a> {
     pub hashes: &'a [Hash],
 }
 
-// The collision that two membership proofs of one index show, over any hash function.
+// The collision shown by two membership proofs of one index, for any hash function.
 pub fn collide<T: TextHash>(
     alloc: Global,
     hash: &T,
@@ -140,9 +140,11 @@ pub fn collide<T: TextHash>(
     Ok(collision)
 }
 
-/// Finds two different texts of one SHA-256 digest, from two accepted membership proofs of one index under
-/// one commitment with different entries. It is refused as `NotAccepted` where one of them isn't accepted,
-/// then as `NoDisagreement` where the entries are equal, then as `Memory`.
+/// Finds two different texts with one SHA-256 digest, from two accepted membership proofs of one index under one
+/// commitment with different entries.
+///
+/// Errors, in this order: `NotAccepted` if one of the proofs isn't accepted, `NoDisagreement` if the entries are
+/// equal, `Memory`.
 pub fn collide_two(
     alloc: Global,
     commitment: &Commitment,

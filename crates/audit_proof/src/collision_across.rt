@@ -19,7 +19,7 @@ use audit_base::{Hash, are_equal, is_same_hash};
 use audit_tree::{depth_of, leaf_hash};
 use std::alloc::{AllocError, Global};
 
-// The collision above a node that two ways to one root begin at with different values.
+// The collision above a node at which two paths to one root begin with different values.
 fn collision_above<T: TextHash>(
     alloc: Global,
     hash: &T,
@@ -52,7 +52,7 @@ fn collision_above<T: TextHash>(
     }
 }
 
-// The node that holds an index and that an increment gives for both trees.
+// The node that holds an index and whose value an increment gives for both trees.
 fn shared_by<T: TextHash>(
     alloc: Global,
     hash: &T,
@@ -79,8 +79,8 @@ fn shared_by<T: TextHash>(
     }
 }
 
-// The collision that two accepted memberships of one index show, one under each commitment of an accepted increment,
-// where their leaf texts differ.
+// The collision shown by two accepted membership proofs of one index whose leaf texts differ, one under each
+// commitment of an accepted increment.
 fn disagreement_across<T: TextHash>(
     alloc: Global,
     hash: &T,
@@ -134,8 +134,8 @@ fn disagreement_across<T: TextHash>(
     }
 }
 
-// The collision that two membership proofs of one index show, under two commitments that an increment joins, over
-// any hash function.
+// The collision shown by two membership proofs of one index, under two commitments that an increment joins, for any
+// hash function.
 pub fn collide_across<T: TextHash>(
     alloc: Global,
     hash: &T,
@@ -189,10 +189,12 @@ pub fn collide_across<T: TextHash>(
     Ok(collision)
 }
 
-/// Finds two different texts of one SHA-256 digest, from two accepted membership proofs of one index with different
-/// entries, the first under an older commitment and the second under a newer one, and the accepted increment
-/// between the two. It is refused as `NotAccepted` where one of the three proofs isn't accepted, then as
-/// `NoDisagreement` where the entries are equal, then as `Memory`.
+/// Finds two different texts with one SHA-256 digest, from two accepted membership proofs of one index with different
+/// entries and an accepted increment. The first proof is under the older commitment of the increment, the second under
+/// the newer one.
+///
+/// Errors, in this order: `NotAccepted` if one of the three proofs isn't accepted, `NoDisagreement` if the entries are
+/// equal, `Memory`.
 pub fn collide_three(
     alloc: Global,
     older: &Commitment,

@@ -5,6 +5,6 @@ use audit_base::Hash;
 pub struct Commitment {
     /// The number of entries.
     pub count: u64,
-    /// The root: 32 zero bytes for no entries.
+    /// The root: 32 zero bytes if there are no entries.
     pub root: Hash,
 }

@@ -7,6 +7,6 @@ pub struct IncrementProof {
     pub older: u64,
     /// The newer count.
     pub newer: u64,
-    /// The largest full node that ends the older tree, and the siblings on its way to the newer root.
+    /// The largest full node that ends the older tree, and the siblings on its path to the newer root.
     pub hashes: Vec<Hash>,
 }

@@ -1,6 +1,7 @@
-//! Proofs of a history tree, as an auditor uses them: whether a membership or an incremental proof
-//! is accepted under a commitment, two different texts of one digest where two accepted proofs
-//! disagree, under one commitment or under two that an increment joins, and the bytes of both proofs.
+//! Proofs about a history tree, as an auditor uses them. An auditor checks whether a membership (inclusion) or an
+//! incremental (consistency) proof is accepted under a commitment. If two accepted proofs disagree, under one
+//! commitment or under two that an increment joins, the auditor obtains two different texts with one digest. The bytes
+//! of both kinds of proof are encoded and decoded here too.
 #![tactic(auto)]
 
 mod accept;

@@ -18,17 +18,17 @@ pub struct LeafBranch<'a> {
     pub hashes: &'a [Hash],
 }
 
-/// The value of a node, and the hashes on its way up.
+/// The value of a node, and the hashes on its path upwards.
 #[derive(Clone, Copy)]
 pub struct Branch<'a> {
     pub value: &'a Hash,
     pub hashes: &'a [Hash],
 }
 
-/// What two climbs on one way, with different values below, come to.
+/// The outcome of two climbs on one path that begin with different values.
 #[derive(Drop)]
 pub enum Meeting {
-    /// Two different texts on the way have one value.
+    /// Two different texts on the path have the same value.
     Met(Collision),
     /// The values are still different.
     Apart(Reached<Hash>, Reached<Hash>),
@@ -36,7 +36,7 @@ pub enum Meeting {
     Lost,
 }
 
-// Two different texts: one value of both is a collision.
+// Two different texts: they are a collision if they have the same value.
 pub fn meet_texts<T: TextHash>(
     alloc: Global,
     hash: &T,
@@ -68,7 +68,7 @@ pub fn meet_texts<T: TextHash>(
     Ok(Meeting::Apart(left, right))
 }
 
-// One layer up with nothing on the right.
+// One layer up from a node with no right sibling.
 fn meet_alone<T: TextHash>(
     alloc: Global,
     hash: &T,
@@ -86,7 +86,7 @@ fn meet_alone<T: TextHash>(
     meet_texts(alloc, hash, &left_text, left.used, &right_text, right.used)
 }
 
-// One layer up with hashes on one side.
+// One layer up from a node with a hash on one side.
 fn meet_with<T: TextHash>(
     alloc: Global,
     hash: &T,
@@ -121,7 +121,7 @@ fn meet_with<T: TextHash>(
     )
 }
 
-// Where a climb begins: no hash is used.
+// The start of a climb: no hash is used yet.
 fn start(branch: &Branch) -> Reached<Hash>
     ensures value { result.value ≡ branch.now.value.now }
     ensures used { result.used ≡ 0 }
@@ -132,7 +132,7 @@ fn start(branch: &Branch) -> Reached<Hash>
     }
 }
 
-// What the climbs of two different values on one way come to.
+// The outcome of the climbs of two different values on one path.
 pub fn meet<T: TextHash>(
     alloc: Global,
     hash: &T,
@@ -188,7 +188,7 @@ pub fn meet<T: TextHash>(
     }
 }
 
-// What the climbs of two different leaf texts on one way come to.
+// The outcome of the climbs of two different leaf texts on one path.
 pub fn meet_leaves<T: TextHash>(
     alloc: Global,
     hash: &T,

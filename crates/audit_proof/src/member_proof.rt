@@ -5,9 +5,9 @@ use audit_base::Hash;
 pub struct MemberProof {
     /// The entry's index.
     pub index: u64,
-    /// The count that it is proved under.
+    /// The count under which it is proved.
     pub count: u64,
-    /// The siblings on the way to the root, from the leaf up.
+    /// The siblings on the path to the root, from the leaf upwards.
     pub hashes: Vec<Hash>,
     /// The entry.
     pub entry: Vec<u8>,

@@ -9,23 +9,23 @@ use crate::steps::{TwoValues, Versions};
 use audit_base::Hash;
 use std::alloc::{AllocError, Global};
 
-/// A full node of the older tree of an increment, whose value the increment gives, and the siblings on its way up
-/// to the root of either tree.
+/// A full node of an increment's older tree, whose value the increment gives, with the siblings on its path to the
+/// root of either tree.
 #[derive(Drop)]
 pub struct SharedNode {
     /// The node's layer.
     pub layer: u32,
     /// The node's value in both trees.
     pub value: Hash,
-    /// The siblings in the older tree, from the node up.
+    /// The siblings in the older tree, from the node upwards.
     pub older_siblings: Vec<Hash>,
-    /// The siblings in the newer tree, from the node up.
+    /// The siblings in the newer tree, from the node upwards.
     pub newer_siblings: Vec<Hash>,
-    /// How many hashes of the increment were used.
+    /// The number of the increment's hashes that were used.
     pub used: usize,
 }
 
-// The node at which the way of an increment begins.
+// The node at which the path of an increment begins.
 fn first_node(alloc: Global, layer: u32, value: &Hash) -> SharedNode
     ensures layer { result.layer ≡ layer }
     ensures value { result.value ≡ value.now }
@@ -42,8 +42,8 @@ fn first_node(alloc: Global, layer: u32, value: &Hash) -> SharedNode
     }
 }
 
-// The left half of a node through whose right half the way of an increment goes: its value is the next hash, and its
-// sibling in either tree is what the way has reached there.
+// The left half of a node whose right half is on the path of an increment. Its value is the next hash, and its sibling
+// in either tree is the value that the path has reached there.
 fn left_node<T: TextHash>(
     alloc: Global,
     climber: &TwoValues<T>,
@@ -103,8 +103,8 @@ fn with_right(mut node: SharedNode, hashes: &[Hash]) -> Result<Option<SharedNode
     Ok(Some(node))
 }
 
-// The largest full node that holds an index and whose value is among the hashes of an increment, or nothing where a
-// hash is missing.
+// The largest full node that holds an index and whose value is among the hashes of an increment, or nothing if a hash
+// is missing.
 pub fn shared_node<T: TextHash>(
     alloc: Global,
     climber: &TwoValues<T>,

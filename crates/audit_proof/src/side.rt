@@ -4,7 +4,7 @@ ghost use Rattle.audit_proof.specs.Climb.{text_with};
 use audit_base::Hash;
 use audit_tree::pair_text;
 
-/// The side on which the hash of a node's sibling stands.
+/// The side of a node on which its sibling is.
 #[derive(Clone, Copy)]
 pub enum Side {
     /// The sibling is on the left.
@@ -13,7 +13,7 @@ pub enum Side {
     Right,
 }
 
-// The text of a node over a value and the hash of its sibling.
+// The text that is hashed for a node's parent, from the node's value and its sibling's hash.
 pub fn text_over(side: Side, value: &Hash, sibling: &Hash) -> [u8; 65]
     ensures { result ≡ text_with side value.now sibling.now }
 {

@@ -8,7 +8,7 @@ use crate::side::{Side, text_over};
 use audit_base::Hash;
 use audit_tree::lone_text;
 
-/// One value goes up: a membership proof.
+/// Carries one value up: a membership proof.
 #[derive(Drop)]
 pub struct OneValue<'a, T> {
     pub hash: &'a T,
@@ -35,7 +35,7 @@ pub struct Versions {
     pub newer: Hash,
 }
 
-/// Two values go up: an incremental proof. The older one stops at its root's layer.
+/// Carries two values up: an incremental proof. The older value stops at the layer of its root.
 #[derive(Drop)]
 pub struct TwoValues<'a, T> {
     pub hash: &'a T,
@@ -43,7 +43,7 @@ pub struct TwoValues<'a, T> {
 }
 
 impl<T: TextHash> TwoValues<'_, T> {
-    // The older value over a node that has nothing on the right in the older tree.
+    // The older value of the parent of a node that has no right sibling in the older tree.
     fn older_alone(&self, layer: u32, older: &Hash) -> Hash
         ensures { result
             ≡ (if nat_lt layer self.now.older_depth then parent_of T.value_of older.now [] else older.now) }
