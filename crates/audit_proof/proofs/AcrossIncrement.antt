@@ -1,4 +1,4 @@
--- The node that an increment shares between two commitments, and a membership's way through it.
+-- The node that an increment shares between two commitments, and a membership's path through it.
 use Rattle.std.proofs.Common.{◌≡◌, ℕ, ◌+◌, ◌-◌, ◌%◌, ◌^◌, ◌<◌, ◌≤◌, min, List, [], ◌∷◌, Some, None, drop, sym, ap, ◌∙◌, arith}
 use Rattle.std.specs.Int.{w64, trailing_zeros}
 use Rattle.audit_tree.specs.Subtree.{depth}
@@ -12,7 +12,7 @@ use Rattle.audit_proof.specs.Climb.{Climbed, climb, one_value, whole}
 use Rattle.audit_proof.specs.SharedNode.{IsShared, IsSharedByBoth, climbed_both}
 use Rattle.audit_proof.proofs.SharedNodes.{go_on, same_reached, climb-through}
 
--- where all hashes are used, none is left
+-- if all hashes are used, none is left
 whole-some : {V : Type 0} (climbed : Climbed V) (value : V) → whole climbed ≡ Some value → climbed ≡ Some (value, [])
 whole-some None value h = absurd (cc h)
 whole-some (Some (top, [])) value h = ap (λ v. Some (v, [])) (let e : top ≡ value = cc h in e)
@@ -65,7 +65,7 @@ module _ (H : List ℕ → List ℕ) (commitment : Commitment) (index layer : �
       ∙ ap (λ k. climb (one_value H) 0 k index commitment.count leaf hashes) top
       ∙ whole-some _ commitment.root accepted.root
 
-  -- from what an accepted membership reaches at a full node on its way, its last hashes lead to the root
+  -- from what an accepted membership reaches at a full node on its path, its last hashes lead to the root
   pub climb-above : (value : List ℕ) (rest : List (List ℕ)) →
       climb (one_value H) 0 layer (index % 2 ^ layer) (2 ^ layer) leaf hashes ≡ Some (value, rest) →
       climb (one_value H) layer (depth commitment.count - layer) index commitment.count value rest ≡ Some (commitment.root, [])

@@ -37,7 +37,7 @@ module _ {V : Type 0} (steps : Steps V) (from : ℕ) where
   unfolding climb
   climb-left height place count value hashes h = cond-ge place (2 ^ (from + height)) _ _ h
 
-  -- nothing is reached higher up where nothing was in the left half
+  -- nothing is reached higher up if nothing was in the left half
   pub climb-lost : (height place count : ℕ) (value : V) (hashes : List (List ℕ)) →
       place < 2 ^ (from + height) → climb steps from height place count value hashes ≡ None →
       climb steps from (suc height) place count value hashes ≡ None

@@ -55,7 +55,7 @@ left_alike steps from (suc height) place count v w hashes =
           ]
     ]
 
--- where one climb uses all hashes, so does one that leaves the same
+-- if one climb uses all hashes, so does one that leaves the same
 record IsWhole {V : Type 0} (climbed : Climbed V) : Type 0 where
   value : V
   is : whole climbed ≡ Some value
@@ -85,7 +85,7 @@ pub leads_some : (H : List ℕ → List ℕ) (commitment : Commitment) (place : 
 leads_some H commitment place leaf hashes None accepted some = absurd (false≢true some)
 leads_some H commitment place leaf hashes (Some root) accepted some = leads_from H (with_root commitment root) place leaf hashes accepted
 
--- one is there, so it was found
+-- there is a root, so it was found
 pub leads_only : (H : List ℕ → List ℕ) (commitment : Commitment) (place : ℕ) (leaf : List ℕ) (hashes : List (List ℕ)) (found : Option (List ℕ))
     → ((root : List ℕ) → AcceptsLeaf H (with_root commitment root) place leaf hashes → found ≡ Some root) → LeadsUp H commitment.count place hashes → is_some found ≡ true
 leads_only H commitment place leaf hashes found only leads = let there = leads leaf in ap is_some (only there.0 there.1)

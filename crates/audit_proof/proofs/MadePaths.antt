@@ -40,7 +40,7 @@ start_of-after from height place h =
     ap (λ q. q * w) quotient ∙ omega (arith, wide)
 
 module _ {V : Type 0} (made : ℕ → ℕ → List (List ℕ) → V) (from : ℕ) where
-  -- what the tree has at the node of layer `from` on the way down to a place
+  -- what the tree has at the node of layer `from` on the path down to a place
   pub way : ℕ → ℕ → List (List ℕ) → V
   way zero place leaves = made from place leaves
   way (suc height) place leaves =
@@ -57,7 +57,7 @@ module _ {V : Type 0} (made : ℕ → ℕ → List (List ℕ) → V) (from : ℕ
   unfolding way
   way-high height place leaves h = cond-ge place (2 ^ (from + height)) _ _ h
 
-  -- what is there on the way down is what is there at the node's start
+  -- what the path has there is what the tree has at the node's start
   pub way-start : (height place : ℕ) (leaves : List (List ℕ)) → place < 2 ^ (from + height) →
       way height place leaves ≡ made from (place - start_of place from) (drop (start_of place from) leaves)
   unfolding way
@@ -84,7 +84,7 @@ module _ {V : Type 0} (made : ℕ → ℕ → List (List ℕ) → V) (from : ℕ
 
 module _ {V : Type 0} (H : List ℕ → List ℕ) (steps : Steps V) (limit : ℕ) (made : ℕ → ℕ → List (List ℕ) → V)
     (laws : IsMadeBy H steps limit made) (from : ℕ) where
-  -- what the tree has at a node climbs, with the siblings on its way up, to what it has at the upper node
+  -- what the tree has at a node climbs, with the siblings on its path up, to what it has at the upper node
   pub climb-path : (height place : ℕ) (leaves rest : List (List ℕ)) → place < limit → place < length leaves →
       climb steps from height place (length leaves) (way made from height place leaves) (path H from height place leaves ++ rest)
       ≡ Some (made (from + height) place leaves, rest)

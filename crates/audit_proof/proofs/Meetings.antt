@@ -1,4 +1,4 @@
--- What two climbs come to, one layer up.
+-- The outcome of two climbs, one layer up.
 use Rattle.std.proofs.Common.{◌≡◌, ℕ, List, ◌+◌, ◌∷◌, ◌++◌, Some, None, Result, length, take, drop, refl, sym, ap, ◌∙◌, arith, inl, inr, length-append}
 use Rattle.std.specs.Prelude.{IfOk}
 use Rattle.std.proofs.lemmas.List.{drop_at, take_at}
@@ -50,7 +50,7 @@ module _ (H : List ℕ → List ℕ) (lefts rights : List (List ℕ)) where
       IfOk result (IsMeeting H lefts rights to_left to_right)
   meeting_moved result over_left over_right to_left to_right h p q = rw (← p, ← q) h
 
-  -- a meeting that isn't apart stays, where nothing reached below is nothing reached above
+  -- a meeting that isn't apart stays, if nothing reached below means nothing reached above
   pub meeting_up : (meeting : Meeting) (over_left over_right to_left to_right : Climbed (List ℕ)) →
       IsMeeting H lefts rights over_left over_right meeting →
       ((left right : Reached (List ℕ)) → meeting ≡ Apart left right → ⊥) →

@@ -37,7 +37,7 @@ increment_of-increment_bytes p fits =
     ∙ rw (le-leb number MAX_INCREMENT_HASHES fits.few, eq-eqb (length body) (HASH_LEN * number) (omega arith))
     (ap make (first_hashes-concat p.hashes [] fits.hashes))
 
--- what a head says of the bytes
+-- what a head states of the bytes
 pub record IsHead (mark : ℕ) (bytes : List ℕ) (head : Head) : Type 0 where
   pub long : HEAD_LEN ≤ length bytes
   pub marked : get_or bytes 0 0 ≡ mark

@@ -22,7 +22,7 @@ same_reached {V} v w xs ys h =
     let same : one ≡ other = cc h in
     (ap (λ (p : V × List (List ℕ)). p.0) same, ap (λ (p : V × List (List ℕ)). p.1) same)
 
--- a half of a higher layer doesn't change where a place stands in a node of this one
+-- a half of a higher layer doesn't change a place's position in a node of this one
 pub mod-after : (layer above place : ℕ) → layer ≤ above → 2 ^ above ≤ place → (place - 2 ^ above) % 2 ^ layer ≡ place % 2 ^ layer
 mod-after layer above place low over =
     let w = 2 ^ layer in
@@ -247,7 +247,7 @@ module _ (H : List ℕ → List ℕ) (layer above : ℕ) (low : layer ≤ above)
             ∙ ap (λ v. Some (v, [])) (sym (cond-ge above top _ _ over)))
       ]
 
--- where the way of an increment begins, the node is the one that ends the older tree
+-- where the path of an increment begins, the node is the one that ends the older tree
 pub shared-first : (H : List ℕ → List ℕ) (top : ℕ) (way : Way) (index : ℕ) (first : List ℕ) (hashes : List (List ℕ)) (node : SharedNode) →
     way.height ≡ 0 → way.place < 2 ^ (way.from + way.height) → index ≤ way.place → way.from ≤ top → (way.place + 1) % 2 ^ way.from ≡ 0 →
     node.layer ≡ way.from → node.value ≡ first → node.older_siblings.items ≡ [] → node.newer_siblings.items ≡ [] → node.used ≡ 0 →
@@ -279,7 +279,7 @@ shared-first H top way index first hashes node flat room order begun ended layer
       newer = climbs (way.from + way.height) way.count node.newer_siblings.items newer (omega (arith, here, layer));
     }
 
--- One layer up on the way of an increment.
+-- One layer up on the path of an increment.
 module _ (H : List ℕ → List ℕ) (top : ℕ) (way : Way) (height half index : ℕ) (first : List ℕ) (hashes : List (List ℕ))
     (up : suc height ≡ way.height) (half_is : half ≡ 2 ^ (way.from + height)) where
   abbrev pub left_way : Way
@@ -316,7 +316,7 @@ module _ (H : List ℕ → List ℕ) (top : ℕ) (way : Way) (height half index 
       ap (λ k. climb steps way.from k way.place way.count both hashes) (sym up)
       ∙ climb-alone steps way.from height way.place way.count both hashes (omega (arith, half_is)) (omega (arith, half_is))
 
-  -- where nothing was reached below, nothing is above
+  -- if nothing was reached below, nothing is above
   pub lost-left : half ≤ way.place → climbed_both H top right_way first hashes ≡ None → climbed_both H top way first hashes ≡ None
   lost-left high h = both-left high ∙ ap (up_with ((two_values H top).with_left (way.from + height))) h
 
@@ -429,7 +429,7 @@ module _ (H : List ℕ → List ℕ) (top : ℕ) (way : Way) (height half index 
             (omega (arith, half_is)) (omega (arith, half_is)) shared.newer;
       }
 
-  -- the left half itself, where the index is in it and the way isn't
+  -- the left half itself, if the index is in it and the path isn't
   pub shared-half : (node : SharedNode) → half ≤ way.place → way.place < way.count → index < half → way.place < 2 ^ top →
       IsLeftHalf (way.from + height) (climbed_both H top right_way first hashes) hashes node →
       IsShared H top way index (climbed_both H top way first hashes) hashes node
@@ -458,7 +458,7 @@ module _ (H : List ℕ → List ℕ) (top : ℕ) (way : Way) (height half index 
         newer = climbs (way.from + way.height) way.count node.newer_siblings.items lower.versions.newer lower.newer layers (omega (arith, high, within));
       }
 
-  -- where no hash is left for it, nothing is reached
+  -- if no hash is left for it, nothing is reached
   pub none-left : half ≤ way.place → (node : SharedNode) → drop node.used hashes ≡ [] →
       IsShared H top right_way (index - half) (climbed_both H top right_way first hashes) hashes node →
       climbed_both H top way first hashes ≡ None

@@ -21,7 +21,7 @@ abbrev pub root_from_leaf : (List ℕ → List ℕ) → ℕ → ℕ → List ℕ
 root_from_leaf H place count leaf hashes =
     whole (climb (one_value H) 0 (depth count) place count leaf hashes)
 
--- the way of an incremental proof, from the largest full node that ends the older tree up to the newer root
+-- the path of an incremental proof, from the largest full node that ends the older tree up to the newer root
 abbrev pub way_between : ℕ → ℕ → Way
 way_between older newer = record {
   from = trailing_zeros w64 older;

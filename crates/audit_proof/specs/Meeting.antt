@@ -1,4 +1,4 @@
--- What two climbs on one way, with different values below, come to.
+-- The outcome of two climbs on one path that begin with different values.
 use Rattle.std.specs.Prelude.{◌≡◌, ◌≢◌, ◌≤◌, ◌⊎◌, ℕ, List, None, Some, length}
 use Rattle.audit_proof.specs.declared.meeting.Meeting.{Meeting}
 use Rattle.audit_proof.specs.declared.meeting.Meeting.TheVariants.{Met, Apart, Lost}
@@ -16,7 +16,7 @@ pub record IsApart (lefts rights : List (List ℕ)) (over_left over_right : Clim
   pub right_used : right.used ≤ length rights
   pub different : left.value ≢ right.value
 
--- two climbs over these hashes have come to this
+-- the outcome of two climbs over these hashes
 abbrev pub IsMeeting : (List ℕ → List ℕ) → List (List ℕ) → List (List ℕ) → Climbed (List ℕ) → Climbed (List ℕ)
     → Meeting → Type 0
 IsMeeting H lefts rights over_left over_right (Met c) = IsCollision H c.left.items c.right.items

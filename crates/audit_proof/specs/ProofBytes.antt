@@ -13,14 +13,14 @@ use Rattle.audit_proof.specs.declared.bytes.TheConstants.{MEMBER_MARK, INCREMENT
 use Rattle.audit_proof.specs.declared.member_proof.MemberProof.{MemberProof}
 use Rattle.audit_proof.specs.declared.increment_proof.IncrementProof.{IncrementProof}
 
--- what a membership proof says
+-- the content of a membership proof
 pub record Member : Type 0 where
   pub index : ℕ
   pub count : ℕ
   pub hashes : List (List ℕ)
   pub entry : List ℕ
 
--- what an incremental proof says
+-- the content of an incremental proof
 pub record Increment : Type 0 where
   pub older : ℕ
   pub newer : ℕ
@@ -32,7 +32,7 @@ member_in p = record { index = p.index; count = p.count; hashes = p.hashes.items
 abbrev pub increment_in : IncrementProof → Increment
 increment_in p = record { older = p.older; newer = p.newer; hashes = p.hashes.items }
 
--- what bytes can say: numbers of 8 bytes, whole hashes, and no more of either part than the limits
+-- what bytes can encode: numbers of 8 bytes, whole hashes, and both parts within their limits
 pub record IsMember (p : Member) : Type 0 where
   pub index : p.index < 2 ^ 64
   pub count : p.count < 2 ^ 64
@@ -53,7 +53,7 @@ number_bytes n = to_be_bytes w64 n
 unfoldable pub number_in : List ℕ → ℕ → ℕ
 number_in bytes at = number_at w64 at bytes
 
--- the bytes of a mark, two numbers, hashes and what stands after them
+-- the bytes of a mark, two numbers, hashes and what follows them
 unfoldable pub proof_bytes : ℕ → ℕ → ℕ → List (List ℕ) → List ℕ → List ℕ
 proof_bytes mark first second hashes after =
     mark ∷ (number_bytes first ++ (number_bytes second ++ (length hashes ∷ (concat hashes ++ after))))
@@ -64,7 +64,7 @@ member_bytes p = proof_bytes MEMBER_MARK p.index p.count p.hashes p.entry
 abbrev pub increment_bytes : Increment → List ℕ
 increment_bytes p = proof_bytes INCREMENT_MARK p.older p.newer p.hashes []
 
--- the two numbers and the number of hashes, where there are so many bytes and they begin with the mark
+-- the two numbers and the number of hashes, if the bytes are long enough and begin with the mark
 unfoldable pub head_of : ℕ → List ℕ → Option Head
 head_of mark bytes =
     if nat_lt (length bytes) HEAD_LEN then None

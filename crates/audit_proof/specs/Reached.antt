@@ -1,4 +1,4 @@
--- What a climb of the code has reached, as the definitions have it.
+-- What a climb in the code has reached, in the terms of the definitions.
 use Rattle.std.specs.Prelude.{ℕ, List, Option, option_map, drop}
 use Rattle.audit_proof.specs.declared.climb.Reached.{Reached}
 use Rattle.audit_proof.specs.Climb.{Climbed}

@@ -1,5 +1,5 @@
--- The full node that an increment gives with its value in both of its trees, on the way of an index, and the
--- siblings on its way up to either root.
+-- The full node whose value an increment gives for both of its trees, on the path of an index, and its siblings on the
+-- path to either root.
 use Rattle.std.specs.Prelude.{◌≡◌, ℕ, ◌+◌, ◌-◌, ◌%◌, ◌^◌, ◌≤◌, List, [], ◌∷◌, ◌++◌, Option, None, Some, length, drop}
 use Rattle.std.specs.Prelude.{min}
 use Rattle.audit_proof.specs.declared.climb.Way.{Way}
@@ -9,13 +9,13 @@ use Rattle.audit_tree.specs.Subtree.{depth}
 use Rattle.audit_proof.specs.declared.commitment.Commitment.{Commitment}
 use Rattle.audit_proof.specs.Climb.{Climbed, climb, one_value, two_values}
 
--- what a way of an increment reaches from its first hash, in an older tree of this depth and in a newer one
+-- what the path of an increment reaches from its first hash, in an older tree of this depth and in a newer one
 abbrev pub climbed_both : (List ℕ → List ℕ) → ℕ → Way → List ℕ → List (List ℕ) → Climbed Versions
 climbed_both H top way first hashes =
     climb (two_values H top) way.from way.height way.place way.count (record { older = first; newer = first }) hashes
 
--- From its value, the node's siblings in either tree lead to what the way reaches there. The older tree ends with
--- the way's place, and its values stop at its root's layer.
+-- From the node's value, its siblings in either tree lead to what the path reaches there. The older tree ends at the
+-- path's place, and its values stop at the layer of its root.
 pub record IsShared (H : List ℕ → List ℕ) (top : ℕ) (way : Way) (index : ℕ) (climbed : Climbed Versions)
     (hashes : List (List ℕ)) (node : SharedNode) : Type 0 where
   pub low : node.layer ≤ way.from + way.height
@@ -29,7 +29,7 @@ pub record IsShared (H : List ℕ → List ℕ) (top : ℕ) (way : Way) (index :
   pub newer : climb (one_value H) node.layer (way.from + way.height - node.layer) index way.count
       node.value node.newer_siblings.items ≡ Some (versions.newer, [])
 
--- The same from one commitment to another: the node's siblings lead from its value to either root.
+-- The same between two commitments: the node's siblings lead from its value to either root.
 pub record IsSharedByBoth (H : List ℕ → List ℕ) (older newer : Commitment) (index : ℕ)
     (node : SharedNode) : Type 0 where
   pub inside : node.layer ≤ depth older.count

@@ -12,8 +12,8 @@ use crate::steps::{OneValue, TwoValues, Versions};
 use audit_base::{HASH_LEN, Hash, MAX_COUNT, is_same_hash};
 use audit_tree::{depth_of, leaf_hash};
 
-// The root to which the hashes of a membership proof lead from a leaf hash: nothing where the index isn't below the
-// count or the count is over `MAX_COUNT`, and where a hash is missing or left over.
+// The root to which the hashes of a membership proof lead from a leaf hash. Nothing if the index isn't below the count,
+// the count is over `MAX_COUNT`, or a hash is missing or left over.
 fn root_of_member<T: TextHash>(
     hash: &T,
     commitment: &Commitment,
@@ -61,19 +61,18 @@ pub fn accepts_leaf<T: TextHash>(
 pub fn leads_up<T: TextHash>(hash: &T, commitment: &Commitment, index: u64, hashes: &[Hash]) -> bool
     ensures exact { IsTrue result ↔ LeadsUp T.value_of commitment.now.count index hashes.now }
 
-    // Else the proof is accepted for no leaf hash.
+    // Otherwise the proof is accepted for no leaf hash.
     ensures accepted { (leaf : List ℕ) → AcceptsLeaf T.value_of commitment.now index leaf hashes.now → IsTrue result }
 {
     root_of_member(hash, commitment, index, [0; HASH_LEN], hashes).is_some()
 }
 
-/// Returns whether a membership proof shows that the entry at an index is this one, under a commitment:
-/// false where the index isn't below the count or the count is over `MAX_COUNT`, and where a hash
-/// is missing or left over. It takes no memory.
+/// Returns whether a membership proof shows that this entry has this index under a commitment. False if the index isn't
+/// below the count, the count is over `MAX_COUNT`, or a hash is missing or left over. It takes no memory.
 pub fn accepts_member(commitment: &Commitment, index: u64, entry: &[u8], hashes: &[Hash]) -> bool
     ensures exact { IsTrue result ↔ AcceptsMembership sha256 commitment.now index entry.now hashes.now }
 
-    // What a tree makes is accepted under its root.
+    // A proof made by a tree is accepted under its root.
     ensures made { (leaves : List (List ℕ))
         → IsMadeMembership leaves commitment.now index entry.now hashes.now → IsTrue result }
 {
@@ -135,13 +134,12 @@ pub fn accepts_versions<T: TextHash>(
     }
 }
 
-/// Returns whether an incremental proof shows that the newer tree extends the older one: false where
-/// not `1 <= older.count <= newer.count <= MAX_COUNT`, and where a hash is missing or left over. It
-/// takes no memory.
+/// Returns whether an incremental proof shows that the newer tree extends the older one. False unless `1 <= older.count
+/// <= newer.count <= MAX_COUNT`, and if a hash is missing or left over. It takes no memory.
 pub fn accepts_increment(older: &Commitment, newer: &Commitment, hashes: &[Hash]) -> bool
     ensures exact { IsTrue result ↔ AcceptsIncrement sha256 older.now newer.now hashes.now }
 
-    // What a tree makes is accepted under its roots.
+    // A proof made by a tree is accepted under its roots.
     ensures made { (leaves : List (List ℕ))
         → IsMadeIncrement leaves older.now newer.now hashes.now → IsTrue result }
 {

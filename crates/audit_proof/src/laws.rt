@@ -50,7 +50,7 @@ impl TextHash for Sha256Texts {
 ///
 /// It is refused as `collide_two` is, in the same order, if no entry is longer than `MAX_ENTRY` bytes. The leaf's text
 /// of a longer one takes memory before its proof is judged, so `Memory` may come in place of `NotAccepted` and
-/// `NoDisagreement`, but only where the proofs have the right number of hashes.
+/// `NoDisagreement`, but only if the proofs have the right number of hashes.
 pub fn collide_two_with<T: TextHash>(
     alloc: Global,
     hash: &T,
@@ -97,9 +97,9 @@ pub fn collide_two_with<T: TextHash>(
 /// two membership proofs of one index that are accepted over it, the first under the older commitment and the second
 /// under the newer one, with different entries.
 ///
-/// It is refused as `collide_three` is, in the same order, if no entry is longer than `MAX_ENTRY` bytes. The leaf's text
-/// of a longer one takes memory before its proof is judged, so `Memory` may come in place of `NotAccepted` and
-/// `NoDisagreement`, but only where the increment is accepted and the memberships have the right number of hashes.
+/// It is refused as `collide_three` is, in the same order, if no entry is longer than `MAX_ENTRY` bytes. The leaf's
+/// text of a longer one takes memory before its proof is judged, so `Memory` may come in place of `NotAccepted` and
+/// `NoDisagreement`, but only if the increment is accepted and the memberships have the right number of hashes.
 pub fn collide_three_with<T: TextHash>(
     alloc: Global,
     hash: &T,
