@@ -222,7 +222,7 @@ module _ {C S : Type 0} (M : CoreModel C) (N : StreamModel S) where
 
   -- ---- one session
 
-  -- what a session and its stream came to is what all of them came to
+  -- what one session and its stream reached is what all of them reached
   pub session_reached : {Shape : (ℕ → List StreamCall) → List StepData → Type 0} (k : ℕ) (old new : C) (streams : List S) (at after : S) → k < length streams → SessionReached M N k old new (get_or streams k at) after Shape
       → Reached M N old new streams (set streams k after) Shape
   session_reached k old new streams at after within t = record {

@@ -324,7 +324,7 @@ module _ {C S : Type 0} (M : CoreModel C) (N : StreamModel S) where
         empty = λ still. last.empty (none_later first.calls second.calls still);
       }
 
-  -- steps that bring nothing before the others
+  -- steps that feed nothing, before the others
   pub streamed_after : (k : ℕ) (steps later : List StepData) (lost sent more : List ℕ) (calls : List StreamCall) (before after : S) → bytes_fed k steps ≡ [] → sent ≡ [] → IsStreamed N k later lost more calls before after
       → IsStreamed N k (steps ++ later) lost (sent ++ more) calls before after
   streamed_after k steps later lost sent more calls before after none nothing h =
@@ -369,14 +369,14 @@ module _ {C S : Type 0} (M : CoreModel C) (N : StreamModel S) where
       }
 
 module _ {C : Type 0} (M : CoreModel C) where
-  -- passes of which fewer than may be leave no session live
+  -- if passes below the limit leave no session live, and a session is live, the limit was reached
   pub all_rounds : (count turns : ℕ) (core : C) → turns ≤ MAX_TURNS → (turns < MAX_TURNS → live_below count (M.ended core []) ≡ []) → live_below count (M.ended core []) ≢ [] → turns ≡ MAX_TURNS
   all_rounds count turns core most all some = elim (cases_lt turns MAX_TURNS) [
     | inl fewer ↦ absurd (some (all fewer))
     | inr enough ↦ omega (arith, most, enough)
   ]
 
-  -- the same, where it isn't known whether sessions are live
+  -- the same if it isn't known whether sessions are live
   pub over_rounds : (count turns : ℕ) (core : C) → turns ≤ MAX_TURNS → (turns < MAX_TURNS → live_below count (M.ended core []) ≡ []) → (live_below count (M.ended core []) ≡ []) ⊎ (turns ≡ MAX_TURNS)
   over_rounds count turns core most all = elim (cases_lt turns MAX_TURNS) [
     | inl fewer ↦ inl (all fewer)

@@ -1,4 +1,4 @@
--- What steps bring of the stream of one session.
+-- What steps feed of the stream of one session.
 use Rattle.std.proofs.Common.{◌≡◌, ℕ, ◌+◌, Bool, true, false, ◌||◌, eqb, List, [], ◌∷◌, ◌++◌, refl, sym, ap, subst, ◌∙◌, append_assoc, arith, inl, inr, true≢false}
 use Rattle.std.proofs.lemmas.List.{append-nil}
 use Rattle.std.proofs.lemmas.Bool.{cases_Bool, ne_eqb, cond-false}
@@ -60,7 +60,7 @@ open_before true second after is now = absurd (true≢false (sym is ∙ now))
 open_before false second after is now = refl
 
 module _ {S : Type 0} (N : StreamModel S) where
-  -- no call, and the steps bring nothing
+  -- no call, and the steps feed nothing
   pub streamed_none : (k : ℕ) (steps : List StepData) (stream : S) → bytes_fed k steps ≡ [] → IsStreamed N k steps [] [] [] stream stream
   streamed_none k steps stream none = record {
     did = N.calls.nothing_called stream;

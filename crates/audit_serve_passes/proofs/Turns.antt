@@ -29,7 +29,7 @@ bytes_then_none k bytes = λ i session. append-nil (bytes_for k bytes session) i
 
 -- ---- the steps of a session
 
--- of no session do steps bring bytes
+-- the steps feed no bytes to any session
 abbrev pub BringNothing : List StepData → Type 0
 BringNothing steps = (k : ℕ) → bytes_fed k steps ≡ []
 
@@ -54,7 +54,7 @@ end_about k part (inr whole) = subst (AreAbout k) (sym whole) (refl, tt)
 
 -- ---- the calls of a turn
 
--- a read that gave nothing
+-- a read that returned nothing
 end_call : (given : Result ℕ StreamError) (buffer : List ℕ) → ((count : ℕ) → given ≡ Ok count → count ≡ 0) → (read_call given buffer ≡ a_read []) ⊎ (read_call given buffer ≡ a_failed_read)
 end_call (Ok count) buffer none = inl (ap (λ (n : ℕ). a_read (take n buffer)) (none count refl))
 end_call (Err fault) buffer none = inr refl
@@ -64,7 +64,7 @@ end_of_call call (inl is) = ap (λ (c : StreamCall). ends_of_calls (c ∷ [])) i
 end_of_call call (inr is) = ap (λ (c : StreamCall). ends_of_calls (c ∷ [])) is
 
 module _ {S : Type 0} (N : StreamModel S) where
-  -- of a piece the front was brought
+  -- a prefix of a piece was fed
   front_streamed : (k : ℕ) (piece front rest : List ℕ) (before after : S) → N.calls.DidCalls before after (a_read piece ∷ []) → piece ≡ front ++ rest
       → IsStreamed N k (a_piece k front ∷ []) rest [] (a_read piece ∷ []) before after
   front_streamed k piece front rest before after did split = record {

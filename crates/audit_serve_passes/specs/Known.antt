@@ -16,7 +16,7 @@ abbrev pub has_read_at_end : List StreamCall → Bool
 has_read_at_end [] = false
 has_read_at_end (call ∷ calls) = is_read_at_end call || has_read_at_end calls
 
--- of known bytes the calls gave the first, and all where one of them found the end
+-- the calls read a prefix of the known bytes, and all of them if one of the calls found the end
 abbrev pub IsReadBy : Option (List ℕ) → Option (List ℕ) → List StreamCall → Type 0
 IsReadBy None new calls = Unit {0}
 IsReadBy (Some unread) None calls = ⊥

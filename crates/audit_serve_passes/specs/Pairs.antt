@@ -12,7 +12,8 @@ use Rattle.audit_serve_passes.specs.CallLaws.{nothing_read, read_more, nothing_w
 abbrev pub writer_of : {R W : Type 0} → StreamPair R W → W
 writer_of pair = pair.writer
 
--- Of the bytes that the reader had left the calls gave the first; those that the writer holds grew by what was written.
+-- The calls read a prefix of the reader's remaining bytes, and the bytes that the writer holds grew by what was
+-- written.
 pub record IsPairCalled {R W : Type 0} (remaining : R → Option (List ℕ)) (contents : W → Option (List ℕ))
     (old new : StreamPair R W) (calls : List StreamCall) : Type 0 where
   pub read : IsReadBy (remaining old.reader) (remaining new.reader) calls
@@ -83,7 +84,7 @@ pub record IsNewDuplex {T : Type 0} (inner : T) (duplex : DuplexStream T) : Type
   pub inner_is : duplex.inner ≡ inner
   pub closed : duplex.closed ≡ false
 
--- ---- a value of which nothing is known, as a socket
+-- ---- a value of which nothing is known, such as a socket
 
 abbrev pub unknown_calls : {T : Type 0} → CallModel T
 unknown_calls = record {

@@ -22,12 +22,12 @@ AreVisits [] (step ∷ steps) = ⊥
 AreVisits (k ∷ sessions) [] = ⊥
 AreVisits (k ∷ sessions) (step ∷ steps) = IsVisit k step × AreVisits sessions steps
 
--- these sessions have streams of which a write failed
+-- a write failed on the stream of each of these sessions
 abbrev pub AreClosed : (ℕ → Bool) → List ℕ → Type 0
 AreClosed closed [] = Unit {0}
 AreClosed closed (k ∷ sessions) = (closed k ≡ true) × AreClosed closed sessions
 
--- the ends of sessions of whose streams a write failed
+-- the steps end sessions on whose streams a write failed
 pub record AreEndsOfClosed (closed : ℕ → Bool) (steps : List StepData) : Type 0 where
   pub sessions : List ℕ
   pub are : steps ≡ map an_end sessions
@@ -47,7 +47,7 @@ pub record IsPass (count : ℕ) (ended closed : ℕ → Bool) (steps : List Step
   pub each : AreVisits (live_below count ended) turns
   pub flush : IsFlushAndEnds closed last
 
--- this many passes, each of the sessions that the steps before it left live, one at least
+-- this many passes, each over the sessions that are live after the steps before it, at least one
 abbrev pub ArePasses : ℕ → (List StepData → ℕ → Bool) → (ℕ → Bool) → ℕ → List StepData → Type 0
 ArePasses count ended closed zero steps = steps ≡ []
 ArePasses count ended closed (suc turns) steps =
@@ -55,13 +55,13 @@ ArePasses count ended closed (suc turns) steps =
     × ArePasses count ended closed turns earlier
     × (live_below count (ended earlier) ≢ []) × IsPass count (ended earlier) closed round
 
--- what comes after the passes: the end of each session that is live, and one flush more
+-- what follows the passes: each live session is ended, then comes one more flush
 pub record IsLastFlush (count : ℕ) (ended closed : ℕ → Bool) (steps : List StepData) : Type 0 where
   pub last : List StepData
   pub are : steps ≡ map an_end (live_below count ended) ++ last
   pub flush : IsFlushAndEnds closed last
 
--- passes up to the end of the last session, and one flush more
+-- passes until the last session has ended, then one more flush
 pub record IsWholeRun (count : ℕ) (ended : List StepData → ℕ → Bool) (closed : ℕ → Bool) (turns : ℕ)
     (steps : List StepData) : Type 0 where
   pub rounds : List StepData
@@ -71,7 +71,7 @@ pub record IsWholeRun (count : ℕ) (ended : List StepData → ℕ → Bool) (cl
   pub all_ended : live_below count (ended rounds) ≡ []
   pub flush : IsFlushAndEnds closed last
 
--- as many passes as may be, after which sessions are live: the end of each of them, and one flush more
+-- as many passes as the limit allows, after which sessions are live: each of them is ended, then comes one more flush
 pub record IsCutRun (count : ℕ) (ended : List StepData → ℕ → Bool) (closed : ℕ → Bool)
     (steps : List StepData) : Type 0 where
   pub rounds : List StepData
@@ -83,7 +83,7 @@ pub record IsCutRun (count : ℕ) (ended : List StepData → ℕ → Bool) (clos
 
 -- ---- steps of which the last was refused
 
--- steps of a shape up to one that was refused, and a part of that one
+-- the steps of a shape up to one that was refused, and a part of the refused step
 pub record IsInterrupted (Shape : List StepData → Type 0) (steps : List StepData) : Type 0 where
   pub front : List StepData
   pub step : StepData
@@ -93,7 +93,7 @@ pub record IsInterrupted (Shape : List StepData → Type 0) (steps : List StepDa
   pub of : IsPartOf step part
   pub shape : Shape (front ++ step ∷ later)
 
--- so many passes were begun, and in the last of them a step was refused
+-- this many passes were begun, and a step of the last one was refused
 pub record IsStoppedInPass (count : ℕ) (ended : List StepData → ℕ → Bool) (closed : ℕ → Bool) (turns : ℕ)
     (steps : List StepData) : Type 0 where
   pub earlier : List StepData
@@ -105,7 +105,7 @@ pub record IsStoppedInPass (count : ℕ) (ended : List StepData → ℕ → Bool
   pub live : live_below count (ended earlier) ≢ []
   pub pass : IsInterrupted (IsPass count (ended earlier) closed) last
 
--- so many passes were made, all that there had to be or as many as may be, and a step after them was refused
+-- this many passes were made, until no session was live or up to the limit, and a step after them was refused
 pub record IsStoppedAfter (count : ℕ) (ended : List StepData → ℕ → Bool) (closed : ℕ → Bool) (turns : ℕ)
     (steps : List StepData) : Type 0 where
   pub rounds : List StepData

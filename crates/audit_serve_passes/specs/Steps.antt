@@ -1,4 +1,4 @@
--- The steps of a core that serves sessions, and what they bring of the stream of one session.
+-- The steps of a core that serves sessions, and what they feed of the stream of one session.
 use Rattle.std.specs.Prelude.{◌≡◌, ◌⊎◌, ℕ, ◌+◌, Bool, false, ◌||◌, ◌==◌, if◌then◌else◌, List, [], ◌∷◌, ◌++◌}
 
 pub data StepData : Type 0 where
@@ -9,7 +9,7 @@ pub data StepData : Type 0 where
   -- what waits is committed and answered
   a_flush : StepData
 
--- a step is about session k, and so is each of several steps
+-- a step is about session k; each of several steps is
 abbrev pub IsAbout : ℕ → StepData → Type 0
 IsAbout k (a_piece session piece) = session ≡ k
 IsAbout k (an_end session) = session ≡ k
@@ -26,7 +26,7 @@ IsPartOf (a_piece k piece) part = (part ≡ [])
 IsPartOf (an_end k) part = (part ≡ []) ⊎ (part ≡ an_end k ∷ [])
 IsPartOf a_flush part = (part ≡ []) ⊎ (part ≡ a_flush ∷ [])
 
--- the bytes that a step feeds to a session, and the bytes that several steps feed to it in order
+-- the bytes that a step, or a list of steps in order, feeds to a session
 abbrev pub bytes_in : ℕ → StepData → List ℕ
 bytes_in k (a_piece session piece) = if session == k then piece else []
 bytes_in k (an_end session) = []
@@ -36,7 +36,7 @@ abbrev pub bytes_fed : ℕ → List StepData → List ℕ
 bytes_fed k [] = []
 bytes_fed k (step ∷ steps) = bytes_in k step ++ bytes_fed k steps
 
--- whether a step ends a session, and whether one of several steps does
+-- whether a step, or one of several steps, ends a session
 abbrev pub is_end : ℕ → StepData → Bool
 is_end k (a_piece session piece) = false
 is_end k (an_end session) = session == k
@@ -46,7 +46,7 @@ abbrev pub has_end : ℕ → List StepData → Bool
 has_end k [] = false
 has_end k (step ∷ steps) = is_end k step || has_end k steps
 
--- how often a session ends by a step, and by steps in turn
+-- how many times a step, or a list of steps, ends a session
 abbrev pub ends_in_step : ℕ → StepData → ℕ
 ends_in_step k (a_piece session piece) = 0
 ends_in_step k (an_end session) = if session == k then 1 else 0

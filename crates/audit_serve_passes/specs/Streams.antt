@@ -23,7 +23,7 @@ abbrev pub write_call : Result (Unit {0}) StreamError → List ℕ → StreamCal
 write_call (Ok unit) bytes = a_write bytes
 write_call (Err fault) bytes = a_failed_write bytes
 
--- the bytes that a call gave, and calls in turn: a failed one gives none
+-- the bytes that a call, or a list of calls, read: a failed read gives none
 abbrev pub bytes_given : StreamCall → List ℕ
 bytes_given (a_read bytes) = bytes
 bytes_given a_failed_read = []
@@ -34,7 +34,7 @@ abbrev pub bytes_read : List StreamCall → List ℕ
 bytes_read [] = []
 bytes_read (call ∷ calls) = bytes_given call ++ bytes_read calls
 
--- the bytes that a call had to write, and calls in turn
+-- the bytes that a call, or a list of calls, had to write
 abbrev pub bytes_asked : StreamCall → List ℕ
 bytes_asked (a_read bytes) = []
 bytes_asked a_failed_read = []
@@ -56,7 +56,7 @@ abbrev pub has_failed_write : List StreamCall → Bool
 has_failed_write [] = false
 has_failed_write (call ∷ calls) = is_failed_write call || has_failed_write calls
 
--- how often calls end a session: a read at the end of the stream does, and a call that failed
+-- how many times calls end a session: each read at the end of the stream does, and each failed call
 abbrev pub ends_of_call : StreamCall → ℕ
 ends_of_call (a_read []) = 1
 ends_of_call (a_read (byte ∷ bytes)) = 0
@@ -78,7 +78,7 @@ AreWrittenWhole closed (a_failed_write bytes ∷ calls) = (closed ≡ false) × 
 
 -- How contracts see a value that reads and writes.
 pub record CallModel (S : Type 0) : Type 1 where
-  -- it came from one state to another by these calls
+  -- these calls took it from one state to another
   pub DidCalls : S → S → List StreamCall → Type 0
   pub nothing_called : (stream : S) → DidCalls stream stream []
   pub more_called : (old mid new : S) (calls later : List StreamCall) → DidCalls old mid calls
@@ -94,12 +94,12 @@ pub record StreamModel (S : Type 0) : Type 1 where
 
 -- ---- streams and steps
 
--- the calls of one stream, and none of the others
+-- these calls for one stream, and none for the others
 abbrev pub calls_for : ℕ → List StreamCall → ℕ → List StreamCall
 calls_for k calls session = if session == k then calls else []
 
--- By these calls the stream of a session gave the bytes that the steps bring, and those that were lost; and took what
--- was sent, or dropped it once a write had failed.
+-- By these calls the session's stream gave the bytes that the steps feed, then those that were lost. It took what was
+-- sent; once a write had failed, the rest was dropped.
 pub record IsStreamed {S : Type 0} (N : StreamModel S) (k : ℕ) (steps : List StepData) (lost sent : List ℕ)
     (calls : List StreamCall) (before after : S) : Type 0 where
   pub did : N.calls.DidCalls before after calls

@@ -1,4 +1,4 @@
--- What a call does that serves the sessions of several streams.
+-- What a call that serves the sessions of several streams does.
 use Rattle.std.specs.Prelude.{◌≡◌, ◌⊎◌, ℕ, ◌<◌, ◌≤◌, Bool, true, false, List, [], ◌∷◌, length, map, slice_index_or}
 use Rattle.audit_serve_passes.specs.declared.limits.TheConstants.{MAX_PIECE}
 use Rattle.audit_serve_passes.specs.Steps.{StepData, an_end, IsAbout, AreAbout, bytes_fed, ends_in}
@@ -8,14 +8,14 @@ use Rattle.audit_serve_passes.specs.Streams.{StreamCall, StreamModel, IsStreamed
 use Rattle.audit_serve_passes.specs.Streams.{has_failed_write}
 use Rattle.audit_serve_passes.specs.Core.{CoreModel, bytes_for}
 
--- whether a write failed to the stream of a session, and to none
+-- whether a write failed on the stream of session k; on no stream did one fail
 abbrev pub closed_by : (ℕ → List StreamCall) → ℕ → Bool
 closed_by calls k = has_failed_write (calls k)
 
 abbrev pub NoneClosed : (ℕ → List StreamCall) → Type 0
 NoneClosed calls = (k : ℕ) → closed_by calls k ≡ false
 
--- The core did steps of a shape, and each stream had its calls: they gave what the steps bring, took what was taken of
+-- The core did steps of a shape, and each stream had its calls. These gave what the steps feed, took what was taken of
 -- the session's output, and ended the session as often as the steps do.
 pub record Transition {C S : Type 0} (M : CoreModel C) (N : StreamModel S) (old new : C) (before after : List S)
     (Shape : (ℕ → List StreamCall) → List StepData → Type 0) : Type 0 where
@@ -24,14 +24,14 @@ pub record Transition {C S : Type 0} (M : CoreModel C) (N : StreamModel S) (old 
   pub taken : ℕ → List ℕ
   pub calls : ℕ → List StreamCall
   pub did : M.DidSteps old new steps taken
-  -- nothing was taken of the output of a session that has no stream
+  -- no output was taken of a session that has no stream
   pub others : (k : ℕ) → length before ≤ k → taken k ≡ []
   pub shape : Shape calls steps
   pub streamed : (k : ℕ) (none : S) → k < length before → IsStreamed N k steps [] (taken k) (calls k)
       (slice_index_or before k none) (slice_index_or after k none)
   pub ends : (k : ℕ) → k < length before → ends_in k steps ≡ ends_of_calls (calls k)
 
--- The same of one session and its stream.
+-- The same for one session and its stream.
 pub record SessionTransition {C S : Type 0} (M : CoreModel C) (N : StreamModel S) (k : ℕ) (old new : C)
     (before after : S) (Shape : (ℕ → List StreamCall) → List StepData → Type 0) : Type 0 where
   pub steps : List StepData
@@ -51,7 +51,7 @@ pub record CoreTransition {C : Type 0} (M : CoreModel C) (old new : C) (Shape : 
   pub none : (k : ℕ) → taken k ≡ []
   pub shape : Shape steps
 
--- The same, but sessions may have been ended whose streams weren't at an end.
+-- The same, but sessions may have been ended before the end of their streams.
 pub record EndsAs {C S : Type 0} (M : CoreModel C) (N : StreamModel S) (old new : C) (before after : List S)
     (Shape : (ℕ → List StreamCall) → List StepData → Type 0) : Type 0 where
   pub count : length after ≡ length before
@@ -59,7 +59,7 @@ pub record EndsAs {C S : Type 0} (M : CoreModel C) (N : StreamModel S) (old new 
   pub taken : ℕ → List ℕ
   pub calls : ℕ → List StreamCall
   pub did : M.DidSteps old new steps taken
-  -- nothing was taken of the output of a session that has no stream
+  -- no output was taken of a session that has no stream
   pub others : (k : ℕ) → length before ≤ k → taken k ≡ []
   pub shape : Shape calls steps
   pub streamed : (k : ℕ) (none : S) → k < length before → IsStreamed N k steps [] (taken k) (calls k)
@@ -67,8 +67,8 @@ pub record EndsAs {C S : Type 0} (M : CoreModel C) (N : StreamModel S) (old new 
 
 -- ---- calls of which the last may have been refused
 
--- The core went by steps of a shape, and each stream had its calls. Of one session at most a piece was read that a
--- refused call lost.
+-- The core did steps of a shape, perhaps a part of the last one, and each stream had its calls. At most one piece that
+-- was read for one session was lost, by a refused call.
 pub record Reached {C S : Type 0} (M : CoreModel C) (N : StreamModel S) (old new : C) (before after : List S)
     (Shape : (ℕ → List StreamCall) → List StepData → Type 0) : Type 0 where
   pub count : length after ≡ length before
@@ -76,9 +76,9 @@ pub record Reached {C S : Type 0} (M : CoreModel C) (N : StreamModel S) (old new
   pub taken : ℕ → List ℕ
   pub calls : ℕ → List StreamCall
   pub reaches : M.DidStepsInPart old new steps taken
-  -- nothing was taken of the output of a session that has no stream
+  -- no output was taken of a session that has no stream
   pub others : (k : ℕ) → length before ≤ k → taken k ≡ []
-  -- the bytes that were lost, and of which session
+  -- the session whose bytes were lost, and these bytes
   pub refused : ℕ
   pub lost : List ℕ
   pub most : length lost ≤ MAX_PIECE
@@ -87,7 +87,7 @@ pub record Reached {C S : Type 0} (M : CoreModel C) (N : StreamModel S) (old new
       → IsStreamed N k steps (bytes_for refused lost k) (taken k) (calls k)
       (slice_index_or before k none) (slice_index_or after k none)
 
--- The same of one session and its stream.
+-- The same for one session and its stream.
 pub record SessionReached {C S : Type 0} (M : CoreModel C) (N : StreamModel S) (k : ℕ) (old new : C)
     (before after : S) (Shape : (ℕ → List StreamCall) → List StepData → Type 0) : Type 0 where
   pub steps : List StepData
@@ -100,7 +100,7 @@ pub record SessionReached {C S : Type 0} (M : CoreModel C) (N : StreamModel S) (
   pub shape : Shape (calls_for k calls) steps
   pub streamed : IsStreamed N k steps lost sent calls before after
 
--- The core went by some steps of a shape, and no stream was used.
+-- The core did some steps of a shape, perhaps a part of the last one, and no stream was used.
 pub record CoreReached {C : Type 0} (M : CoreModel C) (old new : C) (Shape : List StepData → Type 0) : Type 0 where
   pub steps : List StepData
   pub taken : ℕ → List ℕ
@@ -138,19 +138,19 @@ pub record AreEndsBelow (count : ℕ) (ended : ℕ → Bool) (steps : List StepD
 abbrev pub AreEmpty : {C : Type 0} → CoreModel C → ℕ → C → Type 0
 AreEmpty M count core = (k : ℕ) → k < count → M.output core k ≡ []
 
--- the end of a session of whose stream a write failed
+-- the end of a session on whose stream a write failed
 pub record IsEndOfClosed (k : ℕ) (calls : ℕ → List StreamCall) (steps : List StepData) : Type 0 where
   pub one : steps ≡ an_end k ∷ []
   pub closed : closed_by calls k ≡ true
 
--- The output of a session was taken. There is no step but its end, where it couldn't be written.
+-- The output of a session was taken. If it couldn't be written, the session was ended; there was no other step.
 pub record IsOutputTaken {C : Type 0} (M : CoreModel C) (k : ℕ) (old new : C) (calls : ℕ → List StreamCall)
     (steps : List StepData) : Type 0 where
   pub ends : (steps ≡ []) ⊎ IsEndOfClosed k calls steps
   pub empty : closed_by calls k ≡ false → M.output new k ≡ []
   pub others : closed_by calls k ≡ false → (other : ℕ) → (other ≡ k → ⊥) → M.output new other ≡ M.output old other
 
--- The outputs of the sessions below a number were taken, and unless a write failed nothing waits for them.
+-- The outputs of the sessions below a number were taken; none is pending unless a write failed.
 pub record AreTaken {C : Type 0} (M : CoreModel C) (count : ℕ) (new : C) (calls : ℕ → List StreamCall)
     (steps : List StepData) : Type 0 where
   pub ends : AreEndsOfClosed (closed_by calls) steps
@@ -162,7 +162,8 @@ pub record IsFlushStep {C : Type 0} (M : CoreModel C) (count : ℕ) (new : C) (c
   pub one : IsFlushAndEnds (closed_by calls) steps
   pub empty : NoneClosed calls → AreEmpty M count new
 
--- passes up to the end of the last session, or as many as may be, after which nothing waits unless a write failed
+-- passes until the last session has ended or the limit is reached, after which no output is pending unless a write
+-- failed
 pub record IsServed {C : Type 0} (M : CoreModel C) (count turns : ℕ) (old new : C) (calls : ℕ → List StreamCall)
     (steps : List StepData) : Type 0 where
   pub run : IsWholeRun count (M.ended old) (closed_by calls) turns steps
@@ -173,7 +174,7 @@ pub record IsCut {C : Type 0} (M : CoreModel C) (count : ℕ) (old new : C) (cal
   pub run : IsCutRun count (M.ended old) (closed_by calls) steps
   pub empty : NoneClosed calls → AreEmpty M count new
 
--- passes up to a step that was refused, in the last of them or after it
+-- passes up to a refused step, which is in the last of them or after it
 abbrev pub IsStoppedBy : {C : Type 0} → CoreModel C → ℕ → ℕ → C → (ℕ → List StreamCall) → List StepData → Type 0
 IsStoppedBy M count turns old calls steps = IsStoppedInPass count (M.ended old) (closed_by calls) turns steps
     ⊎ IsStoppedAfter count (M.ended old) (closed_by calls) turns steps

@@ -11,14 +11,14 @@ pub trait Duplex {
     /// What its calls do, and what is known of it.
     ghost calls: { CallModel Self };
 
-    /// Reads some of the bytes that are there into the front of the buffer, and reports how many; none only at the
-    /// end. It may wait for the peer.
+    /// Reads available bytes into the front of the buffer and returns their number, which is 0 only at the end. It may
+    /// wait for the peer.
     fn receive(&mut self, buffer: &mut [u8]) -> Result<usize, StreamError>
         requires { 0 < length buffer.old }
         ensures within { IfOk result (λ count. count ≤ length buffer.new) }
         ensures did { calls.DidCalls self.old self.new (read_call result buffer.new ∷ []) };
 
-    /// Writes all of these bytes. After a fault some of them may be written.
+    /// Writes all of the bytes. After an error some of them may have been written.
     fn send(&mut self, bytes: &[u8]) -> Result<(), StreamError>
         ensures { calls.DidCalls self.old self.new (write_call result bytes.now ∷ []) };
 }

@@ -6,8 +6,8 @@ use crate::duplex::Duplex;
 use crate::session_stream::SessionStream;
 use crate::stream_fault::StreamError;
 
-/// A session's stream whose two directions are one value, as a socket's. Each call is one of the value, with its
-/// result, and what is known of the value is known of the stream.
+/// A session's stream over one value that reads and writes, such as a socket. Each call is one call of the value and
+/// has its result; what is known of the value is known of the stream.
 #[derive(Debug, Drop)]
 pub struct DuplexStream<T> {
     inner: T,

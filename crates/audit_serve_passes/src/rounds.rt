@@ -78,7 +78,7 @@ pub fn serve_passes<C: SessionCore, S: SessionStream>(
     ensures refused { IfErr result (C.refuses core.old core.new) }
     ensures done { OnOk result (Transition C.model S.model core.old core.new streams.old streams.new
         (λ calls. ArePasses (length streams.old) (C.model.ended core.old) (closed_by calls) turns.new)) }
-    // Sessions are left live only after as many passes as may be.
+    // Sessions are still live only if the limit of passes was reached.
     ensures all { OnOk result (turns.new < MAX_TURNS
         → live_below (length streams.old) (C.model.ended core.new []) ≡ []) }
 {

@@ -28,18 +28,18 @@ pub fn serve<C: SessionCore, S: SessionStream>(
 ) -> ServeEnd<C::Error>
     requires { length streams.old ≤ SESSIONS }
     ensures most { result.turns ≤ MAX_TURNS }
-    // Whatever happens, the core went by steps and `take_output` alone. Of each stream the steps bring what its reads
-    // gave, but for what a refused call lost; and what was taken of a session's output was written to its stream, or
-    // dropped once a write to it had failed.
+    // Whatever happens, the core changed only by steps and `take_output`. The steps feed what the reads of each stream
+    // returned, except bytes that a refused call lost. What was taken of a session's output was written to its stream,
+    // or dropped once a write to it had failed.
     ensures reaches { Reached C.model S.model core.old core.new streams.old streams.new AnySteps }
-    // A refusal is the one that ended it: what the core says by it is so.
+    // If a refusal stopped serving, what the core states by that refusal holds.
     ensures refused { (error : C.Error) → result.fault ≡ Some (fault.Core error) → C.refuses core.old core.new error }
-    // It came in the last pass that was begun, or after all passes.
+    // The refused step was in the last pass that was begun, or after all passes.
     ensures stopped { (error : C.Error) → result.fault ≡ Some (fault.Core error)
         → Reached C.model S.model core.old core.new streams.old streams.new
         (IsStoppedBy C.model (length streams.old) result.turns core.old) }
-    // Without a fault there were whole passes up to the end of the last session, and a flush. A session was ended where
-    // a read found the end of its stream, or a call of it failed, and nowhere else.
+    // Without a fault, whole passes were made until the last session had ended, and then a flush. A session was ended
+    // exactly when a read found the end of its stream or a call of the stream failed.
     ensures served { result.fault ≡ None → Transition C.model S.model core.old core.new streams.old streams.new
         (IsServed C.model (length streams.old) result.turns core.old core.new) }
     ensures cut { result.fault ≡ Some fault.ReadFault → (result.turns ≡ MAX_TURNS)

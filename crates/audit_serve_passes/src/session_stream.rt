@@ -8,18 +8,18 @@ pub trait SessionStream {
     /// What its calls do, and what is known of it.
     ghost model: { StreamModel Self };
 
-    /// Reads some of the bytes that are there into the front of the buffer, and reports how many; none only at the
-    /// end of the stream. It may wait for the client.
+    /// Reads available bytes into the front of the buffer and returns their number, which is 0 only at the end of the
+    /// stream. It may wait for the client.
     fn read(&mut self, buffer: &mut [u8]) -> Result<usize, StreamError>
         requires { 0 < length buffer.old }
         ensures within { IfOk result (λ count. count ≤ length buffer.new) }
         ensures did { model.calls.DidCalls self.old self.new (read_call result buffer.new ∷ []) };
 
-    /// Writes all of these bytes. After a fault some of them may be written.
+    /// Writes all of the bytes. After an error some of them may have been written.
     fn write_all(&mut self, bytes: &[u8]) -> Result<(), StreamError>
         ensures { model.calls.DidCalls self.old self.new (write_call result bytes.now ∷ []) };
 
-    /// Whether a write has failed, so that nothing more is written.
+    /// Returns whether a write has failed. Nothing is written afterwards.
     fn is_closed(&self) -> bool
         ensures { result ≡ model.closed self.now };
 }

@@ -6,8 +6,8 @@ use crate::session_stream::SessionStream;
 use crate::stream_fault::StreamError;
 use std::io::{Read, Write};
 
-/// A session's stream of a reader and a writer, each for itself. What is known of the two is known of the stream: of
-/// bytes in memory everything, of a file nothing.
+/// A session's stream made of a reader and a separate writer. What is known of the two is known of the stream:
+/// everything of bytes in memory, nothing of a file.
 #[derive(Debug, Drop)]
 pub struct StreamPair<R, W> {
     reader: R,
@@ -16,7 +16,7 @@ pub struct StreamPair<R, W> {
 }
 
 impl<R: Read, W: Write> StreamPair<R, W> {
-    /// The stream that reads from the one and writes to the other.
+    /// Makes the stream that reads from `reader` and writes to `writer`.
     pub fn new(reader: R, writer: W) -> StreamPair<R, W>
         ensures { IsNewPair reader writer result }
     {

@@ -14,7 +14,7 @@ use std::alloc::{AllocError, Global};
 use std::io::{self, ErrorKind, Read, Write};
 use std::test::Fail;
 
-/// A reader of a few bytes a read, which fails after so many reads.
+/// A reader that gives at most `most` bytes at a time, and fails after `reads` reads.
 #[derive(Drop)]
 struct Source<'a> {
     bytes: &'a [u8],
@@ -33,7 +33,7 @@ impl Read for Source<'_> {
     }
 }
 
-/// A writer that takes one byte a write, and fails after `room` bytes.
+/// A writer that accepts one byte at a time, and fails after `room` bytes.
 #[derive(Drop)]
 struct Sink {
     bytes: Vec<u8>,
@@ -241,7 +241,7 @@ fn replies_are_written_in_their_round(rt: HostRuntime) -> Result<(), Fail> {
     Ok(())
 }
 
-/// A client that goes on forever, and takes whatever it is sent.
+/// A client that sends without end, and accepts whatever is sent to it.
 #[derive(Drop)]
 struct Endless;
 
@@ -257,7 +257,7 @@ impl Duplex for Endless {
     }
 }
 
-// After as many passes as may be the session is ended.
+// When the limit of passes is reached, the session is ended.
 #[test]
 fn as_many_rounds_as_may_be(rt: HostRuntime) -> Result<(), Fail> {
     let alloc = rt.alloc();

@@ -7,8 +7,8 @@ ghost use Rattle.audit_serve_passes.specs.Transition.{IsOutputTaken, IsEndOfClos
 use crate::session_core::SessionCore;
 use crate::session_stream::SessionStream;
 
-/// Writes what waits for a session to its stream. A fault ends the session, and what was to be written is dropped, now
-/// and later.
+/// Writes a session's pending output to its stream. A fault ends the session, whose output is then dropped, now and
+/// later.
 fn write_turn<C: SessionCore, S: SessionStream>(
     core: &mut C,
     session: usize,
@@ -28,7 +28,7 @@ fn write_turn<C: SessionCore, S: SessionStream>(
     core.end(session)
 }
 
-/// Writes what waits for each session to its stream, in rising order.
+/// Writes each session's pending output to its stream, in rising order.
 pub fn write_turns<C: SessionCore, S: SessionStream>(
     core: &mut C,
     streams: &mut [S],
@@ -46,7 +46,7 @@ pub fn write_turns<C: SessionCore, S: SessionStream>(
     Ok(())
 }
 
-/// Flushes, and writes what waits for each session to its stream.
+/// Flushes, then writes each session's pending output to its stream.
 pub fn flush_and_write<C: SessionCore, S: SessionStream>(
     core: &mut C,
     streams: &mut [S],
