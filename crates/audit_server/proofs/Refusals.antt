@@ -1,4 +1,4 @@
--- What a refusal says of a store, whatever the device.
+-- What a refusal states about a store, on any device.
 use Rattle.std.proofs.Common.{◌≡◌, ◌∙◌, inl, inr, ℕ, ◌≤◌, Bool, true, false, Result, Ok, Err, List, [], ◌∷◌, refl, sym, ap, arith}
 use Rattle.std.specs.Prelude.{IfErr}
 use Rattle.audit_disk_model.specs.declared.sectors.Sectors as sectors

@@ -155,7 +155,7 @@ module _ {D : Type 0} {g : sectors.Ghosts D} where
           absurd (cc other)
       decide false sound = broken_after (committer_of old) (committer_of now) (committer_of new) (to.done sound).replies (broken is)
 
-  -- what the refusal of that step says of the store
+  -- what the refusal of that step states about the store
   pub drive_cause : {steps : List Step} {number : ℕ} {old now : Core D g} (new : Core D g) (error : StoreError) → DoneTo steps number old now → Refuses now new error → Refuses old new error
   drive_cause {old = old} {now = now} new error to refused = decide (is_broken (store_of (committer_of old))) refl
     where

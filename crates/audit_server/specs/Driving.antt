@@ -64,12 +64,12 @@ steps_done steps (Ok done) = steps
 steps_done steps (Err fault) = take fault.step steps
     ++ next_done (record { taken = fault.taken; error = fault.error }) (drop fault.step steps)
 
--- what a core that is broken answers to steps: it refuses the first, if there is one
+-- the result of steps on a broken core: it refuses the first, if there is one
 abbrev pub broken_drive : List Step → Result (Unit {0}) DriveFault
 broken_drive [] = Ok tt
 broken_drive (step ∷ later) = Err (record { step = 0; taken = 0; error = Broken })
 
--- ---- what stands after them
+-- ---- the state after them
 
 module _ {D : Type 0} {g : sectors.Ghosts D} where
   -- a flush that was refused

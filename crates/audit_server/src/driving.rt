@@ -1,4 +1,4 @@
-//! Steps done in turn.
+//! Steps done in order.
 ghost use Rattle.std.specs.Prelude.{◌≡◌, [], ◌∷◌, Err, OnOk, IfErr, map};
 ghost use Rattle.std.specs.List.{AllByRecursion};
 ghost use Rattle.audit_store.specs.declared.store_error.StoreError.TheVariants.{Broken, Device};
@@ -16,15 +16,15 @@ use crate::server_core::Core;
 use crate::step::Step;
 use audit_disk_model::Sectors;
 
-/// Does these steps in turn, and stops at the first one that is refused.
+/// Does these steps in order, and stops at the first one that is refused.
 pub fn drive<D: Sectors>(core: &mut Core<D>, steps: &[Step]) -> Result<(), DriveFault>
     requires { AllByRecursion IsOfSession steps.now }
-    // A core that met a fault of the device before does none, and refuses the first.
+    // A core that has met a fault of the device does no step and refuses the first.
     ensures broken { is_core_broken core.old → (result ≡ broken_drive steps.now) × IsCoreUntouched core.old core.new }
-    // Else all steps were done, or those before one that was refused.
+    // Otherwise all steps were done, or those before one that was refused.
     ensures done { IsSound core.old → OnOk result (HasDone (map step_data steps.now) core.old core.new) }
     ensures stopped { IsSound core.old → IfErr result (λ fault. IsDriveStopped steps.now fault core.old core.new) }
-    // Also where a step was refused acknowledgements are durable.
+    // Acknowledgements are durable even if a step was refused.
     ensures durable { IsDurablyServed (data_of core.old) (data_of core.new)
         (steps_done (map step_data steps.now) result) no_bytes }
     ensures device { IfErr result (λ fault. fault.error ≡ Device
