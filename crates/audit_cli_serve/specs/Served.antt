@@ -45,7 +45,7 @@ module _ {D : Type 0} {g : sectors.Ghosts D} where
     pub left : new ≡ store_of (committer_of last)
     pub run : LoopTransition core_model core last before after Shape
 
-  -- a session over lines, of which the reader held these, went by some steps
+  -- a session over these lines of a reader did some steps
   pub record LoopReachesOver (old new : Store D g) (known : Option (List ℕ)) : Type 0 where
     pub core : Core D g
     pub made : IsNewCore old core
@@ -53,12 +53,12 @@ module _ {D : Type 0} {g : sectors.Ghosts D} where
     pub left : new ≡ store_of (committer_of last)
     pub run : LoopReached core_model core last (BringsLines known)
 
-  -- what was refused: by the core, or for want of memory before there was one
+  -- what was refused: a step, by the core; or memory, before there was a core
   abbrev pub HasRefused : Store D g → Store D g → ServingError → Type 0
   HasRefused old new fault = (error : StoreError) × (fault ≡ Command (Refused error)) × IsRefusedAs error old new
 
-  -- A session over lines stopped for this: something was refused, the connection or the lines failed, or a line spells
-  -- no bytes.
+  -- Why a session over lines stopped: something was refused, the connection or the lines failed, or a line spells no
+  -- bytes.
   abbrev pub StopsLoop : Store D g → Store D g → ServingError → Type 0
   StopsLoop old new fault = HasRefused old new fault
       ⊎ ((fault ≡ Command File)
@@ -71,7 +71,8 @@ pub record HasArrived {T : Type 0} (Arrived : T → Type 0) (stream : DuplexStre
 
 -- Rounds over connections of which these are known: what their calls do, and which arrived at the socket.
 module _ {D : Type 0} {g : sectors.Ghosts D} {T : Type 0} (M : CallModel T) (Arrived : T → Type 0) where
-  -- A new core over the store served streams of so many connections that arrived: by their calls, in so many turns.
+  -- A new core over the store served the streams of this many connections that arrived, by their calls, in this many
+  -- turns.
   pub record ServesRound (sessions turns : ℕ) (old new : Store D g) : Type 0 where
     pub core : Core D g
     pub made : IsNewCore old core
@@ -81,9 +82,10 @@ module _ {D : Type 0} {g : sectors.Ghosts D} {T : Type 0} (M : CallModel T) (Arr
     pub later : List (DuplexStream T)
     pub each : length streams ≡ sessions
     pub accepted : AllByRecursion (HasArrived Arrived) streams
-    pub run : Transition core_model (duplex_model M) core last streams later (IsServed core_model sessions turns core last)
+    pub run : Transition core_model (duplex_model M) core last streams later
+        (IsServed core_model sessions turns core last)
 
-  -- rounds in turn, each by a new core over the store that the one before left
+  -- rounds in order, each by a new core over the store that the one before left
   abbrev pub ServesRounds : ℕ → List ℕ → Store D g → Store D g → Type 0
   ServesRounds sessions [] old new = new ≡ old
   ServesRounds sessions (turns ∷ later) old new = (mid : Store D g) × ServesRound sessions turns old mid
@@ -91,7 +93,7 @@ module _ {D : Type 0} {g : sectors.Ghosts D} {T : Type 0} (M : CallModel T) (Arr
 
   -- ---- whatever stopped it
 
-  -- the same went by some steps
+  -- a new core over the store did some steps for such streams
   pub record ReachesByRound (sessions : ℕ) (old new : Store D g) : Type 0 where
     pub core : Core D g
     pub made : IsNewCore old core
@@ -103,7 +105,7 @@ module _ {D : Type 0} {g : sectors.Ghosts D} {T : Type 0} (M : CallModel T) (Arr
     pub accepted : AllByRecursion (HasArrived Arrived) streams
     pub run : Reached core_model (duplex_model M) core last streams later AnySteps
 
-  -- rounds in turn, and then a part of one, or nothing
+  -- rounds in order, and then a part of one, or nothing
   pub record ReachesByRounds (sessions : ℕ) (turns : List ℕ) (old new : Store D g) : Type 0 where
     pub mid : Store D g
     pub served : ServesRounds sessions turns old mid
@@ -111,7 +113,7 @@ module _ {D : Type 0} {g : sectors.Ghosts D} {T : Type 0} (M : CallModel T) (Arr
 
   -- ---- why it stopped
 
-  -- a round had as many turns as may be, and the sessions that were live then were ended
+  -- a round had as many turns as the limit allows, and the sessions that were live then were ended
   pub record CutsRound (sessions : ℕ) (old new : Store D g) : Type 0 where
     pub core : Core D g
     pub made : IsNewCore old core
@@ -123,8 +125,8 @@ module _ {D : Type 0} {g : sectors.Ghosts D} {T : Type 0} (M : CallModel T) (Arr
     pub accepted : AllByRecursion (HasArrived Arrived) streams
     pub run : EndsAs core_model (duplex_model M) core last streams later (IsCut core_model sessions core last)
 
-  -- A round stopped for this: something was refused, a connection couldn't be accepted, or it had as many turns as may
-  -- be.
+  -- Why a round stopped: something was refused, a connection couldn't be accepted, or it had as many turns as the limit
+  -- allows.
   abbrev pub StopsRound : ℕ → Store D g → Store D g → ServingError → Type 0
   StopsRound sessions old new fault = HasRefused old new fault
       ⊎ (((fault ≡ Command File) × (new ≡ old)) ⊎ ((fault ≡ TooManyPasses) × CutsRound sessions old new))

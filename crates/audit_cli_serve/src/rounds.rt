@@ -20,11 +20,11 @@ use audit_store::Store;
 use std::alloc::Global;
 use std::io::Write;
 
-/// Serves as many rounds as asked: in each it accepts as many connections as asked, and a new core over the store
-/// serves them up to the end of the last one. After each round its line is written, with its number from 1 on and the
-/// number of its turns.
+/// Serves the requested number of rounds. Each round accepts the requested number of connections, and a new core over
+/// the store serves them until the last one has ended. After each round a line is written with its number, counted from
+/// 1, and the number of its turns.
 ///
-/// The store is handed back, as the rounds left it. A fault of a round ends them, and that round has no line.
+/// The store is returned as the rounds left it. A fault in a round ends serving, and that round has no line.
 pub fn serve_rounds<D, T, L, W>(
     alloc: Global,
     store: Store<D>,
@@ -39,17 +39,18 @@ where
     L: Listener<T>,
     W: Write,
     requires { sessions ≤ SESSIONS }
-    // Whatever happens, a stop at any moment leaves the events that the store held, and so does the end.
+    // Whatever happens, a stop at any moment keeps the events that the store held, and so does the store that is
+    // returned.
     ensures kept { StoreKeepsOn store result.0 }
-    // Without a fault each round was served, by a new core over the store that the one before left and by calls of
-    // connections that arrived at the socket, and has its line.
+    // On success each round was served and has its line. It was served by a new core over the store that the one before
+    // left, by calls of connections that arrived at the socket.
     ensures served { OnOk result.1 ((turns : List ℕ) × (length turns ≡ rounds)
         × ServesRounds T.calls (L.arrived socket.now) sessions turns store result.0
         × Appends (W.contents writer.old) (W.contents writer.new) (round_lines 1 turns)) }
-    // With one some rounds were served, and of one more some steps were done.
+    // On an error some rounds were served, and some steps of one more were done.
     ensures stopped { OnErr result.1 ((turns : List ℕ)
         × ReachesByRounds T.calls (L.arrived socket.now) sessions turns store result.0) }
-    // The fault is what stopped them: of a refusal the store is left as it says.
+    // The error states why serving stopped, and what a refusal states about the store is true.
     ensures fault { IfErr result.1 (StopsRounds T.calls (L.arrived socket.now) sessions store result.0) }
 {
     let mut store = store;
@@ -67,8 +68,8 @@ where
     (store, Ok(()))
 }
 
-// Waits for as many connections as asked, in their order. Room for all of them is taken first: memory that is refused
-// isn't reported as a fault of the socket.
+// Waits for the requested number of connections, in order of arrival. Memory for all of them is reserved first, so that
+// refused memory isn't reported as a fault of the socket.
 fn accept_streams<T: Duplex + Drop, L: Listener<T>>(
     alloc: Global,
     socket: &L,
@@ -87,7 +88,7 @@ fn accept_streams<T: Duplex + Drop, L: Listener<T>>(
     Ok(streams)
 }
 
-// Serves one round, and returns the store, and how many turns it had.
+// Serves one round. Returns the store and the number of turns.
 fn serve_round<D: Sectors + Drop, T: Duplex + Drop, L: Listener<T>>(
     alloc: Global,
     store: Store<D>,
