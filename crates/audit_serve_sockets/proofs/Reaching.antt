@@ -41,7 +41,7 @@ turns_elsewhere k [] steps apart none = subst (AreElsewhere k) (sym none) tt
 turns_elsewhere k (bytes ∷ lines) steps apart (first, later, is, turn, turns) =
     subst (AreElsewhere k) (sym is) (elsewhere-append k first later (turn_elsewhere k bytes first apart turn) (turns_elsewhere k lines later apart turns))
 
--- ---- the bytes that steps bring
+-- ---- the bytes that steps feed
 
 turn_brings : (bytes : List ℕ) (steps : List StepData) → IsLinePass bytes steps → bytes_fed 0 steps ≡ bytes
 turn_brings bytes steps turn = ap (bytes_fed 0) turn.are ∙ bytes_of-append 0 turn.pieces (a_flush ∷ []) ∙ turn.brings.all
@@ -60,7 +60,7 @@ record BringsSome (bytes : List ℕ) (steps : List StepData) : Type 0 where
 brings_some : (bytes rest : List ℕ) (steps : List StepData) → Brings bytes rest steps → BringsSome bytes steps
 brings_some bytes rest steps h = record { rest = rest; front = h.all; elsewhere = λ k apart. pieces_elsewhere k steps apart h.pieces }
 
--- steps that bring nothing, after those that bring all
+-- steps that feed nothing, after those that feed all
 brings_all : (bytes : List ℕ) (steps part : List StepData) → Brings bytes [] steps → IsPartOf a_flush part → BringsSome bytes (steps ++ part)
 brings_all bytes steps part h is = record {
   rest = [];
@@ -148,7 +148,7 @@ module _ {C : Type 0} {M : CoreModel C} where
     };
   }
 
-  -- the turns of some lines, and then steps that bring the first of these bytes
+  -- the turns of some lines, and then steps that feed a prefix of these bytes
   lines_then : {before after : Option (List ℕ)} (old mid new : C) (known : Option (List ℕ)) (lines all : List (List ℕ)) (bytes : List ℕ) → LoopTransition M old mid before after (AreLinePasses lines)
       → LoopReached M mid new (BringsSome bytes) → flat_map (λ line. line) lines ++ bytes ≡ flat_map (λ line. line) all → IfSome known (SpellsFirst all) → LoopReached M old new (BringsLines known)
   lines_then old mid new known lines all bytes first second are spells = record {

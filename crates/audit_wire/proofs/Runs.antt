@@ -37,7 +37,7 @@ taken_step held piece more (fed.Malformed taken) new t =
 dropped : (new : DecoderProgress) (more : List ℕ) → new ≡ closed → spoiled ≡ all_in_front (handed_out new) (bodies_ahead new more)
 dropped new more e = subst (λ (after : DecoderProgress). spoiled ≡ all_in_front (handed_out after) (bodies_ahead after more)) (sym e) refl
 
--- the bodies ahead before a piece are those that it brings and those ahead after it
+-- the bodies ahead before a piece are those that it completes and those ahead after it
 pub fed_bodies : (old : DecoderProgress) (piece more : List ℕ) (answer : Fed) (new : DecoderProgress) → IsDecoderFed old piece answer new
     → bodies_ahead old (taken_by answer piece ++ more) ≡ all_in_front (handed_out new) (bodies_ahead new more)
 fed_bodies (reading held) piece more answer new f = taken_step held piece more answer new f

@@ -15,7 +15,7 @@ fn empty_events(alloc: Global, first: u64, count: u64) -> Result<Vec<Event>, Fai
     Ok(events)
 }
 
-// Appends so many events, in batches of 64 and a last one of the rest.
+// Appends this many events, in batches of 64 and a last one of the rest.
 fn fill<D: Sectors>(alloc: Global, store: &mut Store<D>, count: u64) -> Result<(), Fail> {
     for _ in 0..count.div_ceil(64) {
         let first = store.commitment().count;
