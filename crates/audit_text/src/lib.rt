@@ -6,6 +6,7 @@ mod event_line;
 mod events;
 mod fault;
 mod input;
+pub mod laws;
 mod number;
 mod output;
 mod script;
