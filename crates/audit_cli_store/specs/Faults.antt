@@ -1,5 +1,6 @@
 -- The program's exit status for each error of a command.
-use Rattle.std.specs.Prelude.{◌≡◌, ◌⊎◌, ℕ, Result, Ok, Err}
+use Rattle.std.specs.Prelude.{◌≡◌, ◌⊎◌, ℕ, Option, Result, Ok, Err, List}
+use Rattle.std.specs.Io.KnownBytes.{Keeps}
 use Rattle.audit_store.specs.declared.store_error.StoreError.{StoreError}
 use Rattle.audit_store.specs.declared.store_error.StoreError.TheVariants as store
 use Rattle.audit_disk.specs.declared.file_fault.FileFault.{FileFault}
@@ -97,6 +98,6 @@ of_file file.InUse = InUse
 of_file (file.TooSmall sectors) = TooSmall sectors
 of_file file.Memory = Refused store.Memory
 
--- memory for a line was refused, or it couldn't be written completely
-abbrev pub IsUnwritten : CommandError → Type 0
-IsUnwritten fault = (fault ≡ Lines lines.Write) ⊎ (fault ≡ Refused store.Memory)
+-- why a text wasn't written completely: a write failed, or memory for it was refused before its first byte
+abbrev pub IsUnwritten : Option (List ℕ) → Option (List ℕ) → CommandError → Type 0
+IsUnwritten before after fault = (fault ≡ Lines lines.Write) ⊎ ((fault ≡ Refused store.Memory) × Keeps before after)

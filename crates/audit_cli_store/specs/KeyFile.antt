@@ -1,8 +1,13 @@
 -- The contents of a key file.
-use Rattle.std.specs.Prelude.{ℕ, ◌-◌, nat_eq, Option, List, length, take, codes, if◌then◌else◌}
+use Rattle.std.specs.Prelude.{◌≡◌, ◌⊎◌, ℕ, ◌-◌, nat_eq, Option, None, List, length, take, codes, if◌then◌else◌, IfSome}
 use Rattle.std.specs.List.{ends_with}
 use Rattle.std.specs.Result.{result_ok}
 use Rattle.hex.specs.Hex.{decode_sized}
+use Rattle.audit_text.specs.declared.fault.LinesError.TheVariants.{Read, Memory}
+use Rattle.audit_cli_store.specs.declared.fault.CommandError.{CommandError}
+use Rattle.audit_cli_store.specs.declared.fault.CommandError.TheVariants.{BadArgument, FileExists, File, InUse}
+use Rattle.audit_cli_store.specs.declared.fault.CommandError.TheVariants.{TooSmall, Salvaged, Lines, Refused, Export}
+use Rattle.audit_cli_store.specs.declared.fault.CommandError.TheVariants.{BadProof, NotAccepted}
 
 -- the text without a line feed at its end
 abbrev pub without_line_feed : List ℕ → List ℕ
@@ -11,3 +16,17 @@ without_line_feed text = if ends_with nat_eq text (codes "\n") then take (length
 -- 64 hex digits in either case, optionally followed by a line feed
 unfoldable pub key_of_file : List ℕ → Option (List ℕ)
 key_of_file text = result_ok (decode_sized (without_line_feed text) 32)
+
+-- Why no key was read: the file has none, or reading failed, or memory was refused.
+abbrev pub IsKeyFault : Option (List ℕ) → CommandError → Type 0
+IsKeyFault known BadArgument = IfSome known (λ text. key_of_file text ≡ None)
+IsKeyFault known (Lines cause) = (cause ≡ Read) ⊎ (cause ≡ Memory)
+IsKeyFault known FileExists = ⊥
+IsKeyFault known File = ⊥
+IsKeyFault known InUse = ⊥
+IsKeyFault known (TooSmall sectors) = ⊥
+IsKeyFault known Salvaged = ⊥
+IsKeyFault known (Refused error) = ⊥
+IsKeyFault known (Export fault) = ⊥
+IsKeyFault known BadProof = ⊥
+IsKeyFault known NotAccepted = ⊥

@@ -13,3 +13,4 @@ pub mod Closing
 pub mod Exports
 pub mod Checks
 pub mod Salvaged
+pub mod Requests

@@ -1,8 +1,10 @@
 //! Arguments that are checked here, not by the command line's parser.
-ghost use Rattle.std.specs.Prelude.{◌≡◌};
+ghost use Rattle.std.specs.Prelude.{◌≡◌, Err, IfErr};
 ghost use Rattle.audit_cli_store.specs.Arguments.{sectors_asked, proof_asked, commitment_asked};
+ghost use Rattle.audit_cli_store.specs.Requests.{IsNewFileFault, AreNoCommitments};
 
 use crate::fault::CommandError;
+use crate::mode::{OWNER_ONLY, mode_asked};
 use audit_cli_offline::commitment_in_word;
 use audit_log::{MAX_SECTORS, MIN_SECTORS};
 use audit_proof::Commitment;
@@ -66,10 +68,38 @@ pub fn proof_request(kind: &str, first: &str, second: &str) -> Option<ProofReque
 
 /// The commitment in a word: a count, a colon and the 64 hex digits of a root. Any other word is `BadArgument`.
 pub fn commitment_asked(word: &str) -> Result<Commitment, CommandError>
-    ensures { result ≡ commitment_asked word.now }
+    ensures asked { result ≡ commitment_asked word.now }
+    ensures fault { IfErr result (λ fault. fault ≡ CommandError.BadArgument) }
 {
     match commitment_in_word(word.as_bytes()) {
         Some(commitment) => Ok(commitment),
         None => Err(CommandError::BadArgument),
     }
+}
+
+/// The permissions and the number of sectors that words request for a new file. The permissions are judged first.
+/// Without a word for them only the owner has access.
+pub fn new_file_asked(mode: Option<&str>, sectors: &str) -> Result<(u32, u64), CommandError>
+    ensures { (fault : CommandError) → IsNewFileFault mode.entry sectors.now fault → result ≡ Err fault }
+{
+    let mode = match mode {
+        Some(word) => mode_asked(word)?,
+        None => OWNER_ONLY,
+    };
+    Ok((mode, sectors_asked(sectors)?))
+}
+
+/// The commitments in one word or two. If one of them has none, the error is `BadArgument`.
+pub fn commitments_asked(
+    older: &str,
+    newer: Option<&str>,
+) -> Result<(Commitment, Option<Commitment>), CommandError>
+    ensures { AreNoCommitments older.now newer.entry → result ≡ Err CommandError.BadArgument }
+{
+    let older = commitment_asked(older)?;
+    let newer = match newer {
+        Some(word) => Some(commitment_asked(word)?),
+        None => None,
+    };
+    Ok((older, newer))
 }

@@ -1,5 +1,8 @@
 //! Commands that check files without a store.
-use crate::arguments::commitment_asked;
+ghost use Rattle.std.specs.Prelude.{◌≡◌};
+ghost use Rattle.audit_cli_store.specs.Requests.{AreNoCommitments, RefusesWords};
+
+use crate::arguments::{commitment_asked, commitments_asked};
 use crate::checking::check_proof;
 use crate::fault::CommandError;
 use crate::making::key_in;
@@ -16,12 +19,11 @@ pub fn check_file<F: Files, W: Write>(
     older: &str,
     newer: Option<&str>,
     output: &mut W,
-) -> Result<(), CommandError> {
-    let older = commitment_asked(older)?;
-    let newer = match newer {
-        Some(word) => Some(commitment_asked(word)?),
-        None => None,
-    };
+) -> Result<(), CommandError>
+    ensures { RefusesWords (λ fault. AreNoCommitments older.now newer.entry × (fault ≡ CommandError.BadArgument))
+        (W.contents output.old) (W.contents output.new) result }
+{
+    let (older, newer) = commitments_asked(older, newer)?;
     check_proof(alloc, &mut fs::open(rt, proof)?, &older, newer, output)
 }
 

@@ -1,7 +1,7 @@
 //! Key files.
 ghost use Rattle.std.specs.Prelude.{◌≡◌, Some, None, IfOk, IfErr, IfSome};
 ghost use Rattle.audit_text.specs.Reading.{TakesAtMost};
-ghost use Rattle.audit_cli_store.specs.KeyFile.{key_of_file, without_line_feed};
+ghost use Rattle.audit_cli_store.specs.KeyFile.{key_of_file, without_line_feed, IsKeyFault};
 
 use crate::fault::CommandError;
 use audit_chain::{KEY_LEN, Key};
@@ -30,9 +30,11 @@ fn without_line_feed(text: &[u8]) -> &[u8]
     }
 }
 
-/// Reads the key in a key file. If there is none, the error is `BadArgument`.
+/// Reads the key in a key file. The error is `BadArgument` if the file doesn't have a key. Otherwise it fails only if a
+/// read failed or memory was refused.
 pub fn read_key<R: Read>(alloc: Global, reader: &mut R) -> Result<Key, CommandError>
     ensures key { IfOk result (λ key. IfSome (R.remaining reader.old) (λ text. key_of_file text ≡ Some key)) }
+    ensures fault { IfErr result (IsKeyFault (R.remaining reader.old)) }
 {
     match read_input(alloc, reader) {
         Ok(text) => key_of_file(&text).ok_or(CommandError::BadArgument),

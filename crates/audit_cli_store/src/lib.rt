@@ -36,7 +36,7 @@ pub use closing::close_log;
 pub use exporting::{write_entries, write_exported};
 pub use fault::CommandError;
 pub use files::{FileStore, Opened, open_store};
-pub use formatting::format_device;
+pub use formatting::{Formatted, format_device};
 pub use key_file::{key_of_file, read_key};
 pub use mode::{OWNER_ONLY, mode_asked};
 pub use output_file::OutputFile;

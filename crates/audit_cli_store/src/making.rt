@@ -1,10 +1,13 @@
 //! Making stores in files and on block devices.
-use crate::arguments::sectors_asked;
+ghost use Rattle.std.specs.Prelude.{◌≡◌, Err};
+ghost use Rattle.audit_cli_store.specs.Requests.{IsNewFileFault, RefusesWords};
+ghost use Rattle.audit_cli_store.specs.Arguments.{sectors_asked};
+
+use crate::arguments::{new_file_asked, sectors_asked};
 use crate::fault::CommandError;
 use crate::files::{device_in_place, make_device};
 use crate::formatting::format_device;
 use crate::key_file::read_key;
-use crate::mode::{OWNER_ONLY, mode_asked};
 use audit_chain::Key;
 use audit_disk::SystemFile;
 use std::alloc::Global;
@@ -24,19 +27,19 @@ pub fn format_file<F: Files, W: Write>(
 ) -> Result<(), CommandError>
 where
     F::File: SystemFile,
+    ensures { RefusesWords (IsNewFileFault mode.entry sectors.now) (W.contents output.old) (W.contents output.new)
+        result }
 {
-    let mode = match mode {
-        Some(word) => mode_asked(word)?,
-        None => OWNER_ONLY,
-    };
-    let sectors = sectors_asked(sectors)?;
+    let (mode, sectors) = new_file_asked(mode, sectors)?;
     let first_key = key_in(rt, alloc, key_file)?;
     let disk = make_device(rt, alloc, file, sectors, mode)?;
-    let formatted = format_device(alloc, disk, first_key, output);
-    if matches!(formatted, Err(CommandError::Refused(_))) {
-        let _ = fs::remove_file(rt, file);
+    match format_device(alloc, disk, first_key, output) {
+        Ok(formatted) => formatted.line,
+        Err(failed) => {
+            let _ = fs::remove_file(rt, file);
+            Err(CommandError::Refused(failed.error))
+        }
     }
-    formatted
 }
 
 /// Formats all of an existing file or block device. It must have at least the requested number of sectors, and must
@@ -52,14 +55,19 @@ pub fn format_in_place<F: Files, W: Write>(
 ) -> Result<(), CommandError>
 where
     F::File: SystemFile,
+    ensures { RefusesWords (λ fault. sectors_asked sectors.now ≡ Err fault) (W.contents output.old)
+        (W.contents output.new) result }
 {
     let sectors = sectors_asked(sectors)?;
     let first_key = key_in(rt, alloc, key_file)?;
     let disk = device_in_place(rt, alloc, file, sectors, erase)?;
-    format_device(alloc, disk, first_key, output)
+    match format_device(alloc, disk, first_key, output) {
+        Ok(formatted) => formatted.line,
+        Err(failed) => Err(CommandError::Refused(failed.error)),
+    }
 }
 
-/// Reads the key in a key file.
+/// Reads the key in a key file. The error is `File` if it can't be opened, or that of `read_key`.
 pub fn key_in<F: Files>(rt: &F, alloc: Global, key_file: &str) -> Result<Key, CommandError> {
     let mut file = fs::open(rt, key_file)?;
     read_key(alloc, &mut file)

@@ -1,4 +1,6 @@
 //! The program's requests, and how they are carried out.
+ghost use Rattle.audit_cli_store.specs.Requests.{IsWordFault, RefusesWords, IsReplayOf, IsRun};
+
 use crate::answering::{export_file, prove_file, show_file};
 use crate::arguments::proof_request;
 use crate::auditing::{check_file, verify_file};
@@ -128,6 +130,7 @@ pub fn run<F: Files, R: Read, W: Write, M: Write>(
 ) -> Status
 where
     F::File: SystemFile,
+    ensures { IsRun request.entry (R.remaining input.old) (W.contents output.old) (W.contents output.new) result }
 {
     let done = perform(rt, alloc, request, input, output);
     report_end(done, output.flush(), messages)
@@ -142,6 +145,9 @@ fn perform<F: Files, R: Read, W: Write>(
 ) -> Result<(), CommandError>
 where
     F::File: SystemFile,
+    ensures words { RefusesWords (IsWordFault request.entry) (W.contents output.old) (W.contents output.new) result }
+    ensures replayed { IsReplayOf request.entry (R.remaining input.old) (W.contents output.old)
+        (W.contents output.new) result }
 {
     match request {
         Request::Replay => Ok(replay(alloc, input, output)?),

@@ -1,8 +1,9 @@
 //! Showing the state of a store.
-ghost use Rattle.std.specs.Prelude.{◌≡◌, IfOk, OnOk, OnErr};
+ghost use Rattle.std.specs.Prelude.{◌≡◌, IfOk, IfErr, OnOk, OnErr};
 ghost use Rattle.std.specs.Io.KnownBytes.{Appends};
 ghost use Rattle.audit_text.specs.Writing.{WritesInPart};
 ghost use Rattle.audit_store.specs.Store.{active_header};
+ghost use Rattle.audit_cli_store.specs.Faults.{IsUnwritten};
 ghost use Rattle.audit_cli_store.specs.Shown.{shown_lines};
 
 use crate::fault::CommandError;
@@ -24,6 +25,7 @@ pub fn show<D: Sectors, W: Write>(
         (shown_lines (active_header store.now))) }
     ensures part { OnErr result (WritesInPart (W.contents writer.old) (W.contents writer.new)
         (shown_lines (active_header store.now))) }
+    ensures fault { IfErr result (IsUnwritten (W.contents writer.old) (W.contents writer.new)) }
 {
     let lines = lines_of(alloc, store)?;
     write_whole(writer, &lines)?;

@@ -21,7 +21,7 @@ pub fn write_number<W: Write>(
         (word.now ++ decimal number ++ codes "\n")) }
     ensures part { OnErr result (WritesInPart (W.contents writer.old) (W.contents writer.new)
         (word.now ++ decimal number ++ codes "\n")) }
-    ensures fault { IfErr result IsUnwritten }
+    ensures fault { IfErr result (IsUnwritten (W.contents writer.old) (W.contents writer.new)) }
 {
     let mut line = Vec::new(alloc);
     push_number(&mut line, word, number)?;
