@@ -2,3 +2,4 @@ pub mod Arguments
 pub mod Faults
 pub mod Rounds
 pub mod Served
+pub mod Words

@@ -1,6 +1,8 @@
 //! The requests to serve sessions, and how they are carried out.
-ghost use Rattle.std.specs.Prelude.{◌≤◌};
+ghost use Rattle.std.specs.Prelude.{◌≡◌, ◌⊎◌, ◌≤◌, Err, IfOk, IfErr};
+ghost use Rattle.std.specs.Io.KnownBytes.{Keeps};
 ghost use Rattle.audit_base.specs.declared.limits.TheConstants.{SESSIONS};
+ghost use Rattle.audit_cli_serve.specs.Words.{IsWrongNumber, IsWrongMode, HasWrongWord};
 
 use crate::arguments::{rounds_asked, sessions_asked};
 use crate::fault::ServingError;
@@ -63,6 +65,9 @@ pub fn run<F: Files + Net, R: Read, W: Write, M: Write>(
 ) -> Status
 where
     F::File: SystemFile,
+    // A wrong word ends the program before anything is written; an output that can't be flushed is another fault.
+    ensures words { HasWrongWord request.entry → (result ≡ Status.Usage) ⊎ (result ≡ Status.Device) }
+    ensures unwritten { HasWrongWord request.entry → Keeps (W.contents output.old) (W.contents output.new) }
 {
     let done = perform(rt, alloc, request, input, output);
     let flushed = output.flush();
@@ -84,6 +89,8 @@ fn perform<F: Files + Net, R: Read, W: Write>(
 ) -> Result<(), ServingError>
 where
     F::File: SystemFile,
+    ensures words { HasWrongWord request.entry → result ≡ Err (ServingError.Command CommandError.BadArgument) }
+    ensures unwritten { HasWrongWord request.entry → Keeps (W.contents output.old) (W.contents output.new) }
 {
     match request {
         Request::Serve {
@@ -94,10 +101,7 @@ where
             socket_mode,
         } => {
             let rounds = rounds_asked(rounds)?;
-            let sessions = match sessions {
-                Some(word) => sessions_asked(word)?,
-                None => 1,
-            };
+            let sessions = sessions_or_one(sessions)?;
             let mode = socket_mode_asked(socket_mode)?;
             serve_file(rt, alloc, file, socket, mode, rounds, sessions, output)
         }
@@ -112,7 +116,21 @@ where
     }
 }
 
-fn socket_mode_asked(word: Option<&str>) -> Result<u32, CommandError> {
+fn sessions_or_one(word: Option<&str>) -> Result<usize, CommandError>
+    ensures wrong { IsWrongNumber word.entry → result ≡ Err CommandError.BadArgument }
+    ensures fault { IfErr result (λ fault. fault ≡ CommandError.BadArgument) }
+    ensures few { IfOk result (λ sessions. sessions ≤ SESSIONS) }
+{
+    match word {
+        Some(word) => sessions_asked(word),
+        None => Ok(1),
+    }
+}
+
+fn socket_mode_asked(word: Option<&str>) -> Result<u32, CommandError>
+    ensures wrong { IsWrongMode word.entry → result ≡ Err CommandError.BadArgument }
+    ensures fault { IfErr result (λ fault. fault ≡ CommandError.BadArgument) }
+{
     match word {
         Some(word) => mode_asked(word),
         None => Ok(OWNER_ONLY),
