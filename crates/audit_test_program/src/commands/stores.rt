@@ -207,7 +207,10 @@ fn a_device_is_formatted(rt: HostRuntime) -> Result<(), Fail> {
     let alloc = rt.alloc();
     let mut output = Vec::new(alloc);
     let key = Key::from_bytes([0; 32]);
-    format_device(alloc, MemDisk::new(alloc, 3)?, key, &mut output)?;
+    match format_device(alloc, MemDisk::new(alloc, 3)?, key, &mut output) {
+        Ok(formatted) => formatted.line?,
+        Err(failed) => return Err(failed.error.into()),
+    }
     assert!(rt; output.as_slice() == b"formatted 3\n".as_slice());
     Ok(())
 }
@@ -224,6 +227,8 @@ fn a_device_that_fails(rt: HostRuntime) -> Result<(), Fail> {
 fn format_fails(alloc: Global, calls: u64) -> Result<bool, Fail> {
     let disk = FailOnce::new(MemDisk::new(alloc, 3)?, calls);
     let key = Key::from_bytes([0; 32]);
-    let fault = format_device(alloc, disk, key, &mut Vec::new(alloc)).err();
-    Ok(fault == Some(CommandError::Refused(StoreError::Device)))
+    match format_device(alloc, disk, key, &mut Vec::new(alloc)) {
+        Ok(_) => Ok(false),
+        Err(failed) => Ok(failed.error == StoreError::Device),
+    }
 }
