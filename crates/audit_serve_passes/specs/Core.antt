@@ -14,6 +14,10 @@ pub record CoreModel (C : Type 0) : Type 1 where
   pub ended : C → List StepData → ℕ → Bool
   -- the bytes that wait for a session
   pub output : C → ℕ → List ℕ
+  -- nothing waits to be answered
+  pub Idle : C → Type 0
+  -- from the first state to the second a session was begun anew, and nothing else has changed
+  pub Begins : ℕ → C → C → Type 0
   -- the core did these steps from the first state to the second, and these bytes were taken from each session's output
   pub DidSteps : C → C → List StepData → (ℕ → List ℕ) → Type 0
   -- the core did these steps from the first state to the second, of which the last may be a part of a refused step,

@@ -1,5 +1,5 @@
 -- For the tests: a core whose sessions end only by `end`.
-use Rattle.std.specs.Prelude.{◌≡◌, ℕ, Bool, true, false, ◌||◌, List, [], ◌∷◌, ◌++◌, slice_index_or}
+use Rattle.std.specs.Prelude.{◌≡◌, ℕ, Bool, true, false, ◌||◌, List, [], ◌∷◌, ◌++◌, slice_index_or, slice_set}
 use Rattle.std.proofs.Common.{refl, sym, ap, ◌∙◌}
 use Rattle.std.proofs.lemmas.Bool.{ne_eqb}
 use Rattle.audit_serve_passes.specs.Steps.{StepData, a_piece, an_end, a_flush, IsAbout, is_end, has_end}
@@ -44,10 +44,17 @@ pub ended_then : (had : Bool) (k : ℕ) (steps later : List StepData)
 ended_then had k steps later = sym (or_assoc had (has_end k steps) (has_end k later))
     ∙ ap (λ (more : Bool). had || more) (ends_joined k steps later)
 
+-- a session is live again, and the outputs are unchanged
+pub record IsLiveAgain (k : ℕ) (old new : RecorderData) : Type 0 where
+  pub ended : new.ended ≡ slice_set old.ended k false
+  pub outputs : new.outputs ≡ old.outputs
+
 abbrev pub recorder_model : CoreModel RecorderData
 recorder_model = record {
   ended = λ core steps k. has_ended core k || has_end k steps;
   output = recorded_output;
+  Idle = λ core. Unit {0};
+  Begins = IsLiveAgain;
   DidSteps = λ old new steps taken. EndedBy old new steps;
   DidStepsInPart = λ old new steps taken. Unit {0};
   nothing_done = λ core k. or_none (has_ended core k);

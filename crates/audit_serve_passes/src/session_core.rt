@@ -1,7 +1,9 @@
-ghost use Rattle.std.specs.Prelude.{◌≡◌, ◌<◌, ℕ, List, [], ◌∷◌, IfErr, OnOk};
+ghost use Rattle.std.specs.Prelude.{◌≡◌, ◌<◌, ℕ, List, [], ◌∷◌, true, IfErr, OnOk, OnErr};
 ghost use Rattle.audit_base.specs.declared.limits.TheConstants.{SESSIONS};
 ghost use Rattle.audit_serve_passes.specs.Steps.{StepData, a_piece, an_end, a_flush};
 ghost use Rattle.audit_serve_passes.specs.Core.{CoreModel, GoesBy, no_bytes, bytes_for};
+
+use std::alloc::AllocError;
 
 /// A core that serves the requests of sessions. It takes their bytes in pieces of any size, and keeps the bytes of the
 /// replies until they are taken.
@@ -37,6 +39,7 @@ pub trait SessionCore {
     fn flush(&mut self) -> Result<(), Self::Error>
         ensures reaches { GoesBy model a_flush self.old self.new }
         ensures did { OnOk result (model.DidSteps self.old self.new (a_flush ∷ []) no_bytes) }
+        ensures idle { OnOk result (model.Idle self.new) }
         ensures refused { IfErr result (refuses self.old self.new) };
 
     /// Takes the bytes that wait for a session. The bytes for other sessions are kept.
@@ -45,8 +48,22 @@ pub trait SessionCore {
         ensures taken { result.items ≡ model.output self.old session }
         ensures did { model.DidSteps self.old self.new [] (bytes_for session result.items) }
         ensures empty { model.output self.new session ≡ [] }
+        ensures idle { model.Idle self.old → model.Idle self.new }
         ensures others { (other : ℕ) → (other ≡ session → ⊥)
             → model.output self.new other ≡ model.output self.old other };
+
+    /// Begins a session that has ended anew, for another client. Nothing may wait to be answered, and nothing to be
+    /// taken of its output, so that no reply to the earlier client goes to the next one. The only error is that memory
+    /// is refused; then nothing has changed.
+    fn reopen(&mut self, session: usize) -> Result<(), AllocError>
+        requires session { session < SESSIONS }
+        requires ended { model.ended self.old [] session ≡ true }
+        requires idle { model.Idle self.old }
+        requires empty { model.output self.old session ≡ [] }
+        ensures begun { OnOk result (model.Begins session self.old self.new) }
+        ensures idle { model.Idle self.new }
+        ensures outputs { (other : ℕ) → model.output self.new other ≡ model.output self.old other }
+        ensures refused { OnErr result (model.DidSteps self.old self.new [] no_bytes) };
 
     /// Returns whether a session has ended, by `end` or by bytes that aren't a request.
     fn ended(&self, session: usize) -> bool

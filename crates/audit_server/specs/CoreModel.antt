@@ -1,13 +1,14 @@
 -- How `Core` is a core that serves sessions.
-use Rattle.std.specs.Prelude.{ℕ, Bool, List, [], ◌∷◌, slice_index_or}
+use Rattle.std.specs.Prelude.{◌≡◌, ℕ, Bool, List, [], ◌∷◌, slice_index_or, slice_set}
 use Rattle.std.proofs.Common.{◌∙◌, sym, ap}
 use Rattle.audit_disk_model.specs.declared.sectors.Sectors as sectors
 use Rattle.audit_store.specs.declared.store_error.StoreError.{StoreError}
-use Rattle.audit_server_commit.specs.Committer.{outputs_of}
+use Rattle.audit_server_queue.specs.Waiting.{nothing_waits}
+use Rattle.audit_server_commit.specs.Committer.{waiting_of, outputs_of}
 use Rattle.audit_serve_passes.specs.Steps.{StepData}
 use Rattle.audit_serve_passes.specs.Core.{CoreModel}
 use Rattle.audit_server.specs.declared.server_core.Core.{Core}
-use Rattle.audit_server_model.specs.Sessions.{SessionData, session_at, sessions_run}
+use Rattle.audit_server_model.specs.Sessions.{SessionData, new_session, session_at, sessions_run}
 use Rattle.audit_server.specs.Core.{committer_of, sessions_of, data_of, Refuses}
 use Rattle.audit_server_model.specs.Serving.{HasServed, IsDurablyServed}
 use Rattle.audit_server_model.proofs.Steps.{sessions-append}
@@ -22,10 +23,17 @@ module _ {D : Type 0} {g : sectors.Ghosts D} where
   abbrev pub output_of : Core D g → ℕ → List ℕ
   output_of core k = slice_index_or (outputs_of (committer_of core)) k []
 
+  -- a session is at the start of its stream again, and nothing else has changed
+  pub record IsBegunAnew (k : ℕ) (old new : Core D g) : Type 0 where
+    pub committer : committer_of new ≡ committer_of old
+    pub sessions : sessions_of new ≡ slice_set (sessions_of old) k new_session
+
   abbrev pub core_model : CoreModel (Core D g)
   core_model = record {
     ended = ended_by;
     output = output_of;
+    Idle = λ core. waiting_of (committer_of core) ≡ nothing_waits;
+    Begins = IsBegunAnew;
     DidSteps = λ old new. HasServed (data_of old) (data_of new);
     DidStepsInPart = λ old new. IsDurablyServed (data_of old) (data_of new);
     nothing_done = λ core. served_none (data_of core);

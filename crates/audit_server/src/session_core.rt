@@ -2,6 +2,7 @@ use crate::server_core::Core;
 use audit_disk_model::Sectors;
 use audit_serve_passes::SessionCore;
 use audit_store::StoreError;
+use std::alloc::AllocError;
 
 impl<D: Sectors> SessionCore for Core<D> {
     ghost use Rattle.audit_server.specs.Core.{Refuses};
@@ -30,6 +31,10 @@ impl<D: Sectors> SessionCore for Core<D> {
 
     fn take_output(&mut self, session: usize) -> Vec<u8> {
         self.take_output(session)
+    }
+
+    fn reopen(&mut self, session: usize) -> Result<(), AllocError> {
+        self.reopen(session)
     }
 
     fn ended(&self, session: usize) -> bool {

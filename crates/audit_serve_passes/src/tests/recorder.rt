@@ -140,6 +140,11 @@ impl SessionCore for Recorder {
         mem::replace(&mut self.outputs[session], Vec::new(self.alloc))
     }
 
+    fn reopen(&mut self, session: usize) -> Result<(), AllocError> {
+        self.ended[session] = false;
+        Ok(())
+    }
+
     fn ended(&self, session: usize) -> bool {
         self.ended[session]
     }

@@ -1,0 +1,4 @@
+pub mod Ready
+pub mod Slot
+pub mod Places
+pub mod Clients

@@ -1,0 +1,84 @@
+-- What is done for the clients that are in their places.
+use Rattle.std.specs.Prelude.{◌≡◌, ◌⊎◌, ℕ, ◌<◌, ◌≤◌, Bool, true, false, ◌||◌, List, [], ◌∷◌, ◌++◌, length, slice_index_or}
+use Rattle.audit_serve_passes.specs.declared.limits.TheConstants.{MAX_PIECE}
+use Rattle.audit_serve_passes.specs.Steps.{StepData, AreAbout, bytes_fed, ends_in}
+use Rattle.audit_serve_passes.specs.Streams.{StreamCall, a_read, a_failed_read, a_write, a_failed_write, CallModel}
+use Rattle.audit_serve_passes.specs.Streams.{bytes_read}
+use Rattle.audit_serve_passes.specs.Core.{bytes_for}
+use Rattle.audit_serve_ready.specs.Slot.{SlotData, vacant_slot, is_shut, IsAccounted}
+
+-- the place of a session
+abbrev pub slot_at : {S : Type 0} → ℕ → List (SlotData S) → SlotData S
+slot_at k slots = slice_index_or slots k vacant_slot
+
+-- a read that found the end of the stream or failed, and whether one of several calls did
+abbrev pub is_last_read : StreamCall → Bool
+is_last_read (a_read []) = true
+is_last_read (a_read (byte ∷ bytes)) = false
+is_last_read a_failed_read = true
+is_last_read (a_write bytes) = false
+is_last_read (a_failed_write bytes) = false
+
+abbrev pub has_last_read : List StreamCall → Bool
+has_last_read [] = false
+has_last_read (call ∷ calls) = is_last_read call || has_last_read calls
+
+-- what core calls did: the steps, and the bytes that were taken of each session's output
+abbrev pub CoreDid : Type 1
+CoreDid = List StepData → (ℕ → List ℕ) → Type 0
+
+module _ {S : Type 0} (N : CallModel S) where
+  -- The steps fed session k what its client's stream gave in these calls, but for what was lost. They ended it only if
+  -- a read found the end or failed, or the place was shut. What was taken of its output is accounted for.
+  pub record IsServedAt (k : ℕ) (steps : List StepData) (lost sent : List ℕ) (calls : List StreamCall)
+      (before after : SlotData S) : Type 0 where
+    pub read : bytes_read calls ≡ bytes_fed k steps ++ lost
+    pub ends : (ends_in k steps ≡ 0) ⊎ ((has_last_read calls || is_shut after) ≡ true)
+    pub accounted : IsAccounted N sent calls before after
+
+  -- ---- one place
+
+  pub record ServesPlace (Did : CoreDid) (k : ℕ) (lost : List ℕ) (before after : SlotData S) : Type 0 where
+    pub steps : List StepData
+    pub sent : List ℕ
+    pub calls : List StreamCall
+    pub did : Did steps (bytes_for k sent)
+    pub about : AreAbout k steps
+    pub served : IsServedAt k steps lost sent calls before after
+
+  -- the same, if a step was refused by which at most a piece was lost
+  pub record StopsAtPlace (Did : CoreDid) (k : ℕ) (before after : SlotData S) : Type 0 where
+    pub lost : List ℕ
+    pub most : length lost ≤ MAX_PIECE
+    pub serves : ServesPlace Did k lost before after
+
+  -- ---- all places
+
+  -- These steps were done, these bytes were taken of the sessions' outputs, and the clients' streams had these calls.
+  pub record IsPass (Did : CoreDid) (lost : ℕ → List ℕ) (steps : List StepData) (taken : ℕ → List ℕ)
+      (calls : ℕ → List StreamCall) (before after : List (SlotData S)) : Type 0 where
+    pub count : length after ≡ length before
+    pub did : Did steps taken
+    pub others : (k : ℕ) → length before ≤ k → taken k ≡ []
+    pub at : (k : ℕ) → k < length before
+        → IsServedAt k steps (lost k) (taken k) (calls k) (slot_at k before) (slot_at k after)
+
+  pub record ServesPlaces (Did : CoreDid) (lost : ℕ → List ℕ) (before after : List (SlotData S)) : Type 0 where
+    pub steps : List StepData
+    pub taken : ℕ → List ℕ
+    pub calls : ℕ → List StreamCall
+    pub pass : IsPass Did lost steps taken calls before after
+
+  -- the same, if a step was refused by which at most a piece of one session was lost
+  pub record StopsAtPlaces (Did : CoreDid) (before after : List (SlotData S)) : Type 0 where
+    pub refused : ℕ
+    pub lost : List ℕ
+    pub most : length lost ≤ MAX_PIECE
+    pub serves : ServesPlaces Did (bytes_for refused lost) before after
+
+  -- What was kept was written as far as the clients took it, and nothing was read.
+  pub record WritesOn (before after : List (SlotData S)) : Type 0 where
+    pub count : length after ≡ length before
+    pub calls : ℕ → List StreamCall
+    pub at : (k : ℕ) → k < length before → (bytes_read (calls k) ≡ [])
+        × IsAccounted N [] (calls k) (slot_at k before) (slot_at k after)

@@ -1,0 +1,14 @@
+-- The calls of a stream that doesn't wait.
+use Rattle.std.specs.Prelude.{ℕ, Option, Some, None, Result, Ok, Err, List, [], ◌∷◌, take}
+use Rattle.audit_serve_passes.specs.declared.stream_fault.StreamError.{StreamError}
+use Rattle.audit_serve_passes.specs.Streams.{StreamCall, a_write, a_failed_write, read_call}
+
+-- a read that had this result; if no byte was there, it counts as no call
+abbrev pub ready_read_calls : Option (Result ℕ StreamError) → List ℕ → List StreamCall
+ready_read_calls None buffer = []
+ready_read_calls (Some given) buffer = read_call given buffer ∷ []
+
+-- a write that had this result: of the bytes it took so many
+abbrev pub ready_write_call : Result ℕ StreamError → List ℕ → StreamCall
+ready_write_call (Ok count) bytes = a_write (take count bytes)
+ready_write_call (Err fault) bytes = a_failed_write bytes

@@ -1,0 +1,18 @@
+/// Why a client has left its place.
+#[derive(Clone, Copy, Debug, PartialEq, Eq)]
+pub enum Departure {
+    /// Its stream ended, and it took every reply.
+    Finished,
+    /// It sent bytes that are no request, and took every reply.
+    Malformed,
+    /// A read of its stream failed.
+    ReadFailed,
+    /// A write to its stream failed.
+    WriteFailed,
+    /// It took its replies too slowly: more would have been kept for it than the backlog allows.
+    TooSlow,
+    /// The door dismissed it.
+    Dismissed,
+    /// Memory was refused, for its replies or for its session.
+    Memory,
+}

@@ -1,0 +1,31 @@
+use crate::departure::Departure;
+use crate::ready_stream::ReadyStream;
+
+/// What is to be done after a pause.
+#[derive(Clone, Copy, Debug, PartialEq, Eq)]
+pub enum Next {
+    /// Serving goes on.
+    Again,
+    /// Serving ends.
+    Stop,
+}
+
+/// Where clients come in. No call but `pause` may wait.
+pub trait Door {
+    /// The stream of a client.
+    type Stream: ReadyStream + Drop;
+
+    /// The next client, for a place that is vacant, or none if no further client has come.
+    fn next_client(&mut self, place: usize) -> Option<Self::Stream>;
+
+    /// Whether the client at a place has to go, as one that has been idle while another one waits. It is asked for each
+    /// client in each pass.
+    fn dismisses(&mut self, place: usize, client: &Self::Stream) -> bool;
+
+    /// Takes a client back that has left its place, or that couldn't be admitted to it.
+    fn gone(&mut self, place: usize, client: Self::Stream, departure: Departure);
+
+    /// Called after each pass, with whether anything moved in it: bytes, or a client. If nothing did, it waits until
+    /// something may. If something did, it must not wait.
+    fn pause(&mut self, moved: bool) -> Next;
+}

@@ -1,0 +1,24 @@
+//! Serving clients that come and go, over streams whose calls don't wait.
+//!
+//! A client has a place, which is that of a session, from its coming to its going. In each pass every client has one
+//! read, then the core flushes, and then each client takes what it can of the replies: [`serve_clients`]. Nobody waits
+//! for a client. A stream is a [`ReadyStream`], clients come in by a [`Door`], and what decides on the bytes of the
+//! sessions is a [`SessionCore`](audit_serve_passes::SessionCore).
+#![tactic(auto)]
+
+mod backlog;
+mod clients;
+mod departure;
+mod door;
+mod limits;
+mod ready_stream;
+mod serving;
+mod slot;
+mod turns;
+
+pub use departure::Departure;
+pub use door::{Door, Next};
+pub use limits::{DEFAULT_BACKLOG, MAX_BACKLOG};
+pub use ready_stream::ReadyStream;
+pub use serving::{finish_writing, serve_clients};
+pub use slot::{Slot, vacant_slots};
