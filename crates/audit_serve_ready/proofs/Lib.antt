@@ -1,0 +1,5 @@
+pub mod Accounts
+pub mod Passes
+pub mod Visits
+pub mod Sending
+pub mod Changes

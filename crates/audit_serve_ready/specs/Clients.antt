@@ -3,7 +3,7 @@ use Rattle.std.specs.Prelude.{◌≡◌, ℕ, ◌<◌, true, false, List, [], �
 use Rattle.audit_serve_passes.specs.Steps.{StepData}
 use Rattle.audit_serve_passes.specs.Streams.{StreamCall, CallModel}
 use Rattle.audit_serve_passes.specs.Core.{CoreModel, no_bytes}
-use Rattle.audit_serve_ready.specs.Slot.{SlotData, vacant_slot, slot_of, has_client}
+use Rattle.audit_serve_ready.specs.Slot.{SlotData, vacant, serving, has_client, kept_of}
 use Rattle.audit_serve_ready.specs.Places.{slot_at, IsPass, StopsAtPlaces}
 
 pub data ClientChange (S : Type 0) : Type 0 where
@@ -25,7 +25,7 @@ module _ {C S : Type 0} (M : CoreModel C) (N : CallModel S) where
     pub within : k < length before
     pub vacant : has_client (slot_at k before) ≡ false
     pub begun : M.Begins k old new
-    pub place : after ≡ slice_set before k (slot_of client)
+    pub place : after ≡ slice_set before k (serving client [])
 
   -- A client goes only when its session has ended and nothing is kept for it or waits to be taken for it.
   pub record IsGoing (k : ℕ) (old new : C) (before after : List (SlotData S)) : Type 0 where
@@ -34,8 +34,8 @@ module _ {C S : Type 0} (M : CoreModel C) (N : CallModel S) where
     pub taken : M.output old k ≡ []
     pub within : k < length before
     pub had : has_client (slot_at k before) ≡ true
-    pub written : (slot_at k before).kept ≡ []
-    pub place : after ≡ slice_set before k vacant_slot
+    pub written : kept_of (slot_at k before) ≡ []
+    pub place : after ≡ slice_set before k vacant
 
   abbrev pub IsChange : ClientChange S → C → C → List (SlotData S) → List (SlotData S) → Type 0
   IsChange (a_pass steps taken calls) old new before after =

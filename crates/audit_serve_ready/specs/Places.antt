@@ -5,11 +5,11 @@ use Rattle.audit_serve_passes.specs.Steps.{StepData, AreAbout, bytes_fed, ends_i
 use Rattle.audit_serve_passes.specs.Streams.{StreamCall, a_read, a_failed_read, a_write, a_failed_write, CallModel}
 use Rattle.audit_serve_passes.specs.Streams.{bytes_read}
 use Rattle.audit_serve_passes.specs.Core.{bytes_for}
-use Rattle.audit_serve_ready.specs.Slot.{SlotData, vacant_slot, is_shut, IsAccounted}
+use Rattle.audit_serve_ready.specs.Slot.{SlotData, vacant, is_shut, IsAccounted}
 
 -- the place of a session
 abbrev pub slot_at : {S : Type 0} → ℕ → List (SlotData S) → SlotData S
-slot_at k slots = slice_index_or slots k vacant_slot
+slot_at k slots = slice_index_or slots k vacant
 
 -- a read that found the end of the stream or failed, and whether one of several calls did
 abbrev pub is_last_read : StreamCall → Bool

@@ -1,12 +1,33 @@
-ghost use Rattle.std.specs.Prelude.{◌≡◌, ◌<◌, ◌≤◌, ℕ, [], true, length};
+ghost use Rattle.std.specs.Prelude.{◌≡◌, ◌<◌, ◌≤◌, ℕ, [], true, false, length};
 ghost use Rattle.audit_base.specs.declared.limits.TheConstants.{SESSIONS};
 ghost use Rattle.audit_serve_passes.specs.Transition.{AreEmpty};
+ghost use Rattle.audit_serve_ready.specs.Slot.{vacant, has_client, kept_of};
+ghost use Rattle.audit_serve_ready.specs.Places.{slot_at};
 ghost use Rattle.audit_serve_ready.specs.Clients.{ServesClients};
 
 use crate::departure::Departure;
 use crate::door::Door;
+use crate::ready_stream::ReadyStream;
 use crate::slot::Slot;
 use audit_serve_passes::SessionCore;
+
+/// Whether a place has a client whose session has ended and for which nothing is kept.
+fn may_go<C: SessionCore, S: ReadyStream + Drop>(core: &C, place: usize, slot: &Slot<S>) -> bool
+    requires { place < SESSIONS }
+    ensures ended { result ≡ true → C.model.ended core.now [] place ≡ true }
+    ensures had { result ≡ true → has_client slot.now ≡ true }
+    ensures written { result ≡ true → kept_of slot.now ≡ [] }
+{
+    core.ended(place) && slot.has_client() && slot.is_written()
+}
+
+fn part_with<D: Door>(place: usize, slot: &mut Slot<D::Stream>, door: &mut D)
+    ensures { slot.new ≡ vacant }
+{
+    if let Some((client, departure)) = slot.leave() {
+        door.gone(place, client, departure);
+    }
+}
 
 /// Lets each client go whose session has ended and for which nothing is kept. Returns whether one went.
 pub(crate) fn let_go<C: SessionCore, D: Door>(
@@ -20,14 +41,49 @@ pub(crate) fn let_go<C: SessionCore, D: Door>(
 {
     let mut moved = false;
     for place in 0..slots.len() {
-        if core.ended(place) && slots[place].has_client() && slots[place].is_written() {
-            if let Some((client, departure)) = slots[place].leave() {
-                door.gone(place, client, departure);
-            }
+        if may_go(core, place, &slots[place]) {
+            part_with(place, &mut slots[place], door);
             moved = true;
         }
     }
     moved
+}
+
+/// Whether a place has no client, and its session has ended.
+fn is_free<C: SessionCore, S: ReadyStream + Drop>(core: &C, place: usize, slot: &Slot<S>) -> bool
+    requires { place < SESSIONS }
+    ensures ended { result ≡ true → C.model.ended core.now [] place ≡ true }
+    ensures vacant { result ≡ true → has_client slot.now ≡ false }
+{
+    core.ended(place) && !slot.has_client()
+}
+
+/// Lets the next client in, if one has come. Returns whether one has.
+fn let_in_at<C: SessionCore, D: Door>(
+    core: &mut C,
+    place: usize,
+    slots: &mut [Slot<D::Stream>],
+    door: &mut D,
+) -> bool
+    requires count { length slots.old ≤ SESSIONS }
+    requires within { place < length slots.old }
+    requires ended { C.model.ended core.old [] place ≡ true }
+    requires idle { C.model.Idle core.old }
+    requires taken { C.model.output core.old place ≡ [] }
+    requires vacant { has_client (slot_at place slots.old) ≡ false }
+    ensures came { ServesClients C.model D.Stream.calls core.old core.new slots.old slots.new }
+    ensures idle { C.model.Idle core.new }
+    ensures outputs { (other : ℕ) → C.model.output core.new other ≡ C.model.output core.old other }
+{
+    let Some(client) = door.next_client(place) else {
+        return false;
+    };
+    if core.reopen(place).is_err() {
+        door.gone(place, client, Departure::Memory);
+        return true;
+    }
+    slots[place].admit(client);
+    true
 }
 
 /// Lets clients in, as long as there are vacant places and clients that have come. Returns whether one came.
@@ -43,16 +99,11 @@ pub(crate) fn let_in<C: SessionCore, D: Door>(
 {
     let mut moved = false;
     for place in 0..slots.len() {
-        if core.ended(place) && !slots[place].has_client() {
-            let Some(client) = door.next_client(place) else {
+        if is_free(core, place, &slots[place]) {
+            if !let_in_at(core, place, slots, door) {
                 return moved;
-            };
-            moved = true;
-            if core.reopen(place).is_ok() {
-                slots[place].admit(client);
-            } else {
-                door.gone(place, client, Departure::Memory);
             }
+            moved = true;
         }
     }
     moved

@@ -59,7 +59,7 @@ fn serve_pass<C: SessionCore, D: Door>(
     let served = serve_present(core, slots, door, buffer)?;
     let gone = let_go(core, slots, door);
     let come = let_in(core, slots, door);
-    Ok(served || gone || come)
+    Ok(served | gone | come)
 }
 
 /// Writes what is kept for the clients, as long as there is some and the door says to go on. Nothing is read, and no
@@ -80,9 +80,7 @@ fn push_all<S: ReadyStream + Drop>(slots: &mut [Slot<S>]) -> bool
 {
     let mut moved = false;
     for place in 0..slots.len() {
-        if slots[place].push() {
-            moved = true;
-        }
+        moved |= slots[place].push();
     }
     moved
 }

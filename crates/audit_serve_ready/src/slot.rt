@@ -1,6 +1,7 @@
-ghost use Rattle.std.specs.Prelude.{◌≡◌, ◌≤◌, replicate, IfOk};
+ghost use Rattle.std.specs.Prelude.{◌≡◌, ◌≤◌, [], ◌∷◌, false, length, replicate, IfOk};
 ghost use Rattle.audit_serve_ready.specs.declared.limits.TheConstants.{MAX_BACKLOG};
-ghost use Rattle.audit_serve_ready.specs.Slot.{vacant_slot};
+ghost use Rattle.audit_serve_ready.specs.Ready.{ready_write_call};
+ghost use Rattle.audit_serve_ready.specs.Slot.{vacant, is_no_client, HasCalled};
 
 use crate::backlog::Backlog;
 use crate::departure::Departure;
@@ -25,13 +26,11 @@ pub struct Slot<S> {
 }
 
 impl<S> Model for Slot<S> {
-    ghost use Rattle.audit_serve_ready.specs.Slot.{SlotData, slot_data, IsSlot};
+    ghost use Rattle.audit_serve_ready.specs.Slot.{SlotData, slot_data};
 
     ghost Value = { SlotData S };
 
     ghost view = { λ slot. slot_data slot.client slot.kept slot.closed };
-
-    ghost invariant = { λ slot. IsSlot (slot_data slot.client slot.kept slot.closed) };
 }
 
 /// Makes this many vacant places, each of which keeps at most `most` bytes for its client. The only error is that
@@ -42,7 +41,7 @@ pub fn vacant_slots<S: ReadyStream + Drop>(
     most: usize,
 ) -> Result<Vec<Slot<S>>, AllocError>
     requires { most ≤ MAX_BACKLOG }
-    ensures { IfOk result (λ slots. slots.items ≡ replicate count vacant_slot) }
+    ensures { IfOk result (λ slots. slots.items ≡ replicate count vacant) }
 {
     let mut slots = Vec::with_capacity(alloc, count)?;
     for _ in 0..count {
@@ -51,15 +50,26 @@ pub fn vacant_slots<S: ReadyStream + Drop>(
     Ok(slots)
 }
 
+fn write_some<S: ReadyStream>(client: &mut Option<S>, bytes: &[u8]) -> Result<usize, StreamError>
+    ensures within { IfOk result (λ count. count ≤ length bytes.now) }
+    ensures did { is_no_client client.old ≡ false
+        → HasCalled S.calls client.old client.new (ready_write_call result bytes.now ∷ []) }
+{
+    match client {
+        Some(client) => client.write_ready(bytes),
+        None => Ok(0),
+    }
+}
+
 impl<S: ReadyStream + Drop> Slot<S> {
-    ghost use Rattle.std.specs.Prelude.{◌≡◌, ◌<◌, ◌≤◌, [], length, true, IfOk, IfSome};
+    ghost use Rattle.std.specs.Prelude.{◌≡◌, ◌<◌, ◌≤◌, [], length, true, false, IfOk, IfSome};
     ghost use Rattle.audit_serve_ready.specs.Ready.{ready_read_calls};
-    ghost use Rattle.audit_serve_ready.specs.Slot.{vacant_slot, slot_of, has_client, is_shut, IsAccounted, IsPushed};
+    ghost use Rattle.audit_serve_ready.specs.Slot.{vacant, serving, has_client, is_shut, kept_of, IsAccounted, IsPushed};
 
     /// A place with no client, which keeps at most `most` bytes for its clients. It allocates nothing.
     pub fn vacant(alloc: Global, most: usize) -> Slot<S>
         requires { most ≤ MAX_BACKLOG }
-        ensures { result ≡ vacant_slot }
+        ensures { result ≡ vacant }
     {
         Slot {
             client: None,
@@ -91,14 +101,14 @@ impl<S: ReadyStream + Drop> Slot<S> {
 
     /// Whether nothing is kept for the client.
     pub(crate) fn is_written(&self) -> bool
-        ensures { result ≡ true → self.now.kept ≡ [] }
+        ensures { result ≡ true → kept_of self.now ≡ [] }
     {
         self.kept.len() == 0
     }
 
     /// Takes a client in.
     pub(crate) fn admit(&mut self, client: S)
-        ensures { self.new ≡ slot_of client }
+        ensures { self.new ≡ serving client [] }
     {
         self.kept.clear();
         self.closed = false;
@@ -108,7 +118,7 @@ impl<S: ReadyStream + Drop> Slot<S> {
 
     /// Gives the client back, with the reason for which it leaves. The place is vacant then.
     pub(crate) fn leave(&mut self) -> Option<(S, Departure)>
-        ensures { self.new ≡ vacant_slot }
+        ensures { self.new ≡ vacant }
     {
         let departure = self.departure.unwrap_or(Departure::Malformed);
         self.kept.clear();
@@ -122,7 +132,8 @@ impl<S: ReadyStream + Drop> Slot<S> {
 
     /// Drops what is kept for the client, which is to be dropped too.
     pub(crate) fn close(&mut self, departure: Departure)
-        ensures { IsAccounted S.calls [] [] self.old self.new }
+        ensures accounted { IsAccounted S.calls [] [] self.old self.new }
+        ensures shut { is_shut self.new ≡ true }
     {
         self.kept.clear();
         self.closed = true;
@@ -166,7 +177,7 @@ impl<S: ReadyStream + Drop> Slot<S> {
     /// than may be kept, or memory is refused, the place is shut. Returns whether the client took bytes or failed.
     pub(crate) fn send(&mut self, bytes: Vec<u8>) -> bool
         ensures sent { IsPushed S.calls bytes.items self.old self.new }
-        ensures few { length self.new.kept ≤ MAX_BACKLOG }
+        ensures few { length (kept_of self.new) ≤ MAX_BACKLOG }
     {
         self.keep(bytes);
         let moved = self.push();
@@ -177,7 +188,10 @@ impl<S: ReadyStream + Drop> Slot<S> {
     fn keep(&mut self, bytes: Vec<u8>)
         ensures { IsAccounted S.calls bytes.items [] self.old self.new }
     {
-        if !self.is_shut() && self.kept.append(bytes).is_err() {
+        if self.is_shut() {
+            return;
+        }
+        if self.kept.append(bytes).is_err() {
             self.close(Departure::Memory);
         }
     }
@@ -186,13 +200,10 @@ impl<S: ReadyStream + Drop> Slot<S> {
     pub(crate) fn push(&mut self) -> bool
         ensures { IsPushed S.calls [] self.old self.new }
     {
-        if self.kept.len() == 0 {
+        if self.has_nothing_to_write() {
             return false;
         }
-        let Some(client) = &mut self.client else {
-            return false;
-        };
-        match client.write_ready(self.kept.as_slice()) {
+        match write_some(&mut self.client, self.kept.as_slice()) {
             Ok(count) => {
                 self.kept.remove(count);
                 count > 0
@@ -206,9 +217,15 @@ impl<S: ReadyStream + Drop> Slot<S> {
         }
     }
 
+    fn has_nothing_to_write(&self) -> bool
+        ensures { result ≡ false → is_shut self.now ≡ false }
+    {
+        self.is_shut() || self.kept.len() == 0
+    }
+
     fn limit(&mut self)
         ensures kept { IsAccounted S.calls [] [] self.old self.new }
-        ensures few { length self.new.kept ≤ MAX_BACKLOG }
+        ensures few { length (kept_of self.new) ≤ MAX_BACKLOG }
     {
         if self.kept.len() > self.most {
             self.close(Departure::TooSlow);

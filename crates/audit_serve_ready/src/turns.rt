@@ -1,15 +1,16 @@
-ghost use Rattle.std.specs.Prelude.{◌≡◌, ◌<◌, ◌≤◌, ℕ, [], length, IfErr, OnOk, OnErr};
+ghost use Rattle.std.specs.Prelude.{◌≡◌, ◌<◌, ◌≤◌, ℕ, [], ◌∷◌, length, IfOk, IfErr, OnOk, OnErr};
 ghost use Rattle.audit_base.specs.declared.limits.TheConstants.{SESSIONS};
 ghost use Rattle.audit_serve_passes.specs.declared.limits.TheConstants.{MAX_PIECE};
-ghost use Rattle.audit_serve_passes.specs.Core.{no_bytes};
+ghost use Rattle.audit_serve_passes.specs.Core.{GoesBy, no_bytes};
 ghost use Rattle.audit_serve_passes.specs.Transition.{AreEmpty};
+ghost use Rattle.audit_serve_ready.specs.Ready.{step_for};
 ghost use Rattle.audit_serve_ready.specs.Places.{ServesPlace, ServesPlaces, StopsAtPlace, StopsAtPlaces};
 
 use crate::departure::Departure;
 use crate::door::Door;
 use crate::ready_stream::ReadyStream;
 use crate::slot::Slot;
-use audit_serve_passes::SessionCore;
+use audit_serve_passes::{SessionCore, StreamError};
 
 /// Feeds a session what is there of its client's bytes. The end of the stream, or a fault, ends the session, and so
 /// does a place that is shut. Returns whether anything was done.
@@ -35,11 +36,27 @@ fn read_turn<C: SessionCore, S: ReadyStream + Drop>(
     let Some(given) = slot.read(buffer) else {
         return Ok(false);
     };
-    match given {
-        Ok(count) if count > 0 => core.feed(session, &buffer[..count])?,
-        _ => core.end(session)?,
-    }
+    take_read(core, session, given, buffer)?;
     Ok(true)
+}
+
+/// Feeds a session what a read gave, or ends it.
+fn take_read<C: SessionCore>(
+    core: &mut C,
+    session: usize,
+    given: Result<usize, StreamError>,
+    buffer: &[u8],
+) -> Result<(), C::Error>
+    requires session { session < SESSIONS }
+    requires within { IfOk given (λ count. count ≤ length buffer.now) }
+    ensures reaches { GoesBy C.model (step_for session given buffer.now) core.old core.new }
+    ensures refused { IfErr result (C.refuses core.old core.new) }
+    ensures done { OnOk result (C.model.DidSteps core.old core.new (step_for session given buffer.now ∷ []) no_bytes) }
+{
+    match given {
+        Ok(count) if count > 0 => core.feed(session, &buffer[..count]),
+        _ => core.end(session),
+    }
 }
 
 /// Does so for each live session, in rising order.
@@ -59,8 +76,8 @@ pub(crate) fn read_turns<C: SessionCore, S: ReadyStream + Drop>(
 {
     let mut moved = false;
     for session in 0..slots.len() {
-        if !core.ended(session) && read_turn(core, session, &mut slots[session], buffer)? {
-            moved = true;
+        if !core.ended(session) {
+            moved |= read_turn(core, session, &mut slots[session], buffer)?;
         }
     }
     Ok(moved)
@@ -96,9 +113,7 @@ pub(crate) fn write_turns<C: SessionCore, S: ReadyStream + Drop>(
 {
     let mut moved = false;
     for session in 0..slots.len() {
-        if write_turn(core, session, &mut slots[session]) {
-            moved = true;
-        }
+        moved |= write_turn(core, session, &mut slots[session]);
     }
     moved
 }
@@ -148,5 +163,5 @@ pub(crate) fn serve_present<C: SessionCore, D: Door>(
     let was_read = read_turns(core, slots, buffer)?;
     core.flush()?;
     let was_written = write_turns(core, slots);
-    Ok(was_read || was_written)
+    Ok(was_read | was_written)
 }
