@@ -3,3 +3,4 @@ pub mod Passes
 pub mod Visits
 pub mod Sending
 pub mod Changes
+pub mod Staying

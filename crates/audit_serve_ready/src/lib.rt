@@ -10,6 +10,7 @@ mod backlog;
 mod clients;
 mod departure;
 mod door;
+pub mod laws;
 mod limits;
 mod ready_stream;
 mod serving;
