@@ -11,13 +11,13 @@ use Rattle.audit_serve_passes.proofs.Calls.{calls_here, calls_there}
 use Rattle.audit_serve_passes.proofs.StreamSteps.{about_elsewhere}
 use Rattle.audit_serve_passes.proofs.Transitions.{none_of_both, no_calls, bytes_here, bytes_there, no_bytes_for, in_any}
 use Rattle.audit_serve_ready.specs.Slot.{SlotData, vacant, IsAccounted, IsPushed}
-use Rattle.audit_serve_ready.specs.Places.{slot_at, CoreDid, IsServedAt, ServesPlace, StopsAtPlace, IsPass, ServesPlaces, StopsAtPlaces, WritesOn}
+use Rattle.audit_serve_ready.specs.Places.{slot_at, CoreDid, IsServedAt, ServesPlace, StopsAtPlace, IsReadyPass, ServesPlaces, StopsAtPlaces, WritesOn}
 use Rattle.audit_serve_ready.proofs.Accounts.{accounted_none, accounted_then, served_elsewhere, served_then}
 
 module _ {S : Type 0} (N : CallModel S) where
   pub pass_then : {First Next Both : CoreDid} (lost : ℕ → List ℕ) (steps later : List StepData) (taken more : ℕ → List ℕ) (calls further : ℕ → List StreamCall) (before between after : List (SlotData S))
-      → IsPass N First no_bytes steps taken calls before between → IsPass N Next lost later more further between after
-      → (First steps taken → Next later more → Both (steps ++ later) (λ k. taken k ++ more k)) → IsPass N Both lost (steps ++ later) (λ k. taken k ++ more k) (λ k. calls k ++ further k) before after
+      → IsReadyPass N First no_bytes steps taken calls before between → IsReadyPass N Next lost later more further between after
+      → (First steps taken → Next later more → Both (steps ++ later) (λ k. taken k ++ more k)) → IsReadyPass N Both lost (steps ++ later) (λ k. taken k ++ more k) (λ k. calls k ++ further k) before after
   pass_then lost steps later taken more calls further before between after first second both = record {
     count = second.count ∙ first.count;
     did = both first.did second.did;

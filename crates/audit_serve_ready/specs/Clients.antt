@@ -4,7 +4,7 @@ use Rattle.audit_serve_passes.specs.Steps.{StepData}
 use Rattle.audit_serve_passes.specs.Streams.{StreamCall, CallModel}
 use Rattle.audit_serve_passes.specs.Core.{CoreModel, no_bytes}
 use Rattle.audit_serve_ready.specs.Slot.{SlotData, vacant, serving, has_client, kept_of}
-use Rattle.audit_serve_ready.specs.Places.{slot_at, IsPass, StopsAtPlaces}
+use Rattle.audit_serve_ready.specs.Places.{slot_at, IsReadyPass, StopsAtPlaces}
 
 pub data ClientChange (S : Type 0) : Type 0 where
   -- the clients that are there were served: these steps were done, these bytes were taken of the sessions' outputs, and
@@ -39,7 +39,7 @@ module _ {C S : Type 0} (M : CoreModel C) (N : CallModel S) where
 
   abbrev pub IsChange : ClientChange S → C → C → List (SlotData S) → List (SlotData S) → Type 0
   IsChange (a_pass steps taken calls) old new before after =
-      IsPass N (M.DidSteps old new) no_bytes steps taken calls before after
+      IsReadyPass N (M.DidSteps old new) no_bytes steps taken calls before after
   IsChange (a_coming k client) old new before after = IsComing k client old new before after
   IsChange (a_going k) old new before after = IsGoing k old new before after
 

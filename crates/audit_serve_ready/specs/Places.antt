@@ -55,7 +55,7 @@ module _ {S : Type 0} (N : CallModel S) where
   -- ---- all places
 
   -- These steps were done, these bytes were taken of the sessions' outputs, and the clients' streams had these calls.
-  pub record IsPass (Did : CoreDid) (lost : ℕ → List ℕ) (steps : List StepData) (taken : ℕ → List ℕ)
+  pub record IsReadyPass (Did : CoreDid) (lost : ℕ → List ℕ) (steps : List StepData) (taken : ℕ → List ℕ)
       (calls : ℕ → List StreamCall) (before after : List (SlotData S)) : Type 0 where
     pub count : length after ≡ length before
     pub did : Did steps taken
@@ -67,7 +67,7 @@ module _ {S : Type 0} (N : CallModel S) where
     pub steps : List StepData
     pub taken : ℕ → List ℕ
     pub calls : ℕ → List StreamCall
-    pub pass : IsPass Did lost steps taken calls before after
+    pub pass : IsReadyPass Did lost steps taken calls before after
 
   -- the same, if a step was refused by which at most a piece of one session was lost
   pub record StopsAtPlaces (Did : CoreDid) (before after : List (SlotData S)) : Type 0 where
