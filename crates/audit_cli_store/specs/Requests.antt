@@ -88,7 +88,7 @@ IsReplayOf (Prove file kind first second out access) input before after result =
 
 -- A request was carried out with this result, and then the output flushed. The program's status is that of the result,
 -- or that of an output that couldn't be flushed.
-pub record IsRun (request : Request) (input before after : Option (List ℕ)) (status : Status) : Type 0 where
+pub record IsCarriedOut (request : Request) (input before after : Option (List ℕ)) (status : Status) : Type 0 where
   pub done : Result Unit CommandError
   pub written : Option (List ℕ)
   pub words : RefusesWords (IsWordFault request) before written done

@@ -1,5 +1,5 @@
 //! The program's requests, and how they are carried out.
-ghost use Rattle.audit_cli_store.specs.Requests.{IsWordFault, RefusesWords, IsReplayOf, IsRun};
+ghost use Rattle.audit_cli_store.specs.Requests.{IsWordFault, RefusesWords, IsReplayOf, IsCarriedOut};
 
 use crate::answering::{export_file, prove_file, show_file};
 use crate::arguments::proof_request;
@@ -130,7 +130,7 @@ pub fn run<F: Files, R: Read, W: Write, M: Write>(
 ) -> Status
 where
     F::File: SystemFile,
-    ensures { IsRun request.entry (R.remaining input.old) (W.contents output.old) (W.contents output.new) result }
+    ensures { IsCarriedOut request.entry (R.remaining input.old) (W.contents output.old) (W.contents output.new) result }
 {
     let done = perform(rt, alloc, request, input, output);
     report_end(done, output.flush(), messages)
