@@ -9,6 +9,15 @@ use Rattle.audit_wire.specs.declared.request.Request.TheVariants as request
 use Rattle.audit_wire.specs.declared.request_kind.RequestKind.{RequestKind}
 use Rattle.audit_wire.specs.declared.request_kind.RequestKind.TheVariants as kind
 
+-- the first byte of each kind
+abbrev pub request_byte : RequestKind → ℕ
+request_byte kind.Append = 1
+request_byte kind.Commitment = 2
+request_byte kind.Membership = 3
+request_byte kind.Incremental = 4
+request_byte kind.Entry = 5
+request_byte kind.Close = 6
+
 -- the body of each request
 abbrev pub request_body : Request → List ℕ
 request_body (request.Append tag event_kind payload) =

@@ -2,7 +2,7 @@
 //!
 //! A frame is a length in two bytes and a body of that many bytes. A [`Decoder`] takes a byte stream in arbitrary
 //! pieces and returns the bodies. [`read_request`] reads a body as a request, and [`write_reply`] writes the frame of
-//! a reply. Numbers are unsigned and big-endian.
+//! a reply; [`write_request`] and [`read_reply`] are the client's. Numbers are unsigned and big-endian.
 #![tactic(auto)]
 
 mod byte_list;
@@ -21,6 +21,7 @@ mod reply_kind;
 mod reply_reading;
 mod request;
 mod request_kind;
+mod request_writing;
 mod room;
 mod view;
 mod writing;
@@ -45,5 +46,6 @@ pub use reply::Reply;
 pub use reply_fault::ReplyError;
 pub use reply_reading::{first_frame, read_reply};
 pub use request::Request;
+pub use request_writing::write_request;
 pub use view::RequestView;
 pub use writing::write_reply;

@@ -3,16 +3,23 @@ ghost use Rattle.std.specs.Prelude.{◌≡◌};
 /// The kinds of requests. A body begins with its kind in one byte.
 #[derive(Clone, Copy, Debug, PartialEq, Eq)]
 pub(crate) enum RequestKind {
-    Append,
-    Commitment,
-    Membership,
-    Incremental,
-    Entry,
-    Close,
+    Append = 1,
+    Commitment = 2,
+    Membership = 3,
+    Incremental = 4,
+    Entry = 5,
+    Close = 6,
 }
 
 impl RequestKind {
-    ghost use Rattle.audit_wire.specs.Request.{kind_at};
+    ghost use Rattle.audit_wire.specs.Request.{kind_at, request_byte};
+
+    /// The first byte of a body.
+    pub(crate) fn byte(self) -> u8
+        ensures { result ≡ request_byte self }
+    {
+        self as u8
+    }
 
     /// The kind that a body's first byte denotes.
     pub(crate) fn from_byte(byte: u8) -> Option<RequestKind>
