@@ -104,21 +104,26 @@ pub fn increment_way(older: &Commitment, newer: &Commitment) -> Way
     }
 }
 
-// Whether an incremental proof is accepted.
-pub fn accepts_versions<T: TextHash>(
+// The roots to which the hashes of an incremental proof lead: nothing where not
+// `1 <= older.count <= newer.count <= MAX_COUNT`, and where a hash is missing or left over.
+fn versions_of<T: TextHash>(
     hash: &T,
     older: &Commitment,
     newer: &Commitment,
     hashes: &[Hash],
-) -> bool
-    ensures { IsTrue result ↔ AcceptsIncrement T.value_of older.now newer.now hashes.now }
+) -> Option<Versions>
+    ensures roots { IfSome result (λ versions. AcceptsIncrement T.value_of
+        (record { count = older.now.count; root = versions.older })
+        (record { count = newer.now.count; root = versions.newer }) hashes.now) }
+    ensures none { (older_root newer_root : List ℕ) → AcceptsIncrement T.value_of
+        (record { count = older.now.count; root = older_root })
+        (record { count = newer.now.count; root = newer_root }) hashes.now
+        → result ≡ Some (record { older = older_root; newer = newer_root }) }
 {
     if older.count == 0 || newer.count < older.count || MAX_COUNT < newer.count {
-        return false;
+        return None;
     }
-    let Some((first, rest)) = hashes.split_first() else {
-        return false;
-    };
+    let (first, rest) = hashes.split_first()?;
     let way = increment_way(older, newer);
     let climber = TwoValues {
         hash,
@@ -129,7 +134,22 @@ pub fn accepts_versions<T: TextHash>(
         newer: *first,
     };
     match climb_from(&climber, way, both, rest) {
-        Some(top) => top.used == rest.len() && are_roots(&top.value, older, newer),
+        Some(top) if top.used == rest.len() => Some(top.value),
+        _ => None,
+    }
+}
+
+// Whether an incremental proof is accepted.
+pub fn accepts_versions<T: TextHash>(
+    hash: &T,
+    older: &Commitment,
+    newer: &Commitment,
+    hashes: &[Hash],
+) -> bool
+    ensures { IsTrue result ↔ AcceptsIncrement T.value_of older.now newer.now hashes.now }
+{
+    match versions_of(hash, older, newer, hashes) {
+        Some(versions) => are_roots(&versions, older, newer),
         None => false,
     }
 }
@@ -144,4 +164,44 @@ pub fn accepts_increment(older: &Commitment, newer: &Commitment, hashes: &[Hash]
         → IsMadeIncrement leaves older.now newer.now hashes.now → IsTrue result }
 {
     accepts_versions(&Sha256Texts, older, newer, hashes)
+}
+
+/// Returns the root to which a membership proof leads from an entry, for one who holds the root of another count: the
+/// one root under which the proof is accepted. There is none where the index isn't below the count or the count is
+/// over `MAX_COUNT`, and where a hash is missing or left over. It takes no memory.
+pub fn root_of_membership(count: u64, index: u64, entry: &[u8], hashes: &[Hash]) -> Option<Hash>
+    ensures root { IfSome result (λ root. AcceptsMembership sha256
+        (record { count = count; root = root }) index entry.now hashes.now) }
+    ensures only { (root : List ℕ) → AcceptsMembership sha256
+        (record { count = count; root = root }) index entry.now hashes.now → result ≡ Some root }
+{
+    let asked = Commitment {
+        count,
+        root: [0; HASH_LEN],
+    };
+    root_of_member(&Sha256Texts, &asked, index, leaf_hash(entry), hashes)
+}
+
+/// Returns the older and the newer root to which an incremental proof leads, for one who holds the root of another
+/// count: the two roots under which the proof is accepted. There are none where not
+/// `1 <= older <= newer <= MAX_COUNT`, and where a hash is missing or left over. It takes no memory.
+pub fn roots_of_increment(older: u64, newer: u64, hashes: &[Hash]) -> Option<(Hash, Hash)>
+    ensures roots { IfSome result (λ roots. AcceptsIncrement sha256
+        (record { count = older; root = roots.0 }) (record { count = newer; root = roots.1 }) hashes.now) }
+    ensures only { (older_root newer_root : List ℕ) → AcceptsIncrement sha256
+        (record { count = older; root = older_root }) (record { count = newer; root = newer_root }) hashes.now
+        → result ≡ Some (older_root, newer_root) }
+{
+    let older = Commitment {
+        count: older,
+        root: [0; HASH_LEN],
+    };
+    let newer = Commitment {
+        count: newer,
+        root: [0; HASH_LEN],
+    };
+    let versions = versions_of(&Sha256Texts, &older, &newer, hashes)?;
+    let older_root = versions.older;
+    let newer_root = versions.newer;
+    Some((older_root, newer_root))
 }

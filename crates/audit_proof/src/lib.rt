@@ -19,7 +19,7 @@ mod shared_node;
 mod side;
 mod steps;
 
-pub use accept::{accepts_increment, accepts_member};
+pub use accept::{accepts_increment, accepts_member, root_of_membership, roots_of_increment};
 pub use audit_base::{MAX_ENTRY, MAX_INCREMENT_HASHES, MAX_MEMBER_HASHES};
 pub use codec::{ProofError, read_increment, read_member, write_increment, write_member};
 pub use collision::{CollideFault, Collision, collide_two};
