@@ -1,0 +1,27 @@
+-- What is written to a connection and read from it: requests, and replies.
+use Rattle.std.specs.Prelude.{◌≡◌, ℕ, Option, Some, List, [], ◌∷◌, map}
+use Rattle.std.specs.List.{flat_map}
+use Rattle.std.specs.Io.KnownBytes.{Appends, Consumes}
+use Rattle.audit_wire.specs.declared.request.Request.{Request}
+use Rattle.audit_wire.specs.declared.reply.Reply.{Reply}
+use Rattle.audit_wire.specs.Frame.{frame}
+use Rattle.audit_wire.specs.Reply.{reply_in}
+use Rattle.audit_wire.specs.Stream.{request_frame}
+
+-- the next frame was read, and its body is that of this reply
+pub record ReadsReply (old new : Option (List ℕ)) (given : Reply) : Type 0 where
+  pub body : List ℕ
+  pub bytes : Consumes old new (frame body)
+  pub read : reply_in body ≡ Some given
+
+-- the next frames were read, and their bodies are those of these replies
+pub record ReadsReplies (old new : Option (List ℕ)) (given : List Reply) : Type 0 where
+  pub bodies : List (List ℕ)
+  pub bytes : Consumes old new (flat_map frame bodies)
+  pub read : map reply_in bodies ≡ map (λ reply. Some reply) given
+
+-- the frames of these requests were written to a connection, and these replies read from it
+pub record Converses (written_old written_new read_old read_new : Option (List ℕ)) (asked : List Request)
+    (given : List Reply) : Type 0 where
+  pub sent : Appends written_old written_new (flat_map request_frame asked)
+  pub replies : ReadsReplies read_old read_new given
