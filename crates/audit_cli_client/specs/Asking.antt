@@ -24,7 +24,7 @@ not_due tag (reply.Incremental given hashes) = BadReply
 not_due tag (reply.Entry given entry) = BadReply
 
 -- The first request was for the newest commitment, and this is what the server gave.
-pub record BeginsWith (newest : Commitment) (asked : List Request) (given : List Reply) : Type 0 where
+pub record OpensWithNewest (newest : Commitment) (asked : List Request) (given : List Reply) : Type 0 where
   pub requests : List Request
   pub replies : List Reply
   pub first : asked ≡ request.Commitment NEWEST_TAG ∷ requests
@@ -32,24 +32,24 @@ pub record BeginsWith (newest : Commitment) (asked : List Request) (given : List
 
 -- In a conversation that began with the newest commitment, the server gave a membership proof that is accepted, under
 -- a commitment for which the newest vouches.
-pub record GivesMember (written_old written_new read_old read_new : Option (List ℕ)) (newest : Commitment)
+pub record AnswersMember (written_old written_new read_old read_new : Option (List ℕ)) (newest : Commitment)
     (proof : Member) : Type 0 where
   pub asked : List Request
   pub given : List Reply
   pub conversation : Converses written_old written_new read_old read_new asked given
-  pub begins : BeginsWith newest asked given
+  pub begins : OpensWithNewest newest asked given
   pub root : List ℕ
   pub accepted : AcceptsMembership sha256 (record { count = proof.count; root = root }) proof.index
       proof.entry proof.hashes
   pub vouched : IsVouchedFor (record { count = proof.count; root = root }) newest
 
 -- the same of an incremental proof: the newest vouches for the newer of its commitments
-pub record GivesIncrement (written_old written_new read_old read_new : Option (List ℕ)) (newest : Commitment)
+pub record AnswersIncrement (written_old written_new read_old read_new : Option (List ℕ)) (newest : Commitment)
     (proof : Increment) : Type 0 where
   pub asked : List Request
   pub given : List Reply
   pub conversation : Converses written_old written_new read_old read_new asked given
-  pub begins : BeginsWith newest asked given
+  pub begins : OpensWithNewest newest asked given
   pub older_root : List ℕ
   pub newer_root : List ℕ
   pub accepted : AcceptsIncrement sha256 (record { count = proof.older; root = older_root })
@@ -57,11 +57,11 @@ pub record GivesIncrement (written_old written_new read_old read_new : Option (L
   pub vouched : IsVouchedFor (record { count = proof.newer; root = newer_root }) newest
 
 -- the same of an entry: it is accepted under the newest commitment
-pub record GivesEntry (written_old written_new read_old read_new : Option (List ℕ)) (newest : Commitment)
+pub record AnswersEntry (written_old written_new read_old read_new : Option (List ℕ)) (newest : Commitment)
     (index : ℕ) (entry : List ℕ) : Type 0 where
   pub asked : List Request
   pub given : List Reply
   pub conversation : Converses written_old written_new read_old read_new asked given
-  pub begins : BeginsWith newest asked given
+  pub begins : OpensWithNewest newest asked given
   pub hashes : List (List ℕ)
   pub accepted : AcceptsMembership sha256 newest index entry hashes

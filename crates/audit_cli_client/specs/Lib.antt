@@ -1,3 +1,4 @@
 pub mod Conversation
 pub mod Asking
 pub mod Joined
+pub mod Watching

@@ -8,7 +8,7 @@ ghost use Rattle.audit_wire.specs.declared.reply.Reply.{Reply};
 ghost use Rattle.audit_wire.specs.declared.request.Request.{Request};
 ghost use Rattle.audit_wire.specs.declared.request.Request.TheVariants as request;
 ghost use Rattle.audit_wire.specs.declared.reply.Reply.TheVariants as reply;
-ghost use Rattle.audit_cli_client.specs.Asking.{not_due, GivesMember, GivesIncrement, GivesEntry};
+ghost use Rattle.audit_cli_client.specs.Asking.{not_due, AnswersMember, AnswersIncrement, AnswersEntry};
 ghost use Rattle.audit_cli_client.specs.Conversation.{Converses};
 ghost use Rattle.audit_cli_client.specs.Joined.{IsVouchedFor};
 
@@ -85,7 +85,7 @@ pub fn entry_of<W: Write, R: Read>(
     from: &mut R,
     index: u64,
 ) -> Result<Vec<u8>, ClientError>
-    ensures { IfOk result (λ entry. (newest : Commitment) × GivesEntry (W.contents to.old) (W.contents to.new)
+    ensures { IfOk result (λ entry. (newest : Commitment) × AnswersEntry (W.contents to.old) (W.contents to.new)
         (R.remaining from.old) (R.remaining from.new) newest index entry.items) }
 {
     let newest = newest_commitment(alloc, to, from)?;
@@ -106,7 +106,7 @@ pub fn member_proof<W: Write, R: Read>(
     count: u64,
 ) -> Result<Vec<u8>, ClientError>
     ensures { IfOk result (λ bytes. (newest : Commitment) × (proof : Member) × (proof.index ≡ index)
-        × (proof.count ≡ count) × (bytes.items ≡ member_bytes proof) × GivesMember (W.contents to.old)
+        × (proof.count ≡ count) × (bytes.items ≡ member_bytes proof) × AnswersMember (W.contents to.old)
         (W.contents to.new) (R.remaining from.old) (R.remaining from.new) newest proof) }
 {
     let newest = newest_commitment(alloc, to, from)?;
@@ -128,7 +128,7 @@ pub fn increment_proof<W: Write, R: Read>(
     newer: u64,
 ) -> Result<Vec<u8>, ClientError>
     ensures { IfOk result (λ bytes. (newest : Commitment) × (proof : Increment) × (proof.older ≡ older)
-        × (proof.newer ≡ newer) × (bytes.items ≡ increment_bytes proof) × GivesIncrement (W.contents to.old)
+        × (proof.newer ≡ newer) × (bytes.items ≡ increment_bytes proof) × AnswersIncrement (W.contents to.old)
         (W.contents to.new) (R.remaining from.old) (R.remaining from.new) newest proof) }
 {
     let newest = newest_commitment(alloc, to, from)?;

@@ -20,18 +20,12 @@ pub enum ClientError {
     /// What the server sent isn't accepted under the commitment that it gave.
     #[error("not accepted")]
     NotAccepted,
-    /// The file of commitments isn't one.
-    #[error("bad state")]
-    BadState,
     /// The log has fewer entries than the newest commitment that was kept.
     #[error("the log has become shorter")]
     Shorter,
     /// The log has another root than the newest commitment that was kept, for the same number of entries.
     #[error("the log has another root")]
     OtherRoot,
-    /// The output couldn't be written.
-    #[error("the output can't be written")]
-    Output,
     /// Memory was refused.
     #[error("out of memory")]
     Memory,

@@ -5,6 +5,8 @@
 mod asking;
 mod conversation;
 mod fault;
+pub mod laws;
+mod watching;
 
 pub use asking::{
     ASKED_TAG, JOIN_TAG, NEWEST_TAG, close_log, entry_of, increment_proof, join, member_proof,
@@ -12,3 +14,4 @@ pub use asking::{
 };
 pub use conversation::{ask, next_reply, send_bytes};
 pub use fault::ClientError;
+pub use watching::{Sight, watch};

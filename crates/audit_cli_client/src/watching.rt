@@ -1,0 +1,53 @@
+//! A witness: what it sees of a log, after the commitment that it kept.
+ghost use Rattle.std.specs.Prelude.{IfOk};
+ghost use Rattle.audit_cli_client.specs.Watching.{Sees};
+
+use crate::asking::{join, newest_commitment};
+use crate::fault::ClientError;
+use audit_proof::Commitment;
+use std::alloc::Global;
+use std::io::{Read, Write};
+
+/// What a witness sees.
+#[derive(Clone, Copy, Debug, PartialEq, Eq)]
+pub enum Sight {
+    /// The first commitment, which it keeps.
+    Began(Commitment),
+    /// The commitment that it kept.
+    Same(Commitment),
+    /// A commitment of more entries, to which the one that it kept is joined. It keeps this one too.
+    Grew(Commitment),
+}
+
+/// Asks for the newest commitment, and judges it by the one that was kept: one of more entries is believed only if
+/// the server gives an increment that is accepted. From the empty log there is no increment, and any log follows it.
+///
+/// Errors: `Shorter` if the log has fewer entries than the one that was kept; `OtherRoot` if it has as many and
+/// another root; `NotAccepted` if the increment isn't accepted; and those of every question.
+pub fn watch<W: Write, R: Read>(
+    alloc: Global,
+    to: &mut W,
+    from: &mut R,
+    kept: Option<Commitment>,
+) -> Result<Sight, ClientError>
+    ensures seen { IfOk result (Sees (W.contents to.old) (W.contents to.new) (R.remaining from.old)
+        (R.remaining from.new) kept) }
+{
+    let newest = newest_commitment(alloc, to, from)?;
+    let Some(kept) = kept else {
+        return Ok(Sight::Began(newest));
+    };
+    if newest.count < kept.count {
+        return Err(ClientError::Shorter);
+    }
+    if newest == kept {
+        return Ok(Sight::Same(newest));
+    }
+    if newest.count == kept.count {
+        return Err(ClientError::OtherRoot);
+    }
+    if kept.count > 0 {
+        join(alloc, to, from, &kept, &newest)?;
+    }
+    Ok(Sight::Grew(newest))
+}
