@@ -1,0 +1,120 @@
+// What a stream gives and takes is set by each test; what each client gets, and why it left, are the promise.
+ghost use Rattle.audit_serve_passes.specs.Pairs.{unknown_calls};
+
+use crate::recorder::Recorder;
+use audit_base::SESSIONS;
+use audit_serve_passes::StreamError;
+use audit_serve_ready::{
+    DEFAULT_BACKLOG, Departure, Door, Next, ReadyStream, finish_writing, serve_clients,
+    vacant_slots,
+};
+use std::alloc::Global;
+use std::test::Fail;
+
+/// A client that sends a few bytes, one a read, with nothing there at every other read, and takes `room` bytes.
+#[derive(Drop)]
+struct Client {
+    left: usize,
+    waits: bool,
+    room: usize,
+    taken: usize,
+}
+
+impl ReadyStream for Client {
+    ghost calls = { unknown_calls };
+
+    fn read_ready(&mut self, _buffer: &mut [u8]) -> Option<Result<usize, StreamError>> {
+        self.waits = !self.waits;
+        if self.waits {
+            return None;
+        }
+        if self.left == 0 {
+            return Some(Ok(0));
+        }
+        self.left -= 1;
+        Some(Ok(1))
+    }
+
+    fn write_ready(&mut self, bytes: &[u8]) -> Result<usize, StreamError> {
+        let count = bytes.len().min(self.room);
+        self.room -= count;
+        self.taken = self.taken.saturating_add(count);
+        Ok(count)
+    }
+}
+
+/// So many clients come, each of which sends three bytes; the third one takes nothing.
+#[derive(Drop)]
+struct Clients {
+    coming: usize,
+    came: usize,
+    passes: usize,
+    finished: usize,
+    dismissed: usize,
+    replies: usize,
+}
+
+impl Door for Clients {
+    type Stream = Client;
+
+    fn next_client(&mut self, _place: usize) -> Option<Client> {
+        if self.came >= self.coming {
+            return None;
+        }
+        self.came += 1;
+        let room = if self.came == 3 { 0 } else { 100 };
+        Some(Client {
+            left: 3,
+            waits: false,
+            room,
+            taken: 0,
+        })
+    }
+
+    fn dismisses(&mut self, _place: usize, client: &Client) -> bool {
+        self.passes > 100 && client.room == 0
+    }
+
+    fn gone(&mut self, _place: usize, client: Client, departure: Departure) {
+        if departure == Departure::Finished {
+            self.finished = self.finished.saturating_add(1);
+        }
+        if departure == Departure::Dismissed {
+            self.dismissed = self.dismissed.saturating_add(1);
+        }
+        self.replies = self.replies.saturating_add(client.taken);
+    }
+
+    fn pause(&mut self, _moved: bool) -> Next {
+        self.passes = self.passes.saturating_add(1);
+        if self.passes > 200 {
+            Next::Stop
+        } else {
+            Next::Again
+        }
+    }
+}
+
+// Each of 40 clients sends three bytes in passes of their own, and gets a reply of one byte to each. One takes nothing,
+// and is dismissed.
+#[test]
+fn clients_come_and_go(rt: HostRuntime) -> Result<(), Fail> {
+    let alloc: Global = rt.alloc();
+    let mut core = Recorder::new(alloc, usize::MAX)?;
+    let mut slots = vacant_slots(alloc, SESSIONS, DEFAULT_BACKLOG)?;
+    let mut door = Clients {
+        coming: 40,
+        came: 0,
+        passes: 0,
+        finished: 0,
+        dismissed: 0,
+        replies: 0,
+    };
+    assert!(rt; serve_clients(&mut core, &mut slots, &mut door).is_ok());
+    finish_writing(&mut slots, &mut door);
+    assert!(rt; door.finished == 39);
+    assert!(rt; door.dismissed == 1);
+    assert!(rt; door.replies == 117);
+    assert!(rt; !slots[0].has_client());
+    Ok(())
+}
