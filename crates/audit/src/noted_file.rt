@@ -93,8 +93,8 @@ impl<F: PositionedFile> PositionedFile for NotedFile<'_, '_, F> {
         read
     }
 
-    fn write_all_at(&mut self, bytes: &[u8; SECTOR_SIZE], offset: u64) -> io::Result<()> {
-        let written = self.inner.write_all_at(bytes, offset);
+    fn write_all_at(&mut self, row: &[[u8; SECTOR_SIZE]], offset: u64) -> io::Result<()> {
+        let written = self.inner.write_all_at(row, offset);
         self.notes.watch(self.subject, &written);
         written
     }

@@ -8,6 +8,7 @@ pub mod FileSectors
 pub mod FreshDisks
 pub mod GateCalls
 pub mod HeldLemmas
+pub mod KeptRows
 pub mod MemDiskCalls
 pub mod MemFileCalls
 pub mod MemoryCalls
@@ -18,4 +19,5 @@ pub mod ReadOnlyCalls
 pub mod Reached
 pub mod Replays
 pub mod RowReads
+pub mod RowWrites
 pub mod ShiftedCalls

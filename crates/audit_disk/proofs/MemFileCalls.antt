@@ -100,6 +100,7 @@ module _ (old new : View) where
         let elsewhere : other / SECTOR_SIZE ≢ at = λ same. apart (omega (arith, same, multiple, there)) in
         was before multiple ∙ sym (kept result (write.content before) (write.content_err before) (other / SECTOR_SIZE) elsewhere);
     moment = λ honest below. write.clock.before_end below;
+    later = λ honest. write.continues.clock;
     stands = λ honest. stands result honest (write.content honest);
     stands_err = λ honest. stands_err result honest (write.content_err honest);
     images = λ honest file left.

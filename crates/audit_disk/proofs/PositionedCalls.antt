@@ -4,7 +4,7 @@ use Rattle.std.proofs.lemmas.Bool.{false≢true}
 use Rattle.audit_disk_model.specs.Image.{Sector, Image}
 use Rattle.audit_disk_model.specs.View.{View}
 use Rattle.audit_disk_model.specs.Calls.{CountsFailure}
-use Rattle.audit_disk.specs.File.{FileView, sectors_of, FileContinues, OnlyFileReads, IsFileRead, IsRowRead, IsFileWrite, IsFileSync}
+use Rattle.audit_disk.specs.File.{FileView, sectors_of, FileContinues, OnlyFileReads, IsFileRead, IsRowRead, IsRowWrite, IsFileSync}
 use Rattle.audit_disk.specs.OsFile.{AnswersAlike}
 use Rattle.audit_disk.specs.Positioned.{PositionedView, counted_file, uncounted, ShowsFront, IsPositionedRead, IsPositionedWrite, IsPositionedSync}
 use Rattle.audit_base.specs.declared.limits.TheConstants.{SECTOR_SIZE}
@@ -38,8 +38,8 @@ module _ {E D : Type 0} {old new : FileView} (failures failures' : ℕ) where
     still_given = is.still_given;
   }
 
-  write_recounted : {offset : ℕ} {bytes : Sector} (outcome : Result (Unit {0}) E) (result : Result (Unit {0}) D) → AnswersAlike outcome result → CountsFailure failures failures' result
-      → IsFileWrite old new offset bytes outcome → IsFileWrite (counted_file (uncounted old) failures) (counted_file (uncounted new) failures') offset bytes result
+  write_recounted : {offset : ℕ} {row : List Sector} (outcome : Result (Unit {0}) E) (result : Result (Unit {0}) D) → AnswersAlike outcome result → CountsFailure failures failures' result
+      → IsRowWrite old new offset row outcome → IsRowWrite (counted_file (uncounted old) failures) (counted_file (uncounted new) failures') offset row result
   write_recounted (Ok done) (Err fault) alike counts is = absurd (false≢true alike)
   write_recounted (Err fault) (Ok done) alike counts is = absurd (false≢true alike)
   write_recounted (Ok done) (Ok too) alike counts is = record {
@@ -47,22 +47,28 @@ module _ {E D : Type 0} {old new : FileView} (failures failures' : ℕ) where
     failures = counts;
     still_given = is.still_given;
     moment = is.moment;
+    later = is.later;
     stands = is.stands;
     stands_err = is.stands_err;
     images = is.images;
     unwritten = is.unwritten;
+    pending = is.pending;
     written = is.written;
+    no_other = is.no_other;
   }
   write_recounted (Err fault) (Err too) alike counts is = record {
     goes_on = goes_on_recounted failures failures' is.goes_on;
     failures = counts;
     still_given = is.still_given;
     moment = is.moment;
+    later = is.later;
     stands = is.stands;
     stands_err = is.stands_err;
     images = is.images;
     unwritten = is.unwritten;
+    pending = is.pending;
     written = is.written;
+    no_other = is.no_other;
   }
 
   sync_recounted : (outcome : Result (Unit {0}) E) (result : Result (Unit {0}) D) → AnswersAlike outcome result → CountsFailure failures failures' result → IsFileSync old new outcome
@@ -97,7 +103,7 @@ module _ {E D : Type 0} {old new : PositionedView} {failures failures' : ℕ} (o
       → IsRowRead (counted_file old failures) (counted_file new failures') offset count sectors result
   row_counted read = row_recounted failures failures' outcome result alike (alike_counts failures failures' outcome result alike counts) (read.counted failures failures' counts)
 
-  pub write_counted : {offset : ℕ} {bytes : Sector} → IsPositionedWrite old new offset bytes outcome → IsFileWrite (counted_file old failures) (counted_file new failures') offset bytes result
+  pub write_counted : {offset : ℕ} {row : List Sector} → IsPositionedWrite old new offset row outcome → IsRowWrite (counted_file old failures) (counted_file new failures') offset row result
   write_counted write = write_recounted failures failures' outcome result alike (alike_counts failures failures' outcome result alike counts) (write.counted failures failures' counts)
 
   pub sync_counted : IsPositionedSync old new outcome → IsFileSync (counted_file old failures) (counted_file new failures') result
@@ -108,7 +114,7 @@ module _ {E D : Type 0} {old new : FileView} (outcome : Result (Unit {0}) E) (re
   pub row_uncounted : {offset count : ℕ} {sectors : Image} → IsRowRead old new offset count sectors outcome → IsPositionedRead (uncounted old) (uncounted new) offset count sectors result
   row_uncounted is = record { counted = λ failures failures' counts. row_recounted failures failures' outcome result alike counts is }
 
-  pub write_uncounted : {offset : ℕ} {bytes : Sector} → IsFileWrite old new offset bytes outcome → IsPositionedWrite (uncounted old) (uncounted new) offset bytes result
+  pub write_uncounted : {offset : ℕ} {row : List Sector} → IsRowWrite old new offset row outcome → IsPositionedWrite (uncounted old) (uncounted new) offset row result
   write_uncounted is = record { counted = λ failures failures' counts. write_recounted failures failures' outcome result alike counts is }
 
   pub sync_uncounted : IsFileSync old new outcome → IsPositionedSync (uncounted old) (uncounted new) result

@@ -11,6 +11,17 @@ use Rattle.audit_base.specs.declared.limits.TheConstants.{SECTOR_SIZE}
 abbrev pub overlaid : List ℕ → ℕ → List ℕ → List ℕ
 overlaid file offset bytes = take offset file ++ bytes ++ drop (offset + length bytes) file
 
+-- the file with these consecutive sectors written from the offset on
+abbrev pub overlaid_row : List ℕ → ℕ → List Sector → List ℕ
+overlaid_row file offset [] = file
+overlaid_row file offset (bytes ∷ row) = overlaid_row (overlaid file offset bytes) (offset + SECTOR_SIZE) row
+
+-- the file with some of these consecutive sectors written, each of them whole, and the others not
+abbrev pub SomeWritten : List ℕ → ℕ → List Sector → List ℕ → Type 0
+SomeWritten file offset [] new = new ≡ file
+SomeWritten file offset (bytes ∷ row) new = SomeWritten file (offset + SECTOR_SIZE) row new
+    ⊎ SomeWritten (overlaid file offset bytes) (offset + SECTOR_SIZE) row new
+
 -- the first sectors of a file
 abbrev pub sectors_of : ℕ → List ℕ → Image
 sectors_of zero file = []
@@ -95,6 +106,7 @@ pub record IsFileWrite {E : Type 0} (old new : FileView) (offset : ℕ) (bytes :
   pub failures : CountsFailure old.failures new.failures result
   pub still_given : KeepsGiven old new offset
   pub moment : old.honest → old.moment < last_count → new.moment ≡ old.moment + 1
+  pub later : old.honest → old.moment ≤ new.moment
   pub stands : old.honest → OnOk result (new.bytes ≡ overlaid old.bytes offset bytes)
   pub stands_err : old.honest → OnErr result ((new.bytes ≡ old.bytes) ⊎ (new.bytes ≡ overlaid old.bytes offset bytes))
   pub images : old.honest → (file : List ℕ) → new.left_at new.moment file
@@ -104,6 +116,32 @@ pub record IsFileWrite {E : Type 0} (old new : FileView) (offset : ℕ) (bytes :
   pub written : old.honest
       → OnOk result ((file : List ℕ) → old.left_at old.moment file
       → new.left_at new.moment (overlaid file offset bytes))
+
+-- a crash may leave these bytes of what it may leave of the file now, some of the row's sectors written
+abbrev pub MayLeaveRow : FileView → ℕ → List Sector → List ℕ → Type 0
+MayLeaveRow file offset row bytes = (before : List ℕ) × file.left_at file.moment before
+    × SomeWritten before offset row bytes
+
+-- A write of consecutive sectors, which counts as one of each.
+pub record IsRowWrite {E : Type 0} (old new : FileView) (offset : ℕ) (row : List Sector)
+    (result : Result (Unit {0}) E) : Type 0 where
+  pub goes_on : FileContinues old new
+  pub failures : CountsFailure old.failures new.failures result
+  pub still_given : KeepsOutside old new offset (length row)
+  pub moment : old.honest → old.moment + length row ≤ last_count → new.moment ≡ old.moment + length row
+  pub later : old.honest → old.moment ≤ new.moment
+  pub stands : old.honest → OnOk result (new.bytes ≡ overlaid_row old.bytes offset row)
+  pub stands_err : old.honest → OnErr result (SomeWritten old.bytes offset row new.bytes)
+  pub images : old.honest → (file : List ℕ) → new.left_at new.moment file → MayLeaveRow old offset row file
+  pub unwritten : old.honest → (file : List ℕ) → old.left_at old.moment file → new.left_at new.moment file
+  pub pending : old.honest → OnOk result ((file : List ℕ) → MayLeaveRow old offset row file → new.left_at new.moment file)
+  -- of a row that succeeded: at each moment some of the sectors before are written, and nothing else
+  pub written : old.honest → old.moment + length row ≤ last_count
+      → OnOk result ((count : ℕ) (file : List ℕ) → count ≤ length row → MayLeaveRow old offset (take count row) file
+      → new.left_at (old.moment + count) file)
+  pub no_other : old.honest → old.moment + length row ≤ last_count
+      → OnOk result ((count : ℕ) (file : List ℕ) → count ≤ length row → new.left_at (old.moment + count) file
+      → MayLeaveRow old offset (take count row) file)
 
 pub record IsFileSync {E : Type 0} (old new : FileView) (result : Result (Unit {0}) E) : Type 0 where
   pub goes_on : FileContinues old new

@@ -1,13 +1,20 @@
 -- A device in a file.
-use Rattle.std.specs.Prelude.{◌≡◌, ◌⊎◌, ℕ, ◌<◌, ◌≤◌, Bool, true, false, List, take, IsErr, unwrap_or}
+use Rattle.std.specs.Prelude.{◌≡◌, ◌⊎◌, ℕ, ◌+◌, ◌-◌, ◌<◌, ◌≤◌, Bool, true, false, Option, Some, None, List, [], take, IsErr, unwrap_or}
 use Rattle.std.specs.Option.{is_some}
-use Rattle.audit_disk_model.specs.Image.{Image}
+use Rattle.audit_disk_model.specs.Image.{Sector, Image}
 use Rattle.audit_disk_model.specs.View.{View, last_count}
 use Rattle.audit_disk_model.specs.Calls.{Outcome}
 use Rattle.audit_disk.specs.File.{FileView, sectors_of}
-use Rattle.audit_disk.specs.FileView.{file_view, sectors_fit}
+use Rattle.audit_disk.specs.FileView.{file_view, sectors_fit, active_row, whole_active}
+use Rattle.audit_disk.specs.KeptRow.{kept_sectors, whole_kept, TakesSector}
 use Rattle.audit_disk.specs.declared.file_disk.FileDisk.{FileDisk}
+use Rattle.audit_disk.specs.declared.file_disk.TheConstants.{LAST_SINGLE}
 use Rattle.audit_disk.specs.declared.sector_file.SectorFile as files
+
+-- the clock from which on writes and syncs are refused
+abbrev pub end_from : Option ℕ → ℕ
+end_from None = last_count
+end_from (Some from) = LAST_SINGLE
 
 -- a device of the first sectors of another
 pub record IsFrontOf (front whole : View) (count : ℕ) : Type 0 where
@@ -26,8 +33,12 @@ module _ {F : Type 0} {g : files.Ghosts F} where
   -- everything that is known of it as a device
   abbrev pub file_disk_view : FileDisk F g → View
   file_disk_view disk =
-      file_view (g.file disk.file.inner) disk.sectors (unwrap_or disk.failed_at disk.clock) disk.clock disk.failures
-      (sectors_fit disk.sectors disk.fits) disk.in_order disk.in_range disk.sized
+      file_view (g.file disk.file.inner) disk.sectors disk.kept.start (kept_sectors disk.kept)
+      (active_row disk.single_from (kept_sectors disk.kept))
+      (unwrap_or disk.single_from (unwrap_or disk.failed_at disk.clock) - disk.kept.count)
+      (unwrap_or disk.single_from (unwrap_or disk.failed_at disk.clock)) (unwrap_or disk.failed_at disk.clock) disk.clock
+      disk.failures (sectors_fit disk.sectors disk.fits) disk.in_range disk.split_in_order disk.in_order
+      (whole_kept disk.kept) (whole_active disk.single_from (kept_sectors disk.kept) (whole_kept disk.kept)) disk.sized
 
   -- its file
   abbrev pub file_inside : FileDisk F g → F
@@ -37,18 +48,34 @@ module _ {F : Type 0} {g : files.Ghosts F} where
   abbrev pub file_of : FileDisk F g → FileView
   file_of disk = g.file disk.file.inner
 
-  -- a sync has failed
+  -- what was written and the file hasn't got yet
+  abbrev pub waiting : FileDisk F g → List Sector
+  waiting disk = active_row disk.single_from (kept_sectors disk.kept)
+
+  -- the sector isn't among them
+  abbrev pub IsApart : FileDisk F g → ℕ → Type 0
+  IsApart disk at = (waiting disk ≡ []) ⊎ ((at < disk.kept.start) ⊎ (disk.kept.start + disk.kept.count ≤ at))
+
+  -- a write of this sector can be kept
+  pub record CanKeep (disk : FileDisk F g) (at : ℕ) : Type 0 where
+    pub rows : disk.single_from ≡ None
+    pub takes : TakesSector disk.kept at
+
+  abbrev pub end_of : FileDisk F g → ℕ
+  end_of disk = end_from disk.single_from
+
+  -- a sync or a row has failed, or a call was refused at the end of the clock
   abbrev pub has_stopped : FileDisk F g → Bool
   has_stopped disk = is_some disk.failed_at
 
   -- the next write or sync reaches the file
   pub record PassesCalls (disk : FileDisk F g) : Type 0 where
     pub working : has_stopped disk ≡ false
-    pub below_end : (file_disk_view disk).clock < last_count
+    pub below_end : (file_disk_view disk).clock < end_of disk
 
-  -- it doesn't, because a sync has failed or the clock is at its end
+  -- it doesn't, because a sync or a row has failed or the clock is at its end
   abbrev pub IsShut : FileDisk F g → Type 0
-  IsShut disk = (has_stopped disk ≡ true) ⊎ (last_count ≤ (file_disk_view disk).clock)
+  IsShut disk = (has_stopped disk ≡ true) ⊎ (end_of disk ≤ (file_disk_view disk).clock)
 
   -- the call failed and didn't reach the file
   pub record IsKeptBack (old new : FileDisk F g) (result : Outcome) : Type 0 where

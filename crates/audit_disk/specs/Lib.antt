@@ -22,6 +22,7 @@ pub mod SectorSource
 -- Views of devices and files, with their laws.
 pub mod FileView
 pub mod HeldLaws
+pub mod KeptRow
 pub mod MemFile
 pub mod Memory
 pub mod ReadOnly

@@ -4,7 +4,7 @@ use Rattle.std.specs.Coded.{Unit-prop}
 use Rattle.audit_disk_model.specs.Image.{Sector, Image}
 use Rattle.audit_disk_model.specs.View.{View}
 use Rattle.audit_disk_model.specs.Calls.{CountsFailure}
-use Rattle.audit_disk.specs.File.{FileView, OnlyFileReads, IsRowRead, IsFileWrite, IsFileSync, sectors_of}
+use Rattle.audit_disk.specs.File.{FileView, OnlyFileReads, IsRowRead, IsRowWrite, IsFileSync, sectors_of}
 use Rattle.audit_base.specs.declared.limits.TheConstants.{SECTOR_SIZE}
 
 -- what is known of it, as in a `FileView`
@@ -64,11 +64,11 @@ pub record IsPositionedRead {E : Type 0} (old new : PositionedView) (offset coun
   pub counted : (failures failures' : ℕ) → CountsFailure failures failures' result
       → IsRowRead (counted_file old failures) (counted_file new failures') offset count sectors result
 
--- A write of one sector, whatever count is kept.
-pub record IsPositionedWrite {E : Type 0} (old new : PositionedView) (offset : ℕ) (bytes : Sector)
+-- A write of consecutive sectors, whatever count is kept.
+pub record IsPositionedWrite {E : Type 0} (old new : PositionedView) (offset : ℕ) (row : List Sector)
     (result : Result (Unit {0}) E) : Type 0 where
   pub counted : (failures failures' : ℕ) → CountsFailure failures failures' result
-      → IsFileWrite (counted_file old failures) (counted_file new failures') offset bytes result
+      → IsRowWrite (counted_file old failures) (counted_file new failures') offset row result
 
 -- A sync, whatever count is kept.
 pub record IsPositionedSync {E : Type 0} (old new : PositionedView) (result : Result (Unit {0}) E) : Type 0 where

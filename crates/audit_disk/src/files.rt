@@ -9,6 +9,7 @@ ghost use Rattle.audit_disk.specs.FileDisk.{IsFreshFile, file_disk_view};
 ghost use Rattle.audit_disk.specs.MemDisk.{IsFresh};
 ghost use Rattle.audit_disk.specs.Positioned.{ShowsFront, IsUncalled};
 
+use crate::kept_row::KeptRow;
 use crate::os_file::OsFile;
 use crate::read_ahead::new_row;
 use crate::{
@@ -57,6 +58,7 @@ impl<F: SystemFile> FileDisk<OsFile<F>> {
             return Err(FileFault::Length);
         };
         let row = new_row(alloc)?;
+        let kept = KeptRow::new(alloc)?;
         let mut options = OpenOptions::new();
         options.read(true).write(true).create_new(true);
         options.mode(OWNER_ONLY);
@@ -65,7 +67,7 @@ impl<F: SystemFile> FileDisk<OsFile<F>> {
             let _ = fs::remove_file(rt, path);
             return Err(fault);
         }
-        Ok(FileDisk::with_row(OsFile::new(file), sectors, row))
+        Ok(FileDisk::with_rows(OsFile::new(file), sectors, row, kept))
     }
 
     /// Opens a file or a block device as a device. Its length must be a multiple of 512.
@@ -166,7 +168,8 @@ impl FileDisk<MemFile> {
     {
         let disk = MemDisk::new(alloc, sectors)?;
         let row = new_row(alloc)?;
-        Ok(FileDisk::with_row(MemFile { disk }, sectors, row))
+        let kept = KeptRow::new(alloc)?;
+        Ok(FileDisk::with_rows(MemFile { disk }, sectors, row, kept))
     }
 }
 

@@ -12,6 +12,7 @@ mod file_identity;
 mod files;
 mod fuse;
 mod gate;
+mod kept_row;
 mod last_written;
 mod mem_disk;
 mod mem_file;

@@ -47,7 +47,12 @@ impl<F: PositionedFile> SectorFile for OsFile<F> {
     }
 
     fn write_at(&mut self, offset: u64, bytes: &[u8; SECTOR_SIZE]) -> Result<(), DeviceFault> {
-        let outcome = self.file.write_all_at(bytes, offset);
+        let outcome = self.file.write_all_at(slice::from_ref(bytes), offset);
+        counted_call(outcome, &mut self.failures)
+    }
+
+    fn write_row(&mut self, offset: u64, row: &[[u8; SECTOR_SIZE]]) -> Result<(), DeviceFault> {
+        let outcome = self.file.write_all_at(row, offset);
         counted_call(outcome, &mut self.failures)
     }
 

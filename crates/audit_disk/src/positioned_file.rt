@@ -1,5 +1,5 @@
 ghost use Rattle.std.specs.Prelude.{length};
-ghost use Rattle.audit_disk.specs.File.{IsSectorOffset, IsRowOffset};
+ghost use Rattle.audit_disk.specs.File.{IsRowOffset};
 ghost use Rattle.audit_disk.specs.Positioned.{PositionedView, counted_file};
 ghost use Rattle.audit_disk.specs.Positioned.{IsPositionedRead, IsPositionedWrite, IsPositionedSync, IsMeasured};
 
@@ -18,10 +18,10 @@ pub trait PositionedFile {
         ensures { IsPositionedRead (positioned self.old) (positioned self.new)
             offset (length into.old) into.new result };
 
-    /// Writes one sector at `offset`.
-    fn write_all_at(&mut self, bytes: &[u8; SECTOR_SIZE], offset: u64) -> io::Result<()>
-        requires { IsSectorOffset (counted_file (positioned self.old) 0) offset }
-        ensures { IsPositionedWrite (positioned self.old) (positioned self.new) offset bytes.now result };
+    /// Writes consecutive sectors that start at `offset`. After an error each of them may or may not be written.
+    fn write_all_at(&mut self, row: &[[u8; SECTOR_SIZE]], offset: u64) -> io::Result<()>
+        requires { IsRowOffset (counted_file (positioned self.old) 0) offset (length row.now) }
+        ensures { IsPositionedWrite (positioned self.old) (positioned self.new) offset row.now result };
 
     /// Flushes to the medium what was written.
     fn sync_data(&mut self) -> io::Result<()>

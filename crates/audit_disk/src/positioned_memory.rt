@@ -13,8 +13,8 @@ impl PositionedFile for MemFile {
         as_system(self.read_row(offset, into))
     }
 
-    fn write_all_at(&mut self, bytes: &[u8; SECTOR_SIZE], offset: u64) -> io::Result<()> {
-        as_system(self.write_at(offset, bytes))
+    fn write_all_at(&mut self, row: &[[u8; SECTOR_SIZE]], offset: u64) -> io::Result<()> {
+        as_system(self.write_row(offset, row))
     }
 
     fn sync_data(&mut self) -> io::Result<()> {

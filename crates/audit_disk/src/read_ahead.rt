@@ -1,16 +1,21 @@
-ghost use Rattle.std.specs.Prelude.{◌≡◌, ◌*◌, ◌%◌, ◌<◌, ◌≤◌, length};
+ghost use Rattle.std.specs.Prelude.{◌≡◌, ◌*◌, ◌%◌, ◌<◌, ◌≤◌, length, IfOk};
 ghost use Rattle.audit_base.specs.declared.limits.TheConstants.{SECTOR_SIZE};
-ghost use Rattle.audit_disk.specs.declared.read_ahead.TheConstants.{ROWS_FROM};
+ghost use Rattle.audit_disk.specs.declared.read_ahead.TheConstants.{ROW_SECTORS, ROWS_FROM};
+ghost use Rattle.audit_disk.specs.FileView.{IsWholeRow};
 ghost use Rattle.audit_disk.specs.File.{HasRow, HasRow-prop, IsRowOffset, OnlyFileReads};
 
+use crate::sector_file::write_each;
 use crate::{DeviceFault, SECTOR_SIZE, SectorFile};
 use std::alloc::{AllocError, Global};
 
-/// The most sectors read at once: 64 KiB.
-const ROW_SECTORS: usize = 128;
+/// The most sectors read or written at once: 64 KiB.
+pub(crate) const ROW_SECTORS: usize = 128;
 
-/// Allocates the row for sectors that are read ahead.
-pub(crate) fn new_row(alloc: Global) -> Result<Vec<[u8; SECTOR_SIZE]>, AllocError> {
+/// Allocates a row of sectors.
+pub(crate) fn new_row(alloc: Global) -> Result<Vec<[u8; SECTOR_SIZE]>, AllocError>
+    ensures room { IfOk result (λ row. length row.items ≡ ROW_SECTORS) }
+    ensures whole { IfOk result (λ row. IsWholeRow row.items) }
+{
     Ok(vec![in alloc; [0; SECTOR_SIZE]; ROW_SECTORS]?)
 }
 
@@ -39,7 +44,7 @@ pub(crate) struct ReadAhead<F: SectorFile> {
 
 impl<F: SectorFile> ReadAhead<F> {
     ghost use Rattle.std.specs.Prelude.{IfSome};
-    ghost use Rattle.audit_disk.specs.File.{IsSectorOffset, IsReadThrough, IsFileWrite, IsFileSync};
+    ghost use Rattle.audit_disk.specs.File.{IsSectorOffset, IsReadThrough, IsFileWrite, IsRowWrite, IsFileSync};
     ghost use Rattle.audit_disk.specs.ReadAhead.{StandsAt};
 
     /// Wraps a file of which nothing has been read.
@@ -119,6 +124,32 @@ impl<F: SectorFile> ReadAhead<F> {
     {
         self.held = 0;
         self.inner.write_at(offset, bytes)
+    }
+
+    /// Drops the row and writes consecutive sectors, in one call of the file.
+    pub(crate) fn write_row(
+        &mut self,
+        offset: u64,
+        sectors: &[[u8; SECTOR_SIZE]],
+    ) -> Result<(), DeviceFault>
+        requires { IsRowOffset (F.file self.old.inner) offset (length sectors.now) }
+        ensures { IsRowWrite (F.file self.old.inner) (F.file self.new.inner) offset sectors.now result }
+    {
+        self.held = 0;
+        self.inner.write_row(offset, sectors)
+    }
+
+    /// The same, in one call for each sector.
+    pub(crate) fn write_each(
+        &mut self,
+        offset: u64,
+        sectors: &[[u8; SECTOR_SIZE]],
+    ) -> Result<(), DeviceFault>
+        requires { IsRowOffset (F.file self.old.inner) offset (length sectors.now) }
+        ensures { IsRowWrite (F.file self.old.inner) (F.file self.new.inner) offset sectors.now result }
+    {
+        self.held = 0;
+        write_each(&mut self.inner, offset, sectors)
     }
 
     /// Drops the row and syncs.

@@ -26,8 +26,8 @@ impl PositionedFile for File {
         FileExt::read_exact_at(self, into.as_flattened_mut(), offset)
     }
 
-    fn write_all_at(&mut self, bytes: &[u8; SECTOR_SIZE], offset: u64) -> io::Result<()> {
-        FileExt::write_all_at(self, bytes, offset)
+    fn write_all_at(&mut self, row: &[[u8; SECTOR_SIZE]], offset: u64) -> io::Result<()> {
+        FileExt::write_all_at(self, row.as_flattened(), offset)
     }
 
     fn sync_data(&mut self) -> io::Result<()> {
