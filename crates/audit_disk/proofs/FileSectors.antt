@@ -33,19 +33,19 @@ drop-overlaid file bytes offset fits =
     ∙ ap (λ (l : List ℕ). take offset (drop SECTOR_SIZE file) ++ bytes ++ l) (ap (λ (n : ℕ). drop n file) far ∙ sym (drop-drop (offset + length bytes) SECTOR_SIZE file))
 
 -- bytes at a multiple of the sector's size are a sector
-pub sectors_of-overlaid : (count at : ℕ) (file bytes : List ℕ) → SECTOR_SIZE * count ≤ length file → at < count → length bytes ≡ SECTOR_SIZE
+pub sectors_of-overlaid : (count at : ℕ) (file bytes : List ℕ) → SECTOR_SIZE * count ≤ length file → SECTOR_SIZE * at + SECTOR_SIZE ≤ length file → length bytes ≡ SECTOR_SIZE
     → sectors_of count (overlaid file (SECTOR_SIZE * at) bytes) ≡ set (sectors_of count file) at bytes
-sectors_of-overlaid zero at file bytes long lt size = absurd (omega arith)
-sectors_of-overlaid (suc count) zero file bytes long lt size =
+sectors_of-overlaid zero at file bytes long within size = refl
+sectors_of-overlaid (suc count) zero file bytes long within size =
     ap (λ (l : List ℕ). sectors_of (suc count) l) (overlaid_first file bytes size)
     ∙ ap (λ (l : List ℕ). l ∷ sectors_of count (drop SECTOR_SIZE (bytes ++ drop SECTOR_SIZE file))) (take_at bytes (drop SECTOR_SIZE file) SECTOR_SIZE size)
     ∙ ap (λ (l : List ℕ). bytes ∷ sectors_of count l) (drop_at bytes (drop SECTOR_SIZE file) SECTOR_SIZE size)
-sectors_of-overlaid (suc count) (suc at) file bytes long lt size =
+sectors_of-overlaid (suc count) (suc at) file bytes long within size =
     let there : SECTOR_SIZE * suc at ≡ SECTOR_SIZE + SECTOR_SIZE * at = omega arith in
     ap (λ (n : ℕ). sectors_of (suc count) (overlaid file n bytes)) there
     ∙ ap (λ (l : List ℕ). l ∷ sectors_of count (drop SECTOR_SIZE (overlaid file (SECTOR_SIZE + SECTOR_SIZE * at) bytes))) (take-overlaid file bytes (SECTOR_SIZE + SECTOR_SIZE * at) (omega arith) (omega arith))
     ∙ ap (λ (l : List ℕ). take SECTOR_SIZE file ∷ sectors_of count l) (drop-overlaid file bytes (SECTOR_SIZE * at) (omega arith))
-    ∙ ap (λ (image : Image). take SECTOR_SIZE file ∷ image) (sectors_of-overlaid count at (drop SECTOR_SIZE file) bytes (omega (arith, length-drop SECTOR_SIZE file)) (omega arith) size)
+    ∙ ap (λ (image : Image). take SECTOR_SIZE file ∷ image) (sectors_of-overlaid count at (drop SECTOR_SIZE file) bytes (omega (arith, length-drop SECTOR_SIZE file)) (omega (arith, length-drop SECTOR_SIZE file)) size)
 
 pub sector_at-sectors_of : (count at : ℕ) (file : List ℕ) → at < count → sector_at (sectors_of count file) at ≡ take SECTOR_SIZE (drop (SECTOR_SIZE * at) file)
 sector_at-sectors_of zero at file lt = absurd (omega arith)

@@ -1,11 +1,12 @@
 -- Images of which some sectors of a row may be written.
 use Rattle.std.proofs.Common.{inl, inr, ⊎_elim, ◌≡◌, ◌≢◌, ◌⊎◌, ℕ, zero, suc, ◌+◌, ◌-◌, ◌*◌, ◌<◌, ◌≤◌, List, [], ◌∷◌, ◌++◌, length, take, drop, set, get_or, refl, sym, ◌∙◌, ap, subst, arith}
-use Rattle.std.proofs.lemmas.List.{ext_get_or, length-append, length-set, length-take, length-drop, get_or-set_same, get_or-set_other, get_or_past, get_or-take, get_or-drop, get_or_append_left, get_or-append_right, get_or_push, take-set-le}
+use Rattle.std.proofs.lemmas.List.{ext_get_or, length-append, length-set, length-take, length-drop, get_or-set_same, get_or-set_other, get_or_past, get_or-take, get_or-drop, get_or_append_left, get_or-append_right, get_or_push, take-set-le, length-take-le, take_at}
 use Rattle.std.proofs.Math.Seq.{take-set-lt}
 use Rattle.std.proofs.lemmas.Bool.{cases_eq, cases_lt}
 use Rattle.audit_disk_model.specs.Image.{Sector, Image, IsWhole, sector_at, with_sector}
 use Rattle.audit_disk.specs.File.{FileView, overlaid, overlaid_row, sectors_of, SomeWritten}
-use Rattle.audit_disk.specs.FileView.{with_row, StandsInRow, MayHaveRow, row_cons, length-sectors_of, length-with_row}
+use Rattle.audit_disk.specs.FileView.{with_row, StandsInRow, IsWholeRow, MayHaveRow, row_cons, length-sectors_of, length-with_row}
+use Rattle.audit_disk.proofs.FileSectors.{length-overlaid, sectors_of-overlaid}
 use Rattle.audit_base.specs.declared.limits.TheConstants.{SECTOR_SIZE}
 
 -- no sector is written
@@ -94,7 +95,7 @@ pub row_pop : (at : ℕ) (row : List Sector) (bytes : Sector) (old new : Image) 
 row_pop at row bytes old new next here may =
     ⊎_elim
     (λ (same : sector_at new next ≡ sector_at old next). inl (without same))
-    (λ (stands : StandsInRow at (row ++ bytes ∷ []) next (sector_at new next)). inr (with_old, before, again stands))
+    (λ (stands : StandsInRow at (row ++ bytes ∷ []) next (sector_at new next)). inr ((with_sector new next (sector_at old next)), before, again stands))
     (may.each next)
   where
     earlier : (k : ℕ) → k ≢ next → (sector_at new k ≡ sector_at old k) ⊎ StandsInRow at row k (sector_at new k)
@@ -116,9 +117,6 @@ row_pop at row bytes old new next here may =
           (cases_eq k next);
     }
 
-    with_old : Image
-    with_old = with_sector new next (sector_at old next)
-
     at_next : (k : ℕ) → k ≡ next → sector_at (with_sector new next (sector_at old next)) k ≡ sector_at old k
     at_next k last =
         ⊎_elim
@@ -127,8 +125,7 @@ row_pop at row bytes old new next here may =
         get_or_past (with_sector new next (sector_at old next)) k [] (omega (arith, length-set new next (sector_at old next), last)) ∙ sym (get_or_past old k [] (omega (arith, may.sectors, last))))
         (cases_lt next (length new))
 
-    before : MayHaveRow at row old with_old
-    unfolding with_old
+    before : MayHaveRow at row old (with_sector new next (sector_at old next))
     before = record {
       sectors = length-set new next (sector_at old next) ∙ may.sectors;
       each = λ k.
@@ -143,17 +140,16 @@ row_pop at row bytes old new next here may =
           (cases_eq k next);
     }
 
-    again : StandsInRow at (row ++ bytes ∷ []) next (sector_at new next) → new ≡ with_sector with_old next bytes
-    unfolding with_old
+    again : StandsInRow at (row ++ bytes ∷ []) next (sector_at new next) → new ≡ with_sector (with_sector new next (sector_at old next)) next bytes
     again stands =
-        ext_get_or [] new (with_sector with_old next bytes) (sym (length-set with_old next bytes ∙ length-set new next (sector_at old next)))
+        ext_get_or [] new (with_sector (with_sector new next (sector_at old next)) next bytes) (sym (length-set (with_sector new next (sector_at old next)) next bytes ∙ length-set new next (sector_at old next)))
         (λ k lt.
         ⊎_elim
         (λ (last : k ≡ next).
         ap (λ (n : ℕ). sector_at new n) last ∙ stands.is ∙ get_or_push row bytes [] (next - at) (omega (arith, here))
-        ∙ sym (ap (λ (n : ℕ). sector_at (with_sector with_old next bytes) n) last ∙ get_or-set_same with_old next bytes [] (omega (arith, length-set new next (sector_at old next), last, lt))))
+        ∙ sym (ap (λ (n : ℕ). sector_at (with_sector (with_sector new next (sector_at old next)) next bytes) n) last ∙ get_or-set_same (with_sector new next (sector_at old next)) next bytes [] (omega (arith, length-set new next (sector_at old next), last, lt))))
         (λ (other : k ≡ next → ⊥).
-        sym (get_or-set_other with_old next k bytes [] other ∙ get_or-set_other new next k (sector_at old next) [] other))
+        sym (get_or-set_other (with_sector new next (sector_at old next)) next k bytes [] other ∙ get_or-set_other new next k (sector_at old next) [] other))
         (cases_eq k next))
 
 -- one sector more
@@ -199,3 +195,161 @@ with_row-other image at (bytes ∷ row) k apart =
     with_row-other (with_sector image at bytes) (at + 1) row k
     (⊎_elim (λ (less : k < at). inl (omega arith)) (λ (le : at + suc (length row) ≤ k). inr (omega arith)) apart)
     ∙ get_or-set_other image at k bytes [] other
+
+-- the first sector isn't written, or it is
+pub row_skip : (at : ℕ) (bytes : Sector) (row : List Sector) (old new : Image) → MayHaveRow (at + 1) row old new → MayHaveRow at (bytes ∷ row) old new
+row_skip at bytes row old new may = record {
+  sectors = may.sectors;
+  each = λ k.
+      ⊎_elim
+      (λ (same : sector_at new k ≡ sector_at old k). inl same)
+      (λ (stands : StandsInRow (at + 1) row k (sector_at new k)).
+      let next : suc (k - (at + 1)) ≡ k - at = omega (arith, stands.from) in
+      inr (record { from = omega (arith, stands.from); to = omega (arith, stands.to); is = stands.is ∙ ap (λ (n : ℕ). sector_at (bytes ∷ row) n) next }))
+      (may.each k);
+}
+
+pub row_uncons : (at : ℕ) (bytes : Sector) (row : List Sector) (old new : Image) → MayHaveRow at (bytes ∷ row) old new → MayHaveRow (at + 1) row old new ⊎ MayHaveRow (at + 1) row (with_sector old at bytes) new
+row_uncons at bytes row old new may =
+    ⊎_elim
+    (λ (same : sector_at new at ≡ sector_at old at). inl (record {
+      sectors = may.sectors;
+      each = λ k.
+          ⊎_elim
+          (λ (here : k ≡ at). inl (ap (λ (n : ℕ). sector_at new n) here ∙ same ∙ ap (λ (n : ℕ). sector_at old n) (sym here)))
+          (λ (other : k ≡ at → ⊥). later k other (may.each k))
+          (cases_eq k at);
+    }))
+    (λ (stands : StandsInRow at (bytes ∷ row) at (sector_at new at)). inr (record {
+      sectors = may.sectors ∙ sym (length-set old at bytes);
+      each = λ k.
+          ⊎_elim
+          (λ (here : k ≡ at). inl (first stands k here))
+          (λ (other : k ≡ at → ⊥).
+          ⊎_elim
+          (λ (old_one : sector_at new k ≡ sector_at old k). inl (old_one ∙ sym (get_or-set_other old at k bytes [] other)))
+          (λ (still : StandsInRow (at + 1) row k (sector_at new k)). inr still)
+          (later k other (may.each k)))
+          (cases_eq k at);
+    }))
+    (may.each at)
+  where
+    later : (k : ℕ) → k ≢ at → (sector_at new k ≡ sector_at old k) ⊎ StandsInRow at (bytes ∷ row) k (sector_at new k) → (sector_at new k ≡ sector_at old k) ⊎ StandsInRow (at + 1) row k (sector_at new k)
+    later k other either =
+        ⊎_elim
+        (λ (same : sector_at new k ≡ sector_at old k). inl same)
+        (λ (stands : StandsInRow at (bytes ∷ row) k (sector_at new k)).
+        let after : at + 1 ≤ k = omega (arith, stands.from, other) in
+        let next : k - at ≡ suc (k - (at + 1)) = omega arith in
+        inr (record { from = after; to = omega (arith, stands.to); is = stands.is ∙ ap (λ (n : ℕ). sector_at (bytes ∷ row) n) next }))
+        either
+
+    first : StandsInRow at (bytes ∷ row) at (sector_at new at) → (k : ℕ) → k ≡ at → sector_at new k ≡ sector_at (with_sector old at bytes) k
+    first stands k here =
+        let none : at - at ≡ 0 = omega arith in
+        ⊎_elim
+        (λ (lt : at < length old).
+        ap (λ (n : ℕ). sector_at new n) here ∙ stands.is ∙ ap (λ (n : ℕ). sector_at (bytes ∷ row) n) none ∙ sym (ap (λ (n : ℕ). sector_at (with_sector old at bytes) n) here ∙ get_or-set_same old at bytes [] lt))
+        (λ (le : length old ≤ at).
+        get_or_past new k [] (omega (arith, may.sectors, here)) ∙ sym (get_or_past (with_sector old at bytes) k [] (omega (arith, length-set old at bytes, here))))
+        (cases_lt at (length old))
+
+whole_tail : (bytes : Sector) (row : List Sector) → IsWholeRow (bytes ∷ row) → IsWholeRow row
+whole_tail bytes row whole = record { each = λ k lt. whole.each (suc k) (omega arith) }
+
+-- sectors written to a file are written to its image
+pub row_of_some : (count at offset : ℕ) (row : List Sector) (file new : List ℕ) → offset ≡ SECTOR_SIZE * at → SECTOR_SIZE * count ≤ length file → SECTOR_SIZE * (at + length row) ≤ length file → IsWholeRow row
+    → SomeWritten file offset row new → MayHaveRow at row (sectors_of count file) (sectors_of count new)
+row_of_some count at offset [] file new here long within whole some = nothing_row at (sectors_of count file) (sectors_of count new) (ap (λ (f : List ℕ). sectors_of count f) some)
+row_of_some count at offset (bytes ∷ row) file new here long within whole some =
+    let size : length bytes ≡ SECTOR_SIZE = whole.each 0 (omega arith) in
+    let over = overlaid file offset bytes in
+    let same : length over ≡ length file = length-overlaid file offset bytes (omega arith) in
+    ⊎_elim
+    (λ (old : SomeWritten file (offset + SECTOR_SIZE) row new).
+    row_skip at bytes row (sectors_of count file) (sectors_of count new)
+    (row_of_some count (at + 1) (offset + SECTOR_SIZE) row file new (omega arith) long (omega arith) (whole_tail bytes row whole) old))
+    (λ (next : SomeWritten (overlaid file offset bytes) (offset + SECTOR_SIZE) row new).
+    row_cons at bytes row (sectors_of count file) (sectors_of count new)
+    (subst (λ (image : Image). MayHaveRow (at + 1) row image (sectors_of count new))
+    (ap (λ (n : ℕ). sectors_of count (overlaid file n bytes)) here ∙ sectors_of-overlaid count at file bytes long (omega arith) size)
+    (row_of_some count (at + 1) (offset + SECTOR_SIZE) row (overlaid file offset bytes) new (omega arith) (omega (arith, same)) (omega (arith, same)) (whole_tail bytes row whole) next)))
+    some
+
+-- and the other way round
+pub some_of_row : (count at offset : ℕ) (row : List Sector) (file : List ℕ) (image : Image) → offset ≡ SECTOR_SIZE * at → SECTOR_SIZE * count ≤ length file → SECTOR_SIZE * (at + length row) ≤ length file → IsWholeRow row
+    → MayHaveRow at row (sectors_of count file) image → (new : List ℕ) × SomeWritten file offset row new × (image ≡ sectors_of count new)
+some_of_row count at offset [] file image here long within whole may = (file, refl, row_nothing at (sectors_of count file) image may)
+some_of_row count at offset (bytes ∷ row) file image here long within whole may =
+    let size : length bytes ≡ SECTOR_SIZE = whole.each 0 (omega arith) in
+    let over = overlaid file offset bytes in
+    let same : length over ≡ length file = length-overlaid file offset bytes (omega arith) in
+    ⊎_elim
+    (λ (old : MayHaveRow (at + 1) row (sectors_of count file) image).
+    let rest = some_of_row count (at + 1) (offset + SECTOR_SIZE) row file image (omega arith) long (omega arith) (whole_tail bytes row whole) old in (rest.0, inl rest.1, rest.2))
+    (λ (next : MayHaveRow (at + 1) row (with_sector (sectors_of count file) at bytes) image).
+    let rest = some_of_row count (at + 1) (offset + SECTOR_SIZE) row (overlaid file offset bytes) image (omega arith) (omega (arith, same)) (omega (arith, same)) (whole_tail bytes row whole)
+        (subst (λ (i : Image). MayHaveRow (at + 1) row i image) (sym (ap (λ (n : ℕ). sectors_of count (overlaid file n bytes)) here ∙ sectors_of-overlaid count at file bytes long (omega arith) size)) next) in
+    (rest.0, inr rest.1, rest.2))
+    (row_uncons at bytes row (sectors_of count file) image may)
+
+pub sectors_of-overlaid_row : (count at offset : ℕ) (row : List Sector) (file : List ℕ) → offset ≡ SECTOR_SIZE * at → SECTOR_SIZE * count ≤ length file → SECTOR_SIZE * (at + length row) ≤ length file → IsWholeRow row
+    → sectors_of count (overlaid_row file offset row) ≡ with_row (sectors_of count file) at row
+sectors_of-overlaid_row count at offset [] file here long within whole = refl
+sectors_of-overlaid_row count at offset (bytes ∷ row) file here long within whole =
+    let size : length bytes ≡ SECTOR_SIZE = whole.each 0 (omega arith) in
+    let over = overlaid file offset bytes in
+    let same : length over ≡ length file = length-overlaid file offset bytes (omega arith) in
+    sectors_of-overlaid_row count (at + 1) (offset + SECTOR_SIZE) row (overlaid file offset bytes) (omega arith) (omega (arith, same)) (omega (arith, same)) (whole_tail bytes row whole)
+    ∙ ap (λ (image : Image). with_row image (at + 1) row) (ap (λ (n : ℕ). sectors_of count (overlaid file n bytes)) here ∙ sectors_of-overlaid count at file bytes long (omega arith) size)
+
+-- the first sectors
+pub take-with_row : (count : ℕ) (image : Image) (at : ℕ) (row : List Sector) → take count (with_row image at row) ≡ with_row (take count image) at row
+take-with_row count image at [] = refl
+take-with_row count image at (bytes ∷ row) = take-with_row count (with_sector image at bytes) (at + 1) row ∙ ap (λ (i : Image). with_row i (at + 1) row) (taken (cases_lt at count))
+  where
+    unchanged : (front : Image) → length front ≤ at → with_sector front at bytes ≡ front
+    unchanged front le = ext_get_or [] (with_sector front at bytes) front (length-set front at bytes) (λ k lt. let ne : k ≢ at = omega (arith, lt, length-set front at bytes) in get_or-set_other front at k bytes [] ne)
+
+    taken : (at < count) ⊎ (count ≤ at) → take count (with_sector image at bytes) ≡ with_sector (take count image) at bytes
+    taken either =
+        ⊎_elim
+        (λ (lt : at < count). take-set-lt count image at bytes lt)
+        (λ (le : count ≤ at). take-set-le count image at bytes le ∙ sym (unchanged (take count image) (omega (arith, length-take count image))))
+        either
+
+pub row_front : (count at : ℕ) (row : List Sector) (old new : Image) → MayHaveRow at row old new → MayHaveRow at row (take count old) (take count new)
+row_front count at row old new may = record {
+  sectors = omega (arith, length-take count new, length-take count old, may.sectors);
+  each = λ k.
+      ⊎_elim
+      (λ (lt : k < count).
+      let now = get_or-take count new k [] lt in
+      ⊎_elim
+      (λ (same : sector_at new k ≡ sector_at old k). inl (now ∙ same ∙ sym (get_or-take count old k [] lt)))
+      (λ (stands : StandsInRow at row k (sector_at new k)). inr (record { from = stands.from; to = stands.to; is = now ∙ stands.is }))
+      (may.each k))
+      (λ (le : count ≤ k). inl (get_or_past (take count new) k [] (omega (arith, length-take count new)) ∙ sym (get_or_past (take count old) k [] (omega (arith, length-take count old)))))
+      (cases_lt k count);
+}
+
+pub row_back : (count at : ℕ) (row : List Sector) (old image : Image) → count ≤ length old → MayHaveRow at row (take count old) image → (full : Image) × MayHaveRow at row old full × (image ≡ take count full)
+row_back count at row old image le may =
+    (image ++ drop count old, record { sectors = omega (arith, length-append image (drop count old), length-drop count old, long); each = each }, sym (take_at image (drop count old) count long))
+  where
+    long : length image ≡ count
+    long = may.sectors ∙ length-take-le count old le
+
+    each : (k : ℕ) → (sector_at (image ++ drop count old) k ≡ sector_at old k) ⊎ StandsInRow at row k (sector_at (image ++ drop count old) k)
+    each k =
+        ⊎_elim
+        (λ (lt : k < count).
+        let now = get_or_append_left image (drop count old) [] k (omega (arith, long)) in
+        ⊎_elim
+        (λ (same : sector_at image k ≡ sector_at (take count old) k). inl (now ∙ same ∙ get_or-take count old k [] lt))
+        (λ (stands : StandsInRow at row k (sector_at image k)). inr (record { from = stands.from; to = stands.to; is = now ∙ stands.is }))
+        (may.each k))
+        (λ (past : count ≤ k).
+        let there : count + (k - count) ≡ k = omega arith in
+        inl (get_or-append_right image (drop count old) count k [] long past ∙ get_or-drop count old (k - count) [] ∙ ap (λ (n : ℕ). sector_at old n) there))
+        (cases_lt k count)

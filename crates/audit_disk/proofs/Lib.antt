@@ -4,6 +4,7 @@ pub use Rattle.audit_disk_model.proofs.Rows
 pub use Rattle.audit_disk_model.proofs.Windows
 pub mod Contents
 pub mod FileCalls
+pub mod FileFlushes
 pub mod FileSectors
 pub mod FreshDisks
 pub mod GateCalls
@@ -19,5 +20,6 @@ pub mod ReadOnlyCalls
 pub mod Reached
 pub mod Replays
 pub mod RowReads
+pub mod RowTries
 pub mod RowWrites
 pub mod ShiftedCalls
