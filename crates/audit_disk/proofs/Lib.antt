@@ -6,6 +6,7 @@ pub mod Contents
 pub mod FileCalls
 pub mod FileFlushes
 pub mod FileSectors
+pub mod FileTimes
 pub mod FreshDisks
 pub mod GateCalls
 pub mod HeldLemmas

@@ -4,17 +4,9 @@ use Rattle.std.proofs.lemmas.List.{take_at, drop_at}
 use Rattle.audit_disk_model.specs.Image.{Sector, Image, sector_at}
 use Rattle.audit_disk_model.specs.View.{View}
 use Rattle.audit_disk.specs.File.{sectors_of, FileView}
-use Rattle.audit_disk.specs.FileView.{file_moment}
 use Rattle.audit_disk.specs.MemFile.{bytes_of_image, joined_view}
 use Rattle.audit_disk.specs.MemDisk.{IsFresh}
 use Rattle.audit_base.specs.declared.limits.TheConstants.{SECTOR_SIZE}
-
--- the moment of the file is the start of the clock
-pub moment_in : (file : FileView) (bytes : List ℕ) → file.left_at (file_moment file.moment 0 0) bytes → file.left_at file.moment bytes
-moment_in file bytes left = let same : file_moment file.moment 0 0 ≡ file.moment = omega arith in subst (λ (m : ℕ). file.left_at m bytes) same left
-
-pub moment_out : (file : FileView) (bytes : List ℕ) → file.left_at file.moment bytes → file.left_at (file_moment file.moment 0 0) bytes
-moment_out file bytes left = let same : file.moment ≡ file_moment file.moment 0 0 = omega arith in subst (λ (m : ℕ). file.left_at m bytes) same left
 
 -- the sectors of a whole image's bytes are that image
 sectors_of-joined : (count : ℕ) (image : Image) → length image ≡ count → ((at : ℕ) → at < count → length (sector_at image at) ≡ SECTOR_SIZE) → sectors_of count (bytes_of_image image) ≡ image

@@ -231,6 +231,7 @@ impl<F: SectorFile> FileDisk<F> {
         ensures sync { IsSync (file_disk_view self.old) (file_disk_view self.new) result }
         ensures file { IsFileSync (file_of self.old) (file_of self.new) result }
         ensures stopped { has_stopped self.new ≡ is_err result }
+        ensures handed { waiting self.new ≡ [] }
     {
         self.clock += 1;
         let outcome = self.file.sync();

@@ -1,0 +1,2 @@
+use Rattle.audit_disk.proofs.FileCalls.{refused_write}
+use Rattle.audit_disk.proofs.file_disk.FileDisk.refuse.Goals as goal
