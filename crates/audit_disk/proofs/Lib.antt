@@ -5,6 +5,7 @@ pub use Rattle.audit_disk_model.proofs.Windows
 pub mod Contents
 pub mod FileCalls
 pub mod FileFlushes
+pub mod FileKeeps
 pub mod FileSectors
 pub mod FileTimes
 pub mod FreshDisks

@@ -234,11 +234,13 @@ impl<F: SectorFile> FileDisk<F> {
         ensures handed { waiting self.new ≡ [] }
     {
         self.clock += 1;
-        let outcome = self.file.sync();
-        if outcome.is_err() {
-            self.failed_at = Some(self.clock);
+        match self.file.sync() {
+            Ok(()) => Ok(()),
+            Err(fault) => {
+                self.failed_at = Some(self.clock);
+                counted(Err(fault), &mut self.failures)
+            }
         }
-        counted(outcome, &mut self.failures)
     }
 
     /// Reads a sector that isn't kept.
