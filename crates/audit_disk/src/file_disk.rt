@@ -197,6 +197,13 @@ impl<F: SectorFile> FileDisk<F> {
         self.single_from.is_none() && self.kept.takes(at)
     }
 
+    /// Whether the sector `at` is kept.
+    fn keeps(&self, at: u64) -> bool
+        ensures { IsFalse result → IsApart self.now at }
+    {
+        self.single_from.is_none() && self.kept.has(at)
+    }
+
     /// Keeps a write.
     fn keep(&mut self, at: u64, bytes: &[u8; SECTOR_SIZE])
         requires within { at < (file_disk_view self.old).size }
@@ -295,8 +302,10 @@ impl<F: SectorFile> Sectors for FileDisk<F> {
         if self.failed_at.is_some() {
             return counted(Err(DeviceFault), &mut self.failures);
         }
-        let is_kept = self.single_from.is_none() && self.kept.has(at);
-        if is_kept && self.flush().is_err() {
+        if !self.keeps(at) {
+            return self.read_alone(at, into);
+        }
+        if self.flush().is_err() {
             return counted(Err(DeviceFault), &mut self.failures);
         }
         self.read_alone(at, into)
