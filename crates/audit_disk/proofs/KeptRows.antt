@@ -289,7 +289,7 @@ some_of_row count at offset (bytes ∷ row) file image here long within whole ma
     let rest = some_of_row count (at + 1) (offset + SECTOR_SIZE) row file image (omega arith) long (omega arith) (whole_tail bytes row whole) old in (rest.0, inl rest.1, rest.2))
     (λ (next : MayHaveRow (at + 1) row (with_sector (sectors_of count file) at bytes) image).
     let rest = some_of_row count (at + 1) (offset + SECTOR_SIZE) row (overlaid file offset bytes) image (omega arith) (omega (arith, same)) (omega (arith, same)) (whole_tail bytes row whole)
-        (subst (λ (i : Image). MayHaveRow (at + 1) row i image) (sym (ap (λ (n : ℕ). sectors_of count (overlaid file n bytes)) here ∙ sectors_of-overlaid count at file bytes long (omega arith) size)) next) in
+    (subst (λ (i : Image). MayHaveRow (at + 1) row i image) (sym (ap (λ (n : ℕ). sectors_of count (overlaid file n bytes)) here ∙ sectors_of-overlaid count at file bytes long (omega arith) size)) next) in
     (rest.0, inr rest.1, rest.2))
     (row_uncons at bytes row (sectors_of count file) image may)
 

@@ -139,14 +139,13 @@ module _ (old new : FileView) (sectors start start' offset : ℕ) (row : List Se
   each_came count image le room left =
       let honest = write.goes_on.was_honest left.0 in
       let may = write.no_other honest room count left.1.0 le left.1.1 in
-      let same = old.same_length honest old.moment may.0 may.1 in
-      (
+      let same = old.same_length honest old.moment may.0 may.1 in (
         honest,
         (
           may.0,
           may.1,
           subst (λ (i : Image). MayHaveRow start (take count row) (sectors_of sectors may.0) i) (sym (row_nothing start' (sectors_of sectors left.1.0) image left.1.2))
-          (row_of_some sectors start offset (take count row) may.0 left.1.0 here (omega (arith, same, sized honest)) (omega (arith, same, within honest, length-take count row)) (whole_take count row whole) may.2),
+              (row_of_some sectors start offset (take count row) may.0 left.1.0 here (omega (arith, same, sized honest)) (omega (arith, same, within honest, length-take count row)) (whole_take count row whole) may.2),
         ),
       )
 

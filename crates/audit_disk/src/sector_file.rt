@@ -38,7 +38,10 @@ pub trait SectorFile {
     {
         let mut outcome = Ok(());
         for k in 0..row.len() {
-            if self.write_at(offset + (SECTOR_SIZE * k) as u64, &row[k]).is_err() {
+            if self
+                .write_at(offset + (SECTOR_SIZE * k) as u64, &row[k])
+                .is_err()
+            {
                 outcome = Err(DeviceFault);
             }
         }
@@ -61,7 +64,10 @@ pub(crate) fn write_each<F: SectorFile>(
 {
     let mut outcome = Ok(());
     for k in 0..row.len() {
-        if file.write_at(offset + (SECTOR_SIZE * k) as u64, &row[k]).is_err() {
+        if file
+            .write_at(offset + (SECTOR_SIZE * k) as u64, &row[k])
+            .is_err()
+        {
             outcome = Err(DeviceFault);
         }
     }

@@ -11,6 +11,7 @@ use std::process::{self, Abort};
 use std::test::Fail;
 
 mod reading_ahead;
+mod rows;
 mod system_files;
 
 /// Writes a sector of equal bytes, and returns whether that succeeded.

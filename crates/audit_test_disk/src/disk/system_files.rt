@@ -60,7 +60,7 @@ impl PositionedFile for Faulty {
         Ok(())
     }
 
-    fn write_all_at(&mut self, _bytes: &[u8; SECTOR_SIZE], _offset: u64) -> io::Result<()> {
+    fn write_all_at(&mut self, _row: &[[u8; SECTOR_SIZE]], _offset: u64) -> io::Result<()> {
         Err(io::Error::from(ErrorKind::StorageFull))
     }
 

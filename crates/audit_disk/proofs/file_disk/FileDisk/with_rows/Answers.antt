@@ -34,7 +34,7 @@ returns g c =
         (
           bytes,
           subst (λ (m : ℕ). (g.F.SectorFile.file inner).left_at m bytes) (sym here)
-          (subst (λ (file : g.row.F.Denot). (g.F.SectorFile.file file).left_at (g.F.SectorFile.file file).moment bytes) (sym same) left),
+              (subst (λ (file : g.row.F.Denot). (g.F.SectorFile.file file).left_at (g.F.SectorFile.file file).moment bytes) (sym same) left),
           subst (λ (r : List Sector). MayHaveRow start r (sectors_of c.args.sectors bytes) (sectors_of c.args.sectors bytes)) (sym none) (nothing_row start (sectors_of c.args.sectors bytes) (sectors_of c.args.sectors bytes) refl),
         ),
       );

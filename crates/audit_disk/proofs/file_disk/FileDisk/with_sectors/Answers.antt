@@ -37,6 +37,6 @@ returns-clause-front g c =
       );
       no_other = λ moment image left.
           let full = row_back count start (row_of moment) (sectors_of more left.1.0) image (omega (arith, length-sectors_of more left.1.0, c.requires))
-              (subst (λ (old : Image). MayHaveRow start (row_of moment) old image) (sym (take-sectors_of count more left.1.0 c.requires)) left.1.2) in
+          (subst (λ (old : Image). MayHaveRow start (row_of moment) old image) (sym (take-sectors_of count more left.1.0 c.requires)) left.1.2) in
           (full.0, (left.0, (left.1.0, left.1.1, full.1)), full.2);
     }

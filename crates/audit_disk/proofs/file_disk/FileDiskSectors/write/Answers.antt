@@ -6,7 +6,7 @@ pub returns-then-is_shut-clause-write : goal.returns-then-is_shut-clause-write
 returns-then-is_shut-clause-write g c = refused_write c.args.at c.args.bytes.now c.refuse.result c.refuse.ensures.fails c.refuse.ensures.refused
 
 pub returns-then-is_err-clause-write : goal.returns-then-is_err-clause-write
-returns-then-is_err-clause-write g c = 
+returns-then-is_err-clause-write g c =
     same_then_write (file_disk_view c.args.self.now) (file_disk_view c.flush.new.self) (file_disk_view c.refuse-then-is_err.new.self) c.flush.ensures.same
     (refused_write c.args.at c.args.bytes.now c.refuse-then-is_err.result c.refuse-then-is_err.ensures.fails c.refuse-then-is_err.ensures.refused)
 

@@ -13,7 +13,6 @@ write_at-requires g c =
     next_offset c.requires c.loop-k.invariant (omega (arith, so_far)) (omega (arith, so_far))
 
 pub loop-k-preserved : goal.loop-k-preserved
-
 loop-k-preserved g c =
     let row = c.args.row.now in
     let before = take c.loop-k.k row in
