@@ -53,8 +53,8 @@ module _ {F : Type 0} {g : files.Ghosts F} where
   waiting disk = active_row disk.single_from (kept_sectors disk.kept)
 
   -- the sector isn't among them
-  abbrev pub IsApart : FileDisk F g → ℕ → Type 0
-  IsApart disk at = (waiting disk ≡ []) ⊎ ((at < disk.kept.start) ⊎ (disk.kept.start + disk.kept.count ≤ at))
+  abbrev pub IsElsewhere : FileDisk F g → ℕ → Type 0
+  IsElsewhere disk at = (waiting disk ≡ []) ⊎ ((at < disk.kept.start) ⊎ (disk.kept.start + disk.kept.count ≤ at))
 
   -- a write of this sector can be kept
   pub record CanKeep (disk : FileDisk F g) (at : ℕ) : Type 0 where

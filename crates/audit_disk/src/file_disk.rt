@@ -59,7 +59,7 @@ impl<F: SectorFile> FileDisk<F> {
     ghost use Rattle.audit_disk.specs.File.{IsFileWrite, IsFileSync, ReadsFile};
     ghost use Rattle.audit_disk.specs.KeptRow.{IsEmptyRow};
     ghost use Rattle.audit_disk.specs.FileDisk.{file_disk_view, file_inside, file_of, has_stopped, waiting, end_of};
-    ghost use Rattle.audit_disk.specs.FileDisk.{IsOverFile, IsFrontOf, PassesCalls, IsShut, CanKeep, IsApart};
+    ghost use Rattle.audit_disk.specs.FileDisk.{IsOverFile, IsFrontOf, PassesCalls, IsShut, CanKeep, IsElsewhere};
     ghost use Rattle.audit_disk.specs.FileView.{IsSameDevice, IsCallRefused};
 
     /// Makes a device over the first `sectors` sectors of a file, which must have at least that many. It allocates
@@ -199,7 +199,7 @@ impl<F: SectorFile> FileDisk<F> {
 
     /// Whether the sector `at` is kept.
     fn keeps(&self, at: u64) -> bool
-        ensures { IsFalse result → IsApart self.now at }
+        ensures { IsFalse result → IsElsewhere self.now at }
     {
         self.single_from.is_none() && self.kept.has(at)
     }
@@ -254,7 +254,7 @@ impl<F: SectorFile> FileDisk<F> {
     fn read_alone(&mut self, at: u64, into: &mut [u8; SECTOR_SIZE]) -> Result<(), DeviceFault>
         requires within { at < (file_disk_view self.old).size }
         requires working { has_stopped self.old ≡ false }
-        requires apart { IsApart self.old at }
+        requires apart { IsElsewhere self.old at }
         ensures read { IsRead (file_disk_view self.old) (file_disk_view self.new) at into.new result }
         ensures file { ReadsFile (file_of self.old) (file_of self.new) (SECTOR_SIZE * at) into.new result }
         ensures working { has_stopped self.new ≡ false }
