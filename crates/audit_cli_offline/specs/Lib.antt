@@ -2,3 +2,4 @@ pub mod CommitmentWord
 pub mod ReportLines
 pub mod VerifiedExport
 pub mod Judgment
+pub mod TwoPasses
