@@ -1,6 +1,6 @@
 -- What verifying an export in two passes writes: the first pass accepts or refuses it, the second reads it again and
 -- writes its lines.
-use Rattle.std.specs.Prelude.{◌≡◌, ◌≢◌, ◌⊎◌, Option, List, ℕ, ◌++◌, length}
+use Rattle.std.specs.Prelude.{◌≡◌, ◌≢◌, ◌⊎◌, ℕ, Option, List, [], ◌++◌, length}
 use Rattle.std.specs.List.{AllByRecursion}
 use Rattle.std.specs.Io.KnownBytes.{Appends, Keeps}
 use Rattle.audit_chain.specs.Event.{EventData, IsEvent}
