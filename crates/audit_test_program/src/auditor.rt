@@ -1,8 +1,10 @@
 // The expected values come from an independent model.
 use audit_chain::Key;
-use audit_cli_offline::{commitment_in_word, verify_export};
+use audit_cli_offline::{OfflineError, commitment_in_word, verify_export, verify_in_two_passes};
 use audit_proof::Commitment;
+use audit_verify::{Cause, VerifyFault};
 use hex::FromHex;
+use std::alloc::Global;
 use std::test::Fail;
 
 // The entry of the first event of a log: kind 1, payload `hi`, under a key of zeros.
@@ -74,5 +76,107 @@ fn an_export_of_a_closed_log(rt: HostRuntime) -> Result<(), Fail> {
     )?;
     let lines = b"event 0 1 6869\nevent 1 4294967295 -\nverified 2 closed\n".as_slice();
     assert!(rt; written.as_slice() == lines);
+    Ok(())
+}
+
+// The export of the closed log.
+fn closed_export(alloc: Global) -> Result<Vec<u8>, Fail> {
+    let mut bytes = hex::decode(alloc, ENTRY_OF_HI)?;
+    bytes.extend_from_slice(&hex::decode(alloc, CLOSING_ENTRY)?)?;
+    Ok(bytes)
+}
+
+// The outcome of two passes, over these bytes and then those, under the closed log's commitment; and what they wrote.
+fn outcome_of(
+    alloc: Global,
+    mut first: &[u8],
+    mut second: &[u8],
+    commitment: &Commitment,
+) -> (Result<(), OfflineError>, Vec<u8>) {
+    let mut written = Vec::new(alloc);
+    let key = Key::from_bytes([0; 32]);
+    let done = verify_in_two_passes(
+        alloc,
+        &mut first,
+        &mut second,
+        &key,
+        commitment,
+        &mut written,
+    );
+    (done, written)
+}
+
+// Whether bytes get the same verdict in two passes as in one, with the same lines.
+fn is_one_verdict(alloc: Global, bytes: &[u8], commitment: &Commitment) -> bool {
+    let mut held = Vec::new(alloc);
+    let key = Key::from_bytes([0; 32]);
+    let mut reader = bytes;
+    let once = verify_export(alloc, &mut reader, &key, commitment, &mut held);
+    let (twice, written) = outcome_of(alloc, bytes, bytes, commitment);
+    once == twice && held.as_slice() == written.as_slice()
+}
+
+#[test]
+fn exports_in_two_passes(rt: HostRuntime) -> Result<(), Fail> {
+    let alloc = rt.alloc();
+    let bytes = closed_export(alloc)?;
+    let Some(commitment) = commitment_in_word(COMMIT_OF_CLOSED) else {
+        return Ok(assert!(rt; false));
+    };
+    let (done, written) = outcome_of(alloc, &bytes, &bytes, &commitment);
+    let lines = b"event 0 1 6869\nevent 1 4294967295 -\nverified 2 closed\n".as_slice();
+    assert!(rt; done.is_ok() && written.as_slice() == lines);
+    for place in 0..bytes.len() {
+        assert!(rt;
+            is_one_verdict(alloc, &bytes[..place], &commitment),
+            "cut at {place}"
+        );
+        let mut turned = bytes.clone()?;
+        if let Some(byte) = turned.get_mut(place) {
+            *byte ^= 1;
+        }
+        assert!(rt;
+            is_one_verdict(alloc, &turned, &commitment),
+            "turned at {place}"
+        );
+    }
+    Ok(())
+}
+
+// The fault of two passes, if there is one.
+fn fault_of(done: &Result<(), OfflineError>) -> Option<VerifyFault> {
+    match done {
+        Err(OfflineError::Export(fault)) => Some(*fault),
+        _ => None,
+    }
+}
+
+#[test]
+fn an_export_that_changes_between_the_passes(rt: HostRuntime) -> Result<(), Fail> {
+    let alloc = rt.alloc();
+    let bytes = closed_export(alloc)?;
+    let entry = hex::decode(alloc, ENTRY_OF_HI)?;
+    let Some(commitment) = commitment_in_word(COMMIT_OF_CLOSED) else {
+        return Ok(assert!(rt; false));
+    };
+    let line = b"event 0 1 6869\n".as_slice();
+    let (shorter, written) = outcome_of(alloc, &bytes, &entry, &commitment);
+    let other_end = VerifyFault {
+        index: 1,
+        cause: Cause::WrongCommitment,
+    };
+    assert!(rt; fault_of(&shorter) == Some(other_end) && written.as_slice() == line);
+    let mut turned = bytes.clone()?;
+    if let Some(byte) = turned.last_mut() {
+        *byte ^= 1;
+    }
+    let (wrong, written) = outcome_of(alloc, &bytes, &turned, &commitment);
+    let bad_mac = VerifyFault {
+        index: 1,
+        cause: Cause::BadMac,
+    };
+    assert!(rt; fault_of(&wrong) == Some(bad_mac) && written.as_slice() == line);
+    let (refused, written) = outcome_of(alloc, &turned, &bytes, &commitment);
+    assert!(rt; fault_of(&refused) == Some(bad_mac) && written.is_empty());
     Ok(())
 }
