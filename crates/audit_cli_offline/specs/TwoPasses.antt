@@ -109,12 +109,12 @@ IsTwoPassFault (Lines fault) first_key commitment bytes again old new =
     FailsAgain (Lines fault) first_key commitment bytes again old new
 
 -- a line wasn't written: a write failed after a part of it, or memory was refused before it
-abbrev pub IsUnwritten : LinesError → Option (List ℕ) → Option (List ℕ) → List ℕ → Type 0
-IsUnwritten lines.Write old new line = WritesInPart old new line
-IsUnwritten lines.Memory old new line = Keeps old new
-IsUnwritten lines.Read old new line = ⊥
-IsUnwritten lines.InputTooLong old new line = ⊥
-IsUnwritten (lines.Line number cause) old new line = ⊥
+abbrev pub IsLineUnwritten : LinesError → Option (List ℕ) → Option (List ℕ) → List ℕ → Type 0
+IsLineUnwritten lines.Write old new line = WritesInPart old new line
+IsLineUnwritten lines.Memory old new line = Keeps old new
+IsLineUnwritten lines.Read old new line = ⊥
+IsLineUnwritten lines.InputTooLong old new line = ⊥
+IsLineUnwritten (lines.Line number cause) old new line = ⊥
 
 -- of the second pass
 abbrev pub IsSecondFault : OfflineError → List ℕ → Option (List ℕ) → Option (List ℕ) → Type 0
