@@ -87,10 +87,10 @@ fn closed_export(alloc: Global) -> Result<Vec<u8>, Fail> {
 }
 
 // The outcome of two passes, over these bytes and then those, under the closed log's commitment; and what they wrote.
-fn outcome_of(
+fn outcome_of<'a>(
     alloc: Global,
-    mut first: &[u8],
-    mut second: &[u8],
+    mut first: &'a [u8],
+    mut second: &'a [u8],
     commitment: &Commitment,
 ) -> (Result<(), OfflineError>, Vec<u8>) {
     let mut written = Vec::new(alloc);
