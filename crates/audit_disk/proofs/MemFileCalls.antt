@@ -182,7 +182,7 @@ module _ (old new : View) where
       kept (Ok done) honest is = tt
       kept (Err fault) honest is = λ file left. (sync.continues.honest honest, (left.1.0, is left.1.0 left.1.1, left.1.2))
 
--- a new disk is an unused file of so many sectors
+-- a new disk is an unused file of this number of sectors
 pub unused_file : (view : View) (image : Image) (sectors : ℕ) → IsFresh view image → length image ≡ sectors → IsUnusedFile (joined_view view) sectors
 unused_file view image sectors fresh long = record {
   sized = λ honest.

@@ -33,7 +33,7 @@ module _ {S : Type 0} (N : CallModel S) where
   pub push_none : (slot : SlotData S) → IsPushed N [] slot slot
   push_none slot = record { calls = []; quiet = refl; accounted = accounted_none N slot }
 
-  -- a write took so many of the bytes that are kept
+  -- a write took this number of the bytes that are kept
   pub push_some : (client after : S) (kept rest : List ℕ) (count : ℕ) → N.DidCalls client after (a_write (take count kept) ∷ []) → kept ≡ take count kept ++ rest → IsPushed N [] (serving client kept) (serving after rest)
   push_some client after kept rest count did split = record {
     calls = a_write (take count kept) ∷ [];

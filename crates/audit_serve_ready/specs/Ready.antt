@@ -9,7 +9,7 @@ abbrev pub ready_read_calls : Option (Result ℕ StreamError) → List ℕ → L
 ready_read_calls None buffer = []
 ready_read_calls (Some given) buffer = read_call given buffer ∷ []
 
--- a write that had this result: of the bytes it took so many
+-- a write with this result: the number of bytes that it took
 abbrev pub ready_write_call : Result ℕ StreamError → List ℕ → StreamCall
 ready_write_call (Ok count) bytes = a_write (take count bytes)
 ready_write_call (Err fault) bytes = a_failed_write bytes

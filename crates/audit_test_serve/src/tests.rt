@@ -43,7 +43,7 @@ impl ReadyStream for Client {
     }
 }
 
-/// So many clients come, each of which sends three bytes; the third one takes nothing.
+/// This number of clients come, each of which sends three bytes; the third one takes nothing.
 #[derive(Drop)]
 struct Clients {
     coming: usize,

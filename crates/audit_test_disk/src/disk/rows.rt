@@ -62,7 +62,7 @@ fn new_disk(alloc: Global, refuses_rows: bool, bad: u64) -> Result<FileDisk<Tall
     FileDisk::over(alloc, file, 400)
 }
 
-/// Expects so many rows, the longest of so many sectors, and so many writes of one sector.
+/// Expects these numbers of rows, of sectors in the longest one, and of writes of one sector.
 fn expect_writes(rt: &impl Abort, disk: FileDisk<Tally>, rows: u64, longest: usize, alone: u64) {
     let file = disk.into_file();
     assert_eq!(rt;
