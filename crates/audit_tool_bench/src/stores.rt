@@ -166,10 +166,10 @@ fn hash_batch(size: u64, round: u32) -> u8 {
 }
 
 /// Writes what a batch writes, with other contents, and syncs three times: `count` sectors from `first` on, and both
-/// headers. Each sector is a write of its own: they are written backwards, so that the device makes no row of them.
+/// headers.
 pub fn write_bare<D: Sectors>(disk: &mut D, first: u64, count: u64) -> anyhow::Result<()> {
-    for back in 0..count {
-        write_one(disk, first.saturating_add(count - 1 - back))?;
+    for at in first..first.saturating_add(count) {
+        write_one(disk, at)?;
     }
     disk.sync()?;
     write_one(disk, 0)?;
