@@ -58,6 +58,24 @@ fn push_hashes(bytes: &mut Vec<u8>, hashes: &[Hash]) -> Result<(), AllocError>
     Ok(())
 }
 
+// Adds the mark, the two numbers and the number of hashes.
+fn push_head(
+    bytes: &mut Vec<u8>,
+    mark: u8,
+    first: u64,
+    second: u64,
+    count: u8,
+) -> Result<(), AllocError>
+    ensures { OnOk result (bytes.new.items
+        ≡ bytes.old.items ++ mark ∷ (number_bytes first ++ (number_bytes second ++ (count ∷ [])))) }
+{
+    bytes.push(mark)?;
+    bytes.extend_from_slice(&number_to_bytes(first))?;
+    bytes.extend_from_slice(&number_to_bytes(second))?;
+    bytes.push(count)?;
+    Ok(())
+}
+
 // The bytes of a proof.
 pub fn write_proof(
     alloc: Global,
@@ -75,10 +93,7 @@ pub fn write_proof(
     ensures whole { AreHashes hashes.now }
 {
     let mut bytes = Vec::with_capacity(alloc, HEAD_LEN + HASH_LEN * hashes.len() + after.len())?;
-    bytes.push(mark)?;
-    bytes.extend_from_slice(&number_to_bytes(first))?;
-    bytes.extend_from_slice(&number_to_bytes(second))?;
-    bytes.push(hashes.len() as u8)?;
+    push_head(&mut bytes, mark, first, second, hashes.len() as u8)?;
     push_hashes(&mut bytes, hashes)?;
     bytes.extend_from_slice(after)?;
     Ok(bytes)
