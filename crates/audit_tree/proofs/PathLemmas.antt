@@ -94,7 +94,7 @@ module _ (H : List ℕ → List ℕ) (leaves : List (List ℕ)) (count place : �
         ]
       ]
 
-  -- so many layers contribute at most as many siblings
+  -- there are at most as many siblings as layers
   pub siblings_at-few : (from height : ℕ) → length (siblings_at H leaves count place from height) ≤ height
   unfolding siblings_at
   siblings_at-few from zero = omega arith
