@@ -6,10 +6,10 @@ ghost use Rattle.audit_proof.specs.ProofBytes.{number_bytes, head_of, proof_byte
 use audit_base::{HASH_LEN, Hash, MAX_ENTRY, MAX_INCREMENT_HASHES, u64_at};
 use std::alloc::{AllocError, Global};
 
-/// The first bytes of an encoded membership proof.
+/// The first byte of an encoded membership proof.
 pub const MEMBER_MARK: u8 = 1;
 
-/// The first bytes of an encoded incremental proof.
+/// The first byte of an encoded incremental proof.
 pub const INCREMENT_MARK: u8 = 2;
 
 /// The number of bytes before the hashes: the mark, two numbers, and the number of hashes in one byte.
@@ -48,7 +48,7 @@ pub fn read_head(mark: u8, bytes: &[u8]) -> Option<Head>
     })
 }
 
-// Adds hashes one after another.
+// Appends hashes one after another.
 fn push_hashes(bytes: &mut Vec<u8>, hashes: &[Hash]) -> Result<(), AllocError>
     ensures { OnOk result (bytes.new.items ≡ bytes.old.items ++ concat hashes.now) }
 {

@@ -4,7 +4,7 @@ use Rattle.std.proofs.lemmas.List.{append_assoc}
 use Rattle.audit_proof.specs.ProofBytes.{proof_bytes, number_bytes}
 use Rattle.audit_proof.proofs.bytes.write_proof.Goals as goal
 
--- pieces that were added one after another
+-- pieces appended one after another
 joined : (mark count : ℕ) (first second hashes after : List ℕ) →
     ((mark ∷ (first ++ (second ++ count ∷ []))) ++ hashes) ++ after
     ≡ mark ∷ (first ++ (second ++ (count ∷ (hashes ++ after))))
