@@ -15,7 +15,7 @@ use Rattle.audit_serve_rights.specs.declared.passed.Passed.TheVariants as passed
 use Rattle.audit_serve_rights.specs.declared.guarded.Guarded.{Guarded}
 use Rattle.audit_serve_rights.specs.Front.{front_within}
 use Rattle.audit_serve_rights.specs.Position.{held_at, left_at, is_ended, is_over, is_proper, front_from, Passes}
-use Rattle.audit_serve_rights.specs.Passed.{passed_calls, IsGivenWithin, LetsThrough}
+use Rattle.audit_serve_rights.specs.Passed.{has_failed_read, passed_calls, IsGivenWithin, LetsThrough}
 use Rattle.audit_serve_rights.specs.Guarded.{writes_in, IsGuarded}
 use Rattle.audit_serve_rights.proofs.Positions.{take_more}
 
@@ -85,6 +85,7 @@ gives_some rights left bytes count new passes why = record {
     | inr over ↦ over
   ];
   more = λ isnt. absurd (true≢false isnt);
+  no_fault = refl;
 }
 
 pub gives_none : (rights : Rights) (left : ℕ) (bytes : List ℕ) (count : ℕ) (new : Position) → Passes rights left bytes count new → count ≤ 0 → is_over new ≡ false
@@ -95,6 +96,7 @@ gives_none rights left bytes count new passes none live = record {
   live = passes.live;
   last = λ is. absurd (true≢false (sym is));
   more = λ isnt. live;
+  no_fault = refl;
 }
 
 no_writes_passed : (result : Passed) (buffer : List ℕ) → writes_in (passed_calls result buffer) ≡ []
@@ -119,29 +121,6 @@ given_within (passed.Given (Err fault)) most buffer fits within = tt
 -- ---- calls
 
 module _ {S : Type 0} (N : CallModel S) where
-  -- a call that gives no byte, and finds no end
-  pub guarded_same : (old new : Guarded S) (calls inner : List StreamCall) → N.DidCalls old.stream new.stream inner → new.rights ≡ old.rights → new.position ≡ old.position → writes_in calls ≡ writes_in inner
-      → bytes_read calls ≡ [] → bytes_read inner ≡ [] → (has_last_read calls ≡ true → has_last_read inner ≡ true) → has_read_at_end inner ≡ false → IsGuarded N old new calls
-  guarded_same old new calls inner did rights same writes none_given none_read last no_end = record {
-    inner = inner;
-    did = did;
-    rights = rights;
-    writes = writes;
-    given = λ later ended may.
-        ap (λ (bytes : List ℕ). front_from old.position old.rights ended (bytes ++ later)) none_read
-        ∙ ap (λ (p : Position). front_from p old.rights ended later) (sym same)
-        ∙ ap (λ (bytes : List ℕ). bytes ++ front_from new.position old.rights ended later) (sym none_given);
-    last = λ is. inl (last is);
-    at_end = λ is. not_both (has_read_at_end inner) no_end is;
-    ended = λ is. inr (sym (ap is_ended same) ∙ is);
-    quiet = λ is. (none_read, same);
-  }
-
-  pub guarded_write : (old new : Guarded S) (result : Result ℕ StreamError) (bytes : List ℕ) → N.DidCalls old.stream new.stream (ready_write_call result bytes ∷ []) → new.rights ≡ old.rights → new.position ≡ old.position
-      → IsGuarded N old new (ready_write_call result bytes ∷ [])
-  guarded_write old new (Ok count) bytes did rights same = guarded_same old new (a_write (take count bytes) ∷ []) (a_write (take count bytes) ∷ []) did rights same refl refl refl (λ is. is) refl
-  guarded_write old new (Err fault) bytes did rights same = guarded_same old new (a_failed_write bytes ∷ []) (a_failed_write bytes ∷ []) did rights same refl refl refl (λ is. is) refl
-
   pub guarded_over : (guarded : Guarded S) → is_over guarded.position ≡ true → IsGuarded N guarded guarded (a_read [] ∷ [])
   guarded_over guarded over = record {
     inner = [];
@@ -149,6 +128,7 @@ module _ {S : Type 0} (N : CallModel S) where
     rights = refl;
     writes = refl;
     given = λ later ended may. refl;
+    failed = refl;
     last = λ is. inr over;
     at_end = λ is. absurd (true≢false (sym is));
     ended = λ is. inr is;
@@ -169,6 +149,7 @@ module _ {S : Type 0} (N : CallModel S) where
         ∙ held_given old.position old.rights live old.proper
         ∙ sym front
         ∙ sym (ap (λ (p : Position). (take held buffer ++ []) ++ front_from p old.rights ended later) «at» ∙ append-nil (take held buffer ++ []) ∙ append-nil (take held buffer));
+    failed = refl;
     last = λ is. inl refl;
     at_end = λ is. ap is_ended «at»;
     ended = λ is. inl refl;
@@ -197,7 +178,8 @@ module _ {S : Type 0} (N : CallModel S) where
             ∙ ap (front_from (position.Inside (left_at old.position)) old.rights ended) (sym (append_assoc (held_at old.position) fresh later) ∙ ap (λ (xs : List ℕ). xs ++ later) (sym whole))
             ∙ lets.front ended later
             ∙ ap (λ (calls : List StreamCall). bytes_read calls ++ front_from new.position old.rights ended later) (sym same);
-        last = λ is. inr (lets.last (sym (ap has_last_read same) ∙ is));
+        failed = ap has_failed_read same ∙ lets.no_fault;
+    last = λ is. inr (lets.last (sym (ap has_last_read same) ∙ is));
         at_end = λ is. not_both (has_read_at_end (a_read fresh ∷ [])) no_end is;
         ended = λ is. not_both (is_ended new.position) lets.live is;
         quiet = λ is. not_both (is_over old.position) live is;
