@@ -1,7 +1,7 @@
 -- The requests that are let through.
-use Rattle.std.proofs.Common.{◌≡◌, ◌⊎◌, ℕ, zero, suc, ◌+◌, ◌<◌, ◌≤◌, Bool, true, false, ◌||◌, ◌==◌, cond, Option, Some, None, List, [], ◌∷◌, ◌++◌, length, take, drop, refl, sym, ap, subst, ◌∙◌, append_assoc, arith, inl, inr, true≢false}
+use Rattle.std.proofs.Common.{◌≡◌, ◌⊎◌, ℕ, zero, suc, ◌+◌, ◌<◌, ◌≤◌, Bool, true, false, ◌||◌, ◌==◌, cond, Option, Some, None, List, [], ◌∷◌, ◌++◌, length, take, drop, refl, sym, ap, subst, ◌∙◌, append_assoc, arith, inl, inr}
 use Rattle.std.specs.List.{take_while}
-use Rattle.std.proofs.lemmas.List.{append-nil, length-append, take-append-drop}
+use Rattle.std.proofs.lemmas.List.{length-append, take-append-drop}
 use Rattle.std.proofs.lemmas.List.Sums.{take_while-cons}
 use Rattle.std.proofs.lemmas.Bool.{cases_Bool}
 use Rattle.std.proofs.lemmas.Bool.Decides.{nat_tests}
@@ -19,7 +19,7 @@ use Rattle.audit_serve_rights.specs.declared.rights.Rights.{Rights}
 use Rattle.audit_serve_rights.specs.declared.rights.Rights.TheVariants as rights
 use Rattle.audit_serve_rights.specs.Rights.{allows, may_ask}
 use Rattle.audit_serve_rights.specs.Front.{allowed_size, front_within, allowed_front}
-use Rattle.audit_serve_rights.proofs.Front.{none_or_some, front_none, front_step, front_of_size}
+use Rattle.audit_serve_rights.proofs.Front.{front_none, front_step, front_of_size}
 
 -- ---- a front
 

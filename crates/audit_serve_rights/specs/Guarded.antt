@@ -173,10 +173,10 @@ module _ {S : Type 0} (N : CallModel S) where
             ∙ sym (writes-append first.inner second.inner);
         given = both_given old mid new calls further first second;
         failed = failed_read-append calls further
-        ∙ ap (λ (one : Bool). one || has_failed_read further) first.failed
-        ∙ ap (λ (other : Bool). has_failed_read first.inner || other) second.failed
-        ∙ sym (failed_read-append first.inner second.inner);
-    last = λ is. one_of (has_last_read calls) (has_last_read further) (sym (last_read-append calls further) ∙ is)
+            ∙ ap (λ (one : Bool). one || has_failed_read further) first.failed
+            ∙ ap (λ (other : Bool). has_failed_read first.inner || other) second.failed
+            ∙ sym (failed_read-append first.inner second.inner);
+        last = λ is. one_of (has_last_read calls) (has_last_read further) (sym (last_read-append calls further) ∙ is)
             (λ one. elim (first.last one) [
               | inl e ↦ inl (last_read-append first.inner second.inner ∙ left_of read read_later e)
               | inr e ↦ inr (ap is_over (second.quiet e).1 ∙ e)
