@@ -1,0 +1,4 @@
+pub mod Rights
+pub mod Front
+pub mod Position
+pub mod Guarded
