@@ -1,4 +1,5 @@
 ghost use Rattle.std.specs.Prelude.{◌≡◌};
+ghost use Rattle.audit_serve_rights.specs.Position.{IsProper};
 
 use crate::position::{Position, pass};
 use crate::rights::Rights;
@@ -18,6 +19,7 @@ pub struct Guarded<S> {
     stream: S,
     rights: Rights,
     position: Position,
+    ghost proper: { IsProper position },
 }
 
 /// What a read of the inner stream came to.
@@ -92,6 +94,10 @@ impl<S: ReadyStream> Guarded<S> {
 }
 
 impl<S: ReadyStream> ReadyStream for Guarded<S> {
+    ghost use Rattle.audit_serve_rights.specs.Guarded.{guarded_calls};
+
+    ghost calls = { guarded_calls S.calls };
+
     fn read_ready(&mut self, buffer: &mut [u8]) -> Option<Result<usize, StreamError>> {
         if self.position.is_over() {
             return Some(Ok(0));
