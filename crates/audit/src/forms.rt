@@ -26,7 +26,9 @@ const _: () = prove!(FORMAT_VERSION == 2);
 
 const _: () = prove!(MAX_PAYLOAD == 32_696 && INPUT_LIMIT == 16_777_216);
 
-const _: () = prove!(DEFAULT_BACKLOG == 1_048_576 && MAX_BACKLOG == 67_108_864 && DEFAULT_IDLE == 60);
+const _: () = prove!(
+    DEFAULT_BACKLOG == 1_048_576 && MAX_BACKLOG == 67_108_864 && DEFAULT_IDLE == 60
+);
 
 const _: () = prove!(MIN_SECTORS == 3 && MAX_SECTORS == 16_777_216 && SESSIONS == 16);
 

@@ -26,7 +26,10 @@ impl<'a, M: Write> ClientJournal<'a, M> {
     pub fn print_counts(&mut self) {
         let (dropped, cut_off) = (self.dropped, self.cut_off);
         if self.explains && (dropped > 0 || cut_off > 0) {
-            let _ = writeln!(self.messages, "audit: clients dropped: {dropped}, cut off: {cut_off}");
+            let _ = writeln!(
+                self.messages,
+                "audit: clients dropped: {dropped}, cut off: {cut_off}"
+            );
         }
     }
 

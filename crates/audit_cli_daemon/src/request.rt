@@ -1,4 +1,9 @@
 //! The requests to run a daemon and to stop it, and how they are carried out.
+ghost use Rattle.std.specs.Prelude.{◌≡◌, ◌⊎◌, ◌≤◌, Err, IfOk};
+ghost use Rattle.std.specs.Io.KnownBytes.{Keeps};
+ghost use Rattle.audit_serve_ready.specs.declared.limits.TheConstants.{MAX_BACKLOG};
+ghost use Rattle.audit_cli_daemon.specs.Words.{HasBadSetting, HasBadWord};
+
 use crate::arguments::{backlog_asked, idle_asked, socket_mode_asked};
 use crate::client_journal::ClientJournal;
 use crate::running::serve_until_stopped;
@@ -68,6 +73,9 @@ pub fn run<F: Files + Net + Clock, W: Write, M: Write>(
 ) -> Status
 where
     F::File: SystemFile,
+    // A wrong word ends the program before anything is written; an output that can't be flushed is another fault.
+    ensures words { HasBadWord request.entry → (result ≡ Status.Usage) ⊎ (result ≡ Status.Device) }
+    ensures unwritten { HasBadWord request.entry → Keeps (W.contents output.old) (W.contents output.new) }
 {
     match request {
         Request::Run(settings) => run_daemon(rt, alloc, settings, explains, output, messages),
@@ -89,6 +97,8 @@ fn run_daemon<F: Files + Net + Clock, W: Write, M: Write>(
 ) -> Status
 where
     F::File: SystemFile,
+    ensures words { HasBadSetting settings.entry → (result ≡ Status.Usage) ⊎ (result ≡ Status.Device) }
+    ensures unwritten { HasBadSetting settings.entry → Keeps (W.contents output.old) (W.contents output.new) }
 {
     let mut orders = None;
     let done = perform(rt, alloc, settings, explains, output, messages, &mut orders);
@@ -111,6 +121,8 @@ fn perform<F: Files + Net + Clock, W: Write, M: Write>(
 ) -> Result<(), CommandError>
 where
     F::File: SystemFile,
+    ensures words { HasBadSetting settings.entry → result ≡ Err CommandError.BadArgument }
+    ensures unwritten { HasBadSetting settings.entry → Keeps (W.contents output.old) (W.contents output.new) }
 {
     let judged = judge(settings)?;
     let store = open_store(rt, alloc, settings.file)?.content;
@@ -119,13 +131,24 @@ where
     serve_sockets(rt, alloc, store, &sockets, judged, output, journal, orders)
 }
 
-fn judge(settings: Settings<'_>) -> Result<Judged, CommandError> {
+fn judge(settings: Settings<'_>) -> Result<Judged, CommandError>
+    ensures wrong { HasBadSetting settings.entry → result ≡ Err CommandError.BadArgument }
+    ensures most { IfOk result (λ judged. judged.most ≤ MAX_BACKLOG) }
+{
     let seconds = idle_asked(settings.idle)?;
     Ok(Judged {
-        idle: if seconds > 0 { Some(Duration::from_secs(seconds)) } else { None },
+        idle: if seconds > 0 {
+            Some(Duration::from_secs(seconds))
+        } else {
+            None
+        },
         most: backlog_asked(settings.backlog)?,
         mode: socket_mode_asked(settings.socket_mode)?,
-        rights: if settings.may_close { Rights::Close } else { Rights::Append },
+        rights: if settings.may_close {
+            Rights::Close
+        } else {
+            Rights::Append
+        },
     })
 }
 
@@ -142,6 +165,7 @@ fn serve_sockets<F: Files + Net + Clock, W: Write, M: Write>(
 ) -> Result<(), CommandError>
 where
     F::File: SystemFile,
+    requires { judged.most ≤ MAX_BACKLOG }
 {
     let listening = sockets.bind(rt, alloc, judged.mode, judged.rights)?;
     let opened = SocketDoor::new(

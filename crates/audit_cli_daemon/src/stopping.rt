@@ -1,4 +1,8 @@
 //! Stopping a daemon.
+ghost use Rattle.std.specs.Prelude.{◌≡◌, ◌↔◌, Some};
+ghost use Rattle.audit_cli_store.specs.Faults.{exit_status_of};
+ghost use Rattle.audit_cli_store.specs.declared.status.Status.{Status};
+
 use crate::sockets::stop_path;
 use audit_cli_store::{CommandError, Status};
 use std::alloc::Global;
@@ -19,7 +23,10 @@ pub fn stop<N: Net>(rt: &N, alloc: Global, socket: &str) -> Result<Status, Comma
     }
 }
 
-fn status_of_code(code: u8) -> Option<Status> {
+// The status with this number.
+fn status_of_code(code: u8) -> Option<Status>
+    ensures { (status : Status) → (result ≡ Some status) ↔ (exit_status_of status ≡ code) }
+{
     match code {
         0 => Some(Status::Done),
         1 => Some(Status::Refused),

@@ -132,7 +132,11 @@ impl<'a, C: Clock, J: Journal + Drop> SocketDoor<'a, C, J> {
             return Some(until.duration_since(self.now));
         }
         if self.waiting.is_none() {
-            return if self.is_one_left() { Some(retry_time()) } else { None };
+            return if self.is_one_left() {
+                Some(retry_time())
+            } else {
+                None
+            };
         }
         let idle = self.idle?;
         let (_, since) = self.places.longest_idle()?;
@@ -148,7 +152,11 @@ impl<'a, C: Clock, J: Journal + Drop> SocketDoor<'a, C, J> {
 
     // Waits for the system to report that something is ready.
     fn wait(&mut self, moved: bool) -> io::Result<()> {
-        let limit = if moved { Some(Duration::ZERO) } else { self.limit() };
+        let limit = if moved {
+            Some(Duration::ZERO)
+        } else {
+            self.limit()
+        };
         self.poll.poll(&mut self.events, limit)?;
         self.now = Instant::now(self.clock)?;
         for event in self.events.iter() {
@@ -198,7 +206,10 @@ impl<C: Clock, J: Journal + Drop> Door for SocketDoor<'_, C, J> {
         let mut arrival = self.waiting.take()?;
         let both = Interest::READABLE | Interest::WRITABLE;
         let registry = self.poll.registry();
-        if registry.register(&mut arrival.stream, Token(place), both).is_err() {
+        if registry
+            .register(&mut arrival.stream, Token(place), both)
+            .is_err()
+        {
             self.journal.note(Departure::Memory, false);
             return None;
         }
