@@ -13,6 +13,8 @@ pub struct Metered<S> {
 }
 
 impl<S: ReadyStream> Metered<S> {
+    ghost use Rattle.std.specs.Prelude.{◌≡◌};
+
     /// Makes a stream of which no call has moved bytes.
     pub fn new(inner: S) -> Metered<S> {
         Metered { inner, moves: 0 }
@@ -28,7 +30,9 @@ impl<S: ReadyStream> Metered<S> {
         self.moves
     }
 
-    fn count(&mut self, bytes: usize) {
+    fn count(&mut self, bytes: usize)
+        ensures { self.new.inner ≡ self.old.inner }
+    {
         if bytes > 0 {
             self.moves = self.moves.wrapping_add(1);
         }

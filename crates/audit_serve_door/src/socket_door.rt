@@ -187,14 +187,11 @@ impl<'a, C: Clock, J: Journal + Drop> SocketDoor<'a, C, J> {
 
     // What is to be done after the order to stop.
     fn finish(&mut self) -> Next {
-        match self.until {
-            Some(until) if self.now < until => Next::Again,
-            Some(_) => Next::Stop,
-            None => {
-                self.until = self.now.checked_add(finishing_time());
-                Next::Stop
-            }
-        }
+        let Some(until) = self.until else {
+            self.until = self.now.checked_add(finishing_time());
+            return Next::Stop;
+        };
+        if self.now < until { Next::Again } else { Next::Stop }
     }
 }
 
