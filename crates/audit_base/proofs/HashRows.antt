@@ -10,7 +10,7 @@ length-concat [] h = refl
 length-concat (hash ∷ hashes) h =
     omega (arith, length-append hash (concat hashes), h 0 [] (omega arith), length-concat hashes (λ k d l. h (suc k) d (omega arith)))
 
--- the same list, as a map that changes nothing
+-- the same list, mapped by the identity
 pub flat_map-concat : (hashes : List (List ℕ)) → flat_map (λ (hash : List ℕ). hash) hashes ≡ concat hashes
 flat_map-concat [] = refl
 flat_map-concat (hash ∷ hashes) = ap (λ rest. hash ++ rest) (flat_map-concat hashes)

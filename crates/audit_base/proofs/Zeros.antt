@@ -7,7 +7,7 @@ pub length-zeros : (n : ℕ) → length (zeros n) ≡ n
 unfolding zeros
 length-zeros n = length-replicate n 0
 
--- bytes that are zero each
+-- bytes each of which is zero are a list of zeros
 pub zeros-each : (bytes : List ℕ) → EachIndex bytes (λ k. get_or bytes k 0 ≡ 0) → bytes ≡ zeros (length bytes)
 unfolding zeros
 zeros-each bytes each =

@@ -10,6 +10,6 @@ AreBytes bytes = (place : ℕ) → slice_index bytes place < 256
 unfoldable pub zeros : ℕ → List ℕ
 zeros n = replicate n 0
 
--- the big-endian number of this width that starts at a place
+-- the big-endian number of this width that begins at a place
 abbrev pub number_at : Width → ℕ → List ℕ → ℕ
 number_at width place bytes = from_be_bytes width (take (byte_len width) (drop place bytes))

@@ -1,4 +1,4 @@
--- A commitment in a word: its count, a colon and its root.
+-- A commitment as a word: its count, a colon and its root.
 use Rattle.std.specs.Prelude.{ℕ, ◌==◌, Bool, Option, Some, None, List}
 use Rattle.std.specs.List.{before_first, after_first}
 use Rattle.std.specs.Result.{result_ok}
@@ -15,7 +15,7 @@ commitment_with None root = None
 commitment_with (Some count) None = None
 commitment_with (Some count) (Some root) = Some (record { count = count; root = root })
 
--- a number before the first colon, and the hex digits of a digest after it
+-- the number before the first colon, and the digest in the hex digits after it
 abbrev pub commitment_in_word : List ℕ → Option Commitment
 commitment_in_word word =
     commitment_with (number_in_text (before_first is_colon word))

@@ -1,4 +1,4 @@
--- The judgment on a proof under one commitment or two.
+-- The judgment on a proof under one or two commitments.
 use Rattle.std.specs.Prelude.{◌≡◌, ◌↔◌, Bool, ℕ, IsTrue, Option, Some, None, List, MatchOption}
 use Rattle.sha2.specs.Sha256.{sha256}
 use Rattle.audit_proof.specs.declared.commitment.Commitment.{Commitment}
@@ -7,12 +7,12 @@ use Rattle.audit_proof.specs.ProofBytes.{member_in, increment_in, member_of, inc
 use Rattle.audit_cli_offline.specs.declared.checking.Proof.{Proof}
 use Rattle.audit_cli_offline.specs.declared.checking.Proof.TheVariants.{Member, Increment}
 
--- these bytes spell the proof
+-- these bytes encode the proof
 abbrev pub SpellsProof : List ℕ → Proof → Type 0
 SpellsProof bytes (Member proof) = member_of bytes ≡ Some (member_in proof)
 SpellsProof bytes (Increment proof) = increment_of bytes ≡ Some (increment_in proof)
 
--- A membership proof is judged under one commitment and an incremental proof under two, and each has to have their
+-- A membership proof is judged under one commitment and an incremental proof under two. They must have the proof's
 -- counts.
 abbrev pub IsAcceptable : Proof → Commitment → Option Commitment → Type 0
 IsAcceptable (Member proof) older None = (proof.count ≡ older.count)
@@ -22,14 +22,14 @@ IsAcceptable (Increment proof) older None = ⊥
 IsAcceptable (Increment proof) older (Some newer) =
     (proof.older ≡ older.count) × (proof.newer ≡ newer.count) × AcceptsIncrement sha256 older newer proof.hashes.items
 
--- another number of commitments is no question
+-- the number of commitments is the one that the proof needs
 abbrev pub IsAsked : Proof → Option Commitment → Type 0
 IsAsked (Member proof) None = Unit {0}
 IsAsked (Member proof) (Some newer) = ⊥
 IsAsked (Increment proof) None = ⊥
 IsAsked (Increment proof) (Some newer) = Unit {0}
 
--- nothing where it isn't asked, else whether it is accepted
+-- nothing for another number of commitments; otherwise whether the proof is accepted
 abbrev pub IsJudgment : Proof → Commitment → Option Commitment → Option Bool → Type 0
 IsJudgment proof older newer said =
     MatchOption said (IsAsked proof newer → ⊥)

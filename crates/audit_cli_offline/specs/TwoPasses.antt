@@ -1,5 +1,5 @@
--- What verifying an export in two passes writes: the first pass accepts or refuses it, the second reads it again and
--- writes its lines.
+-- What verifying an export in two passes writes. The first pass accepts or refuses the export. The second reads it
+-- again and writes its lines.
 use Rattle.std.specs.Prelude.{◌≡◌, ◌≢◌, ◌⊎◌, ℕ, Option, List, [], ◌++◌, length}
 use Rattle.std.specs.List.{AllByRecursion}
 use Rattle.std.specs.Io.KnownBytes.{Appends, Keeps}
@@ -23,14 +23,14 @@ use Rattle.audit_cli_offline.specs.declared.fault.OfflineError.TheVariants.{Expo
 use Rattle.audit_cli_offline.specs.ReportLines.{event_lines, report_lines}
 use Rattle.audit_cli_offline.specs.VerifiedExport.{IsUnwrittenReport}
 
--- the bytes begin with the right entries of these events, which this rest follows
+-- the bytes begin with the valid entries of these events, followed by this rest
 pub record BeginsWithEvents (first_key bytes : List ℕ) (events : List EventData) (rest : List ℕ) : Type 0 where
   pub each : AllByRecursion IsEvent events
   pub closing : ClosesLast events
   pub split : bytes ≡ export_of first_key events ++ rest
 
--- The second pass: these bytes are the export of events, it ends as the accepted one does, and the events' lines were
--- written.
+-- The second pass: these bytes are the export of events, which ends as the accepted one does, and the events' lines
+-- were written.
 pub record WritesAgain (first_key : List ℕ) (accepted : Accepted) (again : List ℕ)
     (old new : Option (List ℕ)) : Type 0 where
   pub events : List EventData
@@ -38,7 +38,7 @@ pub record WritesAgain (first_key : List ℕ) (accepted : Accepted) (again : Lis
   pub end : IsEndOf first_key accepted events
   pub written : Appends old new (report_lines events (is_closed events))
 
--- all entries are right, and the log has another end than the accepted one
+-- all entries are valid, and the log has another end than the accepted one
 pub record IsOtherEnd (first_key : List ℕ) (accepted : Accepted) (again : List ℕ) (events : List EventData)
     (fault : VerifyFault) : Type 0 where
   pub whole : again ≡ export_of first_key events
@@ -46,7 +46,7 @@ pub record IsOtherEnd (first_key : List ℕ) (accepted : Accepted) (again : List
   pub index : fault.index ≡ length events
   pub other : ¬ IsEndOf first_key accepted events
 
--- these bytes are wrong after the entries of events, or have another end, and the events' lines were written
+-- these bytes have a fault after the entries of events, or another end, and the events' lines were written
 pub record StopsAgain (first_key : List ℕ) (accepted : Accepted) (again : List ℕ) (old new : Option (List ℕ))
     (fault : VerifyFault) : Type 0 where
   pub events : List EventData
@@ -55,14 +55,14 @@ pub record StopsAgain (first_key : List ℕ) (accepted : Accepted) (again : List
   pub wrong : IsFaultAfter first_key again events fault ⊎ IsOtherEnd first_key accepted again events fault
   pub written : Appends old new (event_lines 0 events)
 
--- the lines of right entries were written, the last of them in part
+-- the lines of valid entries were written, the last one in part
 pub record WritesPartAgain (first_key again : List ℕ) (old new : Option (List ℕ)) : Type 0 where
   pub events : List EventData
   pub rest : List ℕ
   pub begins : BeginsWithEvents first_key again events rest
   pub part : WritesInPart old new (report_lines events (is_closed events))
 
--- the lines of right entries were written, each of them whole
+-- the lines of valid entries were written, each of them whole
 pub record WritesLinesAgain (first_key again : List ℕ) (old new : Option (List ℕ)) : Type 0 where
   pub events : List EventData
   pub rest : List ℕ
@@ -78,8 +78,8 @@ IsFaultAgain (Lines lines.Read) first_key accepted again old new = ⊥
 IsFaultAgain (Lines lines.InputTooLong) first_key accepted again old new = ⊥
 IsFaultAgain (Lines (lines.Line line cause)) first_key accepted again old new = ⊥
 
--- Both passes: the first bytes are verified. The second ones are the same; or some link of both logs is the SHA-256 of
--- two texts. The lines of the second were written.
+-- Both passes. The first bytes are verified. The second ones are the same, or some link of both logs is the SHA-256 of
+-- two texts. The lines of the second bytes were written.
 pub record WritesTwice (first_key : List ℕ) (commitment : Commitment) (bytes again : List ℕ)
     (old new : Option (List ℕ)) : Type 0 where
   pub events : List EventData
@@ -90,7 +90,7 @@ pub record WritesTwice (first_key : List ℕ) (commitment : Commitment) (bytes a
       ⊎ LinksCollide first_key first_link first_link events others
   pub written : Appends old new (report_lines others (is_closed others))
 
--- the first bytes are verified, and the second pass has a fault: not one of the same bytes
+-- the first bytes are verified, and the second pass has a fault, which the same bytes don't have
 pub record FailsAgain (error : OfflineError) (first_key : List ℕ) (commitment : Commitment) (bytes again : List ℕ)
     (old new : Option (List ℕ)) : Type 0 where
   pub accepted : Accepted
@@ -99,7 +99,7 @@ pub record FailsAgain (error : OfflineError) (first_key : List ℕ) (commitment 
   pub end : IsEndOf first_key accepted events
   pub fault : IsFaultAgain error first_key accepted again old new
 
--- The first bytes have this fault, and nothing was written; or they are verified, and the second pass has it.
+-- The first bytes have this fault, and nothing was written; or they are verified, and the second pass has this fault.
 abbrev pub IsTwoPassFault : OfflineError → List ℕ → Commitment → List ℕ → List ℕ → Option (List ℕ)
     → Option (List ℕ) → Type 0
 IsTwoPassFault (Export fault) first_key commitment bytes again old new =
@@ -108,7 +108,7 @@ IsTwoPassFault (Export fault) first_key commitment bytes again old new =
 IsTwoPassFault (Lines fault) first_key commitment bytes again old new =
     FailsAgain (Lines fault) first_key commitment bytes again old new
 
--- a line wasn't written: a write failed after a part of it, or memory was refused before it
+-- a line wasn't written: a write failed within it, or memory was refused before it
 abbrev pub IsLineUnwritten : LinesError → Option (List ℕ) → Option (List ℕ) → List ℕ → Type 0
 IsLineUnwritten lines.Write old new line = WritesInPart old new line
 IsLineUnwritten lines.Memory old new line = Keeps old new
@@ -116,13 +116,13 @@ IsLineUnwritten lines.Read old new line = ⊥
 IsLineUnwritten lines.InputTooLong old new line = ⊥
 IsLineUnwritten (lines.Line number cause) old new line = ⊥
 
--- of the second pass
+-- the same in the second pass
 abbrev pub IsSecondFault : OfflineError → List ℕ → Option (List ℕ) → Option (List ℕ) → Type 0
 IsSecondFault (Export fault) first_key before after = fault.cause ≡ ReadFault
     → IsGivenUp first_key BYTE_LIMIT before after fault
 IsSecondFault (Lines fault) first_key before after = IsUnwrittenReport fault
 
--- A reader's fault is that of one of the two. Of the lines only a write or memory can fail.
+-- A reader's fault is that of one of the two readers. Writing the lines can fail only by a write or by memory.
 abbrev pub IsPassFault : OfflineError → List ℕ → (first second : Option (List ℕ) × Option (List ℕ)) → Type 0
 IsPassFault (Export fault) first_key first second = fault.cause ≡ ReadFault
     → IsGivenUp first_key BYTE_LIMIT first.0 first.1 fault ⊎ IsGivenUp first_key BYTE_LIMIT second.0 second.1 fault

@@ -16,13 +16,13 @@ use std::io::Write;
 /// A proof about a log's history.
 #[derive(Drop)]
 pub enum Proof {
-    /// A membership proof, elsewhere called an inclusion proof: an entry is one of a log's.
+    /// A membership (inclusion) proof: an entry is one of a log's.
     Member(MemberProof),
-    /// An incremental proof, elsewhere called a consistency proof: a log only added to an older one.
+    /// An incremental (consistency) proof: a log extends an older one.
     Increment(IncrementProof),
 }
 
-/// Decodes the proof that bytes spell; `BadProof` where they spell none.
+/// Decodes a proof. The error is `BadProof` if the bytes encode none.
 pub fn read_proof(alloc: Global, bytes: &[u8]) -> Result<Proof, ProofError>
     ensures read { IfOk result (SpellsProof bytes.now) }
     ensures bad { (result ≡ Err ProofError.BadProof)
@@ -38,8 +38,8 @@ pub fn read_proof(alloc: Global, bytes: &[u8]) -> Result<Proof, ProofError>
     }
 }
 
-/// Whether a proof is accepted: a membership proof under one commitment, an incremental proof under two. `None` where
-/// there is another number of commitments. It takes no memory.
+/// Returns whether a proof is accepted: a membership proof under one commitment, an incremental proof under two.
+/// `None` for another number of commitments. It takes no memory.
 pub fn judge_proof(proof: &Proof, older: &Commitment, newer: Option<Commitment>) -> Option<bool>
     ensures { IsJudgment proof.now older.now newer result }
 {
@@ -57,7 +57,7 @@ pub fn judge_proof(proof: &Proof, older: &Commitment, newer: Option<Commitment>)
     }
 }
 
-/// Writes whether a proof is accepted, as a line.
+/// Writes a line that says whether a proof is accepted.
 pub fn write_judgment<W: Write>(accepted: bool, writer: &mut W) -> Result<(), LinesError>
     ensures written { OnOk result (Appends (W.contents writer.old) (W.contents writer.new)
         (if accepted then codes "accepted\n" else codes "not accepted\n")) }

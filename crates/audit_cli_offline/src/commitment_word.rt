@@ -9,8 +9,8 @@ use audit_proof::Commitment;
 use audit_text::{number_in_text, split_at_first};
 use hex::FromHex;
 
-/// Decodes the commitment that a word spells: its count in 1 to 20 decimal digits and below 2^64, a colon, and its
-/// root in 64 hex digits of either case.
+/// Decodes a commitment: its count in 1 to 20 decimal digits and below 2^64, a colon, and its root in 64 hex digits of
+/// either case.
 pub fn commitment_in_word(word: &[u8]) -> Option<Commitment>
     ensures { result ≡ commitment_in_word word.now }
 {
@@ -20,7 +20,7 @@ pub fn commitment_in_word(word: &[u8]) -> Option<Commitment>
     Some(Commitment { count, root })
 }
 
-// The digest that hex digits spell.
+// The digest in these hex digits.
 fn hash_of(digits: &[u8]) -> Option<Hash>
     ensures { result ≡ result_ok (decode_sized digits.now HASH_LEN) }
 {

@@ -5,10 +5,10 @@ use thiserror::Error;
 /// Why an export wasn't verified, or the lines of its report weren't written.
 #[derive(Clone, Copy, Debug, Drop, Error, PartialEq, Eq)]
 pub enum OfflineError {
-    /// The export is wrong at an entry, or couldn't be read.
+    /// The export has a fault, or couldn't be read.
     #[error("the export is not verified")]
     Export(VerifyFault),
-    /// It is verified, and the lines weren't written.
+    /// The export is verified, but its lines weren't written.
     #[error(transparent)]
     Lines(LinesError),
 }

@@ -1,5 +1,5 @@
-//! What an auditor asks without a store, over readers and writers: an export verified, a proof checked, and the words
-//! that spell commitments.
+//! What an auditor does without a store, over readers and writers: verify an export, check a proof, and parse
+//! commitments.
 #![tactic(auto)]
 
 mod checking;

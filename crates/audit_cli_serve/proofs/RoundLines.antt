@@ -1,4 +1,4 @@
--- The lines that report rounds, extended by one round at a time.
+-- The lines that report rounds, with one more round.
 use Rattle.std.proofs.Common.{◌≡◌, ℕ, ◌+◌, suc, Option, Some, None, List, [], ◌∷◌, ◌++◌, length, sym, ap, ◌∙◌, subst, append_assoc, append-nil, arith}
 use Rattle.std.specs.Io.KnownBytes.{Appends}
 use Rattle.audit_serve_sockets.specs.RoundLine.{round_line}

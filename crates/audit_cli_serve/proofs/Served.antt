@@ -39,7 +39,7 @@ bad_of_loop (looping.Lines fault) number is = absurd (cc is)
 bad_of_loop (looping.BadLine line) number is = cc is
 bad_of_loop (looping.Core error) number is = absurd (cc is)
 
--- what holds of an answer that is Ok, and of one that isn't
+-- what holds of a result that is Ok, and of one that isn't
 pub on_ok : {A F P : Type 0} (outcome : Result A F) (value : A) → outcome ≡ Ok value → P → OnOk outcome P
 on_ok {A = A} {F = F} {P = P} outcome value is has = subst (λ (answer : Result A F). OnOk answer P) (sym is) has
 
@@ -52,11 +52,11 @@ line_lost cause fault is (inl write) = inl (is ∙ ap (λ (of : LinesError). Com
 line_lost cause fault is (inr memory) = inr (is ∙ ap (λ (of : LinesError). Command (Lines of)) memory)
 
 module _ {D : Type 0} {g : sectors.Ghosts D} where
-  -- a store that is as it was
+  -- an unchanged store
   pub kept_as : (old new : Store D g) → new ≡ old → StoreKeepsOn old new
   kept_as old new same = subst (StoreKeepsOn old) (sym same) (kept_none old)
 
-  -- the stores of a core that was made and of what became of it
+  -- the stores of a new core and of the same core afterwards
   pub kept_by : {steps : List StepData} {taken : ℕ → List ℕ} (old new : Store D g) (core last : Core D g) → store_of (committer_of core) ≡ old → new ≡ store_of (committer_of last) → IsDurablyServed (data_of core) (data_of last) steps taken
       → StoreKeepsOn old new
   kept_by old new core last made left durably =
@@ -66,17 +66,17 @@ module _ {D : Type 0} {g : sectors.Ghosts D} where
       → LoopsOver old new before after Shape
   looped old new core last made left run = record { core = core; made = made; last = last; left = left; run = run }
 
-  -- whatever stopped it
+  -- whatever stopped the session
   pub loop_reached : (old new : Store D g) (core last : Core D g) {known : Option (List ℕ)} → IsNewCore old core → new ≡ store_of (committer_of last) → LoopReached core_model core last (BringsLines known) → LoopReachesOver old new known
   loop_reached old new core last made left run = record { core = core; made = made; last = last; left = left; run = run }
 
   -- ---- why it stopped
 
-  -- memory was refused, and the store is as it was
+  -- memory was refused, and the store is unchanged
   pub no_memory_for : (old new : Store D g) (fault : ServingError) → fault ≡ Command (Refused Memory) → new ≡ old → HasRefused old new fault
   no_memory_for old new fault is same = (Memory, is, inr (inr (refl, ap is_broken same)))
 
-  -- what a core refused
+  -- the core refused a step
   pub core_refused : (old new : Store D g) (core last : Core D g) (error : StoreError) → IsNewCore old core → new ≡ store_of (committer_of last) → Refuses core last error → IsRefusedAs error old new
   core_refused old new core last error made left refused =
       subst (λ (store : Store D g). IsRefusedAs error old store) (sym left) (subst (λ (store : Store D g). IsRefusedAs error store (store_of (committer_of last))) made.store_is refused)
@@ -88,7 +88,7 @@ module _ {D : Type 0} {g : sectors.Ghosts D} where
   loop_stopped old new core last (looping.BadLine number) made left refused = inr (inr (inr (number, refl)))
   loop_stopped old new core last (looping.Core error) made left refused = inl (error, refl, core_refused old new core last error made left (refused error refl))
 
--- one more
+-- one more element
 pub all_and : {X : Type 0} (P : X → Type 0) (xs : List X) (x : X) → AllByRecursion P xs → P x → AllByRecursion P (xs ++ x ∷ [])
 all_and P [] x each one = (one, tt)
 all_and P (first ∷ xs) x each one = (each.0, all_and P xs x each.1 one)
@@ -96,7 +96,7 @@ all_and P (first ∷ xs) x each one = (each.0, all_and P xs x each.1 one)
 -- ---- rounds
 
 module _ {D : Type 0} {g : sectors.Ghosts D} {T : Type 0} (M : CallModel T) (Arrived : T → Type 0) where
-  -- a round more
+  -- one more round
   pub rounds_more : (sessions turns : ℕ) (before : List ℕ) (old mid new : Store D g) → ServesRounds M Arrived sessions before old mid → ServesRound M Arrived sessions turns mid new
       → ServesRounds M Arrived sessions (before ++ turns ∷ []) old new
   rounds_more sessions turns [] old mid new same round = (new, subst (λ (store : Store D g). ServesRound M Arrived sessions turns store new) same round, refl)
@@ -130,7 +130,7 @@ module _ {D : Type 0} {g : sectors.Ghosts D} {T : Type 0} (M : CallModel T) (Arr
     run = run;
   }
 
-  -- no stream was had for a session
+  -- not every session has a stream
   pub streams_refused : (sessions : ℕ) (store : Store D g) (fault : ServingError) → (fault ≡ Command (Refused Memory)) ⊎ (fault ≡ Command File) → StopsRound M Arrived sessions store store fault
   streams_refused sessions store fault (inl memory) = inl (no_memory_for store store fault memory refl)
   streams_refused sessions store fault (inr file) = inr (inl (file, refl))

@@ -1,4 +1,4 @@
--- Arguments that are judged by hand.
+-- Arguments that aren't checked by the parser of the command line.
 use Rattle.std.specs.Prelude.{ℕ, nat_le, ◌&&◌, Option, Some, None, Result, Ok, Err, List, if◌then◌else◌}
 use Rattle.audit_text.specs.Number.{number_in_text}
 use Rattle.audit_base.specs.declared.limits.TheConstants.{SESSIONS}

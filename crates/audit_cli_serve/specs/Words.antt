@@ -7,17 +7,17 @@ use Rattle.audit_cli_serve.specs.Arguments.{rounds_asked, sessions_asked}
 use Rattle.audit_cli_serve.specs.declared.request.Request.{Request}
 use Rattle.audit_cli_serve.specs.declared.request.Request.TheVariants.{Serve, Loop}
 
--- there is a word for the number of sessions, and it gives none
+-- the word for the number of sessions isn't such a number
 abbrev pub IsWrongNumber : Option (Bor (List ℕ)) → Type 0
 IsWrongNumber None = ⊥
 IsWrongNumber (Some word) = sessions_asked word.now ≡ Err BadArgument
 
--- there is a word for permissions, and it gives none
+-- the word for the permissions isn't such permissions
 abbrev pub IsWrongMode : Option (Bor (List ℕ)) → Type 0
 IsWrongMode None = ⊥
 IsWrongMode (Some word) = (mode : ℕ) → IsMode word.now mode → ⊥
 
--- one of the words that are judged before the store is opened is wrong
+-- one of the words that are checked before the store is opened is wrong
 abbrev pub HasWrongWord : Request → Type 0
 HasWrongWord (Serve file socket rounds sessions mode) =
     (rounds_asked rounds.now ≡ Err BadArgument) ⊎ (IsWrongNumber sessions ⊎ IsWrongMode mode)

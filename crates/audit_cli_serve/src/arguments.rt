@@ -1,4 +1,4 @@
-//! Arguments that are judged here rather than by the parser of the command line.
+//! Arguments that are checked here rather than by the parser of the command line.
 ghost use Rattle.std.specs.Prelude.{◌≡◌, ◌≤◌, IfOk, IfErr};
 ghost use Rattle.audit_base.specs.declared.limits.TheConstants.{SESSIONS};
 ghost use Rattle.audit_cli_serve.specs.Arguments.{rounds_asked, sessions_asked};
@@ -7,8 +7,7 @@ use audit_base::SESSIONS;
 use audit_cli_store::CommandError;
 use audit_text::number_in_text;
 
-/// Returns the number of rounds that a word asks for. The word must be a number below 2^64, in 1 to 20 decimal digits.
-/// The only error is `BadArgument`.
+/// Parses a number of rounds: below 2^64, in 1 to 20 decimal digits. The only error is `BadArgument`.
 pub fn rounds_asked(text: &str) -> Result<u64, CommandError>
     ensures asked { result ≡ rounds_asked text.now }
     ensures fault { IfErr result (λ fault. fault ≡ CommandError.BadArgument) }
@@ -19,8 +18,8 @@ pub fn rounds_asked(text: &str) -> Result<u64, CommandError>
     }
 }
 
-/// Returns the number of sessions in a round that a word asks for. The word must be a number from 1 to 16, in at most
-/// 20 decimal digits. The only error is `BadArgument`.
+/// Parses the number of sessions in a round: from 1 to 16, in at most 20 decimal digits. The only error is
+/// `BadArgument`.
 pub fn sessions_asked(text: &str) -> Result<usize, CommandError>
     ensures asked { result ≡ sessions_asked text.now }
     ensures few { IfOk result (λ sessions. (1 ≤ sessions) × (sessions ≤ SESSIONS)) }

@@ -17,7 +17,7 @@ use std::io::Write;
 pub enum ServingError {
     /// An error that other commands have too: an argument, a file, the socket, the store or memory.
     Command(CommandError),
-    /// The line with this number, counted from 1, doesn't spell bytes.
+    /// The line with this number, counted from 1, isn't bytes in hex digits.
     BadFrameLine(u64),
     /// The limit of passes was reached while sessions were still live: refusal number 45.
     TooManyPasses,
@@ -98,7 +98,7 @@ pub fn fault_of_serving(fault: ServeFault<StoreError>) -> ServingError
     }
 }
 
-/// The error of a command for which memory was refused, for a core or for its streams.
+/// The error of a command for which memory for a core or its streams was refused.
 pub fn no_memory() -> ServingError
     ensures { result ≡ Command (Refused Memory) }
 {

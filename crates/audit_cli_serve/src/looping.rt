@@ -29,21 +29,21 @@ where
     B: Read + Write + Drop,
     R: BufRead,
     W: Write,
-    // A crash at any moment keeps the events that the store held, and so does the store that is returned.
+    // A crash at any moment keeps the events that the store held, and so does the returned store.
     ensures kept { StoreKeepsOn store result.0 }
     // If a core was made, it did steps that feed a prefix of what the first lines spell.
     ensures reached { (result.0 ≡ store) ⊎ LoopReachesOver store result.0 (R.remaining reader.old) }
-    // On success each line was fed to a new core over the store and flushed, one after the other. Then the session was
-    // ended, and the replies were written. If the reader's bytes are known, `lines` is what all their lines spell.
+    // On success each line was fed to a new core over the store and flushed, in order. Then the session was ended, and
+    // the replies were written. If the reader's bytes are known, `lines` is what all their lines spell.
     ensures done { OnOk result.1 ((lines : List (List ℕ))
         × LoopsOver store result.0 (W.contents writer.old) (W.contents writer.new) (IsWholeLoop lines)
         × IfSome (R.remaining reader.old) (SpellsInput lines)) }
-    // If a line spells no bytes, the replies to all lines before it were written.
+    // If a line spells no bytes, the replies to all earlier lines were written.
     ensures bad { (number : ℕ) → result.1 ≡ Err (BadFrameLine number)
         → (lines : List (List ℕ)) × (length lines + 1 ≡ number)
         × LoopsOver store result.0 (W.contents writer.old) (W.contents writer.new) (AreLinePasses lines)
         × IfSome (R.remaining reader.old) (SpellsUpToBad lines) }
-    // The error states why serving stopped, and what a refusal states about the store is true.
+    // The error states why serving stopped, and what a refusal states about the store holds.
     ensures fault { IfErr result.1 (StopsLoop store result.0) }
 {
     let mut core = match Core::new(alloc, store) {

@@ -36,9 +36,9 @@ pub enum Request<'a> {
         socket: &'a str,
         /// The number of rounds.
         rounds: &'a str,
-        /// The number of sessions in each round. Without this word it is 1.
+        /// The number of sessions in each round; 1 if absent.
         sessions: Option<&'a str>,
-        /// The permissions of the socket's file, in three octal digits. Without this word only its owner has access.
+        /// The permissions of the socket's file, in three octal digits. If absent, only its owner has access.
         socket_mode: Option<&'a str>,
     },
     /// Serves one session of the store in a file over a socket. The lines of the input are the session's bytes.
@@ -65,7 +65,7 @@ pub fn run<F: Files + Net, R: Read, W: Write, M: Write>(
 ) -> Status
 where
     F::File: SystemFile,
-    // A wrong word ends the program before anything is written; an output that can't be flushed is another fault.
+    // A wrong word ends the program before anything is written. An output that can't be flushed is another fault.
     ensures words { HasWrongWord request.entry → (result ≡ Status.Usage) ⊎ (result ≡ Status.Device) }
     ensures unwritten { HasWrongWord request.entry → Keeps (W.contents output.old) (W.contents output.new) }
 {
@@ -78,7 +78,7 @@ where
     report_flush(status, flushed, messages)
 }
 
-// The words are judged before the store is opened, and the store is opened before the socket's file is made. The
+// The words are checked before the store is opened, and the store is opened before the socket's file is made. The
 // socket's file is removed at the end.
 fn perform<F: Files + Net, R: Read, W: Write>(
     rt: &F,

@@ -21,8 +21,8 @@ use std::alloc::Global;
 use std::io::Write;
 
 /// Serves the requested number of rounds. Each round accepts the requested number of connections, and a new core over
-/// the store serves them until the last one has ended. After each round a line is written with its number, counted from
-/// 1, and the number of its turns.
+/// the store serves them until the last one has ended. After each round a line is written with its number, counted
+/// from 1, and the number of its passes.
 ///
 /// The store is returned as the rounds left it. A fault in a round ends serving, and that round has no line.
 pub fn serve_rounds<D, T, L, W>(
@@ -39,18 +39,17 @@ where
     L: Listener<T>,
     W: Write,
     requires { sessions ≤ SESSIONS }
-    // Whatever happens, a stop at any moment keeps the events that the store held, and so does the store that is
-    // returned.
+    // Whatever happens, a stop at any moment keeps the events that the store held, and so does the returned store.
     ensures kept { StoreKeepsOn store result.0 }
-    // On success each round was served and has its line. It was served by a new core over the store that the one before
-    // left, by calls of connections that arrived at the socket.
+    // On success each round was served and has its line. A new core served it, over the store that the previous round
+    // left, through calls of connections that arrived at the socket.
     ensures served { OnOk result.1 ((turns : List ℕ) × (length turns ≡ rounds)
         × ServesRounds T.calls (L.arrived socket.now) sessions turns store result.0
         × Appends (W.contents writer.old) (W.contents writer.new) (round_lines 1 turns)) }
     // On an error some rounds were served, and some steps of one more were done.
     ensures stopped { OnErr result.1 ((turns : List ℕ)
         × ReachesByRounds T.calls (L.arrived socket.now) sessions turns store result.0) }
-    // The error states why serving stopped, and what a refusal states about the store is true.
+    // The error states why serving stopped, and what a refusal states about the store holds.
     ensures fault { IfErr result.1 (StopsRounds T.calls (L.arrived socket.now) sessions store result.0) }
 {
     let mut store = store;
@@ -68,8 +67,8 @@ where
     (store, Ok(()))
 }
 
-// Waits for the requested number of connections, in order of arrival. Memory for all of them is reserved first, so that
-// refused memory isn't reported as a fault of the socket.
+// Waits for the requested number of connections, in order of arrival. Memory for all of them is reserved first, so
+// that refused memory isn't reported as a fault of the socket.
 fn accept_streams<T: Duplex + Drop, L: Listener<T>>(
     alloc: Global,
     socket: &L,
@@ -88,7 +87,7 @@ fn accept_streams<T: Duplex + Drop, L: Listener<T>>(
     Ok(streams)
 }
 
-// Serves one round. Returns the store and the number of turns.
+// Serves one round. Returns the store and the number of passes.
 fn serve_round<D: Sectors + Drop, T: Duplex + Drop, L: Listener<T>>(
     alloc: Global,
     store: Store<D>,

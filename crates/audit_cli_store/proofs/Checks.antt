@@ -20,7 +20,7 @@ use Rattle.audit_cli_offline.specs.declared.checking.Proof.TheVariants as proofs
 use Rattle.audit_cli_offline.specs.Judgment.{SpellsProof, IsAcceptable, IsAsked}
 use Rattle.audit_cli_store.specs.Checks.{IsAcceptedMember, IsAcceptedIncrement, IsOfOtherKind, IsNoProof, IsProofJudged}
 
--- bytes that are too long for an input are no proof
+-- bytes that are too long for an input aren't a proof
 few_after : (number size : ℕ) → 65536 ≤ size → (leb number MAX_MEMBER_HASHES && leb (HASH_LEN * number) size && leb size (HASH_LEN * number + MAX_ENTRY)) ≡ false
 few_after number size long = grind (arith, nat_tests)
 
@@ -40,7 +40,7 @@ too_long bytes long =
     let after : 65536 ≤ length (drop HEAD_LEN bytes) = omega (arith, long, length-drop HEAD_LEN bytes) in
     record { member = no_member (drop HEAD_LEN bytes) (head_of MEMBER_MARK bytes) after; increment = no_increment (drop HEAD_LEN bytes) (head_of INCREMENT_MARK bytes) after }
 
--- a proof that the bytes spell is accepted where they are a proof that is
+-- a proof is accepted if and only if the bytes that encode it are an accepted proof
 accepted_member : (bytes : List ℕ) (p : MemberProof) (older : Commitment) → member_of bytes ≡ Some (member_in p) → IsAcceptedMember bytes older → IsAcceptable (proofs.Member p) older None
 accepted_member bytes p older spelled is =
     let same : is.proof ≡ member_in p = cc in
@@ -52,7 +52,7 @@ accepted_increment bytes p older newer spelled is =
     let same : is.proof ≡ increment_in p = cc in
     subst (λ (i : Increment). (i.older ≡ older.count) × (i.newer ≡ newer.count) × AcceptsIncrement sha256 older newer i.hashes) same (is.older_count, is.newer_count, is.accepted)
 
--- bytes begin with one mark
+-- bytes begin with only one mark
 one_kind_by : (bytes : List ℕ) (first second : Option Head) (p : Member) (i : Increment) → head_of MEMBER_MARK bytes ≡ first → head_of INCREMENT_MARK bytes ≡ second
     → member_from (drop HEAD_LEN bytes) first ≡ Some p → increment_from (drop HEAD_LEN bytes) second ≡ Some i → ⊥
 one_kind_by bytes None second p i one other member increment = none-some p member
@@ -77,7 +77,7 @@ is_member bytes p spelled none = none-some p (sym none ∙ spelled)
 is_increment : (bytes : List ℕ) (i : Increment) → increment_of bytes ≡ Some i → increment_of bytes ≢ None
 is_increment bytes i spelled none = none-some i (sym none ∙ spelled)
 
--- the judgment on the proof is one on the bytes that spell it
+-- the judgment on a proof is the judgment on the bytes that encode it
 pub judged_bytes : (proof : Proof) (bytes : List ℕ) (older : Commitment) (newer : Option Commitment) (said : Bool) → SpellsProof bytes proof → IsAsked proof newer → (IsTrue said ↔ IsAcceptable proof older newer)
     → IsProofJudged (Ok said) bytes older newer
 judged_bytes (proofs.Member p) bytes older None true spelled asked judged =

@@ -15,7 +15,7 @@ pub key_of_digits : (text digits : List ℕ) (said : Result (List ℕ) FromHexEr
 unfolding key_of_file
 key_of_digits text digits said cut is = ap (λ d. result_ok (decode_sized d 32)) (sym cut) ∙ ap result_ok (sym is)
 
--- more text than an input may have is no key
+-- a text longer than an input may be has no key
 no_key_in : (digits : List ℕ) → 66 ≤ length digits → result_ok (decode_sized digits 32) ≡ None
 no_key_in digits long = grind (arith, nat_tests)
 

@@ -1,4 +1,4 @@
--- Arguments that are checked here.
+-- Arguments that are checked here, not by the command line's parser.
 use Rattle.std.specs.Prelude.{ℕ, nat_lt, ◌||◌, Option, Some, None, Result, Ok, Err, List, codes, if◌then◌else◌}
 use Rattle.std.specs.Str.{bytes_eq}
 use Rattle.audit_text.specs.Number.{number_in_text}

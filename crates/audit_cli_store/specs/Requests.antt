@@ -1,4 +1,4 @@
--- What carrying out a request does, as far as no file is asked.
+-- The effect of carrying out a request, apart from its files.
 use denote.Ref.{Bor}
 use Rattle.std.specs.Prelude.{◌≡◌, ◌⊎◌, ℕ, Option, Some, None, Result, Ok, Err, List, IfSome, IfOk, IsOkAnd}
 use Rattle.std.specs.Io.KnownBytes.{Keeps, Appends}
@@ -22,7 +22,7 @@ use Rattle.audit_cli_store.specs.declared.fault.CommandError.TheVariants.{BadArg
 
 -- ---- words
 
--- The words for a new file have this fault. The permissions are judged before the number of sectors.
+-- The words for a new file have this fault. The permissions are checked before the number of sectors.
 abbrev pub IsNewFileFault : Option (Bor (List ℕ)) → List ℕ → CommandError → Type 0
 IsNewFileFault None sectors fault = sectors_asked sectors ≡ Err fault
 IsNewFileFault (Some word) sectors fault =
@@ -33,12 +33,12 @@ abbrev pub IsFormatFault : Site → List ℕ → CommandError → Type 0
 IsFormatFault (NewFile mode) sectors fault = IsNewFileFault mode sectors fault
 IsFormatFault (InPlace erase) sectors fault = sectors_asked sectors ≡ Err fault
 
--- one of the words for commitments is none
+-- one of the words for commitments isn't a commitment
 abbrev pub AreNoCommitments : List ℕ → Option (Bor (List ℕ)) → Type 0
 AreNoCommitments older None = commitment_in_word older ≡ None
 AreNoCommitments older (Some newer) = (commitment_in_word older ≡ None) ⊎ (commitment_in_word newer.now ≡ None)
 
--- the first fault of the words that are judged before any file is opened
+-- the first fault of the words that are checked before any file is opened
 abbrev pub IsWordFault : Request → CommandError → Type 0
 IsWordFault Replay fault = ⊥
 IsWordFault (Format file site sectors key_file) fault = IsFormatFault site sectors.now fault
@@ -67,7 +67,7 @@ pub record StopsReplay (input : Option (List ℕ)) (before after : Option (List 
   pub unwritten : IsBeforeWriting cause → Keeps before after
   pub part : IfSome input (λ bytes. IfOk (replay_output bytes) (WritesInPart before after))
 
--- the definition's output was written, or why not
+-- the definition's output was written, or the replay stopped
 abbrev pub IsReplayed : Option (List ℕ) → Option (List ℕ) → Option (List ℕ) → Result Unit CommandError → Type 0
 IsReplayed input before after (Ok done) = IfSome input (λ bytes. IsOkAnd (replay_output bytes) (Appends before after))
 IsReplayed input before after (Err fault) = StopsReplay input before after fault
@@ -86,8 +86,8 @@ IsReplayOf (Export file out access) input before after result = Unit {0}
 IsReplayOf (Verify export key_file commitment) input before after result = Unit {0}
 IsReplayOf (Prove file kind first second out access) input before after result = Unit {0}
 
--- A request was carried out with this result, and then the output flushed. The program's status is that of the result,
--- or that of an output that couldn't be flushed.
+-- A request was carried out with this result, and the output was then flushed. The program's status is that of the
+-- result, or that of an output that couldn't be flushed.
 pub record IsCarriedOut (request : Request) (input before after : Option (List ℕ)) (status : Status) : Type 0 where
   pub done : Result Unit CommandError
   pub written : Option (List ℕ)

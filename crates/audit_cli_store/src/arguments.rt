@@ -77,8 +77,8 @@ pub fn commitment_asked(word: &str) -> Result<Commitment, CommandError>
     }
 }
 
-/// The permissions and the number of sectors that words request for a new file. The permissions are judged first.
-/// Without a word for them only the owner has access.
+/// Parses the permissions and the number of sectors for a new file. The permissions are checked first. Without a word
+/// for them only the owner has access.
 pub fn new_file_asked(mode: Option<&str>, sectors: &str) -> Result<(u32, u64), CommandError>
     ensures { (fault : CommandError) → IsNewFileFault mode.entry sectors.now fault → result ≡ Err fault }
 {
@@ -89,7 +89,7 @@ pub fn new_file_asked(mode: Option<&str>, sectors: &str) -> Result<(u32, u64), C
     Ok((mode, sectors_asked(sectors)?))
 }
 
-/// The commitments in one word or two. If one of them has none, the error is `BadArgument`.
+/// Parses one or two commitments. If one of the words isn't a commitment, the error is `BadArgument`.
 pub fn commitments_asked(
     older: &str,
     newer: Option<&str>,

@@ -28,7 +28,7 @@ pub fn check_file<F: Files, W: Write>(
 }
 
 /// Verifies the export in a file. The arguments are checked before the export is opened. A file is read twice, so that
-/// nothing of it has to be kept. What can't be read twice, as a pipe, is read once and kept.
+/// nothing of it has to be kept. Input that can't be read twice, such as a pipe, is read once and kept.
 pub fn verify_file<F: Files, W: Write>(
     rt: &F,
     alloc: Global,

@@ -30,8 +30,8 @@ fn without_line_feed(text: &[u8]) -> &[u8]
     }
 }
 
-/// Reads the key in a key file. The error is `BadArgument` if the file doesn't have a key. Otherwise it fails only if a
-/// read failed or memory was refused.
+/// Reads the key in a key file. The error is `BadArgument` if the file doesn't have a key. Otherwise it fails only if
+/// a read failed or memory was refused.
 pub fn read_key<R: Read>(alloc: Global, reader: &mut R) -> Result<Key, CommandError>
     ensures key { IfOk result (λ key. IfSome (R.remaining reader.old) (λ text. key_of_file text ≡ Some key)) }
     ensures fault { IfErr result (IsKeyFault (R.remaining reader.old)) }

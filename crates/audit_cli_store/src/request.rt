@@ -22,7 +22,7 @@ pub enum Access {
     Repair,
     /// The file is opened without permission to write, and isn't changed.
     ReadOnly,
-    /// The same, and from a damaged store the entries are taken that can still be read.
+    /// As `ReadOnly`, and the entries of a damaged store that can still be read are written.
     Salvage,
 }
 

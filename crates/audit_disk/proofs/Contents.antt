@@ -37,7 +37,7 @@ after_sync-settled : (held : List Held) → after_sync held ≡ map settled (new
 after_sync-settled [] = refl
 after_sync-settled (sector ∷ rest) = ap (λ (held : List Held). settled (newest sector.synced sector.since) ∷ held) (after_sync-settled rest)
 
--- no call, and calls with a sync as the last
+-- no calls, and calls of which the last is a sync
 pub end_synced_none : EndSynced []
 end_synced_none = record { settled = λ start. ap (λ (blocks : List Block). map settled blocks) (sym (newest_of-settled start)) }
 
@@ -52,7 +52,7 @@ end_synced_more calls i call lt here is =
           all ∙ after_sync-settled before ∙ ap (λ (held : List Held). map settled (newest_of held)) (sym all);
     })
 
--- one call more
+-- one more call
 pub content_more : (calls : List Call) (start : List Held) (blocks : List Block) (i : ℕ) (call : Call) → i < length calls → call ≡ get_or calls i call
     → blocks ≡ newest_of (after_calls (take i calls) start) → content_after call.effect blocks ≡ newest_of (after_calls (take (i + 1) calls) start)
 content_more calls start blocks i call lt here is =
@@ -61,7 +61,7 @@ content_more calls start blocks i call lt here is =
     ∙ ap newest_of (sym (after_calls-append (take i calls) (call ∷ []) start))
     ∙ ap (λ (c : List Call). newest_of (after_calls c start)) (ap (λ (c : Call). take i calls ++ c ∷ []) here ∙ sym (take_more calls i call lt))
 
--- from the last sync on the same image is left
+-- an image left after the last sync is still left
 pub crashed_later : (calls : List Call) (start blocks : List Block) (until : ℕ) (pick : List ℕ) → EndSynced (take until calls) → blocks ≡ newest_of (after_calls (take until calls) (map settled start))
     → crashed (after_calls (drop until calls) (map settled blocks)) pick ≡ crashed (after_calls calls (map settled start)) pick
 crashed_later calls start blocks until pick synced is =

@@ -89,7 +89,7 @@ module _ (old new : FileView) (sectors start start' : ℕ) (moment_of moment_of'
       at_end_same = λ end honest. absurd (omega arith);
     }
 
-    -- where nothing is kept: an image now is that of the file now
+    -- if nothing is kept, the device's images are the file's
     module _ (none : row_of clock ≡ []) (none' : row_of' clock' ≡ []) where
       now_in : (image : Image) → before.left_at clock image → old.honest × ((bytes : List ℕ) × old.left_at old.moment bytes × (image ≡ sectors_of sectors bytes))
       now_in image left = (
@@ -235,7 +235,7 @@ module _ (old new : FileView) (sectors start start' : ℕ) (moment_of moment_of'
         pub sync_counted : (answer result : Outcome) → IsFileSync old new answer → CountsFailure failures failures' answer → result ≡ answer → IsSync before after result
         sync_counted answer result sync counts same = subst (λ (r : Outcome). IsSync before after r) (sym same) (sync_file answer sync counts)
 
--- something was done below the device, and then a call
+-- something happened below the device, followed by a call
 module _ (old mid new : View) (same : IsSameDevice old mid) where
   pub same_then_read : {at : ℕ} {into : Sector} {result : Outcome} → IsRead mid new at into result → IsRead old new at into result
   same_then_read {at = at} {into = into} {result = result} read = record {
@@ -324,7 +324,7 @@ refused_sync (Err fault) failed refused = record {
   at_end = λ end. refl;
 }
 
--- a read that fails where the file isn't read
+-- a read that fails without reading the file
 pub refused_read : {old new : View} (at : ℕ) (into : Sector) (result : Outcome) → IsErr result → IsSameDevice old new → (last : View) → Continues new last → last.clock ≡ new.clock → HasRisen new.failures last.failures
     → (new.honest → last.content ≡ new.content) → IsRead old last at into result
 refused_read at into (Ok done) failed same last goes_on still risen content = absurd (false≢true failed)

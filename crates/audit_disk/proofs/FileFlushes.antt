@@ -1,4 +1,4 @@
--- A device looks the same after its row was handed to the file.
+-- Handing a row to the file leaves the device as it looked.
 use Rattle.std.proofs.Common.{inl, inr, ⊎_elim, ◌≡◌, ◌⊎◌, ℕ, ◌+◌, ◌-◌, ◌*◌, ◌^◌, ◌<◌, ◌≤◌, min, Ok, Err, Result, is_ok, true, List, [], length, take, refl, sym, ◌∙◌, ap, subst, arith}
 use Rattle.std.proofs.lemmas.List.{take_all}
 use Rattle.std.proofs.lemmas.Bool.{cases_lt, false≢true}
@@ -45,7 +45,7 @@ module _ (old new : FileView) (sectors start start' clock failures : ℕ) (kept 
     content = content;
   }
 
-  -- before, rows are kept
+  -- rows were kept before
   module _ (at_clock : reached ≡ clock) (split_now : split ≡ reached) (long : base + length kept ≡ clock) (all : active ≡ kept) (in_step : old.honest → old.moment ≡ base) where
     was_at : (at : ℕ) (image : Image) → at ≤ clock → Before at image → LeftWithRow old sectors (min at base) start (take (at - base) kept) image
     was_at at image up_to left =
@@ -133,7 +133,7 @@ module _ (old new : FileView) (sectors start start' clock failures : ℕ) (kept 
             ∙ row_content old old new sectors start offset kept here sized within whole (not_tried old sectors start kept) start' write honest
             ∙ ap (λ (r : List Sector). with_row (sectors_of sectors old.bytes) start r) (sym row_now)
 
-    -- it failed, and the sectors were tried one by one
+    -- the call failed, and the sectors were written one by one
     module _ (tried : IsTried old new sectors start kept) (at_clock' : reached' ≡ clock) (split_now' : split' ≡ reached') (base_same : base' ≡ base) (start_same : start' ≡ start) (kept_same : kept' ≡ kept) where
       early_then : (at : ℕ) (image : Image) → at < clock → Before at image → After at image
       early_then at image lt left =
@@ -199,7 +199,7 @@ module _ (old new : FileView) (sectors start start' clock failures : ℕ) (kept 
           (λ honest.
           ap (λ (r : List Sector). with_row (sectors_of sectors new.bytes) start' r) row_last ∙ content honest ∙ ap (λ (r : List Sector). with_row (sectors_of sectors old.bytes) start r) (sym row_now))
 
-      -- the row is lost: the device keeps it for ever
+      -- the row is lost: the device never drops it
       pub flush_lost : active' ≡ kept → IsSameDevice before after
       flush_lost now =
           tried_same
@@ -216,7 +216,7 @@ module _ (old new : FileView) (sectors start start' clock failures : ℕ) (kept 
           (λ image left. row_came old mid new sectors start offset kept here sized within whole first start' write image (left_at_same new sectors start' image new.moment new.moment active' [] refl now left))
           (λ honest. ap (λ (r : List Sector). with_row (sectors_of sectors new.bytes) start' r) now ∙ row_content old mid new sectors start offset kept here sized within whole first start' write honest)
 
--- by the result of a call
+-- by the result of the call
 pub row_ok : {old new : FileView} {offset : ℕ} {row : List Sector} (result : Result (Unit {0}) DeviceFault) → is_ok result ≡ true → IsRowWrite {E = DeviceFault} old new offset row result → IsRowWrite {E = DeviceFault} old new offset row (Ok tt)
 row_ok (Ok done) passed write = write
 row_ok (Err fault) passed write = absurd (false≢true passed)

@@ -55,7 +55,7 @@ sector_at-sectors_of (suc count) (suc at) file lt =
     sector_at-sectors_of count at (drop SECTOR_SIZE file) (omega arith)
     ∙ ap (λ (l : List ℕ). take SECTOR_SIZE l) (drop-drop (SECTOR_SIZE * at) SECTOR_SIZE file ∙ ap (λ (n : ℕ). drop n file) there)
 
--- the first sectors are those of fewer
+-- the first sectors are a prefix of more sectors
 pub take-sectors_of : (count more : ℕ) (file : List ℕ) → count ≤ more → take count (sectors_of more file) ≡ sectors_of count file
 take-sectors_of zero more file le = refl
 take-sectors_of (suc count) zero file le = absurd (omega arith)

@@ -1,4 +1,4 @@
--- The file's moments and what is kept, before and after a call that reaches the file where nothing is kept.
+-- The file's moments and the kept row, before and after a call that reaches the file when nothing is kept.
 use Rattle.std.proofs.Common.{inl, inr, ⊎_elim, ◌≡◌, ◌⊎◌, ℕ, ◌+◌, ◌-◌, ◌<◌, ◌≤◌, min, Option, Some, None, is_some, unwrap_or, true, false, List, [], length, take, refl, sym, ◌∙◌, ap, arith}
 use Rattle.std.proofs.lemmas.List.{take_all}
 use Rattle.std.proofs.lemmas.Bool.{cases_lt}
@@ -10,7 +10,7 @@ use Rattle.audit_disk.specs.FileDisk.{end_from}
 use Rattle.audit_disk.specs.declared.read_ahead.TheConstants.{ROW_SECTORS}
 use Rattle.audit_disk.proofs.RowTries.{left_kept, left_no_other, left_at_same, moment_below, moment_above, row_below, row_above, moment_rows, row_rows}
 
--- the clock at which single writes began, or up to which calls were made
+-- the clock at which single writes began, or the clock up to which calls were made
 abbrev pub split_of : Option ℕ → ℕ → ℕ
 split_of single reached = unwrap_or single reached
 
@@ -61,7 +61,7 @@ moment_most clock reached count now (Some from) here row_order order rows singly
     (λ (past : from ≤ at). let is = moment_above (from - count) from reached now (min at reached) (omega arith) in omega arith)
     (cases_lt at from)
 
--- now nothing is kept
+-- nothing is kept now
 pub row_none : (single : Option ℕ) (clock reached base : ℕ) (kept : List Sector) → active_row single kept ≡ [] → split_of single reached ≤ reached → reached ≤ clock
     → row_at base (split_of single reached) kept (active_row single kept) (min clock reached) ≡ []
 row_none single clock reached base kept nothing order le = row_above base (split_of single reached) (min clock reached) kept (active_row single kept) (omega arith) ∙ nothing

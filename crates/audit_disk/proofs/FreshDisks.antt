@@ -49,7 +49,7 @@ fresh start content log current sized same none clock failures = record {
 pub fresh_held : (start content : List Block) (log : CallLog) → start ≡ content → log.calls.items ≡ [] → HoldsOnly (after_calls log.calls.items (map settled start)) (bytes_of_blocks content)
 fresh_held start content log same none = (start, ap (λ (calls : List Call). after_calls calls (map settled start)) none, ap bytes_of_blocks same)
 
--- the image of each pick may be left, and each image that may be left is that of some pick
+-- the image of each pick may be left, and each image that may be left is the image of some pick
 pub crash_image : (disk : MemDisk) (pick : List ℕ) → (disk_view disk).left_at disk.log.clock (crashed (disk_held disk) pick)
 crash_image disk pick =
     subst (λ (held : List Held). IsImageOf held (crashed (disk_held disk) pick)) (sym (held_now disk.start.items disk.log.calls.items disk.log.clock disk.log.stamped))

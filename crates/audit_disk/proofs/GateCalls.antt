@@ -19,7 +19,7 @@ module _ {D : Type 0} {g : sectors.Ghosts D} (old new : Gate D g) (unseen : new.
   risen_in_all : HasRisen ((g.view old.inner).failures + old.refused) ((g.view old.inner).failures + new.refused)
   risen_in_all = omega arith
 
-  -- what holds of the old inner device holds of the new one
+  -- what holds of the inner device before the call holds of it afterwards
   at_inner : (P : View → Type 0) → ((in_step : new.place ≤ clock) (fits : clock + new.missed < 2 ^ 64) → P (shifted (g.view old.inner) new.place new.missed new.refused in_step fits)) → P (gate_view new)
   at_inner P here =
       subst (λ (inner : D). (in_step : new.place ≤ (g.view inner).clock) (fits : (g.view inner).clock + new.missed < 2 ^ 64) → P (shifted (g.view inner) new.place new.missed new.refused in_step fits)) (sym unseen) here new.in_step new.fits

@@ -25,13 +25,13 @@ chosen_kept synced block [] p = (zero, refl)
 chosen_kept synced block (next ∷ since) zero = (zero, refl)
 chosen_kept synced block (next ∷ since) (suc p) = let rest = chosen_kept next block since p in (suc rest.0, rest.1)
 
--- each content is that of a pick up to their number
+-- a pick selects the synced content or one of those written since
 chosen_within : (synced : Block) (since : List Block) (p : ℕ) → (q : ℕ) × (q ≤ length since) × (picked synced since q ≡ picked synced since p)
 chosen_within synced [] p = (zero, omega arith, refl)
 chosen_within synced (block ∷ since) zero = (zero, omega arith, refl)
 chosen_within synced (block ∷ since) (suc p) = let rest = chosen_within block since p in (suc rest.0, omega (arith, rest.1), rest.2)
 
--- what reads give after a write
+-- what reads return after a write
 pub content_of-after_write : (held : List Held) (at : ℕ) (block : Block) → content_of (after_write held at block) ≡ set (content_of held) at block.bytes
 content_of-after_write [] at block = refl
 content_of-after_write (sector ∷ rest) zero block = ap (λ (b : Block). b.bytes ∷ content_of rest) (newest-push sector.synced block sector.since)
@@ -41,7 +41,7 @@ pub content_of-after_sync : (held : List Held) → content_of (after_sync held) 
 content_of-after_sync [] = refl
 content_of-after_sync (sector ∷ rest) = ap (λ (image : Image). (newest sector.synced sector.since).bytes ∷ image) (content_of-after_sync rest)
 
--- an image after a write was one before, or one before with that sector written
+-- an image after a write was left before it, as it is or without the write
 pub written_image : (held : List Held) (at : ℕ) (block : Block) (image : Image) → IsImageOf (after_write held at block) image
     → IsImageOf held image ⊎ ((before : Image) × IsImageOf held before × (image ≡ set before at block.bytes))
 written_image [] at block [] is = inl tt
@@ -60,7 +60,7 @@ written_image (sector ∷ rest) (suc at) block (bytes ∷ image) is =
     (λ (new : (before : Image) × IsImageOf rest before × (image ≡ set before at block.bytes)). inr (bytes ∷ new.0, (is.0, new.1), ap (λ (i : Image). bytes ∷ i) new.2))
     (written_image rest at block image is.1)
 
--- an image before a write is one after it
+-- an image left before a write is left after it
 pub unwritten_image : (held : List Held) (at : ℕ) (block : Block) (image : Image) → IsImageOf held image → IsImageOf (after_write held at block) image
 unwritten_image [] at block image is = is
 unwritten_image (sector ∷ rest) zero block [] is = is
@@ -69,7 +69,7 @@ unwritten_image (sector ∷ rest) zero block (bytes ∷ image) is =
     let kept = chosen_kept sector.synced block sector.since is.0.0 in ((kept.0, is.0.1 ∙ ap (λ (b : Block). b.bytes) (sym kept.1)), is.1)
 unwritten_image (sector ∷ rest) (suc at) block (bytes ∷ image) is = (is.0, unwritten_image rest at block image is.1)
 
--- and so is the image with that sector written
+-- so is that image with the sector written
 pub image_written : (held : List Held) (at : ℕ) (block : Block) (image : Image) → IsImageOf held image → IsImageOf (after_write held at block) (set image at block.bytes)
 image_written [] at block [] is = tt
 image_written [] at block (bytes ∷ image) is = absurd is
@@ -80,7 +80,7 @@ image_written (sector ∷ rest) zero block (bytes ∷ image) is =
     ((last.0, ap (λ (b : Block). b.bytes) (sym (last.1 ∙ newest-push sector.synced block sector.since))), is.1)
 image_written (sector ∷ rest) (suc at) block (bytes ∷ image) is = (is.0, image_written rest at block image is.1)
 
--- after a sync there is one image
+-- after a sync only one image is left
 pub synced_image : (held : List Held) (image : Image) → IsImageOf (after_sync held) image → image ≡ content_of held
 synced_image [] [] is = refl
 synced_image [] (bytes ∷ image) is = absurd is
@@ -88,7 +88,7 @@ synced_image (sector ∷ rest) [] is = absurd is
 synced_image (sector ∷ rest) (bytes ∷ image) is =
     ap (λ (s : Sector). s ∷ image) is.0.1 ∙ ap (λ (i : Image). (newest sector.synced sector.since).bytes ∷ i) (synced_image rest image is.1)
 
--- the image of each pick is one, and each image is that of some pick
+-- the image of each pick may be left, and each image that may be left is the image of some pick
 pub crashed_image : (held : List Held) (pick : List ℕ) → IsImageOf held (crashed held pick)
 crashed_image [] pick = tt
 crashed_image (sector ∷ rest) [] = ((zero, synced_first sector.synced sector.since), crashed_image rest [])

@@ -1,4 +1,4 @@
--- Images of which some sectors of a row may be written.
+-- Images in which some sectors of a row may be written.
 use Rattle.std.proofs.Common.{inl, inr, ⊎_elim, ◌≡◌, ◌≢◌, ◌⊎◌, ℕ, zero, suc, ◌+◌, ◌-◌, ◌*◌, ◌<◌, ◌≤◌, List, [], ◌∷◌, ◌++◌, length, take, drop, set, get_or, refl, sym, ◌∙◌, ap, subst, arith}
 use Rattle.std.proofs.lemmas.List.{ext_get_or, length-append, length-set, length-take, length-drop, get_or-set_same, get_or-set_other, get_or_past, get_or-take, get_or-drop, get_or_append_left, get_or-append_right, get_or_push, take-set-le, length-take-le, take_at}
 use Rattle.std.proofs.Math.Seq.{take-set-lt}
@@ -13,7 +13,7 @@ use Rattle.audit_base.specs.declared.limits.TheConstants.{SECTOR_SIZE}
 pub row_same : (at : ℕ) (row : List Sector) (image : Image) → MayHaveRow at row image image
 row_same at row image = record { sectors = refl; each = λ k. inl refl }
 
--- no sector may be
+-- an empty row changes nothing
 pub row_nothing : (at : ℕ) (old new : Image) → MayHaveRow at [] old new → new ≡ old
 row_nothing at old new may =
     ext_get_or [] new old may.sectors
@@ -26,7 +26,7 @@ row_nothing at old new may =
 pub nothing_row : (at : ℕ) (old new : Image) → new ≡ old → MayHaveRow at [] old new
 nothing_row at old new same = subst (λ (image : Image). MayHaveRow at [] old image) (sym same) (row_same at [] old)
 
--- the same sectors twice
+-- the same row twice
 pub row_trans : (at : ℕ) (row : List Sector) (first second third : Image) → MayHaveRow at row first second → MayHaveRow at row second third → MayHaveRow at row first third
 row_trans at row first second third one two = record {
   sectors = two.sectors ∙ one.sectors;
@@ -41,7 +41,7 @@ row_trans at row first second third one two = record {
       (two.each k);
 }
 
--- one sector more may be written, and isn't
+-- one more sector, which isn't written
 pub row_push_old : (at : ℕ) (row : List Sector) (bytes : Sector) (old new : Image) → MayHaveRow at row old new → MayHaveRow at (row ++ bytes ∷ []) old new
 row_push_old at row bytes old new may = record {
   sectors = may.sectors;
@@ -57,7 +57,7 @@ row_push_old at row bytes old new may = record {
       (may.each k);
 }
 
--- it is
+-- one more sector, which is written
 pub row_push_new : (at : ℕ) (row : List Sector) (bytes : Sector) (old new : Image) (next : ℕ) → next ≡ at + length row → MayHaveRow at row old new → MayHaveRow at (row ++ bytes ∷ []) old (with_sector new next bytes)
 row_push_new at row bytes old new next here may = record { sectors = length-set new next bytes ∙ may.sectors; each = each }
   where
@@ -89,7 +89,7 @@ row_push_new at row bytes old new next here may = record { sectors = length-set 
         (before.each k))
         (cases_eq k next)
 
--- the last sector isn't written, or it is
+-- the last sector is written or not
 pub row_pop : (at : ℕ) (row : List Sector) (bytes : Sector) (old new : Image) (next : ℕ) → next ≡ at + length row → MayHaveRow at (row ++ bytes ∷ []) old new
     → MayHaveRow at row old new ⊎ ((before : Image) × MayHaveRow at row old before × (new ≡ with_sector before next bytes))
 row_pop at row bytes old new next here may =
@@ -152,12 +152,12 @@ row_pop at row bytes old new next here may =
         sym (get_or-set_other (with_sector new next (sector_at old next)) next k bytes [] other ∙ get_or-set_other new next k (sector_at old next) [] other))
         (cases_eq k next))
 
--- one sector more
+-- one more sector
 pub with_row-push : (image : Image) (at : ℕ) (row : List Sector) (bytes : Sector) (next : ℕ) → next ≡ at + length row → with_row image at (row ++ bytes ∷ []) ≡ with_sector (with_row image at row) next bytes
 with_row-push image at [] bytes next here = let there : at ≡ next = omega arith in ap (λ (n : ℕ). with_sector image n bytes) there
 with_row-push image at (first ∷ row) bytes next here = with_row-push (with_sector image at first) (at + 1) row bytes next (omega arith)
 
--- the row hides which of its sectors were written before
+-- writing the whole row makes irrelevant which of its sectors were written before
 pub with_row-over : (at : ℕ) (row : List Sector) (old new : Image) → MayHaveRow at row old new → with_row new at row ≡ with_row old at row
 with_row-over at [] old new may = row_nothing at old new may
 with_row-over at (bytes ∷ row) old new may = with_row-over (at + 1) row (with_sector old at bytes) (with_sector new at bytes) (record { sectors = length-set new at bytes ∙ may.sectors ∙ sym (length-set old at bytes); each = each })
@@ -187,7 +187,7 @@ with_row-over at (bytes ∷ row) old new may = with_row-over (at + 1) row (with_
         (may.each k))
         (cases_eq k at)
 
--- another sector
+-- a sector outside the row
 pub with_row-other : (image : Image) (at : ℕ) (row : List Sector) (k : ℕ) → (k < at) ⊎ (at + length row ≤ k) → sector_at (with_row image at row) k ≡ sector_at image k
 with_row-other image at [] k apart = refl
 with_row-other image at (bytes ∷ row) k apart =
@@ -196,7 +196,7 @@ with_row-other image at (bytes ∷ row) k apart =
     (⊎_elim (λ (less : k < at). inl (omega arith)) (λ (le : at + suc (length row) ≤ k). inr (omega arith)) apart)
     ∙ get_or-set_other image at k bytes [] other
 
--- the first sector isn't written, or it is
+-- the first sector is written or not
 pub row_skip : (at : ℕ) (bytes : Sector) (row : List Sector) (old new : Image) → MayHaveRow (at + 1) row old new → MayHaveRow at (bytes ∷ row) old new
 row_skip at bytes row old new may = record {
   sectors = may.sectors;
@@ -276,7 +276,7 @@ row_of_some count at offset (bytes ∷ row) file new here long within whole some
     (row_of_some count (at + 1) (offset + SECTOR_SIZE) row (overlaid file offset bytes) new (omega arith) (omega (arith, same)) (omega (arith, same)) (whole_tail bytes row whole) next)))
     some
 
--- and the other way round
+-- sectors written to the image of a file are written to the file
 pub some_of_row : (count at offset : ℕ) (row : List Sector) (file : List ℕ) (image : Image) → offset ≡ SECTOR_SIZE * at → SECTOR_SIZE * count ≤ length file → SECTOR_SIZE * (at + length row) ≤ length file → IsWholeRow row
     → MayHaveRow at row (sectors_of count file) image → (new : List ℕ) × SomeWritten file offset row new × (image ≡ sectors_of count new)
 some_of_row count at offset [] file image here long within whole may = (file, refl, row_nothing at (sectors_of count file) image may)

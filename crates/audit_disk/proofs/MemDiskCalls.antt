@@ -1,4 +1,4 @@
--- The calls of a `MemDisk`, by what they add to its record of calls.
+-- The calls of a `MemDisk`, by what each adds to its record of calls.
 use Rattle.std.proofs.Common.{◌≡◌, ⊎_elim, ℕ, suc, ◌<◌, ◌≤◌, Ok, Err, IsErr, OnOk, OnErr, List, [], ◌∷◌, map, set, get_or, length, refl, sym, ◌∙◌, ap, arith, ◌^◌}
 use Rattle.std.proofs.lemmas.Bool.{false≢true, cases_lt}
 use Rattle.std.proofs.lemmas.List.{map-set, length-map, get_or-map}
@@ -54,7 +54,7 @@ module _ (start content : List Block) (log : CallLog) (current : IsCurrent start
     current_refused : RefusesCall log log' → IsCurrent start (bytes_of_blocks content) log'.calls.items
     current_refused refuses = current ∙ ap (λ (calls : List Call). content_of (after_calls calls (map settled start))) (sym refuses.calls)
 
-    -- the content after a sync, whatever its answer
+    -- the content after a sync, whatever its result
     pub current_after : (result : Outcome) → OnOk result (Notes log log' Sync) → OnErr result (RefusesCall log log') → IsCurrent start (bytes_of_blocks content) log'.calls.items
     current_after (Ok done) notes refuses = current_synced notes
     current_after (Err fault) notes refuses = current_refused refuses
@@ -88,7 +88,7 @@ module _ (start content : List Block) (log : CallLog) (current : IsCurrent start
         sync_failed start (bytes_of_blocks content) (bytes_of_blocks content) log.calls.items log'.calls.items log.clock log'.clock log.failures log'.failures current current' log.stamped log'.stamped sized sized' log.in_range log'.in_range
         refuses.calls (later refuses) refuses.more refl refuses.clock refuses.failures fault
 
--- what the sectors hold after a call, by the record of calls
+-- what the sectors hold after a call, according to the record of calls
 module _ (start : List Block) (log log' : CallLog) where
   abbrev pub held_by : CallLog → List Held
   held_by kept = after_calls kept.calls.items (map settled start)

@@ -1,4 +1,4 @@
--- The calls of a device have the effects of calls of the file in it.
+-- The calls of a device have the effects of calls of the file that it holds.
 use Rattle.std.proofs.Common.{◌≡◌, ◌≢◌, ◌⊎◌, inl, inr, ⊎_elim, ℕ, zero, suc, ◌+◌, ◌*◌, ◌/◌, ◌<◌, ◌≤◌, Ok, Err, OnOk, OnErr, List, [], ◌∷◌, ◌++◌, length, take, drop, refl, sym, ◌∙◌, ap, arith}
 use Rattle.std.proofs.Math.Seq.{take-append-add, drop-append-add}
 use Rattle.std.proofs.lemmas.List.{take_at, drop_at, append_assoc, get_or-set_other}
@@ -58,7 +58,7 @@ goes_on calls = record {
 content_whole : (view : View) → view.honest → AreWhole view.content
 content_whole view honest = are_whole (view.whole honest view.clock view.content (view.content_left honest))
 
--- a sector stands at each offset within the bytes
+-- each offset within the bytes is the offset of a sector
 pub offset_within : (view : View) (offset : ℕ) → view.honest → offset + SECTOR_SIZE ≤ length (bytes_of_image view.content) → offset / SECTOR_SIZE < view.size
 offset_within view offset honest fits =
     let long = length-joined view.size view.content (view.whole honest view.clock view.content (view.content_left honest)) in

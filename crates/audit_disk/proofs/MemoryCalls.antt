@@ -13,11 +13,11 @@ use Rattle.audit_disk_model.specs.declared.fault.DeviceFault.{DeviceFault}
 use Rattle.audit_disk.proofs.HeldLemmas.{content_of-after_write, content_of-after_sync, written_image, unwritten_image, image_written, synced_image}
 use Rattle.audit_disk.proofs.MemoryLemmas.{after_calls-append, held_now, held_same, held_before, held_next}
 
--- what the record of the calls says of the content
+-- what the record of the calls states about the content
 abbrev pub IsCurrent : List Block → Image → List Call → Type 0
 IsCurrent start content calls = content ≡ content_of (after_calls calls (map settled start))
 
--- the content after one call more
+-- the content after one more call
 pub content_next : (start : List Block) (content : Image) (calls : List Call) (call : Call) → IsCurrent start content calls
     → content_of (after_calls (calls ++ call ∷ []) (map settled start)) ≡ content_of (after_call call.effect (after_calls calls (map settled start)))
 content_next start content calls call current = ap content_of (after_calls-append calls (call ∷ []) (map settled start))
@@ -45,7 +45,7 @@ module _ (start : List Block) (content content' : Image) (calls calls' : List Ca
   abbrev new : View
   new = memory_view start content' calls' clock' failures' current' stamped' sized' in_range'
 
-  -- nothing was reached
+  -- the call had no effect
   module _ (same : calls' ≡ calls) (later : clock ≤ clock') (more : failures ≤ failures') where
     held_kept : (moment : ℕ) → held_at start calls' moment ≡ held_at start calls moment
     held_kept moment = ap (λ (all : List Call). held_at start all moment) same
@@ -101,7 +101,7 @@ module _ (start : List Block) (content content' : Image) (calls calls' : List Ca
           at_end = λ end. refl;
         }
 
-  -- the call was noted
+  -- the call was recorded
   module _ (effect : Effect) (noted : calls' ≡ calls ++ record { moment = clock'; effect = effect } ∷ []) (free : clock < last_count) (next : clock' ≡ clock + 1) (none : failures' ≡ failures) where
     call : Call
     call = record { moment = clock'; effect = effect }

@@ -17,9 +17,9 @@ pub after_calls-append : (calls later : List Call) (held : List Held) → after_
 after_calls-append [] later held = refl
 after_calls-append (call ∷ calls) later held = after_calls-append calls later (after_call call.effect held)
 
--- what an honest device knows of its past, and one call more
+-- what an honest device records of its past, and one more call
 module _ (start : List Block) (calls : List Call) (clock : ℕ) (stamped : latest calls ≤ clock) where
-  -- up to now these are all calls
+  -- up to now these are all the calls
   pub held_now : held_at start calls clock ≡ after_calls calls (map settled start)
   held_now = ap (λ (all : List Call). after_calls all (map settled start)) (calls_until_all calls clock stamped)
 
@@ -28,7 +28,7 @@ module _ (start : List Block) (calls : List Call) (clock : ℕ) (stamped : lates
   held_same later le = ap (λ (all : List Call). after_calls all (map settled start)) (calls_until_all calls later (omega arith)) ∙ sym held_now
 
   module _ (call : Call) (next : call.moment ≡ clock + 1) where
-    -- a moment so far keeps what was held
+    -- what was held at an earlier moment stays
     pub held_before : (moment : ℕ) → moment ≤ clock → held_at start (calls ++ call ∷ []) moment ≡ held_at start calls moment
     held_before moment le =
         let p = λ (it : Call). nat_le it.moment moment in

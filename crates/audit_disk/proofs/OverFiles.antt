@@ -19,7 +19,7 @@ sectors_of-joined (suc count) (bytes ∷ image) many each =
     ∙ ap (λ (file : List ℕ). bytes ∷ sectors_of count file) (drop_at bytes (bytes_of_image image) SECTOR_SIZE long)
     ∙ ap (λ (i : Image). bytes ∷ i) (sectors_of-joined count image (omega arith) (λ at lt. each (suc at) (omega arith)))
 
--- over the file that stands in a new disk, a device is new and has the same content
+-- over the file made of a new disk, a device is new and has the disk's content
 module _ (memory view : View) (image : Image) (count : ℕ) (fresh : IsFresh memory image) (long : length image ≡ count) where
   same_sectors : sectors_of count (bytes_of_image memory.content) ≡ memory.content
   same_sectors =

@@ -19,7 +19,7 @@ alike_counts failures failures' (Err fault) (Err too) alike counts = counts
 goes_on_recounted : {old new : FileView} (failures failures' : ℕ) → FileContinues old new → FileContinues (counted_file (uncounted old) failures) (counted_file (uncounted new) failures')
 goes_on_recounted failures failures' goes_on = record { honest = goes_on.honest; was_honest = goes_on.was_honest; kept = goes_on.kept; no_other = goes_on.no_other }
 
--- the same call with another count beside it, and its outcome without the cause or with another
+-- the same call beside another count, and its outcome without the cause or with another one
 module _ {E D : Type 0} {old new : FileView} (failures failures' : ℕ) where
   row_recounted : {offset count : ℕ} {sectors : Image} (outcome : Result (Unit {0}) E) (result : Result (Unit {0}) D) → AnswersAlike outcome result → CountsFailure failures failures' result
       → IsRowRead old new offset count sectors outcome → IsRowRead (counted_file (uncounted old) failures) (counted_file (uncounted new) failures') offset count sectors result
@@ -96,7 +96,7 @@ module _ {E D : Type 0} {old new : FileView} (failures failures' : ℕ) where
     kept = is.kept;
   }
 
--- the calls below are counted here
+-- calls of the file below that are counted here
 module _ {E D : Type 0} {old new : PositionedView} {failures failures' : ℕ} (outcome : Result (Unit {0}) E) (result : Result (Unit {0}) D)
     (alike : AnswersAlike outcome result) (counts : CountsFailure failures failures' outcome) where
   pub row_counted : {offset count : ℕ} {sectors : Image} → IsPositionedRead old new offset count sectors outcome
@@ -109,7 +109,7 @@ module _ {E D : Type 0} {old new : PositionedView} {failures failures' : ℕ} (o
   pub sync_counted : IsPositionedSync old new outcome → IsFileSync (counted_file old failures) (counted_file new failures') result
   sync_counted sync = sync_recounted failures failures' outcome result alike (alike_counts failures failures' outcome result alike counts) (sync.counted failures failures' counts)
 
--- the calls of a file that counts are given without its count
+-- calls of a file that counts, stated without its count
 module _ {E D : Type 0} {old new : FileView} (outcome : Result (Unit {0}) E) (result : Result (Unit {0}) D) (alike : AnswersAlike outcome result) where
   pub row_uncounted : {offset count : ℕ} {sectors : Image} → IsRowRead old new offset count sectors outcome → IsPositionedRead (uncounted old) (uncounted new) offset count sectors result
   row_uncounted is = record { counted = λ failures failures' counts. row_recounted failures failures' outcome result alike counts is }
@@ -154,7 +154,7 @@ one_of {old = old} {new = new} {offset = offset} {result = result} (sector ∷ [
     subst (λ (n : ℕ). IsPositionedRead old new offset n (sector ∷ []) result) one read
 one_of (sector ∷ other ∷ more) before one long read = absurd (omega arith)
 
--- a device over a file of which nothing was asked but its length shows the first sectors of the file as it was
+-- a device over a file whose length alone was measured has the first sectors of the file as it was
 module _ (file measured : PositionedView) (view : View) (count : ℕ) (only : OnlyFileReads (counted_file file 0) (counted_file measured 0))
     (size : view.size ≡ count) (content : view.content ≡ sectors_of count measured.bytes) where
   pub shows_front : (file.honest → SECTOR_SIZE * count ≤ length file.bytes) → (measured.honest → view.honest) → (view.honest → measured.honest)

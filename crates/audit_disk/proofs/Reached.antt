@@ -6,7 +6,7 @@ use Rattle.audit_disk.specs.KeptRow.{kept_sectors}
 use Rattle.audit_disk.specs.declared.kept_row.KeptRow.{KeptRow}
 use Rattle.std.proofs.lemmas.Bool.{false≢true}
 
--- where no sync has failed, the last call reached it
+-- unless a sync has failed, the last call reached the file
 pub reached_now : (failed_at : Option ℕ) (clock : ℕ) → is_some failed_at ≡ false → unwrap_or failed_at clock ≡ clock
 reached_now None clock working = refl
 reached_now (Some at) clock working = absurd (false≢true (sym working))
@@ -15,7 +15,7 @@ pub none_of : (given : Option ℕ) → is_some given ≡ false → given ≡ Non
 none_of None none = refl
 none_of (Some at) none = absurd (false≢true (sym none))
 
--- while rows are kept, what is kept is what the file hasn't got
+-- while rows are kept, the kept sectors are those that the file doesn't have yet
 pub active_rows : (single : Option ℕ) (kept : List Sector) → is_some single ≡ false → active_row single kept ≡ kept
 active_rows None kept none = refl
 active_rows (Some at) kept none = absurd (false≢true (sym none))

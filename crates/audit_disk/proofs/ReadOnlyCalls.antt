@@ -26,11 +26,11 @@ length-content_over (call ∷ older) start = by_effect call.effect (content_over
     by_effect (Write at block) content same = length-set content at block.bytes ∙ same
     by_effect Sync content same = same
 
--- one call more
+-- one more call
 pub one_more : (calls : List Call) (call : Call) → reverse (calls ++ call ∷ []) ≡ call ∷ reverse calls
 one_more calls call = reverse-append calls (call ∷ [])
 
--- no call, and one more
+-- after no call, and after one more
 pub none_written : (at : ℕ) → IsLastWritten [] at None
 none_written at = record { over = λ image lt. refl }
 
@@ -39,7 +39,7 @@ module _ (calls : List Call) (at : ℕ) (found : Option Block) (last : IsLastWri
       → (image : Image) → at < length image → sector_at (content_over (reverse (calls ++ call ∷ [])) image) at ≡ bytes (sector_at image at)
   later bytes one image lt = ap (λ (all : List Call). sector_at (content_over all image) at) (one_more calls call) ∙ one image lt
 
-  -- it wrote that sector
+  -- the call wrote that sector
   pub written_here : (place : ℕ) (block : Block) → call.effect ≡ Write place block → place ≡ at → IsLastWritten (calls ++ call ∷ []) at (Some block)
   written_here place block is here = record {
     over = later (λ own. block.bytes)
@@ -49,7 +49,7 @@ module _ (calls : List Call) (at : ℕ) (found : Option Block) (last : IsLastWri
         ∙ get_or-set_same (content_over (reverse calls) image) at block.bytes [] (omega (arith, length-content_over (reverse calls) image)));
   }
 
-  -- it wrote another one
+  -- the call wrote another sector
   pub written_elsewhere : (place : ℕ) (block : Block) → call.effect ≡ Write place block → (place ≡ at → ⊥) → IsLastWritten (calls ++ call ∷ []) at found
   written_elsewhere place block is other = record {
     over = later (bytes_or found)
@@ -59,14 +59,14 @@ module _ (calls : List Call) (at : ℕ) (found : Option Block) (last : IsLastWri
         ∙ last.over image lt);
   }
 
-  -- it wrote none
+  -- the call wrote no sector
   pub synced_only : call.effect ≡ Sync → IsLastWritten (calls ++ call ∷ []) at found
   synced_only is = record {
     over = later (bytes_or found)
         (λ image lt. ap (λ (effect : Effect). sector_at (content_by effect (content_over (reverse calls) image)) at) is ∙ last.over image lt);
   }
 
--- up to an earlier moment there is no call more
+-- up to an earlier moment there are no further calls
 pub until_before : (calls : List Call) (call : Call) (moment : ℕ) → moment < call.moment → calls_until moment (calls ++ call ∷ []) ≡ calls_until moment calls
 until_before calls call moment lt =
     let p = λ (it : Call). nat_le it.moment moment in
@@ -90,7 +90,7 @@ module _ (source : SourceView) (log log' : CallLog) where
   abbrev left : Image → Type 0
   left image = left_over (reverse (calls_until log.clock log.calls.items)) start image
 
-  -- nothing was kept
+  -- nothing was recorded
   module _ (same : log'.calls.items ≡ log.calls.items) (later : log.clock ≤ log'.clock) (more : log.failures ≤ log'.failures) where
     until_same : (moment : ℕ) → calls_until moment log'.calls.items ≡ calls_until moment log.calls.items
     until_same moment = ap (λ (all : List Call). calls_until moment all) same
@@ -164,7 +164,7 @@ module _ (source : SourceView) (log log' : CallLog) where
   pub sync_refused : (fault : DeviceFault) → RefusesCall log log' → IsSync old new (Err fault)
   sync_refused fault refuses = sync_fails refuses.calls (later_of refuses) refuses.more refuses.clock refuses.failures fault
 
-  -- the call was kept
+  -- the call was recorded
   module _ (effect : Effect) (notes : Notes log log' effect) where
     call : Call
     call = record { moment = log'.clock; effect = effect }
@@ -193,7 +193,7 @@ module _ (source : SourceView) (log log' : CallLog) where
         ap (λ (all : List Call). content_over (reverse all) start) notes.calls
         ∙ ap (λ (all : List Call). content_over all start) (one_more log.calls.items (record { moment = log'.clock; effect = effect }))
 
-    -- all calls, the last of them first
+    -- all calls, latest first
     now_next : reverse (calls_until log'.clock log'.calls.items) ≡ record { moment = log'.clock; effect = effect } ∷ reverse (calls_until log.clock log.calls.items)
     now_next =
         ap reverse (calls_until_all log'.calls.items log'.clock log'.stamped ∙ notes.calls)
@@ -233,7 +233,7 @@ module _ (source : SourceView) (log log' : CallLog) where
     at_end = λ end. absurd (omega (arith, notes.free));
   }
 
-  -- whatever came of it
+  -- whatever the result
   pub write_is : (at : ℕ) (block : Block) (result : Outcome) → OnOk result (Notes log log' (Write at block)) → OnErr result (RefusesCall log log') → IsWrite old new at block.bytes result
   write_is at block (Ok done) notes refuses = write_noted at block notes
   write_is at block (Err fault) notes refuses = write_refused at block.bytes fault refuses
@@ -242,7 +242,7 @@ module _ (source : SourceView) (log log' : CallLog) where
   sync_is (Ok done) notes refuses = sync_noted notes
   sync_is (Err fault) notes refuses = sync_refused fault refuses
 
--- the sector that was found, or else the source's
+-- the content that was found, or else the source's sector
 pub found_through : (source : SourceView) (calls : List Call) (at : ℕ) (block : Block) (into : Sector) → at < source.size → IsLastWritten calls at (Some block) → into ≡ block.bytes
     → IsReadThrough source calls at into (Ok tt)
 found_through source calls at block into lt last same = λ honest. same ∙ sym (last.over source.content (omega (arith, (source.whole honest).sectors)))

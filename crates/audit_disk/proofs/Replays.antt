@@ -1,4 +1,4 @@
--- Replaying the calls before a crash leaves what its picks select.
+-- Replaying the calls before a crash leaves what the picks select.
 use Rattle.std.proofs.Common.{◌≡◌, ℕ, zero, suc, ◌+◌, ◌-◌, ◌<◌, ◌≤◌, nat_lt, cond, List, [], ◌∷◌, ◌++◌, map, set, get_or, take, drop, length, refl, sym, ◌∙◌, ap, subst, arith}
 use Rattle.std.proofs.lemmas.Bool.{lt-ltb, le-ltb}
 use Rattle.std.proofs.lemmas.List.{length-append, map-append, take_more, drop_more, set_at, get_or_at, append_assoc, length-map, length-take}
@@ -14,7 +14,7 @@ use Rattle.audit_disk.specs.declared.progress.Progress.{Progress}
 use Rattle.audit_disk.proofs.HeldLemmas.{newest-push, synced_first}
 use Rattle.audit_disk.proofs.MemoryLemmas.{after_calls-append}
 
--- what a pick chooses after one write more
+-- what a pick selects after one more write
 chosen-push : (old block : Block) (since : List Block) (p : ℕ) → picked old (since ++ block ∷ []) p ≡ cond (nat_lt 0 (p - length since)) block (picked old since p)
 chosen-push old block [] zero = refl
 chosen-push old block [] (suc p) = ap (λ b. cond b block old) (sym (lt-ltb 0 (suc p - 0) (omega arith)))
@@ -63,7 +63,7 @@ progress-call : (effect : Effect) (held : List Held) (picks : List ℕ) (all : L
 progress-call (Write at block) held picks all are = written held picks all at block are
 progress-call Sync held picks all are = all_synced held picks all are
 
--- one call more of a record of calls
+-- one more recorded call
 pub progress_more : (calls : List Call) (start : List Held) (picks : List ℕ) (all : List Progress) (i : ℕ) (call : Call) → i < length calls
     → AreProgress (after_calls (take i calls) start) picks all → AreProgress (after_calls (take (i + 1) calls) start) picks (after_effect (get_or calls i call).effect all)
 progress_more calls start picks all i call lt are =
@@ -72,7 +72,7 @@ progress_more calls start picks all i call lt are =
     (sym (ap (λ (c : List Call). after_calls c start) (take_more calls i call lt) ∙ after_calls-append (take i calls) (next ∷ []) start))
     (progress-call next.effect (after_calls (take i calls) start) picks all are)
 
--- one sector more
+-- one more sector
 pub progress_push : (held : List Held) (picks : List ℕ) (all : List Progress) (sector : Held) (progress : Progress) → AreProgress held picks all
     → IsSectorProgress sector (get_or picks (length held) 0) progress → AreProgress (held ++ sector ∷ []) picks (all ++ progress ∷ [])
 progress_push [] [] [] sector progress are is = (is, tt)
@@ -82,7 +82,7 @@ progress_push (held ∷ rest) picks [] sector progress are is = absurd are
 progress_push (held ∷ rest) [] (first ∷ others) sector progress are is = (are.0, progress_push rest [] others sector progress are.1 is)
 progress_push (held ∷ rest) (pick ∷ picks) (first ∷ others) sector progress are is = (are.0, progress_push rest picks others sector progress are.1 is)
 
--- what the crash leaves in the end
+-- what the crash finally leaves
 pub landed-crashed : (held : List Held) (picks : List ℕ) (all : List Progress) → AreProgress held picks all → bytes_of_blocks (landed_of all) ≡ crashed held picks
 landed-crashed [] picks [] are = refl
 landed-crashed [] picks (progress ∷ others) are = absurd are
@@ -106,7 +106,7 @@ written_at_past [] at block le = refl
 written_at_past (first ∷ others) zero block le = absurd (omega arith)
 written_at_past (first ∷ others) (suc at) block le = ap (λ (all : List Progress). first ∷ all) (written_at_past others at block (omega arith))
 
--- one sector more was synced
+-- one more sector was synced
 pub synced_more : (first now : List Progress) (i : ℕ) (progress next : Progress) → i < length first → now ≡ map synced (take i first) ++ drop i first
     → next ≡ synced (get_or now i progress) → set now i next ≡ map synced (take (i + 1) first) ++ drop (i + 1) first
 synced_more first now i progress next lt is done =
@@ -127,7 +127,7 @@ length-written_at [] at block = refl
 length-written_at (first ∷ others) zero block = refl
 length-written_at (first ∷ others) (suc at) block = ap suc (length-written_at others at block)
 
--- a call leaves as many sectors as there were
+-- a call doesn't change the number of sectors
 pub length-after_effect : (effect : Effect) (all : List Progress) → length (after_effect effect all) ≡ length all
 length-after_effect (Write at block) all = length-written_at all at block
 length-after_effect Sync all = length-map all synced

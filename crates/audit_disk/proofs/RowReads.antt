@@ -23,7 +23,7 @@ only_none file = record {
   same = λ honest. refl;
 }
 
--- one read more
+-- one more read
 pub only_then : {E : Type 0} {old mid new : FileView} {offset : ℕ} {into : Sector} {result : Result (Unit {0}) E} → OnlyFileReads old mid → IsFileRead mid new offset into result → OnlyFileReads old new
 only_then {E = E} {old = old} {mid = mid} {new = new} {result = result} first read = record {
   goes_on = record {
@@ -51,7 +51,7 @@ row_none {E = E} file offset sectors = record {
 }
 
 module _ {E : Type 0} {old mid new : FileView} {offset count next : ℕ} {sectors : Image} {bytes : Sector} (row : IsRowRead {E = E} old mid offset count sectors (Ok tt)) (here : next ≡ offset + SECTOR_SIZE * count) where
-  -- a sector more
+  -- one more sector
   pub row_next : {done : Unit {0}} → IsFileRead {E = E} mid new next bytes (Ok done) → count < length sectors → IsRowRead {E = E} old new offset (count + 1) (set sectors count bytes) (Ok tt)
   row_next read lt = record {
     only = only_then row.only read;
@@ -94,7 +94,7 @@ module _ {E : Type 0} {old mid new : FileView} {offset count next : ℕ} {sector
         read.still_given other given (λ same. apart count lt (same ∙ here)) (row.still_given other given (λ at less. apart at (omega (arith, less, lt))) was);
   }
 
--- a read of the sector alone, after other reads
+-- a read of one sector alone, after other reads
 pub through_alone : {E : Type 0} {old mid new : FileView} {offset : ℕ} {into : Sector} {result : Result (Unit {0}) E} → OnlyFileReads old mid → IsFileRead mid new offset into result
     → IsReadThrough old new offset into result
 through_alone {E = E} {old = old} {mid = mid} {new = new} {offset = offset} {into = into} {result = result} first read = record {
@@ -108,7 +108,7 @@ through_alone {E = E} {old = old} {mid = mid} {new = new} {offset = offset} {int
     fault (Ok done) counts = tt
     fault (Err failed) counts = omega (arith, first.failures, counts)
 
--- the sector was read before
+-- the sector was read ahead
 pub through_row : {E : Type 0} {old new : FileView} {start held offset place : ℕ} {row : Image} → OnlyFileReads old new → HasRow new start held row → StandsAt start held offset place
     → IsReadThrough {E = E} old new offset (sector_at row place) (Ok tt)
 through_row {E = E} {old = old} {new = new} {offset = offset} {place = place} {row = row} only has stands = record {
@@ -127,7 +127,7 @@ through_row {E = E} {old = old} {new = new} {offset = offset} {place = place} {r
 pub row_dropped : (file : FileView) (start : ℕ) (row : Image) → HasRow file start 0 row
 row_dropped file start row = record { given = λ at lt. absurd (omega arith); found = λ honest at lt. absurd (omega arith) }
 
--- with other sectors after
+-- the row, with more sectors after it
 pub row_in : {file : FileView} {start count : ℕ} {row : Image} (rest : Image) → HasRow file start count row → count ≤ length row → HasRow file start count (row ++ rest)
 row_in {file = file} {start = start} {row = row} rest has le = record {
   given = λ at lt. subst (λ (sector : Sector). file.gave (start + SECTOR_SIZE * at) sector) (sym (get_or_append_left row rest [] at (omega arith))) (has.given at lt);

@@ -14,7 +14,7 @@ use Rattle.audit_base.specs.declared.limits.TheConstants.{SECTOR_SIZE}
 abbrev pub Outcome : Type 0
 Outcome = Result (Unit {0}) DeviceFault
 
--- an earlier moment of the file keeps what it left
+-- what an earlier moment of the file leaves stays
 pub left_kept : (old new : FileView) (sectors start moment : ℕ) (row : List Sector) (image : Image) → FileContinues old new → moment ≤ old.moment → LeftWithRow old sectors moment start row image
     → LeftWithRow new sectors moment start row image
 left_kept old new sectors start moment row image goes_on le left = (goes_on.honest left.0, (left.1.0, goes_on.kept left.0 moment left.1.0 le left.1.1, left.1.2))
@@ -24,7 +24,7 @@ pub left_no_other : (old new : FileView) (sectors start moment : ℕ) (row : Lis
 left_no_other old new sectors start moment row image goes_on le left =
     let was = goes_on.was_honest left.0 in (was, (left.1.0, goes_on.no_other was moment left.1.0 le left.1.1, left.1.2))
 
--- where nothing is kept it doesn't matter from where on
+-- if nothing is kept, its place doesn't matter
 pub left_nothing : (file : FileView) (sectors start start' moment : ℕ) (image : Image) → LeftWithRow file sectors moment start [] image → LeftWithRow file sectors moment start' [] image
 left_nothing file sectors start start' moment image left =
     (left.0, (left.1.0, left.1.1, nothing_row start' (sectors_of sectors left.1.0) image (row_nothing start (sectors_of sectors left.1.0) image left.1.2)))
@@ -35,7 +35,7 @@ pub left_at_same : (file : FileView) (sectors start : ℕ) (image : Image) (mome
 left_at_same file sectors start image moment moment' row row' same same_row left =
     subst (λ (r : List Sector). LeftWithRow file sectors moment' start r image) same_row (subst (λ (m : ℕ). LeftWithRow file sectors m start row image) same left)
 
--- The row was handed over, some of its sectors written.
+-- The row was handed over, and some of its sectors were written.
 pub record IsTried (old new : FileView) (sectors start : ℕ) (row : List Sector) : Type 0 where
   pub goes_on : FileContinues old new
   pub later : old.honest → old.moment ≤ new.moment
@@ -59,14 +59,14 @@ bytes_some (Err fault) write honest = write.stands_err honest
 
 module _ (old mid new : FileView) (sectors start offset : ℕ) (row : List Sector) (here : offset ≡ SECTOR_SIZE * start) (sized : old.honest → SECTOR_SIZE * sectors ≤ length old.bytes)
     (within : old.honest → SECTOR_SIZE * (start + length row) ≤ length old.bytes) (whole : IsWholeRow row) (tried : IsTried old mid sectors start row) where
-  -- what was left before is long enough
+  -- the file is long enough for the row
   long : (honest : old.honest) (file : List ℕ) → mid.left_at mid.moment file → length file ≡ length old.bytes
   long honest file left = mid.same_length (tried.goes_on.honest honest) mid.moment file left ∙ same_length_after tried.goes_on honest
 
   fits : (honest : old.honest) (file : List ℕ) → length file ≡ length old.bytes → (new_file : List ℕ) → SomeWritten file offset row new_file → MayHaveRow start row (sectors_of sectors file) (sectors_of sectors new_file)
   fits honest file same new_file some = row_of_some sectors start offset row file new_file here (omega (arith, same, sized honest)) (omega (arith, same, within honest)) whole some
 
-  -- once more
+  -- a second try
   pub tried_again : {result : Outcome} → IsRowWrite {E = DeviceFault} mid new offset row result → IsTried old new sectors start row
   tried_again {result = result} write = record {
     goes_on = goes_then tried.goes_on write.goes_on tried.later;
@@ -81,7 +81,7 @@ module _ (old mid new : FileView) (sectors start offset : ℕ) (row : List Secto
         (fits honest mid.bytes (same_length_after tried.goes_on honest) new.bytes (bytes_some result write (tried.goes_on.honest honest)));
   }
 
-  -- it succeeded: the file has what the device had
+  -- the try succeeded: the file has what the device had
   module _ (start' : ℕ) {done : Unit {0}} (write : IsRowWrite {E = DeviceFault} mid new offset row (Ok done)) where
     pub row_reached : (image : Image) → LeftWithRow old sectors old.moment start row image → LeftWithRow new sectors new.moment start' [] image
     row_reached image left =
@@ -107,7 +107,7 @@ module _ (old mid new : FileView) (sectors start offset : ℕ) (row : List Secto
         ∙ sectors_of-overlaid_row sectors start offset row mid.bytes here (omega (arith, same, sized honest)) (omega (arith, same, within honest)) whole
         ∙ with_row-over start row (sectors_of sectors old.bytes) (sectors_of sectors mid.bytes) (tried.bytes honest)
 
--- it failed: what a crash leaves of the device stays
+-- the try failed: what a crash leaves of the device stays
 pub row_lost : {old new : FileView} {sectors start : ℕ} {row : List Sector} → IsTried old new sectors start row → (image : Image) → LeftWithRow old sectors old.moment start row image → LeftWithRow new sectors new.moment start row image
 row_lost tried image left = (tried.goes_on.honest left.0, (left.1.0, tried.unwritten left.0 left.1.0 left.1.1, left.1.2))
 
@@ -122,7 +122,7 @@ pub row_lost_content : {old new : FileView} {sectors start : ℕ} {row : List Se
     → with_row (sectors_of sectors new.bytes) start row ≡ with_row (sectors_of sectors old.bytes) start row
 row_lost_content {old = old} {new = new} {sectors = sectors} {start = start} {row = row} tried honest = with_row-over start row (sectors_of sectors old.bytes) (sectors_of sectors new.bytes) (tried.bytes honest)
 
--- a row that succeeded at once: each moment of the file has what the device had with fewer sectors
+-- a row that succeeded at once: at each of its moments the file has what the device had with fewer sectors
 module _ (old new : FileView) (sectors start start' offset : ℕ) (row : List Sector) (here : offset ≡ SECTOR_SIZE * start) (sized : old.honest → SECTOR_SIZE * sectors ≤ length old.bytes)
     (within : old.honest → SECTOR_SIZE * (start + length row) ≤ length old.bytes) (whole : IsWholeRow row) {done : Unit {0}} (write : IsRowWrite {E = DeviceFault} old new offset row (Ok done)) where
   pub each_reached : (count : ℕ) (image : Image) → count ≤ length row → old.moment + length row ≤ last_count → LeftWithRow old sectors old.moment start (take count row) image
@@ -149,7 +149,7 @@ module _ (old new : FileView) (sectors start start' offset : ℕ) (row : List Se
         ),
       )
 
--- the file's moments, and what is kept
+-- the file's moments, and the kept sectors
 pub moment_below : (base split reached now at : ℕ) → at < split → file_moment base split reached now at ≡ min at base
 moment_below base split reached now at lt = sym (cond_below at split (min at base) (now - (reached - at)) lt)
 
@@ -162,7 +162,7 @@ row_below base split at kept active lt = sym (cond_below at split (take (at - ba
 pub row_above : (base split at : ℕ) (kept active : List Sector) → split ≤ at → row_at base split kept active at ≡ active
 row_above base split at kept active le = sym (cond_above at split (take (at - base) kept) active active le refl)
 
--- while rows are kept, up to the clock
+-- while rows are kept, up to the current clock
 pub moment_rows : (base split reached now at : ℕ) → at ≤ reached → split ≡ reached → now ≡ base → base ≤ split → file_moment base split reached now (min at reached) ≡ min at base
 moment_rows base split reached now at le same here in_order =
     ⊎_elim

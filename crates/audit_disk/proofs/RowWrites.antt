@@ -13,12 +13,12 @@ pub some_none : (file : List ℕ) (offset : ℕ) (row : List Sector) → SomeWri
 some_none file offset [] = refl
 some_none file offset (bytes ∷ row) = inl (some_none file (offset + SECTOR_SIZE) row)
 
--- all of them are
+-- all of the sectors are written
 pub some_all : (file : List ℕ) (offset : ℕ) (row : List Sector) → SomeWritten file offset row (overlaid_row file offset row)
 some_all file offset [] = refl
 some_all file offset (bytes ∷ row) = inr (some_all (overlaid file offset bytes) (offset + SECTOR_SIZE) row)
 
--- one sector more, which isn't written or is
+-- one more sector, which is written or not
 pub some_push_old : (file : List ℕ) (offset : ℕ) (row : List Sector) (bytes : Sector) (new : List ℕ) → SomeWritten file offset row new → SomeWritten file offset (row ++ bytes ∷ []) new
 some_push_old file offset [] bytes new some = inl some
 some_push_old file offset (first ∷ row) bytes new some =
@@ -38,7 +38,7 @@ some_push_new file offset (first ∷ row) bytes new next here some =
     (λ (over : SomeWritten (overlaid file offset first) (offset + SECTOR_SIZE) row new). inr (some_push_new (overlaid file offset first) (offset + SECTOR_SIZE) row bytes new next (omega arith) over))
     some
 
--- the last sector isn't written, or it is
+-- the last sector is written or not
 pub some_pop : (file : List ℕ) (offset : ℕ) (row : List Sector) (bytes : Sector) (new : List ℕ) (next : ℕ) → next ≡ offset + SECTOR_SIZE * length row → SomeWritten file offset (row ++ bytes ∷ []) new
     → SomeWritten file offset row new ⊎ ((before : List ℕ) × SomeWritten file offset row before × (new ≡ overlaid before next bytes))
 some_pop file offset [] bytes new next here some =
@@ -66,7 +66,7 @@ pub overlaid_row-push : (file : List ℕ) (offset : ℕ) (row : List Sector) (by
 overlaid_row-push file offset [] bytes next here = let there : offset ≡ next = omega arith in ap (λ (n : ℕ). overlaid file n bytes) there
 overlaid_row-push file offset (first ∷ row) bytes next here = overlaid_row-push (overlaid file offset first) (offset + SECTOR_SIZE) row bytes next (omega arith)
 
--- calls, and then others
+-- some calls, followed by others
 pub goes_then : {old mid new : FileView} → FileContinues old mid → FileContinues mid new → (old.honest → old.moment ≤ mid.moment) → FileContinues old new
 goes_then first next later = record {
   honest = λ honest. next.honest (first.honest honest);
@@ -108,7 +108,7 @@ module _ {E : Type 0} (old mid new : FileView) (offset next : ℕ) (row : List S
   whole : (count : ℕ) → count ≡ length row + 1 → take count (row ++ bytes ∷ []) ≡ row ++ bytes ∷ []
   whole count all = take_all count (row ++ bytes ∷ []) (omega (arith, long))
 
-  -- what reads then return
+  -- what reads return afterwards
   mid_some : old.honest → SomeWritten old.bytes offset row mid.bytes
   mid_some honest = by_result before (first.stands honest) (first.stands_err honest)
     where
@@ -164,7 +164,7 @@ module _ {E : Type 0} (old mid new : FileView) (offset next : ℕ) (row : List S
       counts (Ok done) one two = omega (arith, one, two)
       counts (Err failed) one two = omega (arith, one, two)
 
-  -- it succeeded
+  -- the write of the next sector succeeded
   pub row_push_done : {done : Unit {0}} → IsFileWrite {E = E} mid new next bytes (Ok done) → IsRowWrite {E = E} old new offset (row ++ bytes ∷ []) before
   row_push_done write = record {
     goes_on = goes write;
@@ -237,7 +237,7 @@ module _ {E : Type 0} (old mid new : FileView) (offset next : ℕ) (row : List S
           (may.0, may.1, subst (λ (r : List Sector). SomeWritten may.0 offset r file) (sym (whole count end)) may.2))
           (cases_lt count (length row + 1))
 
-  -- the same, by its result
+  -- the failure, by the result of the call
   pub row_failed_by : (result : Result (Unit {0}) E) (error : E) → is_err result ≡ true → IsFileWrite {E = E} mid new next bytes result → IsRowWrite {E = E} old new offset (row ++ bytes ∷ []) (Err error)
   row_failed_by (Ok done) error failed write = absurd (false≢true failed)
   row_failed_by (Err fault) error failed write = row_push_failed write
@@ -279,12 +279,12 @@ write_of_one {E = E} {old = old} {new = new} {offset = offset} {bytes = bytes} r
     written (Ok done) all = λ file left. all (overlaid file offset bytes) (file, left, inr refl)
     written (Err fault) all = tt
 
--- the file keeps its length
+-- the length of the file doesn't change
 pub same_length_after : {old new : FileView} → FileContinues old new → old.honest → length new.bytes ≡ length old.bytes
 same_length_after {old = old} {new = new} goes_on honest =
     sym (new.same_length (goes_on.honest honest) old.moment old.bytes (goes_on.kept honest old.moment old.bytes (omega arith) (old.bytes_left honest)))
 
--- the next sector of a row stands in the file
+-- the next sector of a row is within the file
 pub next_offset : {E : Type 0} {old mid : FileView} {offset count next : ℕ} {row : List Sector} {before : Result (Unit {0}) E} → IsRowOffset old offset count → IsRowWrite {E = E} old mid offset row before
     → next ≡ offset + SECTOR_SIZE * length row → length row < count → IsSectorOffset mid next
 next_offset offset first here lt = record {

@@ -159,7 +159,7 @@ module _ (inner : View) (place place' missed missed' refused refused' : ℕ) (in
         at_end = λ end. refl;
       }
 
--- a call more is missed, and no earlier moment is another one
+-- one more call is missed, and earlier moments stay
 pub missed_more : (place missed clock moment : ℕ) → MayMiss place missed clock → moment ≤ clock + missed → inner_moment clock (missed + 1) moment ≡ inner_moment place missed moment
 missed_more place missed clock moment may le =
     ⊎_elim

@@ -117,7 +117,7 @@ pub record IsFileWrite {E : Type 0} (old new : FileView) (offset : ℕ) (bytes :
       → OnOk result ((file : List ℕ) → old.left_at old.moment file
       → new.left_at new.moment (overlaid file offset bytes))
 
--- a crash may leave these bytes of what it may leave of the file now, some of the row's sectors written
+-- a crash may leave one of these contents: a possible content of the file now, with some of the row's sectors written
 abbrev pub MayLeaveRow : FileView → ℕ → List Sector → List ℕ → Type 0
 MayLeaveRow file offset row bytes = (before : List ℕ) × file.left_at file.moment before
     × SomeWritten before offset row bytes
@@ -135,7 +135,7 @@ pub record IsRowWrite {E : Type 0} (old new : FileView) (offset : ℕ) (row : Li
   pub images : old.honest → (file : List ℕ) → new.left_at new.moment file → MayLeaveRow old offset row file
   pub unwritten : old.honest → (file : List ℕ) → old.left_at old.moment file → new.left_at new.moment file
   pub pending : old.honest → OnOk result ((file : List ℕ) → MayLeaveRow old offset row file → new.left_at new.moment file)
-  -- of a row that succeeded: at each moment some of the sectors before are written, and nothing else
+  -- if the row succeeded: at each moment some of the sectors so far are written, and nothing else
   pub written : old.honest → old.moment + length row ≤ last_count
       → OnOk result ((count : ℕ) (file : List ℕ) → count ≤ length row → MayLeaveRow old offset (take count row) file
       → new.left_at (old.moment + count) file)

@@ -48,7 +48,7 @@ module _ {F : Type 0} {g : files.Ghosts F} where
   abbrev pub file_of : FileDisk F g → FileView
   file_of disk = g.file disk.file.inner
 
-  -- what was written and the file hasn't got yet
+  -- what was written and the file doesn't have yet
   abbrev pub waiting : FileDisk F g → List Sector
   waiting disk = active_row disk.single_from (kept_sectors disk.kept)
 
@@ -64,7 +64,7 @@ module _ {F : Type 0} {g : files.Ghosts F} where
   abbrev pub end_of : FileDisk F g → ℕ
   end_of disk = end_from disk.single_from
 
-  -- a sync or a row has failed, or a call was refused at the end of the clock
+  -- a sync or a row failed, or a call was refused at the end of the clock
   abbrev pub has_stopped : FileDisk F g → Bool
   has_stopped disk = is_some disk.failed_at
 
@@ -73,7 +73,7 @@ module _ {F : Type 0} {g : files.Ghosts F} where
     pub working : has_stopped disk ≡ false
     pub below_end : (file_disk_view disk).clock < end_of disk
 
-  -- it doesn't, because a sync or a row has failed or the clock is at its end
+  -- no call reaches the file any more, because a sync or a row failed or the clock is at its end
   abbrev pub IsShut : FileDisk F g → Type 0
   IsShut disk = (has_stopped disk ≡ true) ⊎ (end_of disk ≤ (file_disk_view disk).clock)
 

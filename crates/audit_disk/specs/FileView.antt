@@ -30,13 +30,13 @@ abbrev pub with_row : Image → ℕ → List Sector → Image
 with_row image at [] = image
 with_row image at (bytes ∷ row) = with_row (with_sector image at bytes) (at + 1) row
 
--- sector k is in the row, and has these bytes there
+-- sector k is in the row with these bytes
 pub record StandsInRow (at : ℕ) (row : List Sector) (k : ℕ) (bytes : Sector) : Type 0 where
   pub from : at ≤ k
   pub to : k < at + length row
   pub is : bytes ≡ sector_at row (k - at)
 
--- each sector for itself is the old one, or the row's
+-- each sector independently is the old one or the row's
 pub record MayHaveRow (at : ℕ) (row : List Sector) (old new : Image) : Type 0 where
   pub sectors : length new ≡ length old
   pub each : (k : ℕ) → (sector_at new k ≡ sector_at old k) ⊎ StandsInRow at row k (sector_at new k)
@@ -45,14 +45,14 @@ pub record MayHaveRow (at : ℕ) (row : List Sector) (old new : Image) : Type 0 
 pub record IsWholeRow (row : List Sector) : Type 0 where
   pub each : (k : ℕ) → k < length row → length (sector_at row k) ≡ SECTOR_SIZE
 
--- a crash leaves the first sectors of what it may leave of the file at this moment, each of those that are kept from
--- `start` on written or not
+-- a crash leaves the first sectors of a content that it may leave of the file at this moment; of the sectors kept from
+-- `start` on, each is written or not
 abbrev pub LeftWithRow : FileView → ℕ → ℕ → ℕ → List Sector → Image → Type 0
 LeftWithRow file sectors moment start row image = file.honest
     × ((bytes : List ℕ) × file.left_at moment bytes × MayHaveRow start row (sectors_of sectors bytes) image)
 
--- The file's moment at this moment of the clock. Up to `split` the clock counts what the file had up to `base`, and
--- then kept writes. From there on both advance together, up to the last call that reached the file.
+-- The file's moment at this moment of the clock. Up to `split` the clock counts the calls that the file had made at
+-- `base`, and then kept writes. From there on both advance together, up to the last call that reached the file.
 abbrev pub file_moment : (base split reached now : ℕ) → ℕ → ℕ
 file_moment base split reached now at = cond (nat_lt at split) (min at base) (now - (reached - at))
 
@@ -60,7 +60,7 @@ file_moment base split reached now at = cond (nat_lt at split) (min at base) (no
 abbrev pub row_at : (base split : ℕ) (kept active : List Sector) → ℕ → List Sector
 row_at base split kept active at = cond (nat_lt at split) (take (at - base) kept) active
 
--- what the file hasn't got yet: nothing once each write is made by itself
+-- what the file doesn't have yet: nothing once each write is made by itself
 abbrev pub active_row : Option ℕ → List Sector → List Sector
 active_row None kept = kept
 active_row (Some from) kept = []
@@ -85,7 +85,7 @@ length-with_row image at [] = refl
 length-with_row image at (bytes ∷ row) = length-with_row (with_sector image at bytes) (at + 1) row
     ∙ length-set image at bytes
 
--- one sector, and then those after it
+-- one sector, followed by the others
 pub row_cons : (at : ℕ) (bytes : Sector) (row : List Sector) (old new : Image)
     → MayHaveRow (at + 1) row (with_sector old at bytes) new → MayHaveRow at (bytes ∷ row) old new
 row_cons at bytes row old new may = record { sectors = may.sectors ∙ length-set old at bytes; each = each }
@@ -123,15 +123,15 @@ row_cons at bytes row old new may = record { sectors = may.sectors ∙ length-se
         }))
         (may.each k)
 
--- all of them
+-- writing all sectors of the row
 pub with_row_is : (image : Image) (at : ℕ) (row : List Sector) → MayHaveRow at row image (with_row image at row)
 with_row_is image at [] = record { sectors = refl; each = λ k. inl refl }
 with_row_is image at (bytes ∷ row) =
     row_cons at bytes row image (with_row (with_sector image at bytes) (at + 1) row)
     (with_row_is (with_sector image at bytes) (at + 1) row)
 
--- The device of the first sectors of a file that hasn't got the row yet: its moment, and what is kept, at each moment
--- of the clock.
+-- The device of the first sectors of a file that doesn't have the row yet: its moment and the kept sectors, at each
+-- moment of the clock.
 abbrev pub row_view : (file : FileView) (sectors start : ℕ) (moment_of : ℕ → ℕ) (row_of : ℕ → List Sector)
     (clock failures : ℕ) → sectors < 2 ^ 64 → clock < 2 ^ 64 → moment_of clock ≡ file.moment
     → ((at : ℕ) → IsWholeRow (row_of at)) → (file.honest → SECTOR_SIZE * sectors ≤ length file.bytes) → View
@@ -188,7 +188,7 @@ pub whole_active : (from : Option ℕ) (kept : List Sector) → IsWholeRow kept 
 whole_active None kept whole = whole
 whole_active (Some from) kept whole = whole_none
 
--- the device whose calls up to the clock `reached` the file or its row has got
+-- the device whose calls up to the clock `reached` are in the file or in its row
 abbrev pub file_view : (file : FileView) (sectors start : ℕ) (kept active : List Sector)
     (base split reached clock failures : ℕ) → sectors < 2 ^ 64 → clock < 2 ^ 64 → split ≤ reached → reached ≤ clock
     → IsWholeRow kept → IsWholeRow active → (file.honest → SECTOR_SIZE * sectors ≤ length file.bytes) → View
@@ -199,7 +199,7 @@ file_view file sectors start kept active base split reached clock failures fits 
     (moment_now base split reached file.moment clock in_order le)
     (λ at. whole_rows base split kept active whole whole_now (min at reached)) sized
 
--- Something was done below the device: it looks the same, now and at each earlier moment.
+-- Something happened below the device: it looks the same, now and at each earlier moment.
 pub record IsSameDevice (old new : View) : Type 0 where
   pub continues : Continues old new
   pub clock : new.clock ≡ old.clock

@@ -9,7 +9,7 @@ module _ {D : Type 0} {g : sectors.Ghosts D} where
   abbrev pub gate_view : Gate D g → View
   gate_view gate = shifted (g.view gate.inner) gate.place gate.missed gate.refused gate.in_step gate.fits
 
-  -- the next call may be missed
+  -- the gate may miss the next call
   abbrev pub MayShut : Gate D g → Type 0
   MayShut gate = MayMiss gate.place gate.missed (g.view gate.inner).clock
 

@@ -35,7 +35,7 @@ abbrev pub latest : List Call → ℕ
 latest [] = 0
 latest (call ∷ calls) = max call.moment (latest calls)
 
--- if no call is later than a moment, the calls up to it are all calls
+-- if no call is later than a moment, the calls up to the moment are all calls
 pub calls_until_all : (calls : List Call) (moment : ℕ) → latest calls ≤ moment → calls_until moment calls ≡ calls
 calls_until_all [] moment le = refl
 calls_until_all (call ∷ calls) moment le =

@@ -4,7 +4,7 @@ use Rattle.audit_disk.specs.File.{FileView}
 use Rattle.audit_disk.specs.Positioned.{counted_file, unknown_positioned}
 use Rattle.audit_disk.specs.declared.os_file.OsFile.{OsFile}
 
--- It isn't known to be honest, so clauses about honest files hold only if that is assumed.
+-- The file isn't known to be honest, so clauses about honest files hold only if honesty is assumed.
 abbrev pub unknown_file : ℕ → FileView
 unknown_file failures = counted_file unknown_positioned failures
 

@@ -45,7 +45,7 @@ uncounted file = record {
   same_length = file.same_length;
 }
 
--- A file of which nothing is known, so clauses about honest files hold only if that is assumed.
+-- A file of which nothing is known, so clauses about honest files hold only if honesty is assumed.
 abbrev pub unknown_positioned : PositionedView
 unknown_positioned = record {
   bytes = [];

@@ -21,8 +21,8 @@ const LAST_SINGLE: u64 = u64::MAX - ROW_SECTORS as u64;
 /// Consecutive writes are kept, and handed to the file as one row of up to 64 KiB: before a sync, before a read of a
 /// sector that is kept, before a write elsewhere, and when the row is full. Sectors 0 and 1, a store's headers, are
 /// written at once. A row that fails is written again sector by sector, and from then on every write is made by itself
-/// and returns the file's result. A kept write is Ok before the file has it, so its failure is returned by the call that
-/// hands over the row. Dropping the device loses what it keeps: no sync has confirmed it.
+/// and returns the file's result. A kept write is Ok before the file has it, so its failure is returned by the call
+/// that hands over the row. Dropping the device loses what it keeps: no sync has confirmed it.
 ///
 /// After a failed sync, and after a row that failed sector by sector too, every call fails, is counted, and doesn't
 /// reach the file: the operating system may have dropped what was written, and let the next sync succeed.
@@ -34,7 +34,7 @@ pub struct FileDisk<F: SectorFile> {
     failures: u64,
     /// The clock after the first failed sync, or before the call whose row failed.
     failed_at: Option<u64>,
-    /// What the file hasn't got yet; after a row that failed, that row.
+    /// What the file doesn't have yet; after a row that failed, that row.
     kept: KeptRow,
     /// The clock at which a row had failed and was written sector by sector.
     single_from: Option<u64>,
@@ -76,7 +76,7 @@ impl<F: SectorFile> FileDisk<F> {
         Ok(FileDisk::with_rows(file, sectors, row, kept))
     }
 
-    /// The same, with memory that is already allocated.
+    /// Makes a device as `over` does, in memory that is already allocated.
     pub(crate) fn with_rows(
         file: F,
         sectors: u64,
@@ -106,8 +106,8 @@ impl<F: SectorFile> FileDisk<F> {
         self.file.inner
     }
 
-    /// Returns a device of the first `sectors` sectors of the same file. The clock, the count of failures, the file and
-    /// what is kept are unchanged, and after a failed sync every call still fails.
+    /// Returns a device of the first `sectors` sectors of the same file. The clock, the count of failures, the file
+    /// and what is kept are unchanged, and after a failed sync every call still fails.
     pub fn with_sectors(self, sectors: u64) -> Self
         requires { sectors ≤ (file_disk_view self).size }
         ensures front { IsFrontOf (file_disk_view result) (file_disk_view self) sectors }
@@ -217,7 +217,7 @@ impl<F: SectorFile> FileDisk<F> {
         self.clock += 1;
     }
 
-    /// Writes a sector to the file, where nothing is kept.
+    /// Writes a sector to the file. The row must be empty.
     fn write_alone(&mut self, at: u64, bytes: &[u8; SECTOR_SIZE]) -> Result<(), DeviceFault>
         requires within { at < (file_disk_view self.old).size }
         requires passes { PassesCalls self.old }
@@ -231,7 +231,7 @@ impl<F: SectorFile> FileDisk<F> {
         counted(outcome, &mut self.failures)
     }
 
-    /// Syncs the file, where nothing is kept. After an error every call fails.
+    /// Syncs the file. The row must be empty. After an error every call fails.
     fn sync_alone(&mut self) -> Result<(), DeviceFault>
         requires passes { PassesCalls self.old }
         requires none { waiting self.old ≡ [] }

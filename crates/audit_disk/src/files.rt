@@ -41,8 +41,8 @@ impl<F: SystemFile> FileDisk<OsFile<F>> {
         FileDisk::create_with_mode(rt, alloc, path, sectors, OWNER_ONLY)
     }
 
-    /// The same, with the permission bits `mode`, for example `0o640`. The file is created for its owner only, and
-    /// then given its mode. If the mode can't be set, that is a fault and the file is removed.
+    /// Creates a file as `create` does, with the permission bits `mode`, for example `0o640`. The file is created for
+    /// its owner only, and then given its mode. If the mode can't be set, that is a fault and the file is removed.
     pub fn create_with_mode<R: Files<File = F>>(
         rt: &R,
         alloc: Global,

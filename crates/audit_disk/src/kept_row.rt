@@ -7,8 +7,8 @@ use crate::SECTOR_SIZE;
 use crate::read_ahead::{ROW_SECTORS, new_row};
 use std::alloc::{AllocError, Global};
 
-/// The first sector that is kept. Those before it are a store's headers, which contain its key. They are always written
-/// at once, so that no key remains in the row.
+/// The first sector that is kept. Those before it are a store's headers, which contain its key. They are always
+/// written at once, so that no key remains in the row.
 pub(crate) const KEPT_FROM: u64 = 2;
 
 /// Consecutive sectors that were written to a device and not yet to its file.
@@ -40,7 +40,7 @@ impl KeptRow {
         })
     }
 
-    /// Whether a write of the sector `at` can be kept after those that are.
+    /// Whether a write of the sector `at` can be kept after the row.
     pub(crate) fn takes(&self, at: u64) -> bool
         ensures { IsTrue result → TakesSector self.now at }
     {
@@ -76,7 +76,7 @@ impl KeptRow {
         &self.row[..self.count]
     }
 
-    /// Keeps nothing any more.
+    /// Drops the kept sectors.
     pub(crate) fn clear(&mut self)
         ensures start { self.new.start ≡ self.old.start }
         ensures count { self.new.count ≡ 0 }

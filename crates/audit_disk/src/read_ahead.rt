@@ -139,7 +139,7 @@ impl<F: SectorFile> ReadAhead<F> {
         self.inner.write_row(offset, sectors)
     }
 
-    /// The same, in one call for each sector.
+    /// Drops the row and writes consecutive sectors, in one call for each.
     pub(crate) fn write_each(
         &mut self,
         offset: u64,

@@ -30,8 +30,8 @@ pub trait SectorFile {
         requires { IsSectorOffset (file self.old) offset }
         ensures { IsFileWrite (file self.old) (file self.new) offset bytes.now result };
 
-    /// Writes consecutive sectors that start at `offset`. This counts as one write for each. After a fault each of them
-    /// may or may not be written.
+    /// Writes consecutive sectors that start at `offset`. This counts as one write for each. After a fault each of
+    /// them may or may not be written.
     fn write_row(&mut self, offset: u64, row: &[[u8; SECTOR_SIZE]]) -> Result<(), DeviceFault>
         requires { IsRowOffset (file self.old) offset (length row.now) }
         ensures { IsRowWrite (file self.old) (file self.new) offset row.now result }

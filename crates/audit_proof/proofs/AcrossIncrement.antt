@@ -12,13 +12,13 @@ use Rattle.audit_proof.specs.Climb.{Climbed, climb, one_value, whole}
 use Rattle.audit_proof.specs.SharedNode.{IsShared, IsSharedByBoth, climbed_both}
 use Rattle.audit_proof.proofs.SharedNodes.{go_on, same_reached, climb-through}
 
--- if all hashes are used, none is left
+-- if a climb uses all hashes, none is left over
 whole-some : {V : Type 0} (climbed : Climbed V) (value : V) → whole climbed ≡ Some value → climbed ≡ Some (value, [])
 whole-some None value h = absurd (cc h)
 whole-some (Some (top, [])) value h = ap (λ v. Some (v, [])) (let e : top ≡ value = cc h in e)
 whole-some (Some (top, hash ∷ rest)) value h = absurd (cc h)
 
--- an older tree isn't deeper
+-- an older tree is no deeper than a newer one
 pub shallower : (older newer : ℕ) → older ≤ newer → depth older ≤ depth newer
 shallower older newer order = depth-least older (depth newer) (omega (arith, depth-room newer))
 
@@ -72,7 +72,7 @@ module _ (H : List ℕ → List ℕ) (commitment : Commitment) (index layer : �
   unfolding go_on
   climb-above value rest h = sym (ap (go_on (one_value H) layer (depth commitment.count - layer) index commitment.count) h) ∙ through
 
-  -- and it does reach that node
+  -- an accepted membership reaches that node
   pub climb-below : climb (one_value H) 0 layer (index % 2 ^ layer) (2 ^ layer) leaf hashes ≡ None → ⊥
   unfolding go_on
   climb-below h =

@@ -10,7 +10,7 @@ module _ {V : Type 0} (steps : Steps V) (from : ℕ) where
   unfolding climb
   climb-none place count value hashes = refl
 
-  -- in the left half of a node that has leaves there alone
+  -- through the left half of a node whose right half has no leaves
   pub climb-alone : (height place count : ℕ) (value : V) (hashes : List (List ℕ)) →
       place < 2 ^ (from + height) → count ≤ 2 ^ (from + height) →
       climb steps from (suc height) place count value hashes
@@ -19,7 +19,7 @@ module _ {V : Type 0} (steps : Steps V) (from : ℕ) where
   climb-alone height place count value hashes h last =
       cond-lt place (2 ^ (from + height)) _ _ h ∙ cond-le count (2 ^ (from + height)) _ _ last
 
-  -- in the left half of a node that has leaves in both
+  -- through the left half of a node with leaves in both halves
   pub climb-right : (height place count : ℕ) (value : V) (hashes : List (List ℕ)) →
       place < 2 ^ (from + height) → 2 ^ (from + height) < count →
       climb steps from (suc height) place count value hashes
@@ -28,7 +28,7 @@ module _ {V : Type 0} (steps : Steps V) (from : ℕ) where
   climb-right height place count value hashes h more =
       cond-lt place (2 ^ (from + height)) _ _ h ∙ cond-gt count (2 ^ (from + height)) _ _ more
 
-  -- in the right half
+  -- through the right half
   pub climb-left : (height place count : ℕ) (value : V) (hashes : List (List ℕ)) →
       2 ^ (from + height) ≤ place →
       climb steps from (suc height) place count value hashes
@@ -37,7 +37,7 @@ module _ {V : Type 0} (steps : Steps V) (from : ℕ) where
   unfolding climb
   climb-left height place count value hashes h = cond-ge place (2 ^ (from + height)) _ _ h
 
-  -- nothing is reached higher up if nothing was in the left half
+  -- if nothing is reached in the left half, nothing is reached above it
   pub climb-lost : (height place count : ℕ) (value : V) (hashes : List (List ℕ)) →
       place < 2 ^ (from + height) → climb steps from height place count value hashes ≡ None →
       climb steps from (suc height) place count value hashes ≡ None

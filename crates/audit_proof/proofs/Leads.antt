@@ -10,7 +10,7 @@ use Rattle.audit_proof.specs.Climb.{Climbed, Steps, climb, one_value, up_alone, 
 use Rattle.audit_proof.specs.Acceptance.{AcceptsLeaf, LeadsUp}
 use Rattle.audit_proof.proofs.ClimbLemmas.{climb-none, climb-alone, climb-right, climb-left}
 
--- the hashes that a climb leaves
+-- the hashes that a climb leaves over
 abbrev left_by : {V : Type 0} → Climbed V → Option (List (List ℕ))
 left_by None = None
 left_by (Some (value, rest)) = Some rest
@@ -30,7 +30,7 @@ left-with step (Some (v, [])) (Some (w, y ∷ s)) same = absurd (cc same)
 left-with step (Some (v, x ∷ r)) (Some (w, [])) same = absurd (cc same)
 left-with step (Some (v, x ∷ r)) (Some (w, y ∷ s)) same = cc
 
--- it leaves the same from every value
+-- a climb leaves the same hashes over from every value
 left_alike : {V : Type 0} (steps : Steps V) (from height place count : ℕ) (v w : V) (hashes : List (List ℕ))
     → left_by (climb steps from height place count v hashes) ≡ left_by (climb steps from height place count w hashes)
 left_alike steps from zero place count v w hashes =
@@ -55,7 +55,7 @@ left_alike steps from (suc height) place count v w hashes =
           ]
     ]
 
--- if one climb uses all hashes, so does one that leaves the same
+-- if one climb uses all hashes, so does every climb that leaves the same over
 record IsWhole {V : Type 0} (climbed : Climbed V) : Type 0 where
   value : V
   is : whole climbed ≡ Some value
@@ -67,7 +67,7 @@ whole_alike (Some (v, [])) None value same all = absurd (none-some [] (sym same)
 whole_alike (Some (v, [])) (Some (w, [])) value same all = record { value = w; is = refl }
 whole_alike (Some (v, [])) (Some (w, y ∷ s)) value same all = absurd (cc same)
 
--- so from one leaf hash as from every other
+-- hashes that lead to a root from one leaf hash do so from every other
 pub leads_from : (H : List ℕ → List ℕ) (commitment : Commitment) (place : ℕ) (leaf : List ℕ) (hashes : List (List ℕ)) → AcceptsLeaf H commitment place leaf hashes
     → LeadsUp H commitment.count place hashes
 leads_from H commitment place leaf hashes accepted = λ other.
@@ -79,13 +79,13 @@ leads_from H commitment place leaf hashes accepted = λ other.
 abbrev with_root : Commitment → List ℕ → Commitment
 with_root commitment root = record { count = commitment.count; root = root }
 
--- a root was found
+-- a computed root shows that the hashes lead to one
 pub leads_some : (H : List ℕ → List ℕ) (commitment : Commitment) (place : ℕ) (leaf : List ℕ) (hashes : List (List ℕ)) (found : Option (List ℕ))
     → IfSome found (λ root. AcceptsLeaf H (with_root commitment root) place leaf hashes) → is_some found ≡ true → LeadsUp H commitment.count place hashes
 leads_some H commitment place leaf hashes None accepted some = absurd (false≢true some)
 leads_some H commitment place leaf hashes (Some root) accepted some = leads_from H (with_root commitment root) place leaf hashes accepted
 
--- there is a root, so it was found
+-- hashes that lead to a root give a computed root
 pub leads_only : (H : List ℕ → List ℕ) (commitment : Commitment) (place : ℕ) (leaf : List ℕ) (hashes : List (List ℕ)) (found : Option (List ℕ))
     → ((root : List ℕ) → AcceptsLeaf H (with_root commitment root) place leaf hashes → found ≡ Some root) → LeadsUp H commitment.count place hashes → is_some found ≡ true
 leads_only H commitment place leaf hashes found only leads = let there = leads leaf in ap is_some (only there.0 there.1)

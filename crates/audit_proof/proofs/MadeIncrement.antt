@@ -20,7 +20,7 @@ use Rattle.audit_proof.specs.Acceptance.{AcceptsIncrement, IsMadeIncrement, root
 use Rattle.audit_proof.proofs.MadePaths.{IsMadeBy, way, way-start, climb-path}
 
 module _ (H : List ℕ → List ℕ) (top : ℕ) where
-  -- the node's value in the older tree, which ends with the place, and in the newer one
+  -- the node's value in the older tree, which ends at this place, and in the newer one
   pub both_made : ℕ → ℕ → List (List ℕ) → Versions
   both_made layer place leaves = record {
     older = subtree_hash H (min layer top) (take (suc place) leaves);
@@ -33,7 +33,7 @@ module _ (H : List ℕ → List ℕ) (top : ℕ) where
   unfolding both_made
   both_made-is layer place leaves older newer p q = cc
 
-  -- the older value one layer up, with nothing on its right
+  -- the older value one layer up, if the node has no right sibling
   older-up : (layer place : ℕ) (leaves : List (List ℕ)) → place < length leaves → place < 2 ^ layer →
       cond (ltb layer top) (parent_of H (subtree_hash H (min layer top) (take (suc place) leaves)) []) (subtree_hash H (min layer top) (take (suc place) leaves))
       ≡ subtree_hash H (min (suc layer) top) (take (suc place) leaves)
@@ -83,7 +83,7 @@ module _ (H : List ℕ → List ℕ) (top : ℕ) where
         (sym (subtree_hash-pair H layer leaves (omega arith)));
   }
 
--- where the older tree's last full node starts
+-- where the last full node of the older tree starts
 older-start : (older layer : ℕ) → 2 ^ layer ≤ older → (older - 2 ^ layer) % 2 ^ layer ≡ 0 →
     start_of (older - 1) layer ≡ older - 2 ^ layer
 older-start older layer h aligned =

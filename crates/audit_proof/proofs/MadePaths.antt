@@ -11,8 +11,8 @@ use Rattle.audit_tree.proofs.PathLemmas.{start_of, start_of-le, path-none, path-
 use Rattle.audit_proof.specs.Climb.{Steps, climb, up_alone, up_with}
 use Rattle.audit_proof.proofs.ClimbLemmas.{climb-none, climb-alone, climb-right, climb-left}
 
--- What a tree has at the node of a layer that holds a place, from its leaves on, is what each step
--- makes of what it has one layer below, with the sibling's hash
+-- What a tree has at the node of a layer that holds a place is made, by one step, of what it has one layer below and
+-- the sibling's hash
 pub record IsMadeBy {V : Type 0} (H : List ℕ → List ℕ) (steps : Steps V) (limit : ℕ)
     (made : ℕ → ℕ → List (List ℕ) → V) : Type 0 where
   pub alone : (layer place : ℕ) (leaves : List (List ℕ)) → place < limit → place < length leaves →
@@ -27,7 +27,7 @@ pub record IsMadeBy {V : Type 0} (H : List ℕ → List ℕ) (steps : Steps V) (
       steps.with_left layer (made layer (place - 2 ^ layer) (drop (2 ^ layer) leaves)) (subtree_hash H layer leaves)
       ≡ made (suc layer) place leaves
 
--- where a place stands in its node, seen from a node that begins a half before it
+-- the position of a place in its node, counted from a node that begins half a width earlier
 start_of-after : (from height place : ℕ) → 2 ^ (from + height) ≤ place →
     start_of place from ≡ 2 ^ (from + height) + start_of (place - 2 ^ (from + height)) from
 start_of-after from height place h =
@@ -57,7 +57,7 @@ module _ {V : Type 0} (made : ℕ → ℕ → List (List ℕ) → V) (from : ℕ
   unfolding way
   way-high height place leaves h = cond-ge place (2 ^ (from + height)) _ _ h
 
-  -- what the path has there is what the tree has at the node's start
+  -- what the path has at a layer is what the tree has at the start of the node
   pub way-start : (height place : ℕ) (leaves : List (List ℕ)) → place < 2 ^ (from + height) →
       way height place leaves ≡ made from (place - start_of place from) (drop (start_of place from) leaves)
   unfolding way
@@ -84,7 +84,7 @@ module _ {V : Type 0} (made : ℕ → ℕ → List (List ℕ) → V) (from : ℕ
 
 module _ {V : Type 0} (H : List ℕ → List ℕ) (steps : Steps V) (limit : ℕ) (made : ℕ → ℕ → List (List ℕ) → V)
     (laws : IsMadeBy H steps limit made) (from : ℕ) where
-  -- what the tree has at a node climbs, with the siblings on its path up, to what it has at the upper node
+  -- climbing with the siblings leads from what the tree has at a node to what it has at the upper node
   pub climb-path : (height place : ℕ) (leaves rest : List (List ℕ)) → place < limit → place < length leaves →
       climb steps from height place (length leaves) (way made from height place leaves) (path H from height place leaves ++ rest)
       ≡ Some (made (from + height) place leaves, rest)

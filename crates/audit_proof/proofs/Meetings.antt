@@ -10,13 +10,13 @@ use Rattle.audit_proof.specs.declared.side.Side.TheVariants.{Left, Right}
 use Rattle.audit_proof.specs.Climb.{Climbed, one_value, step_with, text_with, up_with}
 use Rattle.audit_proof.specs.Meeting.{IsMeeting}
 
--- lists with ends of one length have the same ends
+-- equal lists whose ends have one length have equal ends
 same_ends : (a b c d : List ℕ) → a ++ b ≡ c ++ d → length b ≡ length d → b ≡ d
 same_ends a b c d e same =
     let front : length c ≡ length a = omega (arith, ap length e, length-append a b, length-append c d) in
     sym (drop_at a b (length a) (omega arith)) ∙ ap (drop (length a)) e ∙ drop_at c d (length a) front
 
--- and lists with fronts of one length the same fronts
+-- equal lists whose fronts have one length have equal fronts
 same_fronts : (a b c d : List ℕ) → a ++ b ≡ c ++ d → length a ≡ length c → a ≡ c
 same_fronts a b c d e same =
     sym (take_at a b (length a) refl) ∙ ap (take (length a)) e ∙ take_at c d (length a) (sym same)
@@ -26,13 +26,13 @@ pub same_values : (side : Side) (v w a b : List ℕ) → text_with side v a ≡ 
 same_values Left v w a b e same = same_ends a v b w (let joined : a ++ v ≡ b ++ w = cc in joined) same
 same_values Right v w a b e same = same_fronts v a w b (let joined : v ++ a ≡ w ++ b = cc in joined) same
 
--- the value of a text over a value and its sibling is one step up
+-- hashing the text of a value and its sibling is one step up
 value_up : (H : List ℕ → List ℕ) (side : Side) (layer : ℕ) (value hash : List ℕ) →
     H (text_with side value hash) ≡ step_with (one_value H) side layer value hash
 value_up H Left layer value hash = refl
 value_up H Right layer value hash = refl
 
--- a text over a value and the next hash is one step up of what was reached
+-- hashing the text of a value and the next hash is one step up from what was reached
 pub reached_up : (H : List ℕ → List ℕ) (side : Side) (value sibling text : List ℕ) (hashes : List (List ℕ)) (used : ℕ) →
     text ≡ text_with side value sibling → drop used hashes ≡ sibling ∷ drop (used + 1) hashes →
     Some (H text, drop (used + 1) hashes) ≡ up_with (step_with (one_value H) side 0) (Some (value, drop used hashes))
@@ -44,13 +44,13 @@ reached_up H side value sibling text hashes used e split =
     ∙ ap (λ hs. up_with (step_with steps side 0) (Some (value, hs))) (sym split)
 
 module _ (H : List ℕ → List ℕ) (lefts rights : List (List ℕ)) where
-  -- the same meeting of the same climbs
+  -- an outcome of the same climbs
   pub meeting_moved : {E : Type 0} (result : Result Meeting E) (over_left over_right to_left to_right : Climbed (List ℕ)) →
       IfOk result (IsMeeting H lefts rights over_left over_right) → over_left ≡ to_left → over_right ≡ to_right →
       IfOk result (IsMeeting H lefts rights to_left to_right)
   meeting_moved result over_left over_right to_left to_right h p q = rw (← p, ← q) h
 
-  -- a meeting that isn't apart stays, if nothing reached below means nothing reached above
+  -- an outcome other than `Apart` remains one layer up, if nothing is reached above where nothing was below
   pub meeting_up : (meeting : Meeting) (over_left over_right to_left to_right : Climbed (List ℕ)) →
       IsMeeting H lefts rights over_left over_right meeting →
       ((left right : Reached (List ℕ)) → meeting ≡ Apart left right → ⊥) →

@@ -1,4 +1,4 @@
--- Bytes are read as a proof exactly if they are that proof's.
+-- Bytes are read as a proof if and only if they are the encoding of that proof.
 use Rattle.std.proofs.Common.{◌≡◌, ◌↔◌, ℕ, zero, suc, ◌+◌, ◌*◌, ◌^◌, ◌<◌, ◌≤◌, List, [], ◌++◌, Option, None, Some, length, drop, get_or, refl, sym, ap, ◌∙◌, subst, arith, inl, inr, length-drop, length-take}
 use Rattle.std.specs.List.{concat}
 use Rattle.std.proofs.lemmas.Bool.{cases_lt, cases_eq, le-leb, lt-leb, eq-eqb, ne_eqb}
@@ -19,7 +19,7 @@ number_fits bytes at small =
     let byte = small_number bytes at small in
     omega (arith, byte 0, byte 1, byte 2, byte 3, byte 4, byte 5, byte 6, byte 7)
 
--- hashes that are read from enough bytes are whole
+-- hashes read from enough bytes have their full length
 first_hashes-whole : (n : ℕ) (bytes : List ℕ) → HASH_LEN * n ≤ length bytes → (k : ℕ) (d : List ℕ) → k < length (first_hashes n bytes) → length (get_or (first_hashes n bytes) k d) ≡ HASH_LEN
 unfolding first_hashes
 first_hashes-whole zero bytes le k d lt = absurd (omega arith)

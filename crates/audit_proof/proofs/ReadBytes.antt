@@ -1,4 +1,4 @@
--- What is written is read again, and what is read was written.
+-- Decoding returns what was encoded, and what was decoded is the only proof with these bytes.
 use Rattle.std.proofs.Common.{◌≡◌, ℕ, ◌+◌, ◌*◌, ◌<◌, ◌≤◌, List, [], ◌∷◌, ◌++◌, Option, Some, length, take, drop, get_or, sym, ap, ◌∙◌, arith, inl, inr, length-drop, length-take}
 use Rattle.std.specs.List.{concat}
 use Rattle.std.proofs.lemmas.Bool.{cases_lt, cases_eq, lt-ltb, le-ltb, eq-eqb, ne_eqb, le-leb}
@@ -37,7 +37,7 @@ increment_of-increment_bytes p fits =
     ∙ rw (le-leb number MAX_INCREMENT_HASHES fits.few, eq-eqb (length body) (HASH_LEN * number) (omega arith))
     (ap make (first_hashes-concat p.hashes [] fits.hashes))
 
--- what a head states of the bytes
+-- what a head states about the bytes
 pub record IsHead (mark : ℕ) (bytes : List ℕ) (head : Head) : Type 0 where
   pub long : HEAD_LEN ≤ length bytes
   pub marked : get_or bytes 0 0 ≡ mark
@@ -63,7 +63,7 @@ head_parts mark bytes head e = elim (cases_lt (length bytes) HEAD_LEN) [
   ]
 ]
 
--- bytes taken apart at a proof's places
+-- bytes, split at the places of a proof's fields
 parts_of : (bytes : List ℕ) → HEAD_LEN ≤ length bytes →
     bytes ≡ get_or bytes 0 0 ∷ (take 8 (drop 1 bytes) ++ (take 8 (drop 9 bytes) ++ (get_or bytes 17 0 ∷ drop HEAD_LEN bytes)))
 parts_of bytes long =
@@ -75,7 +75,7 @@ parts_of bytes long =
     ∙ ap (λ bs. mark ∷ (one ++ bs)) (drop-drop 8 1 bytes ∙ sym (take-append-drop 8 (drop 9 bytes)))
     ∙ ap (λ bs. mark ∷ (one ++ (two ++ bs))) (drop-drop 8 9 bytes ∙ drop_more bytes 17 0 (omega (arith, long)))
 
--- bytes at a place are bytes
+-- a part of bytes is bytes
 pub small_number : (bytes : List ℕ) (at : ℕ) → ((i : ℕ) → get_or bytes i 0 < 256) → (i : ℕ) → get_or (take 8 (drop at bytes)) i 0 < 256
 small_number bytes at small i =
     elim (cases_lt i 8) [
@@ -83,7 +83,7 @@ small_number bytes at small i =
       | inr above ↦ omega (arith, get_or_past (take 8 (drop at bytes)) i 0 (omega (arith, length-take 8 (drop at bytes))))
     ]
 
--- 8 bytes at a place are the bytes of their number
+-- 8 bytes are the encoding of the number in them
 same_number : (bytes : List ℕ) (at : ℕ) → at + 8 ≤ length bytes → ((i : ℕ) → get_or bytes i 0 < 256) →
     number_bytes (number_in bytes at) ≡ take 8 (drop at bytes)
 same_number bytes at long small =
@@ -92,7 +92,7 @@ same_number bytes at long small =
     ∙ number_bytes-number_of eight (omega (arith, length-take 8 (drop at bytes), length-drop at bytes))
     (small_number bytes at small)
 
--- bytes with a head, with these hashes and this rest after it, are those that are written
+-- bytes with this head, these hashes and this rest are the encoding of the proof
 pub bytes_from_head : (mark : ℕ) (bytes : List ℕ) (head : Head) (hashes : List (List ℕ)) (after : List ℕ) →
     head_of mark bytes ≡ Some head → ((i : ℕ) → get_or bytes i 0 < 256) →
     length hashes ≡ head.number → concat hashes ++ after ≡ drop HEAD_LEN bytes →

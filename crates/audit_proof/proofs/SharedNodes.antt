@@ -22,7 +22,7 @@ same_reached {V} v w xs ys h =
     let same : one ≡ other = cc h in
     (ap (λ (p : V × List (List ℕ)). p.0) same, ap (λ (p : V × List (List ℕ)). p.1) same)
 
--- a half of a higher layer doesn't change a place's position in a node of this one
+-- adding half the width of a higher layer doesn't change a place's position in its node of this layer
 pub mod-after : (layer above place : ℕ) → layer ≤ above → 2 ^ above ≤ place → (place - 2 ^ above) % 2 ^ layer ≡ place % 2 ^ layer
 mod-after layer above place low over =
     let w = 2 ^ layer in
@@ -31,7 +31,7 @@ mod-after layer above place low over =
     let back : place ≡ place - 2 ^ above + 2 ^ (above - layer) * w = omega (arith, wide) in
     sym (ap (λ n. n % w) back ∙ add-mul-mod_self_right (place - 2 ^ above) (2 ^ (above - layer)) w)
 
--- what is below one layer up
+-- what one layer up without a hash came from
 up_alone-some : {V : Type 0} (f : V → V) (below : Climbed V) (top : V) (rest : List (List ℕ)) → up_alone f below ≡ Some (top, rest) →
     (value : V) × (below ≡ Some (value, rest)) × (f value ≡ top)
 up_alone-some f None top rest h = absurd (cc h)
@@ -85,7 +85,7 @@ module _ {V : Type 0} (steps : Steps V) (from : ℕ) where
             ∙ ap (λ v. Some (v, rest ++ more)) found.3)
       ]
 
-  -- in a full node the leaves after it don't matter
+  -- leaves after a full node don't affect a climb in it
   pub climb-full : (height place count : ℕ) (value : V) (hashes : List (List ℕ)) → place < 2 ^ (from + height) → 2 ^ (from + height) ≤ count →
       climb steps from height place count value hashes ≡ climb steps from height place (2 ^ (from + height)) value hashes
   climb-full zero place count value hashes h full =
@@ -110,7 +110,7 @@ module _ {V : Type 0} (steps : Steps V) (from : ℕ) where
       ]
 
 module _ {V : Type 0} (steps : Steps V) (layer : ℕ) where
-  -- from what was reached at a layer on
+  -- the climb continued from what was reached at a layer
   unfoldable pub go_on : ℕ → ℕ → ℕ → Climbed V → Climbed V
   go_on height place count None = None
   go_on height place count (Some (value, rest)) = climb steps layer height place count value rest
@@ -316,7 +316,7 @@ module _ (H : List ℕ → List ℕ) (top : ℕ) (way : Way) (height half index 
       ap (λ k. climb steps way.from k way.place way.count both hashes) (sym up)
       ∙ climb-alone steps way.from height way.place way.count both hashes (omega (arith, half_is)) (omega (arith, half_is))
 
-  -- if nothing was reached below, nothing is above
+  -- if nothing was reached below, nothing is reached above
   pub lost-left : half ≤ way.place → climbed_both H top right_way first hashes ≡ None → climbed_both H top way first hashes ≡ None
   lost-left high h = both-left high ∙ ap (up_with ((two_values H top).with_left (way.from + height))) h
 
@@ -458,7 +458,7 @@ module _ (H : List ℕ → List ℕ) (top : ℕ) (way : Way) (height half index 
         newer = climbs (way.from + way.height) way.count node.newer_siblings.items lower.versions.newer lower.newer layers (omega (arith, high, within));
       }
 
-  -- if no hash is left for it, nothing is reached
+  -- if no hash is left for the left half, nothing is reached
   pub none-left : half ≤ way.place → (node : SharedNode) → drop node.used hashes ≡ [] →
       IsShared H top right_way (index - half) (climbed_both H top right_way first hashes) hashes node →
       climbed_both H top way first hashes ≡ None
@@ -480,7 +480,7 @@ module _ (H : List ℕ → List ℕ) (top : ℕ) (way : Way) (height half index 
       let f = (two_values H top).with_left (way.from + height) in
       both-left high ∙ up_with-none f (climbed_both H top right_way first hashes) lost
 
-  -- the same for what a function returns
+  -- the same for the result of a function
   pub shares-half : {E : Type 0} (result : Result (Option SharedNode) E) →
       half ≤ way.place → way.place < way.count → index < half → way.place < 2 ^ top →
       IfOk result (LeftHalf (way.from + height) (climbed_both H top right_way first hashes) hashes) →

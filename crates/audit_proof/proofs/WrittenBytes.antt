@@ -34,7 +34,7 @@ pub concat-push : (hashes : List (List ℕ)) (hash : List ℕ) → concat (hashe
 concat-push [] hash = append-nil hash
 concat-push (x ∷ hashes) hash = ap (λ bs. x ++ bs) (concat-push hashes hash) ∙ sym (append_assoc x (concat hashes) hash)
 
--- what comes before the hashes and after them
+-- the bytes before the hashes and after them
 module _ (mark first second : ℕ) (hashes : List (List ℕ)) (after : List ℕ) where
   bytes-front : proof_bytes mark first second hashes after
       ≡ mark ∷ ((number_bytes first ++ number_bytes second) ++ (length hashes ∷ (concat hashes ++ after)))

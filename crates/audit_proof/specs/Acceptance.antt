@@ -12,7 +12,7 @@ use Rattle.audit_proof.specs.declared.commitment.Commitment.{Commitment}
 use Rattle.audit_proof.specs.declared.steps.Versions.{Versions}
 use Rattle.audit_proof.specs.Climb.{climb, whole, one_value, two_values}
 
--- the commitment to these leaf texts: their number and the root of their tree of SHA-256
+-- the commitment to these leaf texts: their number, and the root of their tree with SHA-256
 abbrev pub commitment_to : List (List ℕ) → Commitment
 commitment_to texts = record { count = length texts; root = root_of sha256 (map leaf_hash_of texts) }
 
@@ -48,7 +48,7 @@ pub record AcceptsLeaf (H : List ℕ → List ℕ) (commitment : Commitment) (pl
 abbrev pub AcceptsMembership : (List ℕ → List ℕ) → Commitment → ℕ → List ℕ → List (List ℕ) → Type 0
 AcceptsMembership H commitment place text hashes = AcceptsLeaf H commitment place (leaf_of H text) hashes
 
--- from each leaf hash the hashes of a membership proof lead to a root: none is missing or left over
+-- the hashes of a membership proof lead from each leaf hash to a root: none is missing or left over
 abbrev pub LeadsUp : (List ℕ → List ℕ) → ℕ → ℕ → List (List ℕ) → Type 0
 LeadsUp H count place hashes =
     (leaf : List ℕ) → (root : List ℕ) × AcceptsLeaf H (record { count = count; root = root }) place leaf hashes

@@ -11,7 +11,7 @@ use Rattle.audit_proof.specs.declared.steps.Versions.{Versions}
 abbrev pub Climbed : Type 0 → Type 0
 Climbed V = Option (V × List (List ℕ))
 
--- how a value is carried up from a layer: alone, with the hash on its right, with the hash on its left
+-- how a value is carried up from a layer: without a hash, with a hash on its right, and with one on its left
 pub record Steps (V : Type 0) : Type 0 where
   pub alone : ℕ → V → V
   pub with_right : ℕ → V → List ℕ → V
@@ -33,8 +33,8 @@ module _ {V : Type 0} where
   up_with f (Some (value, [])) = None
   up_with f (Some (value, hash ∷ rest)) = Some (f value hash, rest)
 
-  -- From a node of layer `from` to the node `height` layers higher. The upper node has `count` leaves from its start
-  -- on, and the lower one holds the leaf at this place among them.
+  -- The climb from a node of layer `from` to the node `height` layers higher. The upper node has `count` leaves from
+  -- its start on, and the lower one holds the leaf at this place among them.
   unfoldable pub climb : Steps V → ℕ → ℕ → ℕ → ℕ → V → List (List ℕ) → Climbed V
   climb steps from zero place count value hashes = Some (value, hashes)
   climb steps from (suc height) place count value hashes =
@@ -60,8 +60,8 @@ one_value H = record {
   with_left = λ layer value hash. parent_of H hash value;
 }
 
--- How the values in an older and a newer tree are carried up together. A hash on the left belongs to both trees, one on
--- the right only to the newer. The older value stops at the layer of its root.
+-- How the values in an older and a newer tree are carried up together. A hash on the left belongs to both trees, one
+-- on the right only to the newer. The older value stops at the layer of its root.
 abbrev pub two_values : (List ℕ → List ℕ) → ℕ → Steps Versions
 two_values H top = record {
   alone = λ layer value. record {

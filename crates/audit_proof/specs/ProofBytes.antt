@@ -1,6 +1,5 @@
--- The bytes of proofs: a mark, two numbers of 8 bytes with the high byte first, the number of hashes
--- in one byte, the hashes, and after those of a membership proof its entry. The layout is this
--- project's own.
+-- The bytes of proofs: a mark, two numbers of 8 big-endian bytes, the number of hashes in one byte, the hashes and, in
+-- a membership proof, the entry. The layout is this project's own.
 use Rattle.std.specs.Prelude.{ℕ, ◌+◌, ◌*◌, ◌^◌, ◌<◌, ◌≤◌, nat_lt, nat_le, ◌==◌, ◌&&◌, List, [], ◌∷◌, ◌++◌, Option, None}
 use Rattle.std.specs.Prelude.{Some, length, drop, slice_index, if◌then◌else◌}
 use Rattle.std.specs.List.{concat}
@@ -32,7 +31,7 @@ member_in p = record { index = p.index; count = p.count; hashes = p.hashes.items
 abbrev pub increment_in : IncrementProof → Increment
 increment_in p = record { older = p.older; newer = p.newer; hashes = p.hashes.items }
 
--- what bytes can encode: numbers of 8 bytes, whole hashes, and both parts within their limits
+-- what can be encoded: numbers of 8 bytes, whole hashes, and both parts within their limits
 pub record IsMember (p : Member) : Type 0 where
   pub index : p.index < 2 ^ 64
   pub count : p.count < 2 ^ 64
@@ -46,7 +45,7 @@ pub record IsIncrement (p : Increment) : Type 0 where
   pub few : length p.hashes ≤ MAX_INCREMENT_HASHES
   pub hashes : AreHashes p.hashes
 
--- a number as 8 bytes with the high byte first, and the number in the 8 bytes at a place
+-- a number as 8 big-endian bytes, and the number in the 8 bytes at a place
 unfoldable pub number_bytes : ℕ → List ℕ
 number_bytes n = to_be_bytes w64 n
 

@@ -12,8 +12,8 @@ use crate::steps::{OneValue, TwoValues, Versions};
 use audit_base::{HASH_LEN, Hash, MAX_COUNT, is_same_hash};
 use audit_tree::{depth_of, leaf_hash};
 
-// The root to which the hashes of a membership proof lead from a leaf hash. Nothing if the index isn't below the count,
-// the count is over `MAX_COUNT`, or a hash is missing or left over.
+// The root to which the hashes of a membership proof lead from a leaf hash. Nothing if the index isn't below the
+// count, the count is over `MAX_COUNT`, or a hash is missing or left over.
 fn root_of_member<T: TextHash>(
     hash: &T,
     commitment: &Commitment,
@@ -67,8 +67,8 @@ pub fn leads_up<T: TextHash>(hash: &T, commitment: &Commitment, index: u64, hash
     root_of_member(hash, commitment, index, [0; HASH_LEN], hashes).is_some()
 }
 
-/// Returns whether a membership proof shows that this entry has this index under a commitment. False if the index isn't
-/// below the count, the count is over `MAX_COUNT`, or a hash is missing or left over. It takes no memory.
+/// Returns whether a membership proof shows that this entry has this index under a commitment. False if the index
+/// isn't below the count, the count is over `MAX_COUNT`, or a hash is missing or left over. It takes no memory.
 pub fn accepts_member(commitment: &Commitment, index: u64, entry: &[u8], hashes: &[Hash]) -> bool
     ensures exact { IsTrue result ↔ AcceptsMembership sha256 commitment.now index entry.now hashes.now }
 
@@ -104,8 +104,8 @@ pub fn increment_way(older: &Commitment, newer: &Commitment) -> Way
     }
 }
 
-// The roots to which the hashes of an incremental proof lead: nothing where not
-// `1 <= older.count <= newer.count <= MAX_COUNT`, and where a hash is missing or left over.
+// The roots to which the hashes of an incremental proof lead. Nothing unless
+// `1 <= older.count <= newer.count <= MAX_COUNT`, or if a hash is missing or left over.
 fn versions_of<T: TextHash>(
     hash: &T,
     older: &Commitment,
@@ -154,8 +154,8 @@ pub fn accepts_versions<T: TextHash>(
     }
 }
 
-/// Returns whether an incremental proof shows that the newer tree extends the older one. False unless `1 <= older.count
-/// <= newer.count <= MAX_COUNT`, and if a hash is missing or left over. It takes no memory.
+/// Returns whether an incremental proof shows that the newer tree extends the older one. False if not
+/// `1 <= older.count <= newer.count <= MAX_COUNT`, or if a hash is missing or left over. It takes no memory.
 pub fn accepts_increment(older: &Commitment, newer: &Commitment, hashes: &[Hash]) -> bool
     ensures exact { IsTrue result ↔ AcceptsIncrement sha256 older.now newer.now hashes.now }
 
@@ -166,9 +166,9 @@ pub fn accepts_increment(older: &Commitment, newer: &Commitment, hashes: &[Hash]
     accepts_versions(&Sha256Texts, older, newer, hashes)
 }
 
-/// Returns the root to which a membership proof leads from an entry, for one who holds the root of another count: the
-/// one root under which the proof is accepted. There is none where the index isn't below the count or the count is
-/// over `MAX_COUNT`, and where a hash is missing or left over. It takes no memory.
+/// Returns the one root under which a membership proof of an entry is accepted, for a caller that holds the root of
+/// another count. `None` if the index isn't below the count, the count is over `MAX_COUNT`, or a hash is missing or
+/// left over. It takes no memory.
 pub fn root_of_membership(count: u64, index: u64, entry: &[u8], hashes: &[Hash]) -> Option<Hash>
     ensures root { IfSome result (λ root. AcceptsMembership sha256
         (record { count = count; root = root }) index entry.now hashes.now) }
@@ -182,9 +182,9 @@ pub fn root_of_membership(count: u64, index: u64, entry: &[u8], hashes: &[Hash])
     root_of_member(&Sha256Texts, &asked, index, leaf_hash(entry), hashes)
 }
 
-/// Returns the older and the newer root to which an incremental proof leads, for one who holds the root of another
-/// count: the two roots under which the proof is accepted. There are none where not
-/// `1 <= older <= newer <= MAX_COUNT`, and where a hash is missing or left over. It takes no memory.
+/// Returns the older and the newer root under which an incremental proof is accepted, for a caller that holds the root
+/// of another count. `None` if not `1 <= older <= newer <= MAX_COUNT`, or if a hash is missing or left over. It takes
+/// no memory.
 pub fn roots_of_increment(older: u64, newer: u64, hashes: &[Hash]) -> Option<(Hash, Hash)>
     ensures roots { IfSome result (λ roots. AcceptsIncrement sha256
         (record { count = older; root = roots.0 }) (record { count = newer; root = roots.1 }) hashes.now) }

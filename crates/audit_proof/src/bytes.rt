@@ -6,10 +6,10 @@ ghost use Rattle.audit_proof.specs.ProofBytes.{number_bytes, head_of, proof_byte
 use audit_base::{HASH_LEN, Hash, MAX_ENTRY, MAX_INCREMENT_HASHES, u64_at};
 use std::alloc::{AllocError, Global};
 
-/// The first bytes of an encoded membership proof.
+/// The first byte of an encoded membership proof.
 pub const MEMBER_MARK: u8 = 1;
 
-/// The first bytes of an encoded incremental proof.
+/// The first byte of an encoded incremental proof.
 pub const INCREMENT_MARK: u8 = 2;
 
 /// The number of bytes before the hashes: the mark, two numbers, and the number of hashes in one byte.
@@ -48,13 +48,31 @@ pub fn read_head(mark: u8, bytes: &[u8]) -> Option<Head>
     })
 }
 
-// Adds hashes one after another.
+// Appends hashes one after another.
 fn push_hashes(bytes: &mut Vec<u8>, hashes: &[Hash]) -> Result<(), AllocError>
     ensures { OnOk result (bytes.new.items ≡ bytes.old.items ++ concat hashes.now) }
 {
     for hash in hashes {
         bytes.extend_from_slice(hash)?;
     }
+    Ok(())
+}
+
+// Adds the mark, the two numbers and the number of hashes.
+fn push_head(
+    bytes: &mut Vec<u8>,
+    mark: u8,
+    first: u64,
+    second: u64,
+    count: u8,
+) -> Result<(), AllocError>
+    ensures { OnOk result (bytes.new.items
+        ≡ bytes.old.items ++ mark ∷ (number_bytes first ++ (number_bytes second ++ (count ∷ [])))) }
+{
+    bytes.push(mark)?;
+    bytes.extend_from_slice(&number_to_bytes(first))?;
+    bytes.extend_from_slice(&number_to_bytes(second))?;
+    bytes.push(count)?;
     Ok(())
 }
 
@@ -75,10 +93,7 @@ pub fn write_proof(
     ensures whole { AreHashes hashes.now }
 {
     let mut bytes = Vec::with_capacity(alloc, HEAD_LEN + HASH_LEN * hashes.len() + after.len())?;
-    bytes.push(mark)?;
-    bytes.extend_from_slice(&number_to_bytes(first))?;
-    bytes.extend_from_slice(&number_to_bytes(second))?;
-    bytes.push(hashes.len() as u8)?;
+    push_head(&mut bytes, mark, first, second, hashes.len() as u8)?;
     push_hashes(&mut bytes, hashes)?;
     bytes.extend_from_slice(after)?;
     Ok(bytes)

@@ -45,11 +45,11 @@ impl TextHash for Sha256Texts {
     }
 }
 
-/// Finds two different texts with one value of a hash function, from two membership proofs of one index
-/// under one commitment that are accepted over it, with different entries.
+/// Finds two different texts with one value of a hash function, from two accepted membership proofs of one index under
+/// one commitment with different entries.
 ///
-/// It is refused as `collide_two` is, in the same order, if no entry is longer than `MAX_ENTRY` bytes. The leaf's text
-/// of a longer one takes memory before its proof is judged, so `Memory` may come in place of `NotAccepted` and
+/// The errors are those of `collide_two`, in the same order, if no entry is longer than `MAX_ENTRY` bytes. Judging the
+/// proof of a longer entry takes memory for its leaf text, so `Memory` may be returned instead of `NotAccepted` and
 /// `NoDisagreement`, but only if the proofs have the right number of hashes.
 pub fn collide_two_with<T: TextHash>(
     alloc: Global,
@@ -93,13 +93,13 @@ pub fn collide_two_with<T: TextHash>(
     collide(alloc, hash, commitment, index, &first, &second)
 }
 
-/// Finds two different texts with one value of a hash function, from an incremental proof between two commitments and
-/// two membership proofs of one index that are accepted over it, the first under the older commitment and the second
-/// under the newer one, with different entries.
+/// Finds two different texts with one value of a hash function, from an accepted incremental proof and two accepted
+/// membership proofs of one index with different entries. The first membership is under the older commitment of the
+/// increment, the second under the newer one.
 ///
-/// It is refused as `collide_three` is, in the same order, if no entry is longer than `MAX_ENTRY` bytes. The leaf's
-/// text of a longer one takes memory before its proof is judged, so `Memory` may come in place of `NotAccepted` and
-/// `NoDisagreement`, but only if the increment is accepted and the memberships have the right number of hashes.
+/// The errors are those of `collide_three`, in the same order, if no entry is longer than `MAX_ENTRY` bytes. Judging
+/// the proof of a longer entry takes memory for its leaf text, so `Memory` may be returned instead of `NotAccepted`
+/// and `NoDisagreement`, but only if the increment is accepted and the memberships have the right number of hashes.
 pub fn collide_three_with<T: TextHash>(
     alloc: Global,
     hash: &T,
@@ -170,7 +170,7 @@ fn both_lead_up<T: TextHash>(
     leads_up(hash, older, index, hashes1) && leads_up(hash, newer, index, hashes2)
 }
 
-// The hash of a leaf over its text, by any hash function. It takes memory only for an entry longer than a log's.
+// The hash of a leaf's text, by any hash function. It takes memory only for an entry longer than any of a log.
 fn leaf_hash_with<T: TextHash>(alloc: Global, hash: &T, entry: &[u8]) -> Result<Hash, AllocError>
     ensures leaf { IfOk result (λ leaf. leaf ≡ leaf_of T.value_of entry.now) }
     ensures long { OnErr result (MAX_ENTRY < length entry.now) }
@@ -182,7 +182,7 @@ fn leaf_hash_with<T: TextHash>(alloc: Global, hash: &T, entry: &[u8]) -> Result<
     Ok(hash.hash(&text))
 }
 
-// The same of an entry that a log can have.
+// The hash of the leaf of an entry within the limit.
 fn short_leaf_hash_with<T: TextHash>(hash: &T, entry: &[u8]) -> Hash
     requires { length entry.now ≤ MAX_ENTRY }
     ensures { result ≡ leaf_of T.value_of entry.now }
@@ -192,7 +192,7 @@ fn short_leaf_hash_with<T: TextHash>(hash: &T, entry: &[u8]) -> Hash
     hash.hash(&text[..=entry.len()])
 }
 
-// Puts an entry after the first byte.
+// Writes an entry after the first byte.
 fn put_after_mark(text: &mut [u8], entry: &[u8])
     requires { length entry.now < length text.old }
     ensures { take (length entry.now + 1) text.new ≡ take 1 text.old ++ entry.now }
@@ -207,16 +207,16 @@ pub fn commitments_are_of_texts()
         → commitment_of texts ≡ ((commitment_to texts).count, (commitment_to texts).root) }
 {}
 
-/// The marks of proof bytes, and the length of what comes before the hashes, each as its number. The function does
-/// nothing: its contract is the law.
+/// The marks of encoded proofs and the length of what precedes the hashes, as numbers. The function does nothing: its
+/// contract is the law.
 pub fn limits_are_these_numbers()
     ensures member { MEMBER_MARK ≡ 1 }
     ensures increment { INCREMENT_MARK ≡ 2 }
     ensures head { HEAD_LEN ≡ 18 }
 {}
 
-/// The bytes of a proof are read in one way only: bytes are read as a proof if and only if it is within the limits
-/// and they are its bytes. The function does nothing: its contract is the law.
+/// An encoded proof can be read in only one way: bytes are read as a proof if and only if the proof is within the
+/// limits and they are its encoding. The function does nothing: its contract is the law.
 pub fn one_reading_of_proof_bytes()
     ensures member { (bytes : List ℕ) (proof : Member) → AreBytes bytes
         → (member_of bytes ≡ Some proof) ↔ (IsMember proof × (bytes ≡ member_bytes proof)) }

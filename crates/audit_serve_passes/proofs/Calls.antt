@@ -1,4 +1,4 @@
--- Calls of a stream one after another.
+-- Consecutive calls of a stream.
 use Rattle.std.proofs.Common.{◌≡◌, ℕ, ◌+◌, Bool, true, false, ◌||◌, eqb, List, [], ◌∷◌, ◌++◌, refl, sym, ap, subst, ◌∙◌, arith, true≢false}
 use Rattle.std.proofs.lemmas.Bool.{eq-eqb, ne_eqb, cond-true, cond-false}
 use Rattle.audit_serve_passes.specs.Streams.{StreamCall, a_read, a_failed_read, a_write, a_failed_write, bytes_sent, has_failed_write, ends_of_call, ends_of_calls, AreWrittenWhole, calls_for}
@@ -17,7 +17,7 @@ ends_of-append (call ∷ calls) later = ap (λ (n : ℕ). ends_of_call call + n)
 
 -- ---- writes
 
--- nothing is written to what is closed
+-- nothing is written to a closed stream
 pub nothing_sent : (closed : Bool) (calls : List StreamCall) → closed ≡ true → AreWrittenWhole closed calls → bytes_sent calls ≡ []
 nothing_sent closed [] is whole = refl
 nothing_sent closed (a_read bytes ∷ calls) is whole = nothing_sent closed calls is whole
@@ -33,7 +33,7 @@ whole-append closed (a_write bytes ∷ calls) later whole more = (whole.0, whole
 whole-append closed (a_failed_write bytes ∷ calls) later whole more =
     (whole.0, whole-append true calls later whole.1 (subst (λ (now : Bool). AreWrittenWhole now later) (ap (λ (was : Bool). was || true) whole.0) more))
 
--- ---- the calls of one stream among those of the others
+-- ---- the calls of one stream among those of all streams
 
 pub calls_here : (k : ℕ) (calls : List StreamCall) → calls_for k calls k ≡ calls
 calls_here k calls = cond-true (eqb k k) calls [] (eq-eqb k k refl)

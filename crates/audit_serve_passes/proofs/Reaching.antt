@@ -1,4 +1,4 @@
--- Calls of which the last was refused.
+-- Calls, the last of which was refused.
 use Rattle.std.proofs.Common.{◌≡◌, ◌≢◌, ◌⊎◌, ℕ, zero, suc, ◌<◌, ◌≤◌, Bool, false, cond, List, [], ◌∷◌, ◌++◌, length, map, set, get_or, refl, sym, ap, subst, ◌∙◌, arith, inl, inr}
 use Rattle.std.proofs.lemmas.Bool.{cases_eq}
 use Rattle.std.proofs.lemmas.List.{append-nil, append_assoc, length-set, map-append}
@@ -13,9 +13,9 @@ use Rattle.audit_serve_passes.proofs.Transitions.{none_of_both, no_calls, none_f
 use Rattle.audit_serve_passes.proofs.Turns.{end_brings_nothing}
 use Rattle.audit_serve_passes.proofs.Runs.{below_more, ends_more, ends_bring, closed_first, closed_later, ends_still, ends_and, flush_still, pass_still, passes_still, one_flush, flushed, ended_still, live_now, pass_then, streamed_after}
 
--- ---- steps up to one that was refused
+-- ---- steps up to a refused one
 
--- steps before it
+-- with earlier steps
 cut_after : {Shape Both : List StepData → Type 0} (before steps : List StepData) → ((all : List StepData) → Shape all → Both (before ++ all)) → IsInterrupted Shape steps → IsInterrupted Both (before ++ steps)
 cut_after {Shape} {Both} before steps both h = record {
   front = before ++ h.front;
@@ -27,7 +27,7 @@ cut_after {Shape} {Both} before steps both h = record {
   shape = subst Both (sym (append_assoc before h.front (h.step ∷ h.later))) (both (h.front ++ h.step ∷ h.later) h.shape);
 }
 
--- steps that were still to come
+-- without the steps that would have followed
 cut_before : {Shape Both : List StepData → Type 0} (after steps : List StepData) → ((all : List StepData) → Shape all → Both (all ++ after)) → IsInterrupted Shape steps → IsInterrupted Both steps
 cut_before {Shape} {Both} after steps both h = record {
   front = h.front;
@@ -42,7 +42,7 @@ cut_before {Shape} {Both} after steps both h = record {
 cut_as : {Shape Both : List StepData → Type 0} (steps : List StepData) → ((all : List StepData) → Shape all → Both all) → IsInterrupted Shape steps → IsInterrupted Both steps
 cut_as steps both h = record { front = h.front; step = h.step; part = h.part; later = h.later; are = h.are; of = h.of; shape = both (h.front ++ h.step ∷ h.later) h.shape }
 
--- ---- visits that were still to come
+-- ---- visits that would have followed
 
 rest_live : (count k : ℕ) (ended : ℕ → Bool) → k ≤ count → (rest : List ℕ) × (live_below count ended ≡ live_below k ended ++ rest)
 rest_live zero zero ended within = ([], refl)
@@ -71,7 +71,7 @@ flush_brings_nothing part (inl none) k = ap (bytes_fed k) none
 flush_brings_nothing part (inr whole) k = ap (bytes_fed k) whole
 
 module _ {C : Type 0} (M : CoreModel C) where
-  -- ---- ends of the sessions in a row
+  -- ---- consecutive ends of sessions
 
   pub end_stops : (count k : ℕ) (old mid new : C) → CoreTransition M old mid (AreEndsBelow k (M.ended old [])) → M.ended mid [] k ≡ false → k < count → GoesBy M (an_end k) mid new
       → CoreReached M old new (IsInterrupted (λ steps. steps ≡ map an_end (live_below count (M.ended old []))))
@@ -100,7 +100,7 @@ module _ {C : Type 0} (M : CoreModel C) where
         };
       }
 
-  -- where no session is live, none was ended
+  -- if no session is live, none was ended
   pub none_ended : (count : ℕ) (core : C) → live_below count (M.ended core []) ≡ [] → CoreTransition M core core (AreEndsBelow count (M.ended core []))
   none_ended count core none = record {
     steps = [];
@@ -201,7 +201,7 @@ module _ {C S : Type 0} (M : CoreModel C) (N : StreamModel S) where
         (subst (λ (sent : List ℕ). IsStreamed N k h.steps [] sent [] (get_or streams k none) (get_or streams k none)) (sym (h.none k)) (streamed_none N k h.steps (get_or streams k none) (h.brings k)));
   }
 
-  -- the ends of sessions, and then the others
+  -- the ends of some sessions, followed by the others
   ends_then : {Second Both : (ℕ → List StreamCall) → List StepData → Type 0} (old mid new : C) (before after : List S) (count : ℕ) (ended : ℕ → Bool) → (first : CoreTransition M old mid (AreEndsBelow count ended))
       → (second : Reached M N mid new before after Second) → (Second second.calls second.steps → Both second.calls (first.steps ++ second.steps)) → Reached M N old new before after Both
   ends_then old mid new before after count ended first second both = record {
@@ -222,7 +222,7 @@ module _ {C S : Type 0} (M : CoreModel C) (N : StreamModel S) where
 
   -- ---- one session
 
-  -- what one session and its stream reached is what all of them reached
+  -- what one session and its stream did, as a part of what all of them did
   pub session_reached : {Shape : (ℕ → List StreamCall) → List StepData → Type 0} (k : ℕ) (old new : C) (streams : List S) (at after : S) → k < length streams → SessionReached M N k old new (get_or streams k at) after Shape
       → Reached M N old new streams (set streams k after) Shape
   session_reached k old new streams at after within t = record {
@@ -239,7 +239,7 @@ module _ {C S : Type 0} (M : CoreModel C) (N : StreamModel S) where
     streamed = λ other none inside. streamed_one k other streams none at after t.steps t.lost t.sent t.calls within t.about t.streamed;
   }
 
-  -- ---- turns of the sessions in a row
+  -- ---- consecutive turns of the sessions
 
   pub visits_stopped : (count k : ℕ) (old mid new : C) (before between : List S) (at after : S) → Transition M N old mid before between (λ calls. AreVisitsBelow k (M.ended old [])) → M.ended mid [] k ≡ false
       → k < length between → k < count → SessionReached M N k mid new (get_or between k at) after (λ calls. IsInterrupted (IsOneVisit k))
@@ -299,7 +299,7 @@ module _ {C S : Type 0} (M : CoreModel C) (N : StreamModel S) where
       λ turns cut. cut_after first.steps second.steps
       (λ all flush. record { turns = first.steps; last = all; are = refl; each = turns.each; flush = flush_still (closed_by second.calls) closed (closed_later first.calls second.calls) all flush }) cut
 
-  -- ---- passes, and what comes after them
+  -- ---- passes, and what follows them
 
   pub passes_stopped : (count whole turns : ℕ) (old mid new : C) (before between after : List S) → turns ≡ suc whole → Transition M N old mid before between (λ calls. ArePasses count (M.ended old) (closed_by calls) whole)
       → live_below count (M.ended mid []) ≢ [] → Reached M N mid new between after (λ calls. IsInterrupted (IsPass count (M.ended mid []) (closed_by calls)))

@@ -91,7 +91,7 @@ ends_bring count ended steps h k = ap (bytes_fed k) h.each ∙ ends_bring_nothin
 
 -- ---- streams of which a write failed
 
--- a stream that was closed by the first calls, or by the later ones
+-- a stream that was closed by the earlier or by the later calls
 pub closed_first : (calls later : ℕ → List StreamCall) (k : ℕ) → closed_by calls k ≡ true → closed_by (λ j. calls j ++ later j) k ≡ true
 closed_first calls later k is = failed-append (calls k) (later k) ∙ or_left (has_failed_write (calls k)) (has_failed_write (later k)) is
 
@@ -135,7 +135,7 @@ passes_still count ended closed now still zero steps h = h
 passes_still count ended closed now still (suc turns) steps (earlier, round, are, before, live, pass) =
     (earlier, round, are, passes_still count ended closed now still turns earlier before, live, pass_still count (ended earlier) closed now still round pass)
 
--- the end of one more
+-- one more end
 pub ends_and : (closed : ℕ → Bool) (steps : List StepData) (k : ℕ) → AreEndsOfClosed closed steps → closed k ≡ true → AreEndsOfClosed closed (steps ++ an_end k ∷ [])
 ends_and closed steps k h also = record {
   sessions = h.sessions ++ k ∷ [];
@@ -161,7 +161,7 @@ module _ {C : Type 0} (M : CoreModel C) where
   pub live_now : (old new : C) (steps : List StepData) (taken : ℕ → List ℕ) (count : ℕ) → M.DidSteps old new steps taken → live_below count (M.ended new []) ≡ live_below count (M.ended old steps)
   live_now old new steps taken count did = live_same count (M.ended new []) (M.ended old steps) (λ k. ended_now old new steps taken k did)
 
-  -- ---- ends of the sessions in a row
+  -- ---- consecutive ends of sessions
 
   pub no_ends : (core : C) → CoreTransition M core core (AreEndsBelow 0 (M.ended core []))
   no_ends core = record { steps = []; taken = no_bytes; did = M.nothing_done core; none = λ k. refl; shape = record { each = refl; below = λ k above. tt } }
@@ -186,7 +186,7 @@ module _ {C : Type 0} (M : CoreModel C) where
   }
 
 module _ {C S : Type 0} (M : CoreModel C) (N : StreamModel S) where
-  -- ---- turns of the sessions in a row
+  -- ---- consecutive turns of the sessions
 
   pub turn_more : (k : ℕ) (old mid new : C) (before between : List S) (at after : S) → Transition M N old mid before between (λ calls. AreVisitsBelow k (M.ended old [])) → M.ended mid [] k ≡ false
       → k < length between → SessionTransition M N k mid new (get_or between k at) after (λ calls. IsOneVisit k)
@@ -213,12 +213,12 @@ module _ {C S : Type 0} (M : CoreModel C) (N : StreamModel S) where
   pub no_turns : (core : C) (streams : List S) → Transition M N core core streams streams (λ calls. AreVisitsBelow 0 (M.ended core []))
   no_turns core streams = goes_nowhere core streams (record { each = tt; below = λ k above. tt })
 
-  -- ---- writes in a row
+  -- ---- consecutive writes
 
   pub none_taken : (core : C) (streams : List S) → Transition M N core core streams streams (AreTaken M 0 core)
   none_taken core streams = goes_nowhere core streams (record { ends = no_ends_of (closed_by no_calls); empty = λ none k within. absurd (omega (arith, within)) })
 
-  -- the output of one session more
+  -- the output of one more session
   taken_and : (k : ℕ) (mid new : C) (calls later : ℕ → List StreamCall) (steps more : List StepData) → AreTaken M k mid calls steps → IsOutputTaken M k mid new later more
       → AreTaken M (suc k) new (λ j. calls j ++ later j) (steps ++ more)
   taken_and k mid new calls later steps more taken one = record {
@@ -282,7 +282,7 @@ module _ {C S : Type 0} (M : CoreModel C) (N : StreamModel S) where
   pub no_rounds : (count : ℕ) (core : C) (streams : List S) → Transition M N core core streams streams (λ calls. ArePasses count (M.ended core) (closed_by calls) 0)
   no_rounds count core streams = goes_nowhere core streams refl
 
-  -- a pass, from where the steps before it led
+  -- a pass after the earlier steps
   pub pass_then : (count : ℕ) (old mid : C) (earlier : List StepData) (taken : ℕ → List ℕ) (closed : ℕ → Bool) (steps : List StepData) → M.DidSteps old mid earlier taken → IsPass count (M.ended mid []) closed steps
       → IsPass count (M.ended old earlier) closed steps
   pass_then count old mid earlier taken closed steps did pass = record {
@@ -324,7 +324,7 @@ module _ {C S : Type 0} (M : CoreModel C) (N : StreamModel S) where
         empty = λ still. last.empty (none_later first.calls second.calls still);
       }
 
-  -- steps that feed nothing, before the others
+  -- steps that feed nothing, followed by others
   pub streamed_after : (k : ℕ) (steps later : List StepData) (lost sent more : List ℕ) (calls : List StreamCall) (before after : S) → bytes_fed k steps ≡ [] → sent ≡ [] → IsStreamed N k later lost more calls before after
       → IsStreamed N k (steps ++ later) lost (sent ++ more) calls before after
   streamed_after k steps later lost sent more calls before after none nothing h =

@@ -1,4 +1,4 @@
--- What steps feed of the stream of one session.
+-- What steps feed from the stream of one session.
 use Rattle.std.proofs.Common.{◌≡◌, ℕ, ◌+◌, Bool, true, false, ◌||◌, eqb, List, [], ◌∷◌, ◌++◌, refl, sym, ap, subst, ◌∙◌, append_assoc, arith, inl, inr, true≢false}
 use Rattle.std.proofs.lemmas.List.{append-nil}
 use Rattle.std.proofs.lemmas.Bool.{cases_Bool, ne_eqb, cond-false}
@@ -8,7 +8,7 @@ use Rattle.audit_serve_passes.specs.Transition.{AreElsewhere}
 use Rattle.audit_serve_passes.specs.CallLaws.{bytes_read-append, bytes_sent-append}
 use Rattle.audit_serve_passes.proofs.Calls.{nothing_sent, whole-append}
 
--- ---- steps one after another
+-- ---- consecutive steps
 
 pub bytes_of-append : (k : ℕ) (steps later : List StepData) → bytes_fed k (steps ++ later) ≡ bytes_fed k steps ++ bytes_fed k later
 bytes_of-append k [] later = refl
@@ -54,13 +54,13 @@ elsewhere-append k (step ∷ steps) later first second = (first.0, elsewhere-app
 
 -- ---- the stream
 
--- what is not closed wasn't before
+-- a stream that isn't closed wasn't closed before
 open_before : (closed second after : Bool) → after ≡ (closed || second) → after ≡ false → closed ≡ false
 open_before true second after is now = absurd (true≢false (sym is ∙ now))
 open_before false second after is now = refl
 
 module _ {S : Type 0} (N : StreamModel S) where
-  -- no call, and the steps feed nothing
+  -- without calls the steps feed nothing
   pub streamed_none : (k : ℕ) (steps : List StepData) (stream : S) → bytes_fed k steps ≡ [] → IsStreamed N k steps [] [] [] stream stream
   streamed_none k steps stream none = record {
     did = N.calls.nothing_called stream;
@@ -74,7 +74,7 @@ module _ {S : Type 0} (N : StreamModel S) where
   pub streamed_elsewhere : (k : ℕ) (steps : List StepData) (stream : S) → AreElsewhere k steps → IsStreamed N k steps [] [] [] stream stream
   streamed_elsewhere k steps stream others = streamed_none k steps stream (bytes_elsewhere k steps others)
 
-  -- what was dropped of both
+  -- the bytes dropped by both parts
   pub streamed_on : (k : ℕ) (steps later : List StepData) (lost sent more : List ℕ) (calls further : List StreamCall) (before mid after : S)
       → IsStreamed N k steps [] sent calls before mid → IsStreamed N k later lost more further mid after
       → IsStreamed N k (steps ++ later) lost (sent ++ more) (calls ++ further) before after

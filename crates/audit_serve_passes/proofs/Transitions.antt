@@ -1,4 +1,4 @@
--- Transitions one after another.
+-- Consecutive transitions.
 use Rattle.std.proofs.Common.{◌≡◌, ℕ, zero, suc, ◌+◌, ◌<◌, eqb, List, [], ◌∷◌, ◌++◌, length, set, get_or, refl, sym, ap, subst, ◌∙◌, arith, inl, inr}
 use Rattle.std.proofs.lemmas.Bool.{cases_Bool, cases_eq, ne_eqb, eq-eqb, cond-true, cond-false}
 use Rattle.std.proofs.lemmas.List.{append-nil, append_assoc, length-set, get_or-set_same, get_or-set_other}
@@ -23,7 +23,7 @@ bytes_here k sent = cond-true (eqb k k) sent [] (eq-eqb k k refl)
 pub bytes_there : (k other : ℕ) (sent : List ℕ) → (other ≡ k → ⊥) → bytes_for k sent other ≡ []
 bytes_there k other sent apart = cond-false (eqb other k) sent [] (ne_eqb other k apart)
 
--- ---- no bytes of a session are no bytes
+-- ---- a session's empty list of bytes is no bytes
 
 pub none_for : (k session : ℕ) → bytes_for k [] session ≡ []
 none_for k session = elim (cases_Bool (eqb session k)) [
@@ -34,7 +34,7 @@ none_for k session = elim (cases_Bool (eqb session k)) [
 pub no_bytes_for : (k : ℕ) → no_bytes ≡ bytes_for k []
 no_bytes_for k = λ i session. sym (none_for k session) i
 
--- an element is the same whatever stands for one that isn't there
+-- an element of a list doesn't depend on the default for a missing one
 pub in_any : {S : Type 0} (streams : List S) (k : ℕ) (none other : S) → k < length streams → get_or streams k none ≡ get_or streams k other
 in_any [] k none other within = absurd (omega (arith, within))
 in_any (stream ∷ streams) zero none other within = refl
@@ -49,7 +49,7 @@ ends_one k other steps calls about is = elim (cases_eq other k) [
 ]
 
 module _ {S : Type 0} {N : StreamModel S} where
-  -- what a stream of a session did, as one of several, and what the others did
+  -- what the stream of one session did, as one of several, and what the others did
   pub streamed_here : (k : ℕ) (streams : List S) (none stream after : S) (steps : List StepData) (lost sent : List ℕ) (calls : List StreamCall) → k < length streams → get_or streams k none ≡ stream
       → IsStreamed N k steps lost sent calls stream after
       → IsStreamed N k steps (bytes_for k lost k) (bytes_for k sent k) (calls_for k calls k) (get_or streams k none) (get_or (set streams k after) k none)
@@ -80,7 +80,7 @@ module _ {S : Type 0} {N : StreamModel S} where
   ]
 
 module _ {C S : Type 0} {M : CoreModel C} {N : StreamModel S} where
-  -- no step, and the same streams
+  -- no step, and unchanged streams
   pub goes_nowhere : (core : C) (streams : List S) {Shape : (ℕ → List StreamCall) → List StepData → Type 0} → Shape no_calls [] → Transition M N core core streams streams Shape
   goes_nowhere core streams shape = record {
     count = refl;
@@ -115,7 +115,7 @@ module _ {C S : Type 0} {M : CoreModel C} {N : StreamModel S} where
 
   -- ---- one session
 
-  -- what a session and its stream did is what all of them did
+  -- what one session and its stream did, as what all of them did
   pub session_goes : (k : ℕ) {old new : C} (streams : List S) (at after : S) {Shape : (ℕ → List StreamCall) → List StepData → Type 0} → k < length streams
       → SessionTransition M N k old new (get_or streams k at) after Shape → Transition M N old new streams (set streams k after) Shape
   session_goes k {old} {new} streams at after {Shape} within t = record {

@@ -10,17 +10,17 @@ abbrev pub bytes_for : ℕ → List ℕ → ℕ → List ℕ
 bytes_for k bytes session = if session == k then bytes else []
 
 pub record CoreModel (C : Type 0) : Type 1 where
-  -- whether a session has ended after a core has done these steps
+  -- whether a session has ended after the core did these steps
   pub ended : C → List StepData → ℕ → Bool
   -- the bytes that wait for a session
   pub output : C → ℕ → List ℕ
   -- nothing waits to be answered
   pub Idle : C → Type 0
-  -- from the first state to the second a session was begun anew, and nothing else has changed
+  -- from the first state to the second a session was started anew, and nothing else has changed
   pub Begins : ℕ → C → C → Type 0
   -- the core did these steps from the first state to the second, and these bytes were taken from each session's output
   pub DidSteps : C → C → List StepData → (ℕ → List ℕ) → Type 0
-  -- the core did these steps from the first state to the second, of which the last may be a part of a refused step,
+  -- from the first state to the second the core did these steps, of which the last may be a part of a refused step,
   -- and these bytes were taken from each session's output
   pub DidStepsInPart : C → C → List StepData → (ℕ → List ℕ) → Type 0
   pub nothing_done : (core : C) → DidSteps core core [] no_bytes

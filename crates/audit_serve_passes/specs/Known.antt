@@ -1,4 +1,4 @@
--- What calls do to the bytes that a reader has left and a writer holds, where those are known.
+-- What calls do to a reader's remaining bytes and to the bytes written to a writer, if these are known.
 use Rattle.std.specs.Prelude.{◌≡◌, ℕ, Bool, true, false, ◌||◌, Option, Some, None, List, [], ◌∷◌, ◌++◌}
 use Rattle.std.specs.Io.KnownBytes.{Appends}
 use Rattle.audit_serve_passes.specs.Streams.{StreamCall, a_read, a_failed_read, a_write, a_failed_write}

@@ -1,4 +1,4 @@
--- Passes: in turn, each live session has one step, and then comes a flush.
+-- Passes: each live session has one step in rising order, followed by a flush.
 use Rattle.std.specs.Prelude.{◌≡◌, ◌≢◌, ◌⊎◌, ℕ, zero, suc, ◌≤◌, Bool, true, if◌then◌else◌, List, [], ◌∷◌, ◌++◌}
 use Rattle.std.specs.Prelude.{length, map}
 use Rattle.audit_serve_passes.specs.declared.limits.TheConstants.{MAX_PIECE, MAX_TURNS}
@@ -39,7 +39,7 @@ pub record IsFlushAndEnds (closed : ℕ → Bool) (steps : List StepData) : Type
   pub are : steps ≡ a_flush ∷ ends
   pub each : AreEndsOfClosed closed ends
 
--- a visit of each live session below a number, and then a flush
+-- a visit of each live session below a number, followed by a flush
 pub record IsPass (count : ℕ) (ended closed : ℕ → Bool) (steps : List StepData) : Type 0 where
   pub turns : List StepData
   pub last : List StepData
@@ -47,7 +47,7 @@ pub record IsPass (count : ℕ) (ended closed : ℕ → Bool) (steps : List Step
   pub each : AreVisits (live_below count ended) turns
   pub flush : IsFlushAndEnds closed last
 
--- this many passes, each over the sessions that are live after the steps before it, at least one
+-- this many passes, each over the sessions that are live after the earlier steps, and at least one
 abbrev pub ArePasses : ℕ → (List StepData → ℕ → Bool) → (ℕ → Bool) → ℕ → List StepData → Type 0
 ArePasses count ended closed zero steps = steps ≡ []
 ArePasses count ended closed (suc turns) steps =
@@ -55,13 +55,13 @@ ArePasses count ended closed (suc turns) steps =
     × ArePasses count ended closed turns earlier
     × (live_below count (ended earlier) ≢ []) × IsPass count (ended earlier) closed round
 
--- what follows the passes: each live session is ended, then comes one more flush
+-- what follows the passes: each live session is ended, followed by one more flush
 pub record IsLastFlush (count : ℕ) (ended closed : ℕ → Bool) (steps : List StepData) : Type 0 where
   pub last : List StepData
   pub are : steps ≡ map an_end (live_below count ended) ++ last
   pub flush : IsFlushAndEnds closed last
 
--- passes until the last session has ended, then one more flush
+-- passes until the last session has ended, followed by one more flush
 pub record IsWholeRun (count : ℕ) (ended : List StepData → ℕ → Bool) (closed : ℕ → Bool) (turns : ℕ)
     (steps : List StepData) : Type 0 where
   pub rounds : List StepData
@@ -71,7 +71,8 @@ pub record IsWholeRun (count : ℕ) (ended : List StepData → ℕ → Bool) (cl
   pub all_ended : live_below count (ended rounds) ≡ []
   pub flush : IsFlushAndEnds closed last
 
--- as many passes as the limit allows, after which sessions are live: each of them is ended, then comes one more flush
+-- as many passes as the limit allows, after which sessions are still live: each of them is ended, followed by one more
+-- flush
 pub record IsCutRun (count : ℕ) (ended : List StepData → ℕ → Bool) (closed : ℕ → Bool)
     (steps : List StepData) : Type 0 where
   pub rounds : List StepData
@@ -81,9 +82,9 @@ pub record IsCutRun (count : ℕ) (ended : List StepData → ℕ → Bool) (clos
   pub live : live_below count (ended rounds) ≢ []
   pub ends : IsLastFlush count (ended rounds) closed last
 
--- ---- steps of which the last was refused
+-- ---- steps, the last of which was refused
 
--- the steps of a shape up to one that was refused, and a part of the refused step
+-- the steps of a shape up to a refused one, and a part of the refused step
 pub record IsInterrupted (Shape : List StepData → Type 0) (steps : List StepData) : Type 0 where
   pub front : List StepData
   pub step : StepData

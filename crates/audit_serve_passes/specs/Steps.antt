@@ -1,4 +1,4 @@
--- The steps of a core that serves sessions, and what they feed of the stream of one session.
+-- The steps of a core that serves sessions, and what they feed from the stream of one session.
 use Rattle.std.specs.Prelude.{◌≡◌, ◌⊎◌, ℕ, ◌+◌, Bool, false, ◌||◌, ◌==◌, if◌then◌else◌, List, [], ◌∷◌, ◌++◌}
 
 pub data StepData : Type 0 where
@@ -9,7 +9,7 @@ pub data StepData : Type 0 where
   -- what waits is committed and answered
   a_flush : StepData
 
--- a step is about session k; each of several steps is
+-- a step is about session k, or each of several steps is
 abbrev pub IsAbout : ℕ → StepData → Type 0
 IsAbout k (a_piece session piece) = session ≡ k
 IsAbout k (an_end session) = session ≡ k

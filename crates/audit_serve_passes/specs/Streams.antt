@@ -1,11 +1,11 @@
--- The calls of the stream of a session, and what they have to do with the steps of its core.
+-- The calls of a session's stream, and how they correspond to the steps of its core.
 use Rattle.std.specs.Prelude.{◌≡◌, ℕ, ◌+◌, Bool, true, false, ◌||◌, ◌==◌, if◌then◌else◌, List, [], ◌∷◌, ◌++◌, take}
 use Rattle.std.specs.Prelude.{Result, Ok, Err}
 use Rattle.audit_serve_passes.specs.declared.stream_fault.StreamError.{StreamError}
 use Rattle.audit_serve_passes.specs.Steps.{StepData, bytes_fed}
 
 pub data StreamCall : Type 0 where
-  -- a read gave these bytes: none only at the end of the stream
+  -- a read returned these bytes: none only at the end of the stream
   a_read : List ℕ → StreamCall
   -- a read failed
   a_failed_read : StreamCall
@@ -23,7 +23,7 @@ abbrev pub write_call : Result (Unit {0}) StreamError → List ℕ → StreamCal
 write_call (Ok unit) bytes = a_write bytes
 write_call (Err fault) bytes = a_failed_write bytes
 
--- the bytes that a call, or a list of calls, read: a failed read gives none
+-- the bytes that a call, or a list of calls, read; a failed read returns none
 abbrev pub bytes_given : StreamCall → List ℕ
 bytes_given (a_read bytes) = bytes
 bytes_given a_failed_read = []
@@ -56,7 +56,7 @@ abbrev pub has_failed_write : List StreamCall → Bool
 has_failed_write [] = false
 has_failed_write (call ∷ calls) = is_failed_write call || has_failed_write calls
 
--- how many times calls end a session: each read at the end of the stream does, and each failed call
+-- how many times calls end a session: once for each read at the end of the stream and for each failed call
 abbrev pub ends_of_call : StreamCall → ℕ
 ends_of_call (a_read []) = 1
 ends_of_call (a_read (byte ∷ bytes)) = 0
@@ -68,7 +68,7 @@ abbrev pub ends_of_calls : List StreamCall → ℕ
 ends_of_calls [] = 0
 ends_of_calls (call ∷ calls) = ends_of_call call + ends_of_calls calls
 
--- nothing is written after a write that failed
+-- nothing is written after a failed write
 abbrev pub AreWrittenWhole : Bool → List StreamCall → Type 0
 AreWrittenWhole closed [] = Unit {0}
 AreWrittenWhole closed (a_read bytes ∷ calls) = AreWrittenWhole closed calls
@@ -78,7 +78,7 @@ AreWrittenWhole closed (a_failed_write bytes ∷ calls) = (closed ≡ false) × 
 
 -- How contracts see a value that reads and writes.
 pub record CallModel (S : Type 0) : Type 1 where
-  -- these calls took it from one state to another
+  -- these calls led from one state to another
   pub DidCalls : S → S → List StreamCall → Type 0
   pub nothing_called : (stream : S) → DidCalls stream stream []
   pub more_called : (old mid new : S) (calls later : List StreamCall) → DidCalls old mid calls
@@ -98,8 +98,8 @@ pub record StreamModel (S : Type 0) : Type 1 where
 abbrev pub calls_for : ℕ → List StreamCall → ℕ → List StreamCall
 calls_for k calls session = if session == k then calls else []
 
--- By these calls the session's stream gave the bytes that the steps feed, then those that were lost. It took what was
--- sent; once a write had failed, the rest was dropped.
+-- In these calls the session's stream returned the bytes that the steps feed, followed by those that were lost. It
+-- accepted what was sent; after a failed write the rest was dropped.
 pub record IsStreamed {S : Type 0} (N : StreamModel S) (k : ℕ) (steps : List StepData) (lost sent : List ℕ)
     (calls : List StreamCall) (before after : S) : Type 0 where
   pub did : N.calls.DidCalls before after calls

@@ -1,4 +1,4 @@
--- What a call that serves the sessions of several streams does.
+-- The effect of a call that serves the sessions of several streams.
 use Rattle.std.specs.Prelude.{◌≡◌, ◌⊎◌, ℕ, ◌<◌, ◌≤◌, Bool, true, false, List, [], ◌∷◌, length, map, slice_index_or}
 use Rattle.audit_serve_passes.specs.declared.limits.TheConstants.{MAX_PIECE}
 use Rattle.audit_serve_passes.specs.Steps.{StepData, an_end, IsAbout, AreAbout, bytes_fed, ends_in}
@@ -8,15 +8,15 @@ use Rattle.audit_serve_passes.specs.Streams.{StreamCall, StreamModel, IsStreamed
 use Rattle.audit_serve_passes.specs.Streams.{has_failed_write}
 use Rattle.audit_serve_passes.specs.Core.{CoreModel, bytes_for}
 
--- whether a write failed on the stream of session k; on no stream did one fail
+-- whether a write failed on the stream of session k; and that none failed on any stream
 abbrev pub closed_by : (ℕ → List StreamCall) → ℕ → Bool
 closed_by calls k = has_failed_write (calls k)
 
 abbrev pub NoneClosed : (ℕ → List StreamCall) → Type 0
 NoneClosed calls = (k : ℕ) → closed_by calls k ≡ false
 
--- The core did steps of a shape, and each stream had its calls. These gave what the steps feed, took what was taken of
--- the session's output, and ended the session as often as the steps do.
+-- The core did steps of a shape, and each stream had its calls. These returned what the steps feed, accepted what was
+-- taken from the session's output, and ended the session as often as the steps do.
 pub record Transition {C S : Type 0} (M : CoreModel C) (N : StreamModel S) (old new : C) (before after : List S)
     (Shape : (ℕ → List StreamCall) → List StepData → Type 0) : Type 0 where
   pub count : length after ≡ length before
@@ -24,7 +24,7 @@ pub record Transition {C S : Type 0} (M : CoreModel C) (N : StreamModel S) (old 
   pub taken : ℕ → List ℕ
   pub calls : ℕ → List StreamCall
   pub did : M.DidSteps old new steps taken
-  -- no output was taken of a session that has no stream
+  -- no output was taken from a session without a stream
   pub others : (k : ℕ) → length before ≤ k → taken k ≡ []
   pub shape : Shape calls steps
   pub streamed : (k : ℕ) (none : S) → k < length before → IsStreamed N k steps [] (taken k) (calls k)
@@ -59,16 +59,16 @@ pub record EndsAs {C S : Type 0} (M : CoreModel C) (N : StreamModel S) (old new 
   pub taken : ℕ → List ℕ
   pub calls : ℕ → List StreamCall
   pub did : M.DidSteps old new steps taken
-  -- no output was taken of a session that has no stream
+  -- no output was taken from a session without a stream
   pub others : (k : ℕ) → length before ≤ k → taken k ≡ []
   pub shape : Shape calls steps
   pub streamed : (k : ℕ) (none : S) → k < length before → IsStreamed N k steps [] (taken k) (calls k)
       (slice_index_or before k none) (slice_index_or after k none)
 
--- ---- calls of which the last may have been refused
+-- ---- calls, the last of which may have been refused
 
--- The core did steps of a shape, perhaps a part of the last one, and each stream had its calls. At most one piece that
--- was read for one session was lost, by a refused call.
+-- The core did steps of a shape, perhaps only a part of the last one, and each stream had its calls. A refused call
+-- lost at most one piece that was read for one session.
 pub record Reached {C S : Type 0} (M : CoreModel C) (N : StreamModel S) (old new : C) (before after : List S)
     (Shape : (ℕ → List StreamCall) → List StepData → Type 0) : Type 0 where
   pub count : length after ≡ length before
@@ -76,7 +76,7 @@ pub record Reached {C S : Type 0} (M : CoreModel C) (N : StreamModel S) (old new
   pub taken : ℕ → List ℕ
   pub calls : ℕ → List StreamCall
   pub reaches : M.DidStepsInPart old new steps taken
-  -- no output was taken of a session that has no stream
+  -- no output was taken from a session without a stream
   pub others : (k : ℕ) → length before ≤ k → taken k ≡ []
   -- the session whose bytes were lost, and these bytes
   pub refused : ℕ
@@ -100,7 +100,7 @@ pub record SessionReached {C S : Type 0} (M : CoreModel C) (N : StreamModel S) (
   pub shape : Shape (calls_for k calls) steps
   pub streamed : IsStreamed N k steps lost sent calls before after
 
--- The core did some steps of a shape, perhaps a part of the last one, and no stream was used.
+-- The core did steps of a shape, perhaps only a part of the last one, and no stream was used.
 pub record CoreReached {C : Type 0} (M : CoreModel C) (old new : C) (Shape : List StepData → Type 0) : Type 0 where
   pub steps : List StepData
   pub taken : ℕ → List ℕ

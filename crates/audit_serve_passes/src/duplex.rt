@@ -11,7 +11,7 @@ pub trait Duplex {
     /// What its calls do, and what is known of it.
     ghost calls: { CallModel Self };
 
-    /// Reads available bytes into the front of the buffer and returns their number, which is 0 only at the end. It may
+    /// Reads available bytes into the start of the buffer and returns their number, which is 0 only at the end. It may
     /// wait for the peer.
     fn receive(&mut self, buffer: &mut [u8]) -> Result<usize, StreamError>
         requires { 0 < length buffer.old }
@@ -23,7 +23,7 @@ pub trait Duplex {
         ensures { calls.DidCalls self.old self.new (write_call result bytes.now ∷ []) };
 }
 
-/// Of a socket nothing is known: each call is the system's.
+/// Nothing is known of a socket: each call is the system's.
 impl Duplex for UnixStream {
     ghost calls = { unknown_calls };
 

@@ -7,7 +7,7 @@ use crate::session_stream::SessionStream;
 use crate::stream_fault::StreamError;
 
 /// A session's stream over one value that reads and writes, such as a socket. Each call is one call of the value and
-/// has its result; what is known of the value is known of the stream.
+/// has its result. What is known of the value is known of the stream.
 #[derive(Debug, Drop)]
 pub struct DuplexStream<T> {
     inner: T,
@@ -15,7 +15,7 @@ pub struct DuplexStream<T> {
 }
 
 impl<T: Duplex> DuplexStream<T> {
-    /// The stream that reads from this value and writes to it.
+    /// Makes the stream that reads from this value and writes to it.
     pub fn new(inner: T) -> DuplexStream<T>
         ensures { IsNewDuplex inner result }
     {

@@ -1,8 +1,8 @@
 //! Sessions that are served in passes over streams.
 //!
-//! In each pass every live session has one read of its stream, then the core flushes, and then what waits for each
-//! session is written to its stream: [`serve`]. A stream is a [`SessionStream`], and what decides on the bytes of the
-//! sessions is a [`SessionCore`].
+//! [`serve`] makes passes. In each of them every live session has one read of its stream; then the core flushes, and
+//! what waits for each session is written to its stream. A stream is a [`SessionStream`]. A [`SessionCore`] handles
+//! the bytes of the sessions.
 #![tactic(auto)]
 
 mod duplex;

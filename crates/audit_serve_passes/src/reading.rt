@@ -8,7 +8,8 @@ ghost use Rattle.audit_serve_passes.specs.Transition.{IsOneVisit, AreVisitsBelow
 use crate::session_core::SessionCore;
 use crate::session_stream::SessionStream;
 
-/// Visits a session: feeds it what one read of its stream gave. The end of the stream, or a fault, ends the session.
+/// Visits a session: feeds it what one read of its stream returned. The end of the stream, or a fault, ends the
+/// session.
 fn read_turn<C: SessionCore, S: SessionStream>(
     core: &mut C,
     session: usize,

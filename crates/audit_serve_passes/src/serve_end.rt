@@ -3,7 +3,7 @@
 pub struct ServeEnd<E> {
     /// How many passes were begun.
     pub turns: u64,
-    /// Why serving stopped before the last session had ended and the last output was written, or none if it didn't.
+    /// Why serving stopped before the last session had ended and the last output was written; none if it didn't.
     pub fault: Option<ServeFault<E>>,
 }
 

@@ -15,13 +15,13 @@ use crate::writing::flush_and_write;
 /// Serves the sessions of these streams in passes until the last one has ended. The first stream is that of session 0.
 ///
 /// A pass reads at most [`MAX_PIECE`] bytes from each live session, in rising order. Then the core flushes, and all
-/// that waits for each session is written to its stream. The end of a stream, or a fault of a read, ends its session.
-/// So does a fault of a write; all output for that session is then dropped, now and later. After the last session has
-/// ended the core flushes once more, and what waits is written.
+/// that waits for each session is written to its stream. The end of a stream, or a failed read, ends its session. So
+/// does a failed write; all output for that session is then dropped, now and later. After the last session has ended
+/// the core flushes once more, and what waits is written.
 ///
 /// If sessions are still live after [`MAX_TURNS`](crate::MAX_TURNS) passes, each of them is ended, the core flushes
-/// once more, and the fault is `ReadFault`. If the core refuses a step, serving stops at once. Whatever happens, the
-/// core did steps that feed it the bytes read, except those that a refused call may have lost.
+/// once more, and the fault is `ReadFault`. If the core refuses a step, serving stops immediately. Whatever happens,
+/// the core did steps that feed it the bytes read, except those that a refused call may have lost.
 pub fn serve<C: SessionCore, S: SessionStream>(
     core: &mut C,
     streams: &mut [S],
@@ -29,17 +29,17 @@ pub fn serve<C: SessionCore, S: SessionStream>(
     requires { length streams.old ≤ SESSIONS }
     ensures most { result.turns ≤ MAX_TURNS }
     // Whatever happens, the core changed only by steps and `take_output`. The steps feed what the reads of each stream
-    // returned, except bytes that a refused call lost. What was taken of a session's output was written to its stream,
-    // or dropped once a write to it had failed.
+    // returned, except bytes that a refused call lost. What was taken from a session's output was written to its
+    // stream, or dropped after a failed write.
     ensures reaches { Reached C.model S.model core.old core.new streams.old streams.new AnySteps }
-    // If a refusal stopped serving, what the core states by that refusal holds.
+    // If a refusal stopped serving, what the core states about that refusal holds.
     ensures refused { (error : C.Error) → result.fault ≡ Some (fault.Core error) → C.refuses core.old core.new error }
-    // The refused step was in the last pass that was begun, or after all passes.
+    // The refused step was in the last pass, or after all passes.
     ensures stopped { (error : C.Error) → result.fault ≡ Some (fault.Core error)
         → Reached C.model S.model core.old core.new streams.old streams.new
         (IsStoppedBy C.model (length streams.old) result.turns core.old) }
-    // Without a fault, whole passes were made until the last session had ended, and then a flush. A session was ended
-    // exactly when a read found the end of its stream or a call of the stream failed.
+    // Without a fault, whole passes were made until the last session had ended, followed by a flush. A session was
+    // ended if and only if a read found the end of its stream or a call of the stream failed.
     ensures served { result.fault ≡ None → Transition C.model S.model core.old core.new streams.old streams.new
         (IsServed C.model (length streams.old) result.turns core.old core.new) }
     ensures cut { result.fault ≡ Some fault.ReadFault → (result.turns ≡ MAX_TURNS)

@@ -9,8 +9,8 @@ use std::alloc::AllocError;
 /// replies until they are taken.
 ///
 /// A successful call of `feed`, `end` or `flush` is one step. A refused call is a part of its step: all of it,
-/// nothing, or a prefix of its piece. Each core defines the effect of steps and the meaning of its refusals. All cores
-/// have in common that whether a session has ended depends only on the steps.
+/// nothing, or a prefix of its piece. Each core defines the effect of steps and the meaning of its refusals. For every
+/// core, whether a session has ended depends only on the steps.
 pub trait SessionCore {
     /// Why a step is refused.
     type Error;
@@ -52,9 +52,9 @@ pub trait SessionCore {
         ensures others { (other : ℕ) → (other ≡ session → ⊥)
             → model.output self.new other ≡ model.output self.old other };
 
-    /// Begins a session that has ended anew, for another client. Nothing may wait to be answered, and nothing to be
-    /// taken of its output, so that no reply to the earlier client goes to the next one. The only error is that memory
-    /// is refused; then nothing has changed.
+    /// Starts an ended session anew, for another client. Nothing may wait to be answered, and the session's output
+    /// must be empty, so that no reply to the earlier client goes to the next one. The only error is that memory is
+    /// refused; nothing has then changed.
     fn reopen(&mut self, session: usize) -> Result<(), AllocError>
         requires session { session < SESSIONS }
         requires ended { model.ended self.old [] session ≡ true }

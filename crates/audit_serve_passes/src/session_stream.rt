@@ -8,7 +8,7 @@ pub trait SessionStream {
     /// What its calls do, and what is known of it.
     ghost model: { StreamModel Self };
 
-    /// Reads available bytes into the front of the buffer and returns their number, which is 0 only at the end of the
+    /// Reads available bytes into the start of the buffer and returns their number, which is 0 only at the end of the
     /// stream. It may wait for the client.
     fn read(&mut self, buffer: &mut [u8]) -> Result<usize, StreamError>
         requires { 0 < length buffer.old }

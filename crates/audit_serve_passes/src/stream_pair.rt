@@ -7,7 +7,7 @@ use crate::stream_fault::StreamError;
 use std::io::{Read, Write};
 
 /// A session's stream made of a reader and a separate writer. What is known of the two is known of the stream:
-/// everything of bytes in memory, nothing of a file.
+/// everything if they are in memory, nothing if they are files.
 #[derive(Debug, Drop)]
 pub struct StreamPair<R, W> {
     reader: R,

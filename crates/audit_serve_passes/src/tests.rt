@@ -1,4 +1,4 @@
-// What a stream gives and takes is set by each test; the steps that the core is asked for, in order, are the promise.
+// Each test sets what a stream returns and accepts, and compares the steps that the core was asked to do, in order.
 ghost use Rattle.std.specs.Prelude.{◌<◌, ◌≤◌, [], ◌∷◌, length, IfOk};
 ghost use Rattle.audit_serve_passes.specs.Streams.{read_call, write_call};
 ghost use Rattle.audit_serve_passes.specs.Pairs.{unknown_calls};
@@ -14,7 +14,7 @@ use std::alloc::{AllocError, Global};
 use std::io::{self, ErrorKind, Read, Write};
 use std::test::Fail;
 
-/// A reader that gives at most `most` bytes at a time, and fails after `reads` reads.
+/// A reader that returns at most `most` bytes at a time, and fails after `reads` reads.
 #[derive(Drop)]
 struct Source<'a> {
     bytes: &'a [u8],
@@ -80,7 +80,7 @@ fn wrote(stream: &Stream, bytes: &[u8]) -> bool {
     stream.writer().bytes.as_slice() == bytes
 }
 
-// Without streams there is no pass, and one flush.
+// Without streams there are no passes and one flush.
 #[test]
 fn no_stream(rt: HostRuntime) -> Result<(), Fail> {
     let alloc = rt.alloc();
@@ -97,7 +97,7 @@ fn no_stream(rt: HostRuntime) -> Result<(), Fail> {
     Ok(())
 }
 
-// One stream gives one byte a read, the other all bytes at once. Each live session has one read in each pass.
+// One stream returns one byte for each read, the other all bytes at once. Each live session has one read in each pass.
 #[test]
 fn streams_are_read_in_turns(rt: HostRuntime) -> Result<(), Fail> {
     let alloc = rt.alloc();
@@ -210,7 +210,7 @@ impl Duplex for Polite {
     }
 }
 
-// What waits is written before the next pass's reads.
+// What waits is written before the reads of the next pass.
 #[test]
 fn replies_are_written_in_their_round(rt: HostRuntime) -> Result<(), Fail> {
     let alloc = rt.alloc();
@@ -241,7 +241,7 @@ fn replies_are_written_in_their_round(rt: HostRuntime) -> Result<(), Fail> {
     Ok(())
 }
 
-/// A client that sends without end, and accepts whatever is sent to it.
+/// A client that sends without end, and accepts whatever it is sent.
 #[derive(Drop)]
 struct Endless;
 

@@ -1,4 +1,4 @@
--- The steps of a session over lines, extended by one step at a time.
+-- The steps of a session over lines, with one more step.
 use Rattle.std.proofs.Common.{◌≡◌, ℕ, ◌≤◌, eqb, Option, List, [], ◌∷◌, ◌++◌, length, refl, sym, ap, ◌∙◌, subst, append_assoc, append-nil}
 use Rattle.std.proofs.lemmas.Bool.{ne_eqb, cond-false}
 use Rattle.audit_serve_passes.specs.declared.limits.TheConstants.{MAX_PIECE}
@@ -109,7 +109,7 @@ module _ {C : Type 0} {M : CoreModel C} where
       (loop_goes_on {Both = λ steps. steps ≡ an_end 0 ∷ a_flush ∷ []} mid over new between between after ending reply (λ s t one also. ap (λ (l : List StepData). l ++ t) one ∙ ap (λ (l : List StepData). an_end 0 ∷ l) also))
       (λ s t turns last. record { turns = s; are = ap (λ (l : List StepData). s ++ l) last; each = turns })
 
--- what holds of an answer, turned
+-- what holds of a result, restated
 pub turned : {A E P Q : Type 0} (result : Result A E) → OnOk result P → (P → Q) → OnOk result Q
 turned (Ok x) has turn = turn has
 turned (Err error) has turn = tt

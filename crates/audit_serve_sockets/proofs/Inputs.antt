@@ -1,4 +1,4 @@
--- The lines of an input, extended by one line at a time, and the bytes that they spell.
+-- The lines of an input, with one more line, and the bytes that they spell.
 use Rattle.std.proofs.Common.{◌≡◌, ◌<◌, ℕ, zero, suc, Bool, not, eqb, cond, true, inl, inr, ◌⊎◌, Option, Some, None, List, [], ◌∷◌, ◌++◌, length, map, refl, sym, ap, ◌∙◌, arith, append_assoc, append-nil, length-append}
 use Rattle.std.proofs.lemmas.Bool.{ne_eqb, lt-ltb, false≢true}
 use Rattle.std.specs.Prelude.{IfSome}
@@ -10,7 +10,7 @@ use Rattle.audit_serve_sockets.specs.declared.limits.TheConstants.{MAX_DIGITS}
 use Rattle.audit_serve_sockets.specs.FrameLine.{bytes_of_line}
 use Rattle.audit_serve_sockets.specs.Input.{spelled, SpellsInput, SpellsUpToBad, ReadsLine, TakesByte}
 
--- ---- a line, a byte at a time
+-- ---- a line, with one more byte
 
 -- no byte of a line ends it
 abbrev pub HasNoFeed : List ℕ → Type 0
@@ -25,7 +25,7 @@ in_line : (byte : ℕ) (bytes : List ℕ) → (byte ≡ 10 → ⊥) → lines_of
 unfolding lines_of
 in_line byte bytes not = ap (λ b. cond b ([] ∷ lines_of bytes) (onto_first byte (lines_of bytes))) (ne_eqb byte 10 not)
 
--- a line and its line feed stand in front
+-- the input begins with a line and its line feed
 line_cut : (line rest : List ℕ) → HasNoFeed line → lines_of (line ++ 10 ∷ rest) ≡ line ∷ lines_of rest
 unfolding lines_of
 line_cut [] rest none = refl
@@ -37,7 +37,7 @@ unfolding lines_of
 last_line byte [] none = in_line byte [] none.0
 last_line byte (next ∷ line) none = in_line byte (next ∷ line) none.0 ∙ ap (onto_first byte) (last_line next line none.1)
 
--- such bytes begin the first line
+-- such bytes are the start of the first line
 abbrev BeginsFirst : List ℕ → List ℕ → Type 0
 BeginsFirst front input = (rest : List ℕ) × (later : List (List ℕ)) × (lines_of input ≡ (front ++ rest) ∷ later)
 
@@ -53,9 +53,9 @@ first_front byte (next ∷ front) rest none =
     let after = first_front next front rest none.1 in
     (after.0, after.1, in_line byte (next ∷ (front ++ rest)) none.0 ∙ ap (onto_first byte) after.2)
 
--- ---- what was taken of a reader
+-- ---- what was taken from a reader
 
--- so far the front of a line was taken
+-- the start of a line was taken so far
 pub record HasTaken (old now : Option (List ℕ)) (line : List ℕ) : Type 0 where
   pub taken : Consumes old now line
   pub none : HasNoFeed line
@@ -102,7 +102,7 @@ long_line (Some input) (Some rest) (byte ∷ line) h long =
     let begins = first_front byte line rest h.none in
     inr (record { rest = begins.0; later = begins.1; first = ap lines_of h.taken ∙ begins.2; long = long })
 
--- there are some, where a test says so
+-- there are some bytes if a test says so
 pub some_when : (empty : Bool) (n : ℕ) → empty ≡ eqb n 0 → not empty ≡ true → 0 < n
 some_when empty zero is some = absurd (false≢true (sym (ap not is) ∙ some))
 some_when empty (suc n) is some = omega arith
@@ -123,7 +123,7 @@ spells_none : (line : List ℕ) → MAX_DIGITS < length line → bytes_of_line l
 unfolding bytes_of_line
 spells_none line long = ap (λ b. cond b None (result_ok (decode_of line))) (lt-ltb MAX_DIGITS (length line) long)
 
--- what was read is the first line, or it spells nothing, as the first line does
+-- the line that was read is the first line, or neither of them spells bytes
 first_spelled : (input rest line : List ℕ) → ReadsLine (Some input) (Some rest) line → (bytes : Option (List ℕ)) → bytes_of_line line ≡ bytes
     → (spelled input ≡ bytes ∷ spelled rest) ⊎ ((bytes ≡ None) × (later : List (Option (List ℕ))) × (spelled input ≡ None ∷ later))
 first_spelled input rest line (inl first) bytes says = inl (ap (map bytes_of_line) first ∙ ap (λ b. b ∷ spelled rest) says)

@@ -1,4 +1,4 @@
--- Frames written as lines, one at a time.
+-- Frames written as lines, with one more frame.
 use Rattle.std.proofs.Common.{◌≡◌, ℕ, ◌<◌, ◌^◌, Option, Some, None, List, [], ◌∷◌, ◌++◌, length, refl, sym, ap, ◌∙◌, subst}
 use Rattle.std.proofs.Common.{append_assoc, append-nil, ◌/◌, ◌%◌, slice_index}
 use Rattle.hex.specs.Hex.{encode_with, encode_lower, lower_digits}
@@ -15,7 +15,7 @@ encoded_both digits (byte ∷ bytes) more = ap (λ l. slice_index digits (byte /
 pub hex_of_both : (bytes more : List ℕ) → encode_lower (bytes ++ more) ≡ encode_lower bytes ++ encode_lower more
 hex_of_both = encoded_both lower_digits
 
--- all bytes but the rest were written as lines
+-- all bytes except the rest were written as lines
 pub record HasLinesBefore (old now : Option (List ℕ)) (rest whole : List ℕ) : Type 0 where
   pub front : List ℕ
   pub all : front ++ rest ≡ whole

@@ -51,7 +51,7 @@ turns_bring [] steps none = ap (bytes_fed 0) none
 turns_bring (bytes ∷ lines) steps (first, later, is, turn, turns) =
     ap (bytes_fed 0) is ∙ bytes_of-append 0 first later ∙ ap (λ (front : List ℕ). front ++ bytes_fed 0 later) (turn_brings bytes first turn) ∙ ap (λ (more : List ℕ). bytes ++ more) (turns_bring lines later turns)
 
--- of session 0 the first of these bytes
+-- the steps feed a prefix of these bytes to session 0
 record BringsSome (bytes : List ℕ) (steps : List StepData) : Type 0 where
   pub rest : List ℕ
   pub front : bytes_fed 0 steps ++ rest ≡ bytes
@@ -60,7 +60,7 @@ record BringsSome (bytes : List ℕ) (steps : List StepData) : Type 0 where
 brings_some : (bytes rest : List ℕ) (steps : List StepData) → Brings bytes rest steps → BringsSome bytes steps
 brings_some bytes rest steps h = record { rest = rest; front = h.all; elsewhere = λ k apart. pieces_elsewhere k steps apart h.pieces }
 
--- steps that feed nothing, after those that feed all
+-- steps that feed all, followed by steps that feed nothing
 brings_all : (bytes : List ℕ) (steps part : List StepData) → Brings bytes [] steps → IsPartOf a_flush part → BringsSome bytes (steps ++ part)
 brings_all bytes steps part h is = record {
   rest = [];
@@ -68,7 +68,7 @@ brings_all bytes steps part h is = record {
   elsewhere = λ k apart. elsewhere-append k steps part (pieces_elsewhere k steps apart h.pieces) (flush_elsewhere k part is);
 }
 
--- of a piece that was refused a part
+-- a part of a refused piece
 front_brings : (bytes rest piece following : List ℕ) (steps part : List StepData) → Brings bytes rest steps → rest ≡ piece ++ following → length piece ≤ MAX_PIECE → IsPartOf (a_piece 0 piece) part
     → BringsFront bytes (steps ++ part)
 front_brings bytes rest piece following steps part h split within (inl none) =
@@ -79,7 +79,7 @@ front_brings bytes rest piece following steps part h split within (inr (front, l
       (brings_more bytes rest front (lost ++ following) steps h (split ∙ ap (λ (p : List ℕ). p ++ following) cut ∙ append_assoc front lost following) (omega (arith, within, ap length cut, length-append front lost))),
 )
 
--- the bytes of one line more
+-- the bytes of one more line
 one_line_more : (lines : List (List ℕ)) (bytes : List ℕ) → flat_map (λ line. line) lines ++ bytes ≡ flat_map (λ line. line) (lines ++ bytes ∷ [])
 one_line_more lines bytes = ap (λ (more : List ℕ). flat_map (λ line. line) lines ++ more) (sym (append-nil bytes)) ∙ sym (both_mapped (λ line. line) lines (bytes ∷ []))
 
@@ -148,7 +148,7 @@ module _ {C : Type 0} {M : CoreModel C} where
     };
   }
 
-  -- the turns of some lines, and then steps that feed a prefix of these bytes
+  -- the passes of some lines, followed by steps that feed a prefix of these bytes
   lines_then : {before after : Option (List ℕ)} (old mid new : C) (known : Option (List ℕ)) (lines all : List (List ℕ)) (bytes : List ℕ) → LoopTransition M old mid before after (AreLinePasses lines)
       → LoopReached M mid new (BringsSome bytes) → flat_map (λ line. line) lines ++ bytes ≡ flat_map (λ line. line) all → IfSome known (SpellsFirst all) → LoopReached M old new (BringsLines known)
   lines_then old mid new known lines all bytes first second are spells = record {

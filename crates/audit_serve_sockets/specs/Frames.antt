@@ -10,7 +10,7 @@ abbrev pub AreBodies : List (List ℕ) → Type 0
 AreBodies [] = Unit {0}
 AreBodies (body ∷ bodies) = (length body < 2 ^ 16) × AreBodies bodies
 
--- the frame of a body in lower-case hex digits, and a line feed
+-- the frame of a body in lowercase hex digits, and a line feed
 abbrev pub frame_line : List ℕ → List ℕ
 frame_line body = encode_lower (frame body) ++ codes "\n"
 

@@ -28,7 +28,7 @@ pub record IsFrontOfLong (input front : List ℕ) : Type 0 where
   pub first : lines_of input ≡ (front ++ rest) ∷ later
   pub long : MAX_DIGITS < length front
 
--- From a reader whose bytes are known the first line was read, and the lines after it remain. If the line is too long,
+-- From a reader whose bytes are known, the first line was read and the later lines remain. If the line is too long,
 -- only a prefix of it was read.
 abbrev pub ReadsLine : Option (List ℕ) → Option (List ℕ) → List ℕ → Type 0
 ReadsLine None new line = Unit {0}

@@ -4,7 +4,7 @@ use Rattle.audit_serve_sockets.specs.declared.loop_fault.RelayError.TheVariants 
 use Rattle.audit_serve_sockets.specs.declared.loop_fault.LoopError.{LoopError}
 use Rattle.audit_serve_sockets.specs.declared.loop_fault.LoopError.TheVariants.{Connection, Lines, BadLine, Core}
 
--- the error of the same meaning
+-- the error of the same name
 abbrev pub of_reply : {E : Type 0} → RelayError → LoopError E
 of_reply reply.Connection = Connection
 of_reply (reply.Lines fault) = Lines fault

@@ -1,4 +1,4 @@
--- The steps that a session over lines makes a core do, and what it writes.
+-- The steps that a core does for a session over lines, and what is written.
 use Rattle.std.specs.Prelude.{◌≡◌, ℕ, ◌≤◌, Option, IfSome, List, [], ◌∷◌, ◌++◌, length}
 use Rattle.std.specs.List.{flat_map}
 use Rattle.audit_serve_passes.specs.declared.limits.TheConstants.{MAX_PIECE}
@@ -15,12 +15,12 @@ ArePieces (a_piece session piece ∷ steps) = (session ≡ 0) × (length piece �
 ArePieces (an_end session ∷ steps) = ⊥
 ArePieces (a_flush ∷ steps) = ⊥
 
--- pieces of session 0 feed a prefix of these bytes, and `rest` is left
+-- pieces of session 0 feed these bytes except for `rest`
 pub record Brings (bytes rest : List ℕ) (steps : List StepData) : Type 0 where
   pub pieces : ArePieces steps
   pub all : bytes_fed 0 steps ++ rest ≡ bytes
 
--- the bytes of a line, and then a flush
+-- the bytes of a line, followed by a flush
 pub record IsLinePass (bytes : List ℕ) (steps : List StepData) : Type 0 where
   pub pieces : List StepData
   pub are : steps ≡ pieces ++ a_flush ∷ []
@@ -61,7 +61,7 @@ pub record LoopTransition {C : Type 0} (M : CoreModel C) (old new : C) (before a
   pub shape : Shape steps
   pub written : HasLines before after (taken 0)
 
--- The core did steps of this shape, of which the last may be a part of a refused step. Output was taken only from
+-- The core did steps of this shape, the last of which may be a part of a refused step. Output was taken only from
 -- session 0.
 pub record LoopReached {C : Type 0} (M : CoreModel C) (old new : C) (Shape : List StepData → Type 0) : Type 0 where
   pub steps : List StepData

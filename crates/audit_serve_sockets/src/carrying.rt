@@ -6,7 +6,7 @@ use std::io::{Read, Write};
 #[derive(Clone, Copy, Debug, PartialEq, Eq)]
 pub struct ConnectionError;
 
-/// Writes a piece to one end of a connection, and reads the same number of bytes at the other end into the front of
+/// Writes a piece to one end of a connection, and reads the same number of bytes at the other end into the start of
 /// the buffer. It returns the bytes read. The only error is that the connection fails or delivers other bytes.
 pub fn carry<'a, W: Write, R: Read>(
     from: &mut W,

@@ -5,9 +5,8 @@ use crate::limits::MAX_DIGITS;
 use hex::FromHexError;
 use std::alloc::{AllocError, Global};
 
-/// Returns the bytes that a line spells in hex digits of either case, two for each byte. Returns none if the line
-/// isn't such digits, or has more than [`MAX_DIGITS`]. An empty line spells no bytes. The only error is that memory is
-/// refused.
+/// Returns the bytes of a line of hex digits in either case, two for each byte. Returns none if the line has other
+/// characters, or more than [`MAX_DIGITS`]. An empty line has no bytes. The only error is that memory is refused.
 #[tactic(auto, unfolding(crate::specs::FrameLine::bytes_of_line))]
 pub fn bytes_of_line(alloc: Global, line: &[u8]) -> Result<Option<Vec<u8>>, AllocError>
     ensures { IfOk result (λ bytes. option_map (λ list. list.items) bytes ≡ bytes_of_line line.now) }

@@ -8,8 +8,8 @@ use crate::limits::MAX_DIGITS;
 use audit_text::LinesError;
 use std::io::{BufRead, Read};
 
-/// Reads the next line without its line feed into the buffer, whose old content is dropped. Returns whether there was
-/// a line. Of a line longer than [`MAX_DIGITS`] only the first `MAX_DIGITS` + 1 bytes are read.
+/// Reads the next line without its line feed into the buffer, replacing its contents. Returns whether there was a
+/// line. Of a line longer than [`MAX_DIGITS`] only the first `MAX_DIGITS` + 1 bytes are read.
 ///
 /// Errors: `Read` and `Memory`. The buffer then holds what was read of the line.
 pub fn next_line<R: BufRead>(reader: &mut R, line: &mut Vec<u8>) -> Result<bool, LinesError>

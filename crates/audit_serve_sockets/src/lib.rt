@@ -1,5 +1,5 @@
-//! Sockets on which sessions arrive, and a session whose client is in the same process: lines of hex digits go to it,
-//! and its replies come back as lines.
+//! Sockets on which sessions arrive. Also a session whose client is in the same process: it is fed lines of hex
+//! digits, and its replies are written as lines.
 #![tactic(auto)]
 
 mod carrying;

@@ -3,8 +3,8 @@ ghost use Rattle.std.specs.Prelude.{◌≡◌, ◌≤◌, length, IfOk};
 use crate::carrying::{ConnectionError, carry};
 use std::io::{Read, Write};
 
-/// A connection with both ends in this process. A piece is written to one end and then read at the other. The pieces
-/// must be short enough for the connection to buffer: then neither end blocks.
+/// A connection with both ends in this process. A piece is written to one end and then read at the other. Neither end
+/// blocks if the pieces are short enough for the connection to buffer.
 #[derive(Drop)]
 pub struct Link<A, B> {
     client: A,
@@ -17,8 +17,8 @@ impl<A: Read + Write, B: Read + Write> Link<A, B> {
         Link { client, server }
     }
 
-    /// Sends a piece from the client's end, and returns what arrived at the server's end, which is the same. It is
-    /// read into the front of the buffer.
+    /// Sends a piece from the client's end, and returns the same bytes as they arrived at the server's end. They are
+    /// read into the start of the buffer.
     pub fn to_server<'a>(
         &mut self,
         piece: &[u8],
@@ -30,8 +30,8 @@ impl<A: Read + Write, B: Read + Write> Link<A, B> {
         carry(&mut self.client, &mut self.server, piece, buffer)
     }
 
-    /// Sends a piece from the server's end, and returns what arrived at the client's end, which is the same. It is
-    /// read into the front of the buffer.
+    /// Sends a piece from the server's end, and returns the same bytes as they arrived at the client's end. They are
+    /// read into the start of the buffer.
     pub fn to_client<'a>(
         &mut self,
         piece: &[u8],

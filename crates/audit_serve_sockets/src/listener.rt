@@ -14,7 +14,7 @@ pub trait Listener<T> {
         ensures { IfOk result (λ connection. arrived self.now connection) };
 }
 
-/// Of the system's sockets nothing is known: the call is the system's.
+/// Nothing is known of the system's sockets: the call is the system's.
 impl Listener<UnixStream> for SocketFile {
     ghost arrived = { λ socket connection. Unit {0} };
 

@@ -26,7 +26,7 @@ const SESSION: usize = 0;
 /// replies are sent back, and each frame that arrives is written as a line. After the last line the session is ended,
 /// and the core flushes once more.
 ///
-/// If a line isn't hex digits, the error is `BadLine`. The replies to the lines before it have been written.
+/// If a line isn't hex digits, the error is `BadLine`. The replies to the earlier lines have then been written.
 pub fn run_lines<C, A, B, R, W>(
     alloc: Global,
     core: &mut C,
@@ -42,14 +42,14 @@ where
     W: Write,
     // Whatever happens, the core did steps that feed a prefix of what the first lines spell, in order.
     ensures reaches { LoopReached C.model core.old core.new (BringsLines (R.remaining reader.old)) }
-    // If the core refused a step, what its refusal states is true.
+    // If the core refused a step, what its refusal states holds.
     ensures refused { (error : C.Error) → result ≡ Err (fault.Core error) → C.refuses core.old core.new error }
-    // On success each line was fed and flushed, one after the other. Then the session was ended, and the replies were
-    // written. If the reader's bytes are known, `lines` is what all their lines spell.
+    // On success each line was fed and flushed in order. Then the session was ended, and the replies were written. If
+    // the reader's bytes are known, `lines` is what all their lines spell.
     ensures done { OnOk result ((lines : List (List ℕ)) × LoopTransition C.model core.old core.new
         (W.contents writer.old) (W.contents writer.new) (IsWholeLoop lines)
         × IfSome (R.remaining reader.old) (SpellsInput lines)) }
-    // If a line spells no bytes, the replies to all lines before it were written.
+    // If a line spells no bytes, the replies to all earlier lines were written.
     ensures bad { (number : ℕ) → result ≡ Err (fault.BadLine number)
         → (lines : List (List ℕ)) × (length lines + 1 ≡ number) × LoopTransition C.model core.old core.new
         (W.contents writer.old) (W.contents writer.new) (AreLinePasses lines)

@@ -7,8 +7,8 @@ use std::os::fd::{AsRawFd, BorrowedFd, OwnedFd};
 use std::os::unix::fs::PermissionsExt;
 use std::os::unix::net::{self as unix, UnixStream};
 
-/// A runtime that creates a socket's file with access for its owner alone, from the first moment on and whatever the
-/// process's mask. All else is done by the runtime that it wraps.
+/// A runtime that creates a socket's file with access only for its owner, from the start and whatever the umask is.
+/// Everything else is done by the runtime that it wraps.
 #[derive(Drop)]
 pub(crate) struct OwnerOnly<'a, R> {
     rt: &'a R,
@@ -66,7 +66,7 @@ impl<R: Files> Files for OwnerOnly<'_, R> {
         self.rt.remove_dir_all(alloc, path)
     }
 
-    // Linux derives the permissions of a socket's file from those of the socket itself, less the process's mask.
+    // Linux derives the permissions of a socket's file from those of the socket itself, less the umask.
     fn bind_unix(&self, socket: BorrowedFd<'_>, address: &unix::SocketAddr) -> io::Result<()> {
         let descriptor = socket.as_raw_fd();
         let path = format!(in self.alloc; "/proc/self/fd/{descriptor}")?;

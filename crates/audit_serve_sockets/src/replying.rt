@@ -26,7 +26,7 @@ pub fn write_frames<W: Write>(alloc: Global, bytes: &[u8], writer: &mut W) -> Re
     Ok(())
 }
 
-// Replaces the content of the buffer with the line of a frame.
+// Replaces the contents of the buffer with the line of a frame.
 fn put_frame(line: &mut Vec<u8>, body: &[u8]) -> Result<(), AllocError>
     requires { length body.now < 2 ^ 16 }
     ensures { OnOk result (line.new.items ≡ frame_line body.now) }

@@ -16,7 +16,7 @@ pub struct SocketFile {
 }
 
 impl SocketFile {
-    /// Makes the socket's file. From its creation only its owner has access; then `mode` is set if it differs. A
+    /// Makes the socket's file. Only its owner has access when it is created; then `mode` is set if it differs. A
     /// socket of this user on which nobody listens is replaced: a program that was killed leaves such a file. Any
     /// other existing file is an error, and is kept.
     pub fn bind<F: Files + Net>(

@@ -45,7 +45,7 @@ other_refusal Closed other = refl
 other_refusal BadSize other = refl
 other_refusal ReservedKind other = refl
 
--- what was done of a step that was refused is a part of it
+-- what was done of a refused step is a part of it
 some_part : (step : StepData) (fault : FeedFault) → IsPartOf step (part_done fault step)
 some_part (a_piece k piece) fault = decide (is_of_broken fault.error)
   where
@@ -68,7 +68,7 @@ module _ {D : Type 0} {g : sectors.Ghosts D} where
       ap (λ (committer : Committer D g). made committer (sessions_of new)) same.committer ∙ ap (made (committer_of old)) same.sessions in
       subst (λ (core : CoreData D g). IsDurablyServed (data_of old) core [] no_bytes) (sym are) (durably_none (data_of old))
 
-  -- some steps were, by a core that wasn't broken
+  -- some steps were done, by a core that wasn't broken
   durably_by : {steps : List StepData} (old new : CoreData D g) → is_broken (store_of old.committer) ≡ false → new.sessions ≡ sessions_run steps old.sessions
       → ((origin : Origin) (events : List EventData) → Holds (store_of old.committer) origin events → (after : List EventData)
       × IsDurable origin (store_of old.committer) (store_of new.committer) (state_of old.committer events) (state_of new.committer after) (appends_among (arrivals_run steps old.sessions))) → IsDurablyServed old new steps no_bytes
@@ -115,9 +115,9 @@ module _ {D : Type 0} {g : sectors.Ghosts D} where
   flush_durably old new (Err error) sessions flush sound =
       durably_by old new sound sessions (λ origin events holds. let one = flush origin events holds in (one.0, one.1.durable))
 
-  -- ---- steps in turn
+  -- ---- consecutive steps
 
-  -- up to a place
+  -- the steps before a place
   pub to_durably : {steps : List Step} {number : ℕ} (old now : Core D g) → DoneTo steps number old now → IsDurablyServed (data_of old) (data_of now) (map step_data (take number steps)) no_bytes
   to_durably {steps = steps} {number = number} old now to = decide (is_broken (store_of (committer_of old))) refl
     where
@@ -127,12 +127,12 @@ module _ {D : Type 0} {g : sectors.Ghosts D} where
           subst (λ (n : ℕ). IsDurablyServed (data_of old) (data_of now) (map step_data (take n steps)) no_bytes) (sym none.0) (untouched_durably none.1)
       decide false sound = done_durably old now sound (to.done sound)
 
-  -- all of them
+  -- all steps
   pub all_durably : {steps : List Step} {number : ℕ} (old now : Core D g) → DoneTo steps number old now → length steps ≤ number → IsDurablyServed (data_of old) (data_of now) (map step_data steps) no_bytes
   all_durably {steps = steps} {number = number} old now to all =
       subst (λ (some : List Step). IsDurablyServed (data_of old) (data_of now) (map step_data some) no_bytes) (take_all number steps all) (to_durably old now to)
 
-  -- and of the next a part
+  -- a part of the next step
   pub drive_durably : {steps : List Step} {number : ℕ} {old now : Core D g} (new : CoreData D g) (none : Step) (fault : FeedFault) → DoneTo steps number old now → number < length steps
       → IsDurablyServed (data_of now) new (part_done fault (step_data (get_or steps number none))) no_bytes
       → IsDurablyServed (data_of old) new (steps_done (map step_data steps) (Err (record { step = number; taken = fault.taken; error = fault.error }))) no_bytes

@@ -1,4 +1,4 @@
--- What is found at the front of a piece.
+-- What is found at the start of a piece.
 use Rattle.std.proofs.Common.{◌≡◌, ◌∙◌, ℕ, ◌-◌, ◌<◌, ◌≤◌, false, Option, Some, None, List, [], ◌∷◌, ◌++◌, length, take, refl, sym, ap, subst, append_assoc}
 use Rattle.audit_wire.specs.declared.request.Request.{Request}
 use Rattle.audit_wire.specs.declared.fed.Fed.{Fed}
@@ -11,7 +11,7 @@ use Rattle.audit_wire.proofs.Framing.{requests_partial, requests_bad, requests_f
 use Rattle.audit_wire.proofs.GivingBack.{any_given_back, ahead_given_back}
 use Rattle.audit_server.specs.Feeding.{place_after}
 
--- a stream that isn't spoiled goes on with what is held back
+-- a stream that isn't spoiled continues with the bytes held back
 pub live_ahead : (progress : DecoderProgress) (bytes : List ℕ) → is_spoiled progress ≡ false → requests_ahead progress bytes ≡ framed_requests (rest_of progress ++ bytes)
 live_ahead (reading held) bytes live = refl
 live_ahead (whole body) bytes live = refl
@@ -101,7 +101,7 @@ front_ended (whole body) new piece (fed.Malformed count) taken live h is = subst
 front_ended (malformed held) new piece (fed.Malformed count) taken live h is = absurd (cc live)
 front_ended closed new piece (fed.Malformed count) taken live h is = absurd (cc live)
 
--- ---- its last byte given back
+-- ---- the last byte of the frame is put back
 
 but_one : (answer : Fed) (taken : ℕ) (piece : List ℕ) → place_after answer ≡ Some taken → taken_but_one answer piece ≡ take (taken - 1) piece
 but_one fed.More taken piece is = absurd (cc is)

@@ -26,7 +26,7 @@ use Rattle.audit_server.proofs.Sound.{entered_sound, arrival_not_broken, request
 use Rattle.audit_server.proofs.Runs.{run_none, run_more, run_as, run_refused}
 use Rattle.audit_server.proofs.Fronts.{no_request, StaysPart, front_more, EndsFrame, GoesBack, front_undone}
 
--- ---- a live session by its decoder
+-- ---- a live session, by its decoder
 
 pub record Shows (progress : DecoderProgress) (ended : Bool) (session : SessionData) : Type 0 where
   pub view : session_view progress ended ≡ session
@@ -51,7 +51,7 @@ framed_by progress ended bytes is = ap (λ (rest : List ℕ). framed_requests (r
 framed_shown : {progress : DecoderProgress} {ended : Bool} {session : SessionData} (bytes : List ℕ) → Shows progress ended session → framed_after session bytes ≡ framed_requests (rest_of progress ++ bytes)
 framed_shown {progress = progress} {ended = ended} bytes shows = ap (λ (s : SessionData). framed_after s bytes) (sym shows.view) ∙ framed_by progress ended bytes (not_ended shows)
 
--- ---- the front of a piece
+-- ---- the start of a piece
 
 part_more : (answer : Fed) → place_after answer ≡ None → answer ≡ fed.More
 part_more fed.More is = refl
@@ -71,7 +71,7 @@ arrivals_first : (k : ℕ) (read : Option Request) → arrivals_in k (read_first
 arrivals_first k (Some request) = refl
 arrivals_first k None = refl
 
--- ---- what is begun
+-- ---- the incomplete frame
 
 pub pending_so : {P : Type 0} (answer : Bool) → (IsTrue answer ↔ P) → answer ≡ true → P
 pending_so true is here = is.0 refl
@@ -174,9 +174,9 @@ module _ {D : Type 0} {g : sectors.Ghosts D} where
         enters = enters;
       }
 
-  -- ---- a whole piece, front by front
+  -- ---- a whole piece, frame by frame
 
-  -- the requests of the first bytes have entered, and the session is live
+  -- the requests in the first bytes have entered, and the session is live
   pub record HasFed (k : ℕ) (piece : List ℕ) (taken : ℕ) (old now : SessionData) (before after : Committer D g) : Type 0 where
     pub within : taken ≤ length piece
     pub was_live : old.ended ≡ false
@@ -187,7 +187,7 @@ module _ {D : Type 0} {g : sectors.Ghosts D} where
     pub run : Run (map (arrival_of k) items) before after
 
   module _ (k : ℕ) (piece : List ℕ) (taken : ℕ) (old now new : SessionData) (before mid after : Committer D g) (fed : HasFed k piece taken old now before mid) where
-    -- what stands in the whole piece
+    -- the arrivals in the whole piece
     all_framed : (framed : Framed Request) → framed_after now (drop taken piece) ≡ framed → framed_after old piece ≡ all_in_front fed.items framed
     all_framed framed is = ap (framed_after old) (sym (take-append-drop taken piece)) ∙ fed.ahead (drop taken piece) ∙ ap (all_in_front fed.items) is
 
@@ -274,7 +274,7 @@ module _ {D : Type 0} {g : sectors.Ghosts D} where
     run = run_none committer;
   }
 
-  -- what comes after the end is dropped
+  -- bytes after the end are dropped
   pub fed_ended : (k : ℕ) (piece : List ℕ) (session : SessionData) (committer : Committer D g) → session.ended ≡ true → IsFedWhole k piece session session committer committer
   fed_ended k piece session committer ended = record {
     session = sym (ap (λ (b : Bool). if b then session else session_after (framed_after session piece)) ended);

@@ -1,4 +1,4 @@
--- Calls append whole replies to the outputs, on any device; and a device fault in one of the calls.
+-- On any device, calls append whole replies to the outputs, even if the device fails in one of them.
 use Rattle.std.proofs.Common.{◌≡◌, ◌∙◌, inl, inr, ℕ, Bool, true, false, Result, Ok, Err, List, [], ◌∷◌, ◌++◌, refl, sym, ap, subst}
 use Rattle.std.specs.Prelude.{IfErr, IsErrOf}
 use Rattle.audit_disk_model.specs.declared.sectors.Sectors as sectors
@@ -56,7 +56,7 @@ module _ {D : Type 0} {g : sectors.Ghosts D} where
   dropped : (old new : Committer D g) → IsDropped old new → IsBrokenByDevice old new
   dropped old new is = record { broken = is.lost.broken; dropped = is.waiting; outputs = ([], is.outputs) }
 
-  -- replies before it stay
+  -- earlier replies stay
   pub broken_after : (old mid new : Committer D g) → AddsReplies old mid → IsBrokenByDevice mid new → IsBrokenByDevice old new
   broken_after old mid new first next = record { broken = next.broken; dropped = next.dropped; outputs = adds_more old mid new first next.outputs }
 

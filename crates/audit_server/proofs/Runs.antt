@@ -1,4 +1,4 @@
--- Arrivals, one after the other.
+-- Consecutive arrivals.
 use Rattle.std.proofs.Common.{◌≡◌, ◌∙◌, inl, inr, Result, Ok, Err, List, [], ◌∷◌, ◌++◌, refl, sym, ap, subst}
 use Rattle.std.proofs.lemmas.List.{append-nil}
 use Rattle.audit_disk_model.specs.declared.sectors.Sectors as sectors
@@ -26,7 +26,7 @@ module _ {D : Type 0} {g : sectors.Ghosts D} where
   entered_last [] arrival old mid new same last = (new, subst (λ (c : Committer D g). HasEntered arrival c new) same last, refl)
   entered_last (first ∷ arrivals) arrival old mid new all last = (all.0, all.1, entered_last arrivals arrival all.0 mid new all.2 last)
 
-  -- ---- calls in a row, on a store that holds events
+  -- ---- consecutive calls, on a store that holds events
 
   pub advances_none : (old : Committer D g) → AdvancesBy [] (λ origin state. state) old old
   advances_none old = λ origin events holds. (
@@ -52,7 +52,7 @@ module _ {D : Type 0} {g : sectors.Ghosts D} where
         },
       )
 
-  -- the same, by appends and a state that are equal
+  -- the same, for equal appends and an equal state
   pub advances_as : {xs ys : List Append} {does goes : Origin → ServerState → ServerState} {old new : Committer D g} → xs ≡ ys → ((origin : Origin) (state : ServerState) → does origin state ≡ goes origin state) → AdvancesBy xs does old new → AdvancesBy ys goes old new
   advances_as {xs = xs} {ys = ys} {does = does} {goes = goes} {old = old} {new = new} appends states all = λ origin events holds.
       let one = all origin events holds in (
@@ -85,7 +85,7 @@ module _ {D : Type 0} {g : sectors.Ghosts D} where
   pub run_as : {arrivals others : List Arrival} {old new : Committer D g} → arrivals ≡ others → Run arrivals old new → Run others old new
   run_as {old = old} {new = new} same run = subst (λ (all : List Arrival). Run all old new) same run
 
-  -- refused after a run
+  -- a refusal after a run
   pub run_refused : {arrivals : List Arrival} {old mid new : Committer D g} (arrival : Arrival) (error : StoreError) → Run arrivals old mid → Enters arrival mid new (Err error) → IsRefusedAfter arrivals error old new
   run_refused {arrivals = arrivals} {old = old} {mid = mid} {new = new} arrival error run enters = λ origin events holds.
       let one = run.advances origin events holds in
@@ -117,7 +117,7 @@ module _ {D : Type 0} {g : sectors.Ghosts D} where
     );
   }
 
-  -- what entered otherwise than by a frame
+  -- arrivals that entered other than in a frame
   pub enters_by : (arrival : Arrival) (old new : Committer D g) (result : Result (Unit {0}) StoreError) → IsArrivalEnd arrival old new result
       → ((origin : Origin) (events : List EventData) → Holds (store_of old) origin events → (after : List EventData) × IsEntered origin arrival old new events after result)
       → Enters arrival old new result

@@ -1,4 +1,4 @@
--- How `Core` is a core that serves sessions.
+-- Why `Core` is a core that serves sessions.
 use Rattle.std.proofs.Common.{◌≡◌, ◌∙◌, Bool, true, false, Result, Ok, Err, OnOk, List, refl, sym, subst}
 use Rattle.audit_disk_model.specs.declared.sectors.Sectors as sectors
 use Rattle.audit_server_queue.specs.GroupCommit.{ServerState}

@@ -45,7 +45,7 @@ module _ {D : Type 0} {g : sectors.Ghosts D} where
   ready_not_broken true old new ready sound = let broken : true ≡ false = sym ready.0 ∙ sound in absurd (cc broken)
   ready_not_broken false old new ready sound = ready
 
-  -- a refusal is another than that the store was broken before
+  -- the refusal isn't that the store was broken before
   pub arrival_not_broken : (arrival : Arrival) (old new : Committer D g) (error : StoreError) → IsArrivalEnd arrival old new (Err error) → IsUnbroken old → error ≢ Broken
   arrival_not_broken arrival old new error end sound is = elim end [
     | inl ready ↦ ready_not_broken (forces_flush (waiting_of old) arrival) old new (subst (λ (e : StoreError). IsReady (forces_flush (waiting_of old) arrival) old new (Err e)) is ready) sound

@@ -1,4 +1,4 @@
--- Steps of a core, one after the other.
+-- Consecutive steps of a core.
 use Rattle.std.proofs.Common.{◌≡◌, ◌∙◌, ℕ, ◌+◌, ◌<◌, ◌≤◌, Bool, true, false, Result, Ok, Err, OnOk, List, [], ◌∷◌, ◌++◌, length, map, take, drop, get_or, slice_set, arith, refl, sym, ap, subst}
 use Rattle.std.proofs.lemmas.List.{append-nil, map-append, take_more, drop_more, take-append-drop, length-map, length-take-le}
 use Rattle.audit_disk_model.specs.declared.sectors.Sectors as sectors
@@ -76,7 +76,7 @@ module _ {D : Type 0} {g : sectors.Ghosts D} where
   flush_done old new (Ok done) sessions end flush sound =
       one_step a_flush old new sessions (flushed_sound (committer_of old) (committer_of new) [] end sound) (flushed_counts (committer_of old) (committer_of new) [] end) (flush_adds (committer_of old) (committer_of new) [] end) (flush_advances (committer_of old) (committer_of new) flush)
 
-  -- ---- steps in a row
+  -- ---- consecutive steps
 
   pub done_none : (core : Core D g) → IsSound core → HasDone [] core core
   done_none core sound = record { sessions = refl; sound = sound; failures = omega arith; replies = adds_none (committer_of core); advances = advances_none (committer_of core) }
@@ -142,7 +142,7 @@ module _ {D : Type 0} {g : sectors.Ghosts D} where
         refused = refused first.sound;
       }
 
-  -- a fault of the device in the step that was refused
+  -- a device fault in the refused step
   pub drive_broken : {steps : List Step} {number : ℕ} {old now new : Core D g} (fault : FeedFault) → DoneTo steps number old now
       → (is_core_broken now → (refusal_of fault ≡ refusal_of (record { taken = 0; error = Broken })) × IsCoreUntouched now new) → (fault.error ≡ Device → IsBrokenByDevice (committer_of now) (committer_of new)) → fault.error ≡ Device
       → IsBrokenByDevice (committer_of old) (committer_of new)
@@ -179,7 +179,7 @@ module _ {D : Type 0} {g : sectors.Ghosts D} where
   drive_all {steps = []} to past broken = (refl, (to.none broken).1)
   drive_all {steps = step ∷ later} to past broken = absurd (omega (arith, past, (to.none broken).0))
 
-  -- of some the first
+  -- a broken core refuses the first of some steps
   pub drive_first : {steps : List Step} {number : ℕ} {old now new : Core D g} (fault : FeedFault) → DoneTo steps number old now → number < length steps → (is_core_broken now → (refusal_of fault ≡ refusal_of (record { taken = 0; error = Broken })) × IsCoreUntouched now new) → is_core_broken old
       → (stop_of (record { step = number; taken = fault.taken; error = fault.error }) ≡ broken_drive steps) × IsCoreUntouched old new
   drive_first {steps = []} fault to within refused broken = absurd (omega (arith, within))

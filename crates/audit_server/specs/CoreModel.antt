@@ -1,4 +1,4 @@
--- How `Core` is a core that serves sessions.
+-- Why `Core` is a core that serves sessions.
 use Rattle.std.specs.Prelude.{◌≡◌, ℕ, Bool, List, [], ◌∷◌, slice_index_or, slice_set}
 use Rattle.std.proofs.Common.{◌∙◌, sym, ap}
 use Rattle.audit_disk_model.specs.declared.sectors.Sectors as sectors

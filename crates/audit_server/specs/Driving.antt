@@ -1,4 +1,4 @@
--- Steps of a core, done one after the other.
+-- Steps of a core, done in order.
 use Rattle.std.specs.Prelude.{◌≡◌, ◌<◌, Bool, true, false, if◌then◌else◌, Result, Ok, Err, List, [], ◌∷◌, ◌++◌, length}
 use Rattle.std.specs.Prelude.{map, take, drop}
 use Rattle.audit_disk_model.specs.declared.sectors.Sectors as sectors

@@ -1,4 +1,4 @@
--- What a piece of its stream does to a session.
+-- The effect of a piece of its stream on a session.
 use Rattle.std.specs.Prelude.{◌≡◌, ◌≢◌, ℕ, ◌+◌, ◌<◌, ◌≤◌, Bool, false, if◌then◌else◌, Option, Some, None, Result, Ok}
 use Rattle.std.specs.Prelude.{Err, List, [], ◌∷◌, ◌++◌, length, take}
 use Rattle.audit_disk_model.specs.declared.sectors.Sectors as sectors
@@ -32,7 +32,7 @@ place_after (fed.Body taken) = Some taken
 place_after (fed.Malformed taken) = Some taken
 
 module _ {D : Type 0} {g : sectors.Ghosts D} where
-  -- The front of a piece of a live session was an incomplete frame,
+  -- The start of a piece of a live session was an incomplete frame,
   pub record IsPart (piece : List ℕ) (old new : SessionData) (before after : Committer D g) : Type 0 where
     pub live : new.ended ≡ false
     pub framed : framed_after old piece ≡ rest_alone new.rest
@@ -55,7 +55,7 @@ module _ {D : Type 0} {g : sectors.Ghosts D} where
     pub framed : framed_after old piece ≡ spoiled
     pub enters : Enters (malformed_from k) before after (Ok tt)
 
-  -- The arrival at the front didn't enter. Its last byte counts as not received.
+  -- The arrival at the start didn't enter. Its last byte counts as not received.
   pub record IsUntaken (k : ℕ) (piece : List ℕ) (fault : FeedFault) (old new : SessionData)
       (before after : Committer D g) : Type 0 where
     pub within : fault.taken < length piece

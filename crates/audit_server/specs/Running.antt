@@ -17,7 +17,7 @@ use Rattle.audit_server_commit.specs.Durable.{IsDurable}
 use Rattle.audit_server_commit.specs.Entering.{HasEntered, IsLeftByFlush}
 
 module _ {D : Type 0} {g : sectors.Ghosts D} where
-  -- on any device: these arrivals entered, one after the other
+  -- on any device: these arrivals entered in order
   abbrev pub HaveEntered : List Arrival → Committer D g → Committer D g → Type 0
   HaveEntered [] old new = new ≡ old
   HaveEntered (arrival ∷ arrivals) old new = (mid : Committer D g) × HasEntered arrival old mid

@@ -11,7 +11,7 @@ use audit_wire::{Decoder, Fed};
 use std::alloc::{AllocError, Global};
 use std::marker::Model;
 
-/// What was found at the front of a piece.
+/// What was found at the start of a piece.
 #[derive(Clone, Copy, Debug, Drop, PartialEq, Eq)]
 pub(crate) enum Front {
     /// No complete frame. The whole piece was taken.

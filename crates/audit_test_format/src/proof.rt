@@ -10,7 +10,7 @@ use std::test::Fail;
 mod across;
 mod proof_bytes;
 
-// The tree over `count` texts of one byte, which is the leaf's place.
+// The tree over `count` texts of one byte, each of which is its leaf's index.
 fn counted_tree(alloc: Global, count: u8) -> Result<Tree, TreeError> {
     let mut tree = Tree::new(alloc);
     for place in 0..count {
@@ -108,7 +108,7 @@ fn made_memberships_are_accepted_as_they_are(rt: HostRuntime) -> Result<(), Fail
     assert_all_memberships(&rt, &tree, &commitments)
 }
 
-// Whether an incremental proof is accepted, but not backwards, nor with one hash more or fewer.
+// Whether an incremental proof is accepted, but not in reverse, nor with one hash more or fewer.
 fn is_exact_increment(tree: &Tree, older: &Commitment, newer: &Commitment) -> Result<bool, Fail> {
     let mut hashes = tree.incremental(older.count, newer.count)?;
     let exact = accepts_increment(older, newer, &hashes)
@@ -282,7 +282,7 @@ impl TextHash for Weak {
     }
 }
 
-// The commitment of one leaf to texts of this length, with the weak hash.
+// The commitment to a single leaf text of this length, with the weak hash.
 fn weak_commitment(len: usize) -> Commitment {
     let mut root = [0; 32];
     root[0] = (len % 256) as u8;

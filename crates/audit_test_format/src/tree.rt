@@ -33,7 +33,7 @@ fn sample_tree(alloc: Global) -> Result<Tree, TreeError> {
     Ok(tree)
 }
 
-// The tree over `count` texts of one byte, which is the leaf's place.
+// The tree over `count` texts of one byte, each of which is its leaf's index.
 fn counted_tree(alloc: Global, count: u8) -> Result<Tree, TreeError> {
     let mut tree = Tree::new(alloc);
     for place in 0..count {
@@ -382,7 +382,7 @@ fn room_is_reserved_at_each_count(rt: HostRuntime) -> Result<(), Fail> {
     Ok(())
 }
 
-// A tree of `count` leaves, over the four bytes of each place.
+// A tree of `count` leaves, each over the four bytes of its index.
 fn tree_of_places(alloc: Global, count: u32) -> Result<Tree, TreeError> {
     let mut tree = Tree::new(alloc);
     for place in 0..count {

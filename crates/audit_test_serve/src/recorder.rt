@@ -19,7 +19,7 @@ pub enum Asked {
     Flush,
 }
 
-// How many steps are recorded at most.
+// The most steps that are recorded.
 const MOST: usize = 64;
 
 /// A core whose sessions end only by `end`. A flush sends one byte to each session that was fed since the flush

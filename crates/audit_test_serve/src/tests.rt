@@ -1,4 +1,4 @@
-// What a stream gives and takes is set by each test; what each client gets, and why it left, are the promise.
+// Each test sets what a stream returns and accepts, and compares what each client receives and why it left.
 ghost use Rattle.audit_serve_passes.specs.Pairs.{unknown_calls};
 
 use crate::recorder::Recorder;
@@ -11,7 +11,8 @@ use audit_serve_ready::{
 use std::alloc::Global;
 use std::test::Fail;
 
-/// A client that sends a few bytes, one a read, with nothing there at every other read, and takes `room` bytes.
+/// A client that sends a few bytes, one for each read, with nothing available at every other read, and accepts `room`
+/// bytes.
 #[derive(Drop)]
 struct Client {
     left: usize,
@@ -43,7 +44,7 @@ impl ReadyStream for Client {
     }
 }
 
-/// This number of clients come, each of which sends three bytes; the third one takes nothing.
+/// This number of clients arrive, each of which sends three bytes; the third one accepts nothing.
 #[derive(Drop)]
 struct Clients {
     coming: usize,
@@ -95,8 +96,8 @@ impl Door for Clients {
     }
 }
 
-// Each of 40 clients sends three bytes in passes of their own, and gets a reply of one byte to each. One takes nothing,
-// and is dismissed.
+// Each of 40 clients sends three bytes in passes of their own, and receives a reply of one byte to each. One accepts
+// nothing, and is dismissed.
 #[test]
 fn clients_come_and_go(rt: HostRuntime) -> Result<(), Fail> {
     let alloc: Global = rt.alloc();

@@ -3,7 +3,7 @@ use Rattle.std.proofs.Common.{◌≡◌, ℕ, Option, Some, None, List, [], ◌+
 use Rattle.std.specs.Io.KnownBytes.{Appends, Keeps}
 use Rattle.audit_text.specs.Writing.{WritesInPart}
 
--- of a whole text, all was written but the rest
+-- the text was written except for the rest
 pub record IsWrittenUpTo (old now : Option (List ℕ)) (rest whole : List ℕ) : Type 0 where
   pub front : List ℕ
   pub appended : Appends old now front
@@ -48,7 +48,7 @@ written_part old now next rest whole h kept = record {
   appended = appends_kept old now next h.front h.appended kept;
 }
 
--- a part of what was left
+-- a part of the rest was written
 pub written_further : (old now next : Option (List ℕ)) (piece rest before whole : List ℕ) → IsWrittenUpTo old now before whole → before ≡ piece ++ rest → WritesInPart now next piece
     → WritesInPart old next whole
 written_further old now next piece rest before whole h split part = record {
@@ -58,6 +58,6 @@ written_further old now next piece rest before whole h split part = record {
   appended = appends_more old now next h.front part.written h.appended part.appended;
 }
 
--- nothing was left
+-- nothing was left to write
 pub written_whole : (old now : Option (List ℕ)) (rest whole : List ℕ) → IsWrittenUpTo old now rest whole → rest ≡ [] → Appends old now whole
 written_whole old now rest whole h none = subst (Appends old now) (sym (append-nil h.front) ∙ ap (λ r. h.front ++ r) (sym none) ∙ h.all) h.appended

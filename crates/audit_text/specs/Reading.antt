@@ -5,13 +5,13 @@ use Rattle.audit_text.specs.declared.fault.LinesError.{LinesError}
 use Rattle.audit_text.specs.declared.fault.LinesError.TheVariants.{InputTooLong, Line, Read, Write, Memory}
 use Rattle.audit_text.specs.declared.input.TheConstants.{INPUT_LIMIT}
 
--- `taken` bytes from the front are in the piece; there are none only at the end, or if the piece is empty
+-- the piece has `taken` bytes from the start of the input; none only at its end, or if the piece is empty
 pub record TakesPiece (old new : Option (List ℕ)) (taken : ℕ) (piece : List ℕ) : Type 0 where
   pub within : taken ≤ length piece
   pub bytes : Consumes old new (take taken piece)
   pub none : taken ≡ 0 → 0 < length piece → IsAtEnd new
 
--- at most `most` bytes were taken from the front
+-- at most `most` bytes were taken from the start of the input
 pub record TakesAtMost (old new : Option (List ℕ)) (most : ℕ) : Type 0 where
   pub taken : List ℕ
   pub within : length taken ≤ most

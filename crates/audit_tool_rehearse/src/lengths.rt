@@ -1,4 +1,4 @@
-//! A request and a membership proof of each length that is possible.
+//! A request and a membership proof of each possible length.
 use crate::streams::add_head;
 use crate::texts::text_of;
 use anyhow::bail;

@@ -23,8 +23,8 @@
 //! - `lengths`: reads an append and a membership proof for each length of a payload, and prints a digest of what was
 //!   read.
 //! - `serve CALLS READ READS WRITE WAITS HEX HEX`: serves two streams over a device that fails once, after CALLS
-//!   calls. READ is the number of bytes a read, READS the reads before one fails, WRITE the bytes a write. If WAITS is
-//!   1, a second read fails until the other stream has been written to.
+//!   calls. READ is the number of bytes of each read, READS how many reads succeed, and WRITE the number of bytes of
+//!   each write. If WAITS is 1, a second read fails until something was written to the other stream.
 #![tactic(auto)]
 
 mod cuts;

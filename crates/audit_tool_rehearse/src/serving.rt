@@ -9,8 +9,8 @@ use std::cell::Cell;
 use std::io::{self, ErrorKind, Read, Write};
 use std::rc::Rc;
 
-/// A reader of some bytes a read, which fails after a number of reads. If it waits for something, every read but its
-/// first fails until that has happened.
+/// A reader that returns some bytes for each read, and fails after a number of reads. If it waits for something, every
+/// read but its first fails until that has happened.
 #[derive(Drop)]
 struct Source {
     bytes: Vec<u8>,
@@ -43,7 +43,7 @@ impl Read for Source {
     }
 }
 
-/// A writer of some bytes a write, which notes that something arrived.
+/// A writer that accepts some bytes for each write, and notes that something arrived.
 #[derive(Drop)]
 struct Sink {
     bytes: Vec<u8>,
@@ -74,7 +74,7 @@ struct Manner {
     waits: bool,
 }
 
-/// Serves two streams as the words specify, and prints how this ended and what was written to each.
+/// Serves two streams as the words specify, and prints how serving ended and what was written to each.
 pub fn serve_scene<R: AllocGlobal + Print>(rt: &R, rest: &str) -> anyhow::Result<()> {
     let words = words_of(rt.alloc(), rest)?;
     let mut streams = streams_of(rt.alloc(), &words)?;

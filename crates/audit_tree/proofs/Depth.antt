@@ -1,11 +1,11 @@
--- The depth of a count is the least one with room for it.
+-- The depth of a count is the least at which a tree holds that many leaves.
 use Rattle.std.proofs.Common.{◌≡◌, ℕ, zero, suc, ◌^◌, ◌<◌, ◌≤◌, leb, cond, arith, inl, inr}
 use Rattle.std.proofs.lemmas.Bool.{cases_Bool, cases_lt, leb-true, leb-false}
 use Rattle.std.proofs.Math.Nat.{pow-suc}
 use Rattle.std.proofs.Math.Pow.{pow_mono, pow_pos}
 use Rattle.audit_tree.specs.Subtree.{depth, IsLeastDepth}
 
--- one more leaf than there is room for at depth d
+-- one leaf more than a tree of depth d holds
 abbrev grown : ℕ → ℕ → ℕ
 grown count d = cond (leb (suc count) (2 ^ d)) d (suc d)
 
@@ -39,7 +39,7 @@ depth-least (suc count) e h = grown-least count (depth count) e (depth-least cou
 pub depth-IsLeastDepth : (count : ℕ) → IsLeastDepth count (depth count)
 depth-IsLeastDepth count = record { room = depth-room count; least = depth-least count }
 
--- a depth with room, where half of it has none
+-- the depth that is large enough, if one less isn't
 pub depth_is : (count d : ℕ) → 2 ^ d < count → count ≤ 2 ^ suc d → depth count ≡ suc d
 depth_is count d over room =
     let most : depth count ≤ suc d = depth-least count (suc d) room in

@@ -17,7 +17,7 @@ use Rattle.audit_tree.proofs.PathLemmas.{path-none, path-lone, path-left, path-r
 abbrev IsHash : List ℕ → Type 0
 IsHash hash = length hash ≡ HASH_LEN
 
--- none, and one
+-- a list of no hash, and of one
 no_hash : AreHashes []
 no_hash k d h = absurd (omega (arith, h))
 
@@ -25,7 +25,7 @@ one_hash : (hash : List ℕ) → length hash ≡ HASH_LEN → AreHashes (hash �
 one_hash hash e zero d h = e
 one_hash hash e (suc k) d h = absurd (omega (arith, h))
 
--- those from a place on
+-- the hashes from a place on
 later_hashes : (n : ℕ) (xs : List (List ℕ)) → AreHashes xs → AreHashes (drop n xs)
 later_hashes n xs h k d l = rw (get_or-drop n xs k d) (h (n + k) d (omega (arith, l, length-drop n xs)))
 

@@ -34,7 +34,7 @@ older_node older newer some h small =
       aligned = sym (add-mod_right (older - 2 ^ t) (2 ^ t)) ∙ ap (λ n. n % 2 ^ t) back ∙ last.divides;
     }
 
--- the incremental proof by places is the one by leaves
+-- the incremental proof defined by places equals the one defined by leaves
 pub increment_at-path : (H : List ℕ → List ℕ) (older newer : ℕ) (leaves : List (List ℕ)) → 0 < older → older ≤ newer → newer ≤ length leaves →
     IsOlderNode older newer →
     increment_at H leaves older newer ≡ increment_path H (take newer leaves) older

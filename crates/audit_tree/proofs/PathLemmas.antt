@@ -11,11 +11,11 @@ use Rattle.audit_tree.specs.Paths.{path, sibling_at, siblings_at}
 use Rattle.audit_tree.proofs.Choices.{cond-le, cond-gt, cond-lt, cond-ge}
 use Rattle.audit_tree.proofs.SubtreeLemmas.{node_at-subtree_hash}
 
--- a place that a layer's width divides
+-- a place that is a multiple of a layer's width
 pub aligned_place : (start layer : ℕ) → start % 2 ^ layer ≡ 0 → start / 2 ^ layer * 2 ^ layer ≡ start
 aligned_place start layer h = omega (arith, shr_split start layer)
 
--- a layer's width divides the places of the next one, and those half way
+-- the width of a layer divides the places of the next layer and the midpoints between them
 pub aligned_below : (start layer : ℕ) → start % 2 ^ suc layer ≡ 0 → start % 2 ^ layer ≡ 0
 aligned_below start layer h =
     sym (mod-mod-pow start 1 layer) ∙ ap (λ n. n % 2 ^ layer) (ap (λ k. start % 2 ^ k) (one-add layer) ∙ h) ∙ zero-mod (2 ^ layer)
@@ -83,7 +83,7 @@ module _ (H : List ℕ → List ℕ) (leaves : List (List ℕ)) (count place : �
       rw (ne_eqb (place / 2 ^ layer % 2) 1 even)
       (cond-lt (start_of place layer + 2 ^ layer) count _ _ more)
 
-  -- a layer has at most one
+  -- a layer contributes at most one sibling
   pub sibling_at-few : (layer : ℕ) → length (sibling_at H leaves count place layer) ≤ 1
   sibling_at-few layer =
       elim (cases_eq (place / 2 ^ layer % 2) 1) [
@@ -94,7 +94,7 @@ module _ (H : List ℕ → List ℕ) (leaves : List (List ℕ)) (count place : �
         ]
       ]
 
-  -- this many layers have at most as many siblings
+  -- there are at most as many siblings as layers
   pub siblings_at-few : (from height : ℕ) → length (siblings_at H leaves count place from height) ≤ height
   unfolding siblings_at
   siblings_at-few from zero = omega arith
@@ -111,7 +111,8 @@ module _ (H : List ℕ → List ℕ) (from : ℕ) where
   unfolding path
   path-none place leaves = refl
 
-  -- the way up in the left half of a node that has leaves there alone, in one with both, and in the right half
+  -- the path up through a node whose right half has no leaves, and through the left and the right half of one that has
+  -- leaves in both
   pub path-lone : (height place : ℕ) (leaves : List (List ℕ)) → place < 2 ^ (from + height) → length leaves ≤ 2 ^ (from + height) →
       path H from (suc height) place leaves ≡ path H from height place leaves
   unfolding path
@@ -135,7 +136,7 @@ module _ (H : List ℕ → List ℕ) (from : ℕ) where
   unfolding path
   path-right height place leaves h = cond-ge place (2 ^ (from + height)) _ _ h
 
-  -- the way up by places is the one of the leaves from the upper node's start on
+  -- the path defined by places equals the path over the leaves from the upper node's start on
   pub siblings_at-path : (height place count : ℕ) (leaves : List (List ℕ)) → place < count → count ≤ length leaves →
       siblings_at H leaves count place from height
       ≡ path H from height (place - start_of place (from + height)) (drop (start_of place (from + height)) (take count leaves))
@@ -197,7 +198,7 @@ module _ (H : List ℕ → List ℕ) (from : ℕ) where
       ∙ ap (λ n. path H from height (place - n) (drop n (take count leaves))) start
       ∙ ap (λ n. path H from height n (take count leaves)) (let e : place - 0 ≡ place = omega arith in e)
 
-  -- one layer more
+  -- one more layer
   pub siblings_at-more : (leaves : List (List ℕ)) (count place layer : ℕ) → from ≤ layer →
       siblings_at H leaves count place from (layer + 1 - from)
       ≡ siblings_at H leaves count place from (layer - from) ++ sibling_at H leaves count place layer

@@ -1,4 +1,4 @@
--- The body of a request reads as that request, and a request that is read has that body.
+-- The body of a request reads as that request, and a request that was read has that body.
 use Rattle.std.proofs.Common.{◌≡◌, ℕ, suc, ◌+◌, ◌<◌, ◌≤◌, ◌^◌, Bool, true, false, cond, not, ◌&&◌, leb, eqb, List, [], ◌∷◌, ◌++◌, length, take, drop, Option, Some, None, Result, Ok, Err, refl, sym, ap, subst, ◌∙◌, append_assoc, arith, inl, inr, length-take, length-drop}
 use Rattle.std.specs.Int.{w32, w64, to_be_bytes, from_be_bytes}
 use Rattle.std.proofs.lemmas.Bool.{cases_lt, and_parts, and_from, not-true, not_from_false, leb-true, le-leb, eqb-true, eqb-false, ne_eqb, cond-true}
@@ -67,9 +67,9 @@ all_three_parts n m k bytes le =
     ap (λ (back : List ℕ). (take n bytes ++ take m (drop n bytes)) ++ back) (take_all k (drop (n + m) bytes) (omega (arith, length-drop (n + m) bytes)))
     ∙ three_parts n m bytes
 
--- ---- a request that is read has its body
+-- ---- a request that was read has its body
 
--- a request with the body that the kind and the fields are
+-- a request whose body consists of this kind and these fields
 pub record IsBodyOf (body : List ℕ) (read : Request) : Type 0 where
   pub allowed : IsRequest read
   pub same : body ≡ request_body read
@@ -161,7 +161,7 @@ close_found fields read fits e =
       same = ap (λ (after : List ℕ). 6 ∷ after) (sym whole);
     })
 
--- the kind by six tests, the first of which that holds decides it
+-- the kind, decided by the first of six tests that holds
 abbrev kind_by : (a b c d e f : Bool) → Option RequestKind
 kind_by a b c d e f = cond a (Some kind.Append) (cond b (Some kind.Commitment) (cond c (Some kind.Membership) (cond d (Some kind.Incremental) (cond e (Some kind.Entry) (cond f (Some kind.Close) None)))))
 
@@ -294,7 +294,7 @@ request_size (request.Incremental tag older newer) allowed = (omega arith, omega
 request_size (request.Entry tag index) allowed = (omega arith, omega arith)
 request_size (request.Close tag) allowed = (omega arith, omega arith)
 
--- ---- what is read is a request with that body
+-- ---- what was read is a request with that body
 
 pub found_by : (body : List ℕ) (read : Result RequestView Malformed) → AreBytes body → request_read read ≡ request_in body
     → IfOk read (λ view. IsRequest (request_shown view) × (body ≡ request_body (request_shown view)))

@@ -9,19 +9,19 @@ use Rattle.audit_wire.specs.Frame.{frame, size_of, IsBodySize, IsPartial}
 abbrev pub size_at : List ℕ → ℕ
 size_at bytes = size_of (get_or bytes 0 0) (get_or bytes 1 0)
 
--- a frame that is begun lacks at least one byte
+-- an incomplete frame lacks at least one byte
 pub partial_lacks : (held : List ℕ) → IsPartial held → 2 ≤ length held → length held < 2 + size_at held
 partial_lacks [] h le = absurd (omega arith)
 partial_lacks (high ∷ []) h le = absurd (omega arith)
 partial_lacks (high ∷ low ∷ body) h le = omega (arith, h.1)
 
--- two bytes, as a fact of each place
+-- two bytes, by their places
 pub two : (high low : ℕ) → high < 256 → low < 256 → (place : ℕ) → get_or (high ∷ low ∷ []) place 0 < 256
 two high low a b zero = a
 two high low a b (suc zero) = b
 two high low a b (suc (suc place)) = omega arith
 
--- bytes with as many after the first two as these say are a frame
+-- bytes of which the first two state how many follow are a frame
 pub frame_of : (bytes : List ℕ) → get_or bytes 0 0 < 256 → get_or bytes 1 0 < 256 → length bytes ≡ 2 + size_at bytes → bytes ≡ frame (drop 2 bytes)
 frame_of [] a b e = absurd (omega arith)
 frame_of (high ∷ []) a b e = absurd (omega arith)
@@ -29,7 +29,7 @@ frame_of (high ∷ low ∷ body) a b e =
     let size : length body ≡ size_of high low = omega arith in
     ap (λ (front : List ℕ). front ++ body) (sym (be_bytes_2 (high ∷ low ∷ []) (length body) refl (two high low a b) size))
 
--- what comes after leaves the two bytes of length
+-- more bytes don't change the two length bytes
 pub size_at-append : (bytes more : List ℕ) → 2 ≤ length bytes → size_at (bytes ++ more) ≡ size_at bytes
 size_at-append [] more le = absurd (omega arith)
 size_at-append (high ∷ []) more le = absurd (omega arith)
@@ -41,7 +41,7 @@ take_add first second bytes =
     ∙ ap (λ (back : List ℕ). take first (take (first + second) bytes) ++ back) (sym (drop-take first second bytes))
     ∙ take-append-drop first (take (first + second) bytes)
 
--- both runs of a piece that make a frame whole
+-- the two parts of a piece that complete a frame
 pub fills : (held piece front all : List ℕ) (first second : ℕ)
     → IsPartial held → first ≡ min (2 - length held) (length piece) → front ≡ held ++ take first piece → 2 ≤ length front
     → IsBodySize (size_at front) → second ≡ min (2 + size_at front - length front) (length (drop first piece)) → all ≡ front ++ take second (drop first piece)

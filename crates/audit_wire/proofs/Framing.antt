@@ -1,4 +1,4 @@
--- What a stream begins with: less than a whole frame, a length that no request has, or a frame.
+-- What is at the start of a stream: less than a whole frame, a length that no request has, or a frame.
 use Rattle.std.proofs.Common.{◌≡◌, ℕ, zero, suc, ◌+◌, ◌<◌, ◌≤◌, Bool, true, false, cond, leb, List, [], ◌∷◌, ◌++◌, length, take, drop, Option, Some, None, refl, sym, ap, subst, ◌∙◌, append_assoc, arith, inl, inr, length-append, length-drop, length-take}
 use Rattle.std.specs.Int.{w16, to_be_bytes, from_be_bytes}
 use Rattle.std.proofs.lemmas.Bool.{cases_lt, cases_Bool, both_ways, and_parts, and_from, leb-true, le-leb, lt-leb, cond-true, cond-false}
@@ -54,7 +54,7 @@ within_whole count high low bytes h le =
     cond-true (is_body_size size) (cond (leb size (length bytes)) goes_on stays) spoiled (size_passes size h)
     ∙ cond-true (leb size (length bytes)) goes_on stays (le-leb size (length bytes) le)
 
--- as many as there are bytes is enough
+-- the number of bytes is a sufficient number of steps
 within_enough : (count other : ℕ) (bytes : List ℕ) → length bytes ≤ count → length bytes ≤ other → bodies_within count bytes ≡ bodies_within other bytes
 unfolding bodies_within
 within_enough zero zero bytes h k = refl
@@ -116,7 +116,7 @@ requests_whole high low body more h e = ap requests_in (bodies_whole high low bo
 pub requests_frame : (body more : List ℕ) → IsBodySize (length body) → framed_requests (frame body ++ more) ≡ read_first (request_in body) (framed_requests more)
 requests_frame body more h = requests_whole _ _ body more h (frame_size (length body) h)
 
--- ---- the cases of what it begins with
+-- ---- the cases of the start of a stream
 
 pub data First (bytes : List ℕ) : Type 0 where
   partial : IsPartial bytes → First bytes
@@ -139,9 +139,9 @@ first_of_stream (high ∷ low ∷ bytes) =
       | inr e ↦ bad high low bytes (λ h. both_ways (is_body_size size) e (size_passes size h)) refl
     ]
 
--- ---- more bytes after it
+-- ---- more bytes at the end
 
--- a choice after a request is that request and then the choice
+-- a choice after a request is the request, followed by the choice
 choice_in_front : (flag : Bool) (asked : Request) (framed later : Framed Request)
     → cond flag (in_front asked framed) (all_in_front (asked ∷ framed.items) later) ≡ in_front asked (cond flag framed (all_in_front framed.items later))
 choice_in_front true asked framed later = refl
@@ -170,6 +170,6 @@ continued_below : (count : ℕ) (bytes more : List ℕ) → length bytes < count
 continued_below zero bytes more lt = absurd (omega arith)
 continued_below (suc count) bytes more lt = continued_step bytes more (λ shorter less. continued_below count shorter more (omega arith)) (first_of_stream bytes)
 
--- what came before stays, and what was left over is read together with what comes after
+-- earlier requests are unchanged, and the rest is read together with the new bytes
 pub requests-append : (bytes more : List ℕ) → framed_requests (bytes ++ more) ≡ continued (framed_requests bytes) more
 requests-append bytes more = continued_below (suc (length bytes)) bytes more (omega arith)

@@ -8,13 +8,13 @@ use Rattle.audit_wire.specs.Progress.{DecoderProgress, reading, whole, malformed
 use Rattle.audit_wire.specs.Stream.{requests_of}
 use Rattle.audit_wire.proofs.Runs.{fed_ahead}
 
--- two lists with a last byte each
+-- two equal lists, each with a last byte
 fronts : (xs ys : List ℕ) (x y : ℕ) → xs ++ x ∷ [] ≡ ys ++ y ∷ [] → xs ≡ ys
 fronts xs ys x y same =
     let size : length xs ≡ length ys = omega (arith, ap length same, length-append xs (x ∷ []), length-append ys (y ∷ [])) in
     sym (take_at xs (x ∷ []) (length xs) refl) ∙ ap (take (length xs)) same ∙ take_at ys (y ∷ []) (length xs) (sym size)
 
--- what was held back with the piece, and what is held back after the byte is given back
+-- the bytes held back together with the piece, and those held back after the byte is put back
 without_last : (held piece : List ℕ) (byte : ℕ) (taken new : DecoderProgress) → held ++ (piece ++ byte ∷ []) ≡ taken_of taken → PutsBack taken new → IsPieceTaken held piece fed.More new
 without_last held piece byte taken new all back =
     let same : held ++ piece ≡ rest_of new = fronts (held ++ piece) (rest_of new) byte back.byte (append_assoc held piece (byte ∷ []) ∙ all ∙ back.taken) in
@@ -37,7 +37,7 @@ given_back closed taken new piece byte answer h all just back = absurd (subst Ha
 
 -- ---- for any piece
 
--- what was taken is what was taken but for the last byte, and that byte
+-- the bytes taken are all but the last of them, and that byte
 last_taken : (held piece : List ℕ) (count : ℕ) (taken new : DecoderProgress) → 0 < count → count ≤ length piece → held ++ take count piece ≡ taken_of taken → PutsBack taken new
     → IsPieceTaken held (take (count - 1) piece) fed.More new
 last_taken held piece count taken new some within all back =
@@ -58,7 +58,7 @@ any_given_back (whole body) taken new piece answer h just back = any_undone [] p
 any_given_back (malformed bytes) taken new piece answer h just back = absurd (subst HasJustTaken h.1 just)
 any_given_back closed taken new piece answer h just back = absurd (subst HasJustTaken h.1 just)
 
--- a decoder to which a byte was given back has handed out nothing
+-- a decoder to which a byte was put back has returned nothing
 pub ahead_given_back : (old taken new : DecoderProgress) (piece : List ℕ) (answer : Fed) (later : List ℕ) → IsDecoderFed old piece answer taken → HasJustTaken taken → PutsBack taken new
     → requests_ahead old (taken_but_one answer piece ++ later) ≡ requests_ahead new later
 ahead_given_back old taken new piece answer later h just back =

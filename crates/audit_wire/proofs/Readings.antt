@@ -13,7 +13,7 @@ use Rattle.audit_wire.proofs.Bodies.{AreBytes-take, request_found, request_again
 use Rattle.audit_wire.proofs.Filling.{two}
 use Rattle.audit_wire.proofs.Framing.{size_holds, size_passes, requests_partial, requests_bad, requests_whole, requests_frame, First, partial, bad, whole, first_of_stream}
 
--- the frame of a request at the front is that request
+-- the frame of a request at the start reads as that request
 pub request_first : (asked : Request) (more : List ℕ) → IsRequest asked → framed_requests (request_frame asked ++ more) ≡ in_front asked (framed_requests more)
 request_first asked more allowed =
     requests_frame (request_body asked) more (request_size asked allowed)
@@ -77,7 +77,7 @@ nothing = None
 none_not_some : (asked : Request) → nothing ≡ Some asked → ⊥
 none_not_some asked e = cc
 
--- a frame at the front, and a reading of what follows
+-- a frame at the start, and a reading of what follows
 reading_whole : (high low : ℕ) (body more : List ℕ) (found : Option Request) → high < 256 → low < 256 → AreBytes body → size_of high low ≡ length body → request_in body ≡ found
     → IsReading more (framed_requests more) → IsReading (high ∷ low ∷ (body ++ more)) (read_first found (framed_requests more))
 reading_whole high low body more None high_fits low_fits fits size e r =

@@ -16,7 +16,7 @@ use Rattle.audit_wire.specs.declared.reply.Reply.TheVariants as reply
 use Rattle.audit_wire.specs.Frame.{frame}
 use Rattle.audit_wire.specs.Reply.{IsWholeReply, reply_frame, reply_body, refusal_code, hash_list, IsReply, HasReplyFields, refusal_with_code, refused_with, acknowledgement_in, commitment_reply_in, membership_reply_in, increment_reply_in, entry_reply_in, refused_in, reply_in}
 
--- the hashes of a reply, one after the other
+-- the concatenated hashes of a reply
 joined : (hashes : List (List ℕ)) (entry : List ℕ) → flat_map (λ (hash : List ℕ). hash) hashes ++ entry ≡ concat hashes ++ entry
 joined hashes entry = ap (λ bytes. bytes ++ entry) (flat_map-concat hashes)
 
@@ -130,7 +130,7 @@ reply_size (reply.Refused tag code) within fits = omega arith
 
 -- ---- consecutive replies
 
--- the bodies of two frames, and what follows them
+-- the bodies of two frames, and what follows the frames
 frame_split : (a b rest others : List ℕ) → length a < 2 ^ 16 → length b < 2 ^ 16 → frame a ++ rest ≡ frame b ++ others → (a ≡ b) × (rest ≡ others)
 frame_split a b rest others short_a short_b same =
     let size : length a ≡ length b =

@@ -10,7 +10,7 @@ use Rattle.audit_wire.specs.Stream.{Framed, spoiled, all_in_front, framed_bodies
 use Rattle.audit_wire.specs.Progress.{DecoderProgress, reading, whole, malformed, closed, rest_of, taken_of, is_spoiled, HasJustTaken, IsDecoderProgress, IsDecoderAnswer, Spoils, taken_by, untaken, handed_out, requests_ahead, IsPieceTaken, IsDecoderFed, Feeding, IsRun, bytes_taken, bodies_given, progress_after}
 use Rattle.audit_wire.proofs.Framing.{bodies_partial, bodies_bad, bodies_frame, requests_bad, requests_frame}
 
--- the bodies that the stream holds from here on, when these bytes come
+-- the bodies in the stream from here on, if these bytes come
 abbrev pub bodies_ahead : DecoderProgress → List ℕ → Framed (List ℕ)
 bodies_ahead progress bytes = if is_spoiled progress then spoiled else framed_bodies (rest_of progress ++ bytes)
 
@@ -37,7 +37,7 @@ taken_step held piece more (fed.Malformed taken) new t =
 dropped : (new : DecoderProgress) (more : List ℕ) → new ≡ closed → spoiled ≡ all_in_front (handed_out new) (bodies_ahead new more)
 dropped new more e = subst (λ (after : DecoderProgress). spoiled ≡ all_in_front (handed_out after) (bodies_ahead after more)) (sym e) refl
 
--- the bodies ahead before a piece are those that it completes and those ahead after it
+-- the bodies ahead before a piece are those that it completes, followed by those ahead after it
 pub fed_bodies : (old : DecoderProgress) (piece more : List ℕ) (answer : Fed) (new : DecoderProgress) → IsDecoderFed old piece answer new
     → bodies_ahead old (taken_by answer piece ++ more) ≡ all_in_front (handed_out new) (bodies_ahead new more)
 fed_bodies (reading held) piece more answer new f = taken_step held piece more answer new f
@@ -63,7 +63,7 @@ parts fed.More piece later = refl
 parts (fed.Body taken) piece later = sym (sym (append_assoc (take taken piece) (drop taken piece) later) ∙ ap (λ (all : List ℕ). all ++ later) (take-append-drop taken piece))
 parts (fed.Malformed taken) piece later = sym (sym (append_assoc (take taken piece) (drop taken piece) later) ∙ ap (λ (all : List ℕ). all ++ later) (take-append-drop taken piece))
 
--- what is ahead before a piece is what it hands out and what is ahead after the bytes that were taken
+-- the requests ahead before a piece are those that it returns, followed by those ahead after the bytes taken
 pub fed_ahead : (old : DecoderProgress) (piece : List ℕ) (answer : Fed) (new : DecoderProgress) (later : List ℕ) → IsDecoderFed old piece answer new
     → requests_ahead old (taken_by answer piece ++ later) ≡ requests_of (handed_out new) (requests_ahead new later)
 fed_ahead old piece answer new later f =
@@ -122,7 +122,7 @@ fed_spoils (whole body) piece answer new f = spoils_taken [] piece answer new f
 fed_spoils (malformed bytes) piece answer new f = spoils_dropped answer new f.0 f.1
 fed_spoils closed piece answer new f = spoils_dropped answer new f.0 f.1
 
--- ---- a byte that is put back
+-- ---- a byte that was put back
 
 bad_requests : (bytes more : List ℕ) → IsBadLength bytes → framed_requests (bytes ++ more) ≡ spoiled
 bad_requests [] more h = absurd h
@@ -130,7 +130,7 @@ bad_requests (high ∷ []) more h = absurd h
 bad_requests (high ∷ low ∷ []) more h = requests_bad high low more h
 bad_requests (high ∷ low ∷ next ∷ bytes) more h = absurd h
 
--- with the byte again, the bytes are those that had come
+-- once the byte came again, the bytes are the original ones
 again : (held taken later : List ℕ) (byte : ℕ) → taken ≡ held ++ byte ∷ [] → held ++ byte ∷ later ≡ taken ++ later
 again held taken later byte e = sym (append_assoc held (byte ∷ []) later) ∙ ap (λ (bytes : List ℕ). bytes ++ later) (sym e)
 

@@ -56,7 +56,7 @@ fn versions_at(tree: &Tree, older: u64, newer: u64, index: u64) -> Result<Versio
     })
 }
 
-// `count` hashes of zeros, except that the one at `place` cancels what a leaf adds.
+// `count` hashes of zeros, except that the one at `place` cancels what a leaf contributes.
 fn zeros_but(alloc: Global, count: usize, place: usize, leaf: u8) -> Result<Vec<Hash>, AllocError> {
     let mut hashes = Vec::new(alloc);
     for at in 0..count {
@@ -163,8 +163,8 @@ fn entries_under_any_two_versions_collide(rt: HostRuntime) -> Result<(), Fail> {
     Ok(())
 }
 
-// Entries of the tree without its last leaf: the first, those about its middle and the last, with the numbers of their
-// hashes in that tree and in the full one.
+// Entries of the tree without its last leaf: the first, those around its middle and the last, with the numbers of
+// their hashes in that tree and in the full one.
 const LARGEST: [(u64, usize, usize); 4] = [
     (0, 24, 24),
     (FULL / 2 - 1, 24, 24),

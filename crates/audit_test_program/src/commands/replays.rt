@@ -282,7 +282,7 @@ fn codes_of_each_status(rt: HostRuntime) {
     }
 }
 
-// A reader that returns one byte a read.
+// A reader that returns one byte for each read.
 #[derive(Drop)]
 struct ByteByByte<'a>(&'a [u8]);
 
@@ -305,7 +305,7 @@ impl Read for Zeros {
     }
 }
 
-// A reader that returns a few bytes a read, and fails after some reads.
+// A reader that returns a few bytes for each read, and fails after some reads.
 #[derive(Drop)]
 struct FailingReader<'a> {
     bytes: &'a [u8],

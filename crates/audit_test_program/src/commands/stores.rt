@@ -119,7 +119,7 @@ closed 1 2d575e5b39c1814e3d248ecf4d9cde1d3c9577c0c4900494c66ebaca6f5809f2\n\
 commit 1 2d575e5b39c1814e3d248ecf4d9cde1d3c9577c0c4900494c66ebaca6f5809f2\n\
 sectors 3 end 3 generation 4 version 2 state closed\n";
 
-// A closed log stays as it is.
+// A closed log stays unchanged.
 #[test]
 fn a_log_of_no_event_is_closed(rt: HostRuntime) -> Result<(), Fail> {
     let mut store = empty_store(rt.alloc(), 3)?;

@@ -1,12 +1,12 @@
-//! A store of more than 2^20 events, and what it answers when it is opened again.
+//! A store of more than 2^20 events, and its answers after reopening.
 use super::*;
 
 const COUNT: u64 = (1 << 20) + 3;
 
-// The sectors of a device that has no room for another event.
+// The sectors of a device on which no further event fits.
 const SECTORS: u64 = COUNT + 2;
 
-// Events without a payload from that number on.
+// Events without a payload, starting with this number.
 fn empty_events(alloc: Global, first: u64, count: u64) -> Result<Vec<Event>, Fail> {
     let mut events = Vec::new(alloc);
     for place in 0..count {
@@ -25,7 +25,7 @@ fn fill<D: Sectors>(alloc: Global, store: &mut Store<D>, count: u64) -> Result<(
     Ok(())
 }
 
-// An index and a count of events each, around powers of 2 and at the ends.
+// Indices and counts of events, around powers of 2 and at the ends.
 const MEMBERS: [(u64, u64); 8] = [
     (0, 1),
     (0, COUNT),
@@ -37,7 +37,7 @@ const MEMBERS: [(u64, u64); 8] = [
     (COUNT - 1, COUNT),
 ];
 
-// An older and a newer count each.
+// Older and newer counts.
 const INCREMENTS: [(u64, u64); 6] = [
     (1, COUNT),
     (524_288, 1_048_576),

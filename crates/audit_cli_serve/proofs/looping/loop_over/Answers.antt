@@ -36,7 +36,7 @@ returns-clause-bad g c = λ number is.
           (ran.0, ran.1, looped c.args.store c.into_store.result c.in-Ok.core c.run_lines.new.core made c.into_store.ensures ran.2, ran.3)
     ]
 
--- no core was made, and the store is handed back as it was
+-- no core was made, and the store is handed back unchanged
 pub returns-in-Err-clause-kept : goal.returns-in-Err-clause-kept
 returns-in-Err-clause-kept g c = kept_as c.args.store c.in-Err.failed.store c.in-Err.ensures.store
 

@@ -3,7 +3,7 @@ use Rattle.std.specs.List.{AllByRecursion}
 use Rattle.audit_cli_serve.specs.Served.{HasArrived}
 use Rattle.audit_cli_serve.proofs.rounds.accept_streams.Given as goal
 
--- one for each connection that arrived, with room for all
+-- one stream for each connection that arrived, with capacity for all
 abbrev pub invariant-loop : goal.invariant-loop
 invariant-loop g l = record {
   each : vec_len l.streams ≡ l.counter;

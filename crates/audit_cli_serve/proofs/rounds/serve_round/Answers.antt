@@ -44,6 +44,6 @@ returns-clause-fault g c =
           (λ error is. c.serve-end.ensures.refused error (w.in-Some.is ∙ is)) (λ is. (c.serve-end.ensures.cut (w.in-Some.is ∙ is)).1)))
     ]
 
--- no core was made, and the store is handed back as it was
+-- no core was made, and the store is handed back unchanged
 pub returns-in-Err-new-clause-kept : goal.returns-in-Err-new-clause-kept
 returns-in-Err-new-clause-kept g c = kept_as c.args.store c.in-Err-new.failed.store c.in-Err-new.ensures.store

@@ -2,7 +2,7 @@ use Rattle.std.proofs.Common.{◌≡◌, vec_len}
 use Rattle.audit_serve_sockets.proofs.Inputs.{HasTaken}
 use Rattle.audit_serve_sockets.proofs.input_line.next_line.Given as goal
 
--- what was taken so far is the front of the line
+-- the bytes taken so far are the start of the line
 abbrev pub invariant-loop : goal.invariant-loop
 invariant-loop g l = record {
   taken : HasTaken (g.R.Read.remaining l.fn.reader) (g.R.Read.remaining l.reader) l.line.items;

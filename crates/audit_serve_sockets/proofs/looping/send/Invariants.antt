@@ -4,7 +4,7 @@ use Rattle.audit_serve_passes.specs.Transition.{CoreTransition}
 use Rattle.audit_serve_sockets.specs.Looping.{Brings}
 use Rattle.audit_serve_sockets.proofs.looping.send.Given as goal
 
--- all was fed but the rest
+-- all bytes except the rest were fed
 abbrev pub invariant-loop-rest : goal.invariant-loop-rest
 invariant-loop-rest g l = record {
   fed : CoreTransition g.C.SessionCore.model l.fn.core l.core (Brings l.fn.bytes l.rest);

@@ -3,7 +3,7 @@ use Rattle.std.specs.Io.KnownBytes.{Consumes}
 use Rattle.audit_text.specs.declared.input.TheConstants.{INPUT_LIMIT}
 use Rattle.audit_text.proofs.input.read_to_end.Given as goal
 
--- what was read so far was taken from the reader's front
+-- the bytes read so far were taken from the start of the reader's bytes
 abbrev pub invariant-loop : goal.invariant-loop
 invariant-loop g l = record {
   taken : Consumes (g.R.Read.remaining l.fn.reader) (g.R.Read.remaining l.reader) l.input.items;
