@@ -14,9 +14,10 @@ use audit_cli_store::{CommandError, FileStore, Status, open_store, report, repor
 use audit_disk::SystemFile;
 use audit_serve_door::{SocketDoor, StopOrders};
 use audit_serve_rights::Rights;
+use audit_store::StoreError;
 use std::alloc::Global;
 use std::fs::Files;
-use std::io::Write;
+use std::io::{ErrorKind, Write};
 use std::net::Net;
 use std::time::{Clock, Duration};
 
@@ -152,6 +153,14 @@ fn judge(settings: Settings<'_>) -> Result<Judged, CommandError>
     })
 }
 
+fn fault_of(kind: ErrorKind) -> CommandError {
+    if kind == ErrorKind::OutOfMemory {
+        CommandError::Refused(StoreError::Memory)
+    } else {
+        CommandError::File
+    }
+}
+
 // The sockets' files are removed at the end, before the last line is written.
 fn serve_sockets<F: Files + Net + Clock, W: Write, M: Write>(
     rt: &F,
@@ -181,7 +190,7 @@ where
         Ok(door) => door,
         Err(error) => {
             let _ = sockets.remove(rt);
-            return Err(error.into());
+            return Err(fault_of(error.kind()));
         }
     };
     let (store, served) = serve_until_stopped(alloc, store, judged.most, &mut door, output);

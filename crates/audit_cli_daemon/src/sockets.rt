@@ -57,7 +57,7 @@ impl<'a> Sockets<'a> {
     ) -> Result<Listening, CommandError> {
         let clients = SocketFile::bind(rt, alloc, self.clients, mode)?;
         let bound = match self.bind_stop(rt, alloc, mode) {
-            Ok((orders, readers)) => listening(alloc, clients, readers, orders, rights),
+            Ok((orders, readers)) => listen(alloc, clients, readers, orders, rights),
             Err(fault) => Err(fault),
         };
         if bound.is_err() {
@@ -106,7 +106,7 @@ impl<'a> Sockets<'a> {
     }
 }
 
-fn listening(
+fn listen(
     alloc: Global,
     clients: SocketFile,
     readers: Option<SocketFile>,

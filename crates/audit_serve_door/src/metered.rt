@@ -1,6 +1,7 @@
-ghost use Rattle.std.specs.Prelude.{◌<◌, ◌≤◌, [], ◌∷◌, length, IfOk, IfSome};
+ghost use Rattle.std.specs.Prelude.{◌≡◌, ◌<◌, ◌≤◌, [], ◌∷◌, length, IfOk, IfSome};
 ghost use Rattle.audit_serve_ready.specs.Ready.{ready_read_calls, ready_write_call};
-ghost use Rattle.audit_serve_door.specs.Metered.{metered_calls};
+ghost use Rattle.audit_serve_door.specs.Metered.{metered_calls, IsNewMetered, inner_of_metered, moves_of_metered};
+ghost use Rattle.audit_serve_door.specs.Moves.{IsCounted};
 
 use audit_serve_passes::StreamError;
 use audit_serve_ready::ReadyStream;
@@ -13,25 +14,30 @@ pub struct Metered<S> {
 }
 
 impl<S: ReadyStream> Metered<S> {
-    ghost use Rattle.std.specs.Prelude.{◌≡◌};
-
     /// Makes a stream of which no call has moved bytes.
-    pub fn new(inner: S) -> Metered<S> {
+    pub fn new(inner: S) -> Metered<S>
+        ensures { IsNewMetered inner result }
+    {
         Metered { inner, moves: 0 }
     }
 
     /// The inner stream.
-    pub fn inner(&self) -> &S {
+    pub fn inner(&self) -> &S
+        ensures { result.now ≡ inner_of_metered self.now }
+    {
         &self.inner
     }
 
     /// How many calls have moved bytes, modulo 2^64.
-    pub fn moves(&self) -> u64 {
+    pub fn moves(&self) -> u64
+        ensures { result ≡ moves_of_metered self.now }
+    {
         self.moves
     }
 
     fn count(&mut self, bytes: usize)
-        ensures { self.new.inner ≡ self.old.inner }
+        ensures kept { self.new.inner ≡ self.old.inner }
+        ensures counted { IsCounted bytes self.old.moves self.new.moves }
     {
         if bytes > 0 {
             self.moves = self.moves.wrapping_add(1);
