@@ -1,0 +1,5 @@
+pub mod Front
+pub mod Positions
+pub mod Passing
+pub mod Guarding
+pub mod Allowing

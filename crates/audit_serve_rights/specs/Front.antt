@@ -9,7 +9,7 @@ use Rattle.audit_serve_rights.specs.Rights.{allows}
 abbrev pub allowed_size : Rights → Bool → List ℕ → ℕ
 allowed_size rights ended [] = 0
 allowed_size rights ended (high ∷ []) = if ended then 1 else 0
-allowed_size rights ended (high ∷ low ∷ []) = if ended || (size_of high low == 0) then 2 else 0
+allowed_size rights ended (high ∷ low ∷ []) = if (size_of high low == 0) || ended then 2 else 0
 allowed_size rights ended (high ∷ low ∷ kind ∷ body) =
     if (size_of high low == 0) || allows rights kind then 2 + size_of high low else 0
 

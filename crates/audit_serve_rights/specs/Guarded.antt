@@ -1,9 +1,8 @@
 -- Streams of which only allowed frames are let through.
 use Rattle.std.specs.Prelude.{◌≡◌, ◌⊎◌, ℕ, Bool, true, false, ◌||◌, List, [], ◌∷◌, ◌++◌}
-use Rattle.std.specs.Prelude.{Result, Option, Some, None}
 use Rattle.std.proofs.Common.{refl, sym, ap, subst, ◌∙◌, append_assoc, true≢false, inl, inr}
 use Rattle.audit_serve_passes.specs.Streams.{StreamCall, a_read, a_failed_read, a_write, a_failed_write, CallModel}
-use Rattle.audit_serve_passes.specs.Streams.{bytes_read, read_call}
+use Rattle.audit_serve_passes.specs.Streams.{bytes_read}
 use Rattle.audit_serve_passes.specs.Known.{is_read_at_end, has_read_at_end}
 use Rattle.audit_serve_passes.specs.CallLaws.{or_of_three, bytes_read-append}
 use Rattle.audit_serve_ready.specs.Places.{is_last_read, has_last_read}
@@ -12,6 +11,22 @@ use Rattle.audit_serve_rights.specs.declared.position.Position.{Position}
 use Rattle.audit_serve_rights.specs.declared.position.Position.TheVariants as position
 use Rattle.audit_serve_rights.specs.declared.guarded.Guarded.{Guarded}
 use Rattle.audit_serve_rights.specs.Position.{is_ended, is_cut, is_over, front_from}
+
+abbrev pub stream_of : {S : Type 0} → Guarded S → S
+stream_of guarded = guarded.stream
+
+abbrev pub rights_of : {S : Type 0} → Guarded S → Rights
+rights_of guarded = guarded.rights
+
+-- a frame came that isn't allowed
+abbrev pub is_cut_off : {S : Type 0} → Guarded S → Bool
+is_cut_off guarded = is_cut guarded.position
+
+-- a stream that is guarded from the first byte of a frame on
+pub record IsNewGuarded {S : Type 0} (stream : S) (rights : Rights) (guarded : Guarded S) : Type 0 where
+  pub stream_is : guarded.stream ≡ stream
+  pub rights_are : guarded.rights ≡ rights
+  pub start : guarded.position ≡ position.Start
 
 -- the writes among these calls
 abbrev pub writes_in : List StreamCall → List StreamCall
@@ -87,7 +102,7 @@ ended_is_over position.Ended is = refl
 ended_is_over position.CutOff is = refl
 
 module _ {S : Type 0} (N : CallModel S) where
-  none_guarded : (stream : Guarded S) → IsGuarded N stream stream []
+  pub none_guarded : (stream : Guarded S) → IsGuarded N stream stream []
   none_guarded stream = record {
     inner = [];
     did = N.nothing_called stream.stream;
@@ -107,7 +122,7 @@ module _ {S : Type 0} (N : CallModel S) where
       → MayFollow first.inner (bytes_read second.inner ++ later) ended
   none_follows old mid new calls further first second later ended may = λ found.
       let all = may (end_found-append first.inner second.inner
-          ∙ left_of (has_read_at_end first.inner) (has_read_at_end second.inner) found) in
+      ∙ left_of (has_read_at_end first.inner) (has_read_at_end second.inner) found) in
       let quiet = second.quiet (ended_is_over mid.position (first.at_end found)) in
       (ap (λ (bytes : List ℕ). bytes ++ later) quiet.0 ∙ all.0, all.1)
 
@@ -125,14 +140,14 @@ module _ {S : Type 0} (N : CallModel S) where
       (none_follows old mid new calls further first second later ended may)
       ∙ ap (λ (rest : List ℕ). bytes_read calls ++ rest) (subst
       (λ (r : Rights). front_from mid.position r ended (bytes_read second.inner ++ later)
-          ≡ bytes_read further ++ front_from new.position r ended later) first.rights
+      ≡ bytes_read further ++ front_from new.position r ended later) first.rights
       (second.given later ended (λ found. may (end_found-append first.inner second.inner
-          ∙ right_of (has_read_at_end first.inner) (has_read_at_end second.inner) found))))
+      ∙ right_of (has_read_at_end first.inner) (has_read_at_end second.inner) found))))
       ∙ sym (append_assoc (bytes_read calls) (bytes_read further) (front_from new.position old.rights ended later))
       ∙ ap (λ (bytes : List ℕ). bytes ++ front_from new.position old.rights ended later)
       (sym (bytes_read-append calls further))
 
-  more_guarded : (old mid new : Guarded S) (calls further : List StreamCall) → IsGuarded N old mid calls
+  pub more_guarded : (old mid new : Guarded S) (calls further : List StreamCall) → IsGuarded N old mid calls
       → IsGuarded N mid new further → IsGuarded N old new (calls ++ further)
   more_guarded old mid new calls further first second =
       let found = has_read_at_end first.inner in
@@ -140,39 +155,40 @@ module _ {S : Type 0} (N : CallModel S) where
       let read = has_last_read first.inner in
       let read_later = has_last_read second.inner in
       record {
-    inner = first.inner ++ second.inner;
-    did = N.more_called old.stream mid.stream new.stream first.inner second.inner first.did second.did;
-    rights = second.rights ∙ first.rights;
-    writes = writes-append calls further ∙ ap (λ (front : List StreamCall). front ++ writes_in further) first.writes
-        ∙ ap (λ (rest : List StreamCall). writes_in first.inner ++ rest) second.writes
-        ∙ sym (writes-append first.inner second.inner);
-    given = both_given old mid new calls further first second;
-    last = λ is. one_of (has_last_read calls) (has_last_read further) (sym (last_read-append calls further) ∙ is)
-        (λ one. elim (first.last one) [
-          | inl e ↦ inl (last_read-append first.inner second.inner ∙ left_of read read_later e)
-          | inr e ↦ inr (ap is_over (second.quiet e).1 ∙ e)
-        ])
-        (λ one. elim (second.last one) [
-          | inl e ↦ inl (last_read-append first.inner second.inner ∙ right_of read read_later e)
-          | inr e ↦ inr e
-        ]);
-    at_end = λ is. one_of found found_later (sym (end_found-append first.inner second.inner) ∙ is)
-        (λ one. ap is_ended (second.quiet (ended_is_over mid.position (first.at_end one))).1 ∙ first.at_end one)
-        second.at_end;
-    ended = λ is. elim (second.ended is) [
-      | inl e ↦ inl (end_found-append first.inner second.inner ∙ right_of found found_later e)
-      | inr e ↦ elim (first.ended e) [
-        | inl at ↦ inl (end_found-append first.inner second.inner ∙ left_of found found_later at)
-        | inr at ↦ inr at
-      ]
-    ];
-    quiet = λ is.
-        let first_quiet = first.quiet is in
-        let second_quiet = second.quiet (ap is_over first_quiet.1 ∙ is) in
-        (bytes_read-append first.inner second.inner
-            ∙ ap (λ (bytes : List ℕ). bytes ++ bytes_read second.inner) first_quiet.0 ∙ second_quiet.0,
-        second_quiet.1 ∙ first_quiet.1);
-  }
+        inner = first.inner ++ second.inner;
+        did = N.more_called old.stream mid.stream new.stream first.inner second.inner first.did second.did;
+        rights = second.rights ∙ first.rights;
+        writes = writes-append calls further ∙ ap (λ (front : List StreamCall). front ++ writes_in further) first.writes
+            ∙ ap (λ (rest : List StreamCall). writes_in first.inner ++ rest) second.writes
+            ∙ sym (writes-append first.inner second.inner);
+        given = both_given old mid new calls further first second;
+        last = λ is. one_of (has_last_read calls) (has_last_read further) (sym (last_read-append calls further) ∙ is)
+            (λ one. elim (first.last one) [
+              | inl e ↦ inl (last_read-append first.inner second.inner ∙ left_of read read_later e)
+              | inr e ↦ inr (ap is_over (second.quiet e).1 ∙ e)
+            ])
+            (λ one. elim (second.last one) [
+              | inl e ↦ inl (last_read-append first.inner second.inner ∙ right_of read read_later e)
+              | inr e ↦ inr e
+            ]);
+        at_end = λ is. one_of found found_later (sym (end_found-append first.inner second.inner) ∙ is)
+            (λ one. ap is_ended (second.quiet (ended_is_over mid.position (first.at_end one))).1 ∙ first.at_end one)
+            second.at_end;
+        ended = λ is. elim (second.ended is) [
+          | inl e ↦ inl (end_found-append first.inner second.inner ∙ right_of found found_later e)
+          | inr e ↦ elim (first.ended e) [
+            | inl at ↦ inl (end_found-append first.inner second.inner ∙ left_of found found_later at)
+            | inr at ↦ inr at
+          ]
+        ];
+        quiet = λ is.
+            let first_quiet = first.quiet is in
+            let second_quiet = second.quiet (ap is_over first_quiet.1 ∙ is) in (
+              bytes_read-append first.inner second.inner
+                  ∙ ap (λ (bytes : List ℕ). bytes ++ bytes_read second.inner) first_quiet.0 ∙ second_quiet.0,
+              second_quiet.1 ∙ first_quiet.1,
+            );
+      }
 
 -- the calls of a guarded stream, by those of the inner one
 abbrev pub guarded_calls : {S : Type 0} → CallModel S → CallModel (Guarded S)

@@ -1,5 +1,5 @@
 -- Where a stream of frames is, up to the bytes that were let through.
-use Rattle.std.specs.Prelude.{ℕ, ◌+◌, ◌<◌, Bool, true, false, not, ◌==◌, if◌then◌else◌, List, [], ◌∷◌, ◌++◌, take, drop}
+use Rattle.std.specs.Prelude.{◌≡◌, ℕ, ◌+◌, ◌<◌, ◌≤◌, Bool, true, false, not, ◌||◌, ◌==◌, if◌then◌else◌, List, [], ◌∷◌, ◌++◌, length, take, drop}
 use Rattle.audit_wire.specs.Frame.{size_of}
 use Rattle.audit_serve_rights.specs.declared.rights.Rights.{Rights}
 use Rattle.audit_serve_rights.specs.declared.position.Position.{Position}
@@ -50,13 +50,13 @@ is_over position.Ended = true
 is_over position.CutOff = true
 
 -- a length that is held back is that of a frame with a body
-abbrev pub IsProper : Position → Type 0
-IsProper position.Start = Unit {0}
-IsProper (position.High high) = Unit {0}
-IsProper (position.Length high low) = 0 < size_of high low
-IsProper (position.Inside left) = Unit {0}
-IsProper position.Ended = Unit {0}
-IsProper position.CutOff = Unit {0}
+abbrev pub is_proper : Position → Bool
+is_proper position.Start = true
+is_proper (position.High high) = true
+is_proper (position.Length high low) = not (size_of high low == 0)
+is_proper (position.Inside left) = true
+is_proper position.Ended = true
+is_proper position.CutOff = true
 
 -- what is let through from here on, if these bytes come
 abbrev pub front_from : Position → Rights → Bool → List ℕ → List ℕ
@@ -67,3 +67,54 @@ front_from (position.Inside left) rights ended bytes =
     take left bytes ++ allowed_front rights ended (drop left bytes)
 front_from position.Ended rights ended bytes = []
 front_from position.CutOff rights ended bytes = []
+
+-- ---- going on
+
+-- where a stream is whose next bytes are these, from the first byte of a frame
+abbrev pub position_of : Rights → List ℕ → Position
+position_of rights [] = position.Start
+position_of rights (high ∷ []) = position.High high
+position_of rights (high ∷ low ∷ []) =
+    if size_of high low == 0 then position.Inside (2 + size_of high low) else position.Length high low
+position_of rights (high ∷ low ∷ kind ∷ body) =
+    if (size_of high low == 0) || allows rights kind then position.Inside (2 + size_of high low) else position.CutOff
+
+-- the bytes after those that the position has taken in: these and those after them if a frame is let through
+abbrev pub ahead : Position → List ℕ → List ℕ → List ℕ
+ahead position.Start bytes later = later
+ahead (position.High high) bytes later = later
+ahead (position.Length high low) bytes later = later
+ahead (position.Inside left) bytes later = bytes ++ later
+ahead position.Ended bytes later = later
+ahead position.CutOff bytes later = later
+
+-- a frame that is let through has bytes
+abbrev pub HasBytes : Position → Type 0
+HasBytes position.Start = Unit {0}
+HasBytes (position.High high) = Unit {0}
+HasBytes (position.Length high low) = Unit {0}
+HasBytes (position.Inside left) = 0 < left
+HasBytes position.Ended = Unit {0}
+HasBytes position.CutOff = Unit {0}
+
+-- From a place where so many bytes follow of a frame that is let through, these bytes lead to this position.
+pub record LeadsTo (rights : Rights) (left : ℕ) (bytes : List ℕ) (new : Position) : Type 0 where
+  pub front : (ended : Bool) (later : List ℕ) → front_from (position.Inside left) rights ended (bytes ++ later)
+      ≡ front_from new rights ended (ahead new bytes later)
+  pub proper : is_proper new ≡ true
+  pub live : is_ended new ≡ false
+  pub has : HasBytes new
+
+-- The same, and the first of these bytes are let through.
+pub record Passes (rights : Rights) (left : ℕ) (bytes : List ℕ) (passed : ℕ) (new : Position) : Type 0 where
+  pub within : passed ≤ length bytes
+  pub front : (ended : Bool) (later : List ℕ) → front_from (position.Inside left) rights ended (bytes ++ later)
+      ≡ take passed bytes ++ front_from new rights ended later
+  pub proper : is_proper new ≡ true
+  pub live : is_ended new ≡ false
+
+-- These bytes led to a place where so many bytes follow of a frame that is let through.
+pub record HasPassed (rights : Rights) (left : ℕ) (bytes : List ℕ) (passed now : ℕ) : Type 0 where
+  pub within : passed ≤ length bytes
+  pub front : (ended : Bool) (later : List ℕ) → front_from (position.Inside left) rights ended (bytes ++ later)
+      ≡ take passed bytes ++ front_from (position.Inside now) rights ended (drop passed bytes ++ later)

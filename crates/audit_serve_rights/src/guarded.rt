@@ -1,6 +1,8 @@
-ghost use Rattle.std.specs.Prelude.{◌≡◌};
-ghost use Rattle.audit_serve_rights.specs.Position.{IsProper};
+ghost use Rattle.std.specs.Prelude.{◌≡◌, ◌+◌, ◌<◌, ◌≤◌, true, length, take, drop, IfOk, IfSome};
+ghost use Rattle.audit_serve_ready.specs.Ready.{ready_read_calls};
+ghost use Rattle.audit_serve_rights.specs.Position.{is_proper};
 
+use crate::passed::Passed;
 use crate::position::{Position, pass};
 use crate::rights::Rights;
 use audit_serve_passes::StreamError;
@@ -19,22 +21,34 @@ pub struct Guarded<S> {
     stream: S,
     rights: Rights,
     position: Position,
-    ghost proper: { IsProper position },
+    ghost proper: { is_proper position ≡ true },
 }
 
-/// What a read of the inner stream came to.
-enum Passed {
-    /// Nothing was there.
-    Nothing,
-    /// Everything that was there is held back.
-    Held,
-    /// This is to be given, with its bytes at the front of the buffer.
-    Given(Result<usize, StreamError>),
+// One read into the bytes from that place on.
+fn read_after<S: ReadyStream>(
+    stream: &mut S,
+    buffer: &mut [u8],
+    place: usize,
+) -> Option<Result<usize, StreamError>>
+    requires { place < length buffer.old }
+    ensures within { IfSome result (λ given. IfOk given (λ count. place + count ≤ length buffer.old)) }
+    ensures did { S.calls.DidCalls stream.old stream.new (ready_read_calls result (drop place buffer.new)) }
+    ensures kept { take place buffer.new ≡ take place buffer.old }
+{
+    stream.read_ready(&mut buffer[place..])
 }
 
 impl<S: ReadyStream> Guarded<S> {
+    ghost use Rattle.std.specs.Prelude.{◌≡◌, ◌<◌, ◌≤◌, ◌↔◌, IsTrue, false, true, length};
+    ghost use Rattle.audit_wire.specs.declared.limits.TheConstants.{LENGTH_BYTES};
+    ghost use Rattle.audit_serve_rights.specs.Position.{is_over, left_at};
+    ghost use Rattle.audit_serve_rights.specs.Passed.{passed_calls, is_given, IsGivenWithin, LetsThrough};
+    ghost use Rattle.audit_serve_rights.specs.Guarded.{stream_of, rights_of, is_cut_off, IsNewGuarded, IsGuarded};
+
     /// Guards a stream from the first byte of a frame on.
-    pub fn new(stream: S, rights: Rights) -> Guarded<S> {
+    pub fn new(stream: S, rights: Rights) -> Guarded<S>
+        ensures { IsNewGuarded stream rights result }
+    {
         Guarded {
             stream,
             rights,
@@ -43,12 +57,16 @@ impl<S: ReadyStream> Guarded<S> {
     }
 
     /// The inner stream.
-    pub fn stream(&self) -> &S {
+    pub fn stream(&self) -> &S
+        ensures { result.now ≡ stream_of self.now }
+    {
         &self.stream
     }
 
     /// Gives the inner stream back.
-    pub fn into_stream(self) -> S {
+    pub fn into_stream(self) -> S
+        ensures { result ≡ stream_of self }
+    {
         let Guarded {
             stream,
             rights: _,
@@ -58,19 +76,29 @@ impl<S: ReadyStream> Guarded<S> {
     }
 
     /// What it lets through.
-    pub fn rights(&self) -> Rights {
+    pub fn rights(&self) -> Rights
+        ensures { result ≡ rights_of self.now }
+    {
         self.rights
     }
 
     /// Whether a frame came that isn't allowed. Nothing of it was given, and nothing is given any more.
-    pub fn is_cut_off(&self) -> bool {
+    pub fn is_cut_off(&self) -> bool
+        ensures { result ≡ is_cut_off self.now }
+    {
         self.position == Position::CutOff
     }
 
     // Reads the inner stream once.
-    fn read_once(&mut self, buffer: &mut [u8]) -> Passed {
+    fn read_once(&mut self, buffer: &mut [u8]) -> Passed
+        requires live { is_over self.old.position ≡ false }
+        requires room { LENGTH_BYTES < length buffer.old }
+        ensures within { IsGivenWithin result (length buffer.new) }
+        ensures did { IsGuarded S.calls self.old self.new (passed_calls result buffer.new) }
+        ensures live { is_given result ≡ false → is_over self.new.position ≡ false }
+    {
         let held = self.position.put_held(buffer);
-        let Some(given) = self.stream.read_ready(&mut buffer[held..]) else {
+        let Some(given) = read_after(&mut self.stream, buffer, held) else {
             return Passed::Nothing;
         };
         match given {
@@ -83,7 +111,12 @@ impl<S: ReadyStream> Guarded<S> {
         }
     }
 
-    fn let_through(&mut self, bytes: &[u8]) -> Passed {
+    fn let_through(&mut self, bytes: &[u8]) -> Passed
+        requires { is_over self.old.position ≡ false }
+        ensures stream { self.new.stream ≡ self.old.stream }
+        ensures rights { self.new.rights ≡ self.old.rights }
+        ensures passed { LetsThrough self.old.rights (left_at self.old.position) bytes.now result self.new.position }
+    {
         let passed = pass(&mut self.position, self.rights, bytes);
         if passed > 0 || self.position.is_over() {
             Passed::Given(Ok(passed))

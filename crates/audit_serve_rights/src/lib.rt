@@ -5,6 +5,8 @@
 #![tactic(auto)]
 
 mod guarded;
+pub mod laws;
+mod passed;
 mod position;
 mod rights;
 

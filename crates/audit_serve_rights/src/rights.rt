@@ -13,6 +13,7 @@ pub enum Rights {
 
 // The kinds of requests that not every client may make, in the first byte of the frame's body.
 const APPEND: u8 = 1;
+
 const CLOSE: u8 = 6;
 
 impl Rights {

@@ -1,0 +1,30 @@
+-- A client of which only allowed frames are let through.
+use Rattle.std.specs.Prelude.{◌≡◌, ◌⊎◌, ℕ, true, false, ◌||◌, Some, List, [], ◌++◌}
+use Rattle.audit_serve_passes.specs.Steps.{StepData, bytes_fed, ends_in}
+use Rattle.audit_serve_passes.specs.Streams.{StreamCall, CallModel, bytes_read, bytes_sent, has_failed_write}
+use Rattle.audit_serve_passes.specs.Streams.{AreWrittenWhole}
+use Rattle.audit_serve_passes.specs.Known.{has_read_at_end}
+use Rattle.audit_serve_ready.specs.Slot.{SlotData, client_of, kept_of, is_shut}
+use Rattle.audit_serve_ready.specs.Places.{has_last_read}
+use Rattle.audit_serve_rights.specs.declared.rights.Rights.{Rights}
+use Rattle.audit_serve_rights.specs.declared.guarded.Guarded.{Guarded}
+use Rattle.audit_serve_rights.specs.Front.{allowed_front}
+use Rattle.audit_serve_rights.specs.Guarded.{stream_of, is_cut_off}
+
+-- The client that came with this stream is still in its place, and the stream had these calls. The steps fed session k
+-- what is allowed of the bytes that they gave. They ended it only if a read found the end or failed, a frame came that
+-- isn't allowed, or the place was shut. What was taken of its output was written to the stream, or is kept for the
+-- client, or was dropped when the place was shut.
+pub record IsServedAllowed {S : Type 0} (N : CallModel S) (k : ℕ) (rights : Rights) (stream : S)
+    (steps : List StepData) (sent : List ℕ) (after : SlotData (Guarded S)) : Type 0 where
+  pub client : Guarded S
+  pub there : client_of after ≡ Some client
+  pub calls : List StreamCall
+  pub did : N.DidCalls stream (stream_of client) calls
+  pub fed : bytes_fed k steps ≡ allowed_front rights (has_read_at_end calls) (bytes_read calls)
+  pub ends : (ends_in k steps ≡ 0) ⊎ ((has_last_read calls || is_cut_off client || is_shut after) ≡ true)
+  pub dropped : List ℕ
+  pub written : sent ≡ bytes_sent calls ++ (kept_of after ++ dropped)
+  pub none_dropped : is_shut after ≡ false → dropped ≡ []
+  pub whole : AreWrittenWhole false calls
+  pub fails : has_failed_write calls ≡ true → is_shut after ≡ true
