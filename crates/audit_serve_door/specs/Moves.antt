@@ -1,26 +1,36 @@
--- The calls of a stream that moved bytes, and a count of them.
-use Rattle.std.specs.Prelude.{◌≡◌, ℕ, ◌+◌, ◌*◌, ◌%◌, ◌^◌, ◌<◌, List, [], ◌∷◌}
+-- A count of the calls of a stream that moved bytes.
+use Rattle.std.specs.Prelude.{◌≡◌, ℕ, zero, suc, ◌+◌, ◌%◌, ◌^◌, List, [], ◌∷◌, ◌++◌}
+use Rattle.std.proofs.Common.{refl, sym, ap, ◌∙◌}
 use Rattle.audit_serve_passes.specs.Streams.{StreamCall, a_read, a_failed_read, a_write, a_failed_write}
 
--- 1 for a call that read or wrote a byte
-abbrev pub moves_of_call : StreamCall → ℕ
-moves_of_call (a_read []) = 0
-moves_of_call (a_read (byte ∷ bytes)) = 1
-moves_of_call a_failed_read = 0
-moves_of_call (a_write []) = 0
-moves_of_call (a_write (byte ∷ bytes)) = 1
-moves_of_call (a_failed_write bytes) = 0
+-- the count goes round at 2^64
+abbrev pub one_more : ℕ → ℕ
+one_more count = (count + 1) % 2 ^ 64
 
-abbrev pub moves_in : List StreamCall → ℕ
-moves_in [] = 0
-moves_in (call ∷ calls) = moves_of_call call + moves_in calls
+-- the count after so many bytes were moved, or none
+abbrev pub count_after : ℕ → ℕ → ℕ
+count_after count zero = count
+count_after count (suc bytes) = one_more count
 
--- the count went up by the calls that moved bytes, modulo 2^64
-pub record HasCounted (old new : ℕ) (calls : List StreamCall) : Type 0 where
-  pub wraps : ℕ
-  pub sum : old + moves_in calls ≡ new + wraps * 2 ^ 64
+-- the count after a call, and after calls
+abbrev pub count_after_call : ℕ → StreamCall → ℕ
+count_after_call count (a_read []) = count
+count_after_call count (a_read (byte ∷ bytes)) = one_more count
+count_after_call count a_failed_read = count
+count_after_call count (a_write []) = count
+count_after_call count (a_write (byte ∷ bytes)) = one_more count
+count_after_call count (a_failed_write bytes) = count
 
--- a call that moved this many bytes was counted, if it moved one
-pub record IsCounted (bytes old new : ℕ) : Type 0 where
-  pub none : bytes ≡ 0 → new ≡ old
-  pub some : 0 < bytes → new ≡ (old + 1) % 2 ^ 64
+abbrev pub count_after_calls : ℕ → List StreamCall → ℕ
+count_after_calls count [] = count
+count_after_calls count (call ∷ calls) = count_after_calls (count_after_call count call) calls
+
+pub counted_both : (count : ℕ) (calls later : List StreamCall)
+    → count_after_calls count (calls ++ later) ≡ count_after_calls (count_after_calls count calls) later
+counted_both count [] later = refl
+counted_both count (call ∷ calls) later = counted_both (count_after_call count call) calls later
+
+pub counted_more : (old mid new : ℕ) (calls later : List StreamCall) → mid ≡ count_after_calls old calls
+    → new ≡ count_after_calls mid later → new ≡ count_after_calls old (calls ++ later)
+counted_more old mid new calls later first second =
+    second ∙ ap (λ count. count_after_calls count later) first ∙ sym (counted_both old calls later)

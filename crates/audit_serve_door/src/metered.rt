@@ -1,7 +1,7 @@
 ghost use Rattle.std.specs.Prelude.{◌≡◌, ◌<◌, ◌≤◌, [], ◌∷◌, length, IfOk, IfSome};
 ghost use Rattle.audit_serve_ready.specs.Ready.{ready_read_calls, ready_write_call};
 ghost use Rattle.audit_serve_door.specs.Metered.{metered_calls, IsNewMetered, inner_of_metered, moves_of_metered};
-ghost use Rattle.audit_serve_door.specs.Moves.{IsCounted};
+ghost use Rattle.audit_serve_door.specs.Moves.{count_after};
 
 use audit_serve_passes::StreamError;
 use audit_serve_ready::ReadyStream;
@@ -37,7 +37,7 @@ impl<S: ReadyStream> Metered<S> {
 
     fn count(&mut self, bytes: usize)
         ensures kept { self.new.inner ≡ self.old.inner }
-        ensures counted { IsCounted bytes self.old.moves self.new.moves }
+        ensures counted { self.new.moves ≡ count_after self.old.moves bytes }
     {
         if bytes > 0 {
             self.moves = self.moves.wrapping_add(1);
