@@ -1,4 +1,5 @@
 use crate::forms::{EXPLAIN, command_line};
+use audit_cli_daemon::{Request as Daemon, Settings};
 use audit_cli_serve::Request as Serving;
 use audit_cli_store::{Access, Request, Site};
 use clap::{ArgMatches, Error};
@@ -21,6 +22,8 @@ pub enum Asked<'a> {
     Plain(Request<'a>),
     /// A command that serves sessions.
     Serving(Serving<'a>),
+    /// A command about a daemon.
+    Daemon(Daemon<'a>),
 }
 
 /// Parses the words of a command line, of which the first is the program's name. Without a command the request is
@@ -54,7 +57,23 @@ fn asked_by<'a>(name: &str, given: &ArgMatches<'a>) -> Asked<'a> {
             socket: word(given, "SOCKET"),
             socket_mode: given.get_str("socket-mode"),
         }),
+        "daemon" => Asked::Daemon(Daemon::Run(settings(given))),
+        "stop" => Asked::Daemon(Daemon::Stop {
+            socket: word(given, "SOCKET"),
+        }),
         _ => Asked::Plain(plain_request(name, given)),
+    }
+}
+
+fn settings<'a>(given: &ArgMatches<'a>) -> Settings<'a> {
+    Settings {
+        file: word(given, "FILE"),
+        socket: word(given, "SOCKET"),
+        reader: given.get_str("reader"),
+        may_close: given.get_flag("allow-close"),
+        idle: given.get_str("idle"),
+        backlog: given.get_str("backlog"),
+        socket_mode: given.get_str("socket-mode"),
     }
 }
 

@@ -1,6 +1,7 @@
 //! Printing causes and warnings, in separate lines.
 use crate::command::Asked;
 use crate::notes::Notes;
+use audit_cli_daemon::Request as Daemon;
 use audit_cli_serve::Request as Serving;
 use audit_cli_store::{Request, Status};
 use std::fs::{self, Files};
@@ -84,6 +85,8 @@ fn key_places(asked: Asked<'_>) -> KeyPlaces<'_> {
         Asked::Serving(Serving::Serve { file, .. } | Serving::Loop { file, .. }) => {
             (Some(file), None)
         }
+        Asked::Daemon(Daemon::Run(settings)) => (Some(settings.file), None),
+        Asked::Daemon(Daemon::Stop { .. }) => (None, None),
     };
     KeyPlaces { store, key_file }
 }

@@ -1,6 +1,8 @@
 //! The commands, as the command line and its help show them.
 use audit_base::{MAX_PAYLOAD, SESSIONS};
+use audit_cli_daemon::DEFAULT_IDLE;
 use audit_log::{MAX_SECTORS, MIN_SECTORS, VERSION as FORMAT_VERSION};
+use audit_serve_ready::{DEFAULT_BACKLOG, MAX_BACKLOG};
 use audit_text::INPUT_LIMIT;
 use clap::{Arg, ArgAction, Command};
 use std::alloc::{AllocError, Global};
@@ -23,6 +25,10 @@ const EXPLAINS: &str =
 const _: () = prove!(FORMAT_VERSION == 2);
 
 const _: () = prove!(MAX_PAYLOAD == 32_696 && INPUT_LIMIT == 16_777_216);
+
+const _: () = prove!(
+    DEFAULT_BACKLOG == 1_048_576 && MAX_BACKLOG == 67_108_864 && DEFAULT_IDLE == 60
+);
 
 const _: () = prove!(MIN_SECTORS == 3 && MAX_SECTORS == 16_777_216 && SESSIONS == 16);
 
@@ -55,7 +61,7 @@ struct Choice {
     excludes: Option<&'static str>,
 }
 
-static FORMS: [Form; 11] = [
+static FORMS: [Form; 13] = [
     Form {
         name: "replay",
         about: "Seals events from standard input, and prints their entries and the commitment",
@@ -326,6 +332,71 @@ static FORMS: [Form; 11] = [
             needs: None,
             excludes: None,
         }],
+    },
+    Form {
+        name: "daemon",
+        about: "Serves a store over a socket to clients that come and go, until it is stopped",
+        after: None,
+        words: &[
+            Word {
+                name: "FILE",
+                help: "The file of the store",
+                is_required: true,
+            },
+            Word {
+                name: "SOCKET",
+                help: "The path of the socket, which is made",
+                is_required: true,
+            },
+        ],
+        options: &[
+            Choice {
+                name: "reader",
+                value: Some("PATH"),
+                help: "The path of a further socket, whose clients may only read",
+                needs: None,
+                excludes: None,
+            },
+            Choice {
+                name: "allow-close",
+                value: None,
+                help: "Clients of SOCKET may close the log",
+                needs: None,
+                excludes: None,
+            },
+            Choice {
+                name: "idle",
+                value: Some("SECONDS"),
+                help: "How long a client may move no byte while another one waits; 0 for ever [default: 60]",
+                needs: None,
+                excludes: None,
+            },
+            Choice {
+                name: "backlog",
+                value: Some("BYTES"),
+                help: "How many bytes of replies are kept for a client, at most 67108864 [default: 1048576]",
+                needs: None,
+                excludes: None,
+            },
+            Choice {
+                name: "socket-mode",
+                value: Some("MODE"),
+                help: "The permissions of the sockets, 600 to 677 in octal digits [default: 600]",
+                needs: None,
+                excludes: None,
+            },
+        ],
+    },
+    Form {
+        name: "stop",
+        about: "Stops the daemon at a socket, waits for its end, and exits with its status",
+        after: None,
+        words: &[Word {
+            name: "SOCKET",
+            help: "The path of the daemon's socket",
+            is_required: true,
+        }],
+        options: &[],
     },
 ];
 

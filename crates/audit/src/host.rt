@@ -7,6 +7,7 @@ use std::net::{Net, SocketAddr};
 use std::os::fd::{BorrowedFd, OwnedFd};
 use std::os::unix::net::{self as unix, UnixStream};
 use std::path::PathBuf;
+use std::time::{Clock, Duration};
 
 /// The operating system's files and sockets. Each failure is noted for the line that explains it.
 #[derive(Drop)]
@@ -112,6 +113,20 @@ impl<R: Net> Net for Host<'_, '_, R> {
 
     fn unix_socket(&self) -> io::Result<OwnedFd> {
         self.rt.unix_socket()
+    }
+}
+
+impl<R: Clock> Clock for Host<'_, '_, R> {
+    fn monotonic(&self) -> io::Result<Duration> {
+        self.rt.monotonic()
+    }
+
+    fn since_1970(&self) -> io::Result<Duration> {
+        self.rt.since_1970()
+    }
+
+    fn sleep(&self, duration: Duration) {
+        self.rt.sleep(duration)
     }
 }
 

@@ -10,11 +10,12 @@ use std::alloc::Global;
 use std::fs::Files;
 use std::io::{Read, Write};
 use std::net::Net;
+use std::time::Clock;
 
 /// Runs the program on the words of a command line, of which the first is its name. Lines that begin with `audit: `,
 /// and clap's usage, are written to `messages`. All other text is written to `output`, which is flushed at the end.
 /// Causes and warnings follow if `messages` is a terminal, or if the command line requests them.
-pub fn run<F: Files + Net, R: Read, W: Write, M: Write>(
+pub fn run<F: Files + Net + Clock, R: Read, W: Write, M: Write>(
     rt: &F,
     alloc: Global,
     words: &[String],
@@ -31,13 +32,17 @@ where
         Ok(line) => line,
         Err(error) => return print_usage(&error, output, messages),
     };
+    let explains = is_terminal || line.explain;
     let status = match line.asked {
         Asked::Plain(request) => audit_cli_store::run(rt, alloc, request, input, output, messages),
         Asked::Serving(request) => audit_cli_serve::run(
             rt, alloc, request, input, output, messages,
         ),
+        Asked::Daemon(request) => {
+            audit_cli_daemon::run(rt, alloc, request, explains, output, messages)
+        }
     };
-    if is_terminal || line.explain {
+    if explains {
         let _ = explain(rt, line.asked, status, notes, messages);
     }
     status

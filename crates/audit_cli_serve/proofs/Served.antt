@@ -29,7 +29,8 @@ use Rattle.audit_cli_store.specs.declared.fault.CommandError.TheVariants.{File, 
 use Rattle.audit_cli_serve.specs.declared.fault.ServingError.{ServingError}
 use Rattle.audit_cli_serve.specs.declared.fault.ServingError.TheVariants.{Command, BadFrameLine}
 use Rattle.audit_cli_serve.specs.Faults.{of_serving, of_loop}
-use Rattle.audit_cli_serve.specs.Served.{IsNewCore, LoopsOver, ServesRound, ServesRounds, LoopReachesOver, ReachesByRound, HasArrived, IsLineLost, HasRefused, StopsRound, StopsLoop}
+use Rattle.audit_server_clients.specs.NewCore.{IsNewCore}
+use Rattle.audit_cli_serve.specs.Served.{LoopsOver, ServesRound, ServesRounds, LoopReachesOver, ReachesByRound, HasArrived, IsLineLost, HasRefused, StopsRound, StopsLoop}
 
 -- no other fault is reported as a line that spells no bytes
 pub bad_of_loop : (fault : LoopError StoreError) (number : ℕ) → of_loop fault ≡ BadFrameLine number → fault ≡ looping.BadLine number

@@ -1,22 +1,20 @@
 -- Serving a store by a new core: what was done, and the store that remains.
-use Rattle.std.specs.Prelude.{◌≡◌, ◌⊎◌, ℕ, false, Option, List, [], ◌∷◌, length, replicate}
+use Rattle.std.specs.Prelude.{◌≡◌, ◌⊎◌, ℕ, false, Option, List, [], ◌∷◌, length}
 use Rattle.std.specs.List.{AllByRecursion}
 use Rattle.audit_disk_model.specs.declared.sectors.Sectors as sectors
 use Rattle.audit_store.specs.declared.store.Store.{Store}
 use Rattle.audit_store.specs.declared.store_error.StoreError.{StoreError}
-use Rattle.audit_base.specs.declared.limits.TheConstants.{SESSIONS}
-use Rattle.audit_server_queue.specs.Waiting.{nothing_waits}
-use Rattle.audit_server_commit.specs.Committer.{store_of, waiting_of, outputs_of}
+use Rattle.audit_server_commit.specs.Committer.{store_of}
 use Rattle.audit_serve_passes.specs.Steps.{StepData}
 use Rattle.audit_serve_passes.specs.Streams.{CallModel}
 use Rattle.audit_serve_passes.specs.Pairs.{duplex_model, inner_of}
 use Rattle.audit_serve_passes.specs.declared.duplex_stream.DuplexStream.{DuplexStream}
 use Rattle.audit_serve_passes.specs.Transition.{Transition, EndsAs, Reached, IsServed, IsCut, AnySteps}
-use Rattle.audit_server_model.specs.Sessions.{new_session}
 use Rattle.audit_server_model.specs.Serving.{IsRefusedAs}
 use Rattle.audit_server.specs.declared.server_core.Core.{Core}
-use Rattle.audit_server.specs.Core.{committer_of, sessions_of}
+use Rattle.audit_server.specs.Core.{committer_of}
 use Rattle.audit_server.specs.CoreModel.{core_model}
+use Rattle.audit_server_clients.specs.NewCore.{IsNewCore}
 use Rattle.audit_text.specs.declared.fault.LinesError.{LinesError}
 use Rattle.audit_text.specs.declared.fault.LinesError.TheVariants.{Write, Memory}
 use Rattle.audit_serve_sockets.specs.Looping.{BringsLines, LoopTransition, LoopReached}
@@ -29,13 +27,6 @@ abbrev pub IsLineLost : ServingError → Type 0
 IsLineLost fault = (fault ≡ Command (Lines Write)) ⊎ (fault ≡ Command (Lines Memory))
 
 module _ {D : Type 0} {g : sectors.Ghosts D} where
-  -- a core over the store; nothing waits, and every session is at the start of its stream
-  pub record IsNewCore (store : Store D g) (core : Core D g) : Type 0 where
-    pub store_is : store_of (committer_of core) ≡ store
-    pub waiting : waiting_of (committer_of core) ≡ nothing_waits
-    pub outputs : outputs_of (committer_of core) ≡ replicate SESSIONS []
-    pub sessions : sessions_of core ≡ replicate SESSIONS new_session
-
   -- a session over lines, whose steps have this shape
   pub record LoopsOver (old new : Store D g) (before after : Option (List ℕ))
       (Shape : List StepData → Type 0) : Type 0 where

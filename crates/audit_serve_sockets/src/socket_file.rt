@@ -39,6 +39,11 @@ impl SocketFile {
         Ok(stream)
     }
 
+    /// The listening socket. Its file is left to the caller, which removes it.
+    pub fn into_listener(self) -> UnixListener {
+        self.listener
+    }
+
     /// Removes the socket's file.
     pub fn remove<F: Files>(self, rt: &F, path: &str) -> io::Result<()> {
         fs::remove_file(rt, path)

@@ -1,0 +1,75 @@
+-- Serving a store to clients that come and go, by a new core.
+use Rattle.std.proofs.Common.{◌≡◌, ◌⊎◌, ◌∙◌, inl, inr, ℕ, Option, List, [], ◌∷◌, refl, sym, ap, subst}
+use Rattle.std.specs.Io.KnownBytes.{Appends}
+use Rattle.audit_disk_model.specs.declared.sectors.Sectors as sectors
+use Rattle.audit_store.specs.Store.{active_header}
+use Rattle.audit_store.specs.declared.store.Store.{Store}
+use Rattle.audit_store.specs.declared.store_error.StoreError.{StoreError}
+use Rattle.audit_server_commit.specs.Committer.{store_of}
+use Rattle.audit_serve_passes.specs.Streams.{CallModel}
+use Rattle.audit_server_model.specs.Serving.{IsRefusedAs, StoreKeepsOn}
+use Rattle.audit_server_model.proofs.Serving.{kept_none}
+use Rattle.audit_server.specs.declared.server_core.Core.{Core}
+use Rattle.audit_server.specs.Core.{committer_of, Refuses}
+use Rattle.audit_server.specs.CoreModel.{core_model, refuses_after}
+use Rattle.audit_serve_ready.specs.Slot.{SlotData}
+use Rattle.audit_serve_ready.specs.Clients.{ClientChange, a_pass, a_coming, a_going, AreChanges, StopsServing}
+use Rattle.audit_server_clients.specs.NewCore.{IsNewCore}
+use Rattle.audit_server_clients.proofs.Keeping.{kept_served, kept_stopped}
+use Rattle.audit_cli_store.specs.declared.fault.CommandError.{CommandError}
+use Rattle.audit_cli_daemon.specs.State.{ready_line}
+use Rattle.audit_cli_daemon.specs.Running.{no_clients, IsServedBy, IsStoppedBy, ServesStore, StopsStore, StopsDaemon}
+
+module _ {D : Type 0} {g : sectors.Ghosts D} {S : Type 0} (N : CallModel S) where
+  abbrev store_in : Core D g → Store D g
+  store_in core = store_of (committer_of core)
+
+  refused_by_store : (error : StoreError) (first last later : Core D g) → store_in last ≡ store_in first → Refuses last later error → Refuses first later error
+  refused_by_store error first last later same refused = subst (λ (store : Store D g). IsRefusedAs error store (store_in later)) same refused
+
+  -- what a refusal states holds from before the changes too
+  refused_through : (changes : List (ClientChange S)) (error : StoreError) (old mid new : Core D g) (before after : List (SlotData S)) → AreChanges core_model N changes old mid before after → Refuses mid new error → Refuses old new error
+  refused_through [] error old mid new before after are refused = refused_by_store error old mid new (ap store_in are.0) refused
+  refused_through (a_pass steps taken calls ∷ changes) error old mid new before after are refused =
+      refuses_after old are.0 new steps taken error are.2.did (refused_through changes error are.0 mid new are.1 after are.3 refused)
+  refused_through (a_coming k client ∷ changes) error old mid new before after are refused =
+      refused_by_store error old are.0 new (ap store_of are.2.begun.committer) (refused_through changes error are.0 mid new are.1 after are.3 refused)
+  refused_through (a_going k ∷ changes) error old mid new before after are refused =
+      refused_by_store error old are.0 new (ap store_in are.2.same) (refused_through changes error are.0 mid new are.1 after are.3 refused)
+
+  refused_whole : (error : StoreError) (old new : Core D g) (before after : List (SlotData S)) → StopsServing core_model N (λ first later. Refuses first later error) old new before after → Refuses old new error
+  refused_whole error old new before after stops = refused_through stops.changes error old stops.mid new before stops.between stops.are stops.refused
+
+  -- a store that is as it was
+  pub kept_same : (old new : Store D g) → new ≡ old → StoreKeepsOn old new
+  kept_same old new same = subst (StoreKeepsOn old) (sym same) (kept_none old)
+
+  kept_by_core : (old new : Store D g) (core last : Core D g) → store_in core ≡ old → new ≡ store_in last → StoreKeepsOn (store_in core) (store_in last) → StoreKeepsOn old new
+  kept_by_core old new core last made left kept =
+      subst (StoreKeepsOn old) (sym left) (subst (λ (store : Store D g). StoreKeepsOn store (store_in last)) made kept)
+
+  pub kept_when_served : (old new : Store D g) (core last : Core D g) (after : List (SlotData S)) → store_in core ≡ old → new ≡ store_in last → IsServedBy N core last no_clients after → StoreKeepsOn old new
+  kept_when_served old new core last after made left served = kept_by_core old new core last made left (kept_served N core last no_clients served.between served.served)
+
+  pub kept_when_stopped : (old new : Store D g) (core last : Core D g) (after : List (SlotData S)) (fault : CommandError) → store_in core ≡ old → new ≡ store_in last → IsStoppedBy N core last no_clients after fault → StoreKeepsOn old new
+  kept_when_stopped old new core last after fault made left stopped = kept_by_core old new core last made left (kept_stopped N core last no_clients after stopped.2)
+
+  pub store_served : (old new : Store D g) (core last : Core D g) (after : List (SlotData S)) → IsNewCore old core → new ≡ store_in last → IsServedBy N core last no_clients after → ServesStore N old new
+  store_served old new core last after made left served = record { core = core; made = made; last = last; left = left; after = after; served = served }
+
+  pub daemon_stopped : (old new : Store D g) (written later : Option (List ℕ)) (core last : Core D g) (after : List (SlotData S)) (fault : CommandError) → IsNewCore old core → new ≡ store_in last
+      → IsStoppedBy N core last no_clients after fault → Appends written later (ready_line (active_header old)) → StopsDaemon N old new written later fault
+  daemon_stopped old new written later core last after fault made left stopped line = inr (
+    stopped.0,
+    stopped.1,
+    record {
+      core = core;
+      made = made;
+      last = last;
+      left = left;
+      after = after;
+      stopped = stopped.2;
+      refused = subst (IsRefusedAs stopped.0 old) (sym left) (subst (λ (store : Store D g). IsRefusedAs stopped.0 store (store_in last)) made.store_is (refused_whole stopped.0 core last no_clients after stopped.2));
+    },
+    line,
+  )

@@ -1,0 +1,65 @@
+-- Serving a store to clients that come and go, by a new core.
+use Rattle.std.specs.Prelude.{◌≡◌, ◌⊎◌, ℕ, Option, List, replicate}
+use Rattle.std.specs.Io.KnownBytes.{Appends}
+use Rattle.audit_base.specs.declared.limits.TheConstants.{SESSIONS}
+use Rattle.audit_disk_model.specs.declared.sectors.Sectors as sectors
+use Rattle.audit_store.specs.Store.{active_header}
+use Rattle.audit_store.specs.declared.store.Store.{Store}
+use Rattle.audit_store.specs.declared.store_error.StoreError.{StoreError}
+use Rattle.audit_server_commit.specs.Committer.{store_of}
+use Rattle.audit_serve_passes.specs.Streams.{CallModel}
+use Rattle.audit_serve_ready.specs.Slot.{SlotData, vacant}
+use Rattle.audit_serve_ready.specs.Places.{WritesOn}
+use Rattle.audit_serve_ready.specs.Clients.{ServesClients, StopsServing}
+use Rattle.audit_server_model.specs.Serving.{IsRefusedAs}
+use Rattle.audit_server.specs.declared.server_core.Core.{Core}
+use Rattle.audit_server.specs.Core.{committer_of, Refuses}
+use Rattle.audit_server.specs.CoreModel.{core_model}
+use Rattle.audit_server_clients.specs.NewCore.{IsNewCore}
+use Rattle.audit_cli_store.specs.Faults.{IsUnwritten}
+use Rattle.audit_cli_store.specs.declared.fault.CommandError.{CommandError}
+use Rattle.audit_cli_store.specs.declared.fault.CommandError.TheVariants.{Refused}
+use Rattle.audit_cli_daemon.specs.State.{ready_line}
+
+-- no place has a client
+abbrev pub no_clients : {S : Type 0} → List (SlotData S)
+no_clients = replicate SESSIONS vacant
+
+module _ {D : Type 0} {g : sectors.Ghosts D} {S : Type 0} (N : CallModel S) where
+  -- clients were served as they came and went, and then took what was kept for them, as far as they did
+  pub record IsServedBy (old new : Core D g) (before after : List (SlotData S)) : Type 0 where
+    pub between : List (SlotData S)
+    pub served : ServesClients core_model N old new before between
+    pub finished : WritesOn N between after
+
+  -- the core refused a step
+  abbrev pub IsStoppedBy : Core D g → Core D g → List (SlotData S) → List (SlotData S) → CommandError → Type 0
+  IsStoppedBy old new before after fault = (error : StoreError) × (fault ≡ Refused error)
+      × StopsServing core_model N (λ first later. Refuses first later error) old new before after
+
+  -- the same by a new core over the store
+  pub record ServesStore (old new : Store D g) : Type 0 where
+    pub core : Core D g
+    pub made : IsNewCore old core
+    pub last : Core D g
+    pub left : new ≡ store_of (committer_of last)
+    pub after : List (SlotData S)
+    pub served : IsServedBy core last no_clients after
+
+  -- the same up to the pass in which the core refused a step
+  pub record StopsStore (error : StoreError) (old new : Store D g) : Type 0 where
+    pub core : Core D g
+    pub made : IsNewCore old core
+    pub last : Core D g
+    pub left : new ≡ store_of (committer_of last)
+    pub after : List (SlotData S)
+    pub stopped : StopsServing core_model N (λ first later. Refuses first later error) core last no_clients after
+    pub refused : IsRefusedAs error old new
+
+  -- Why the clients weren't served to the end: the first line wasn't written, or memory was refused before it; or the
+  -- core refused a step.
+  abbrev pub StopsDaemon : Store D g → Store D g → Option (List ℕ) → Option (List ℕ) → CommandError → Type 0
+  StopsDaemon old new before after fault =
+      ((new ≡ old) × IsUnwritten before after fault)
+      ⊎ ((error : StoreError) × (fault ≡ Refused error) × StopsStore error old new
+      × Appends before after (ready_line (active_header old)))

@@ -1,0 +1,45 @@
+-- The words of a request to run a daemon.
+use denote.Ref.{Bor}
+use Rattle.std.specs.Prelude.{◌≡◌, ◌⊎◌, ℕ, nat_le, Option, Some, None, Result, Ok, Err, List, if◌then◌else◌}
+use Rattle.audit_text.specs.Number.{number_in_text}
+use Rattle.audit_serve_ready.specs.declared.limits.TheConstants.{DEFAULT_BACKLOG, MAX_BACKLOG}
+use Rattle.audit_cli_store.specs.Mode.{IsMode}
+use Rattle.audit_cli_store.specs.declared.fault.CommandError.{CommandError}
+use Rattle.audit_cli_store.specs.declared.fault.CommandError.TheVariants.{BadArgument}
+use Rattle.audit_cli_daemon.specs.declared.arguments.TheConstants.{DEFAULT_IDLE}
+use Rattle.audit_cli_daemon.specs.declared.request.Settings.{Settings}
+use Rattle.audit_cli_daemon.specs.declared.request.Request.{Request}
+use Rattle.audit_cli_daemon.specs.declared.request.Request.TheVariants.{Run, Stop}
+
+-- any number of seconds
+abbrev pub seconds_judged : Option ℕ → Result ℕ CommandError
+seconds_judged None = Err BadArgument
+seconds_judged (Some seconds) = Ok seconds
+
+abbrev pub idle_asked : Option (Bor (List ℕ)) → Result ℕ CommandError
+idle_asked None = Ok DEFAULT_IDLE
+idle_asked (Some word) = seconds_judged (number_in_text word.now)
+
+-- a number of bytes up to the limit
+abbrev pub bytes_judged : Option ℕ → Result ℕ CommandError
+bytes_judged None = Err BadArgument
+bytes_judged (Some bytes) = if nat_le bytes MAX_BACKLOG then Ok bytes else Err BadArgument
+
+abbrev pub backlog_asked : Option (Bor (List ℕ)) → Result ℕ CommandError
+backlog_asked None = Ok DEFAULT_BACKLOG
+backlog_asked (Some word) = bytes_judged (number_in_text word.now)
+
+-- there is a word for permissions, and it gives none
+abbrev pub IsNoMode : Option (Bor (List ℕ)) → Type 0
+IsNoMode None = ⊥
+IsNoMode (Some word) = (mode : ℕ) → IsMode word.now mode → ⊥
+
+-- one of the words that are judged before the store is opened is wrong
+abbrev pub HasBadSetting : Settings → Type 0
+HasBadSetting settings =
+    (idle_asked settings.idle ≡ Err BadArgument)
+    ⊎ ((backlog_asked settings.backlog ≡ Err BadArgument) ⊎ IsNoMode settings.socket_mode)
+
+abbrev pub HasBadWord : Request → Type 0
+HasBadWord (Run settings) = HasBadSetting settings
+HasBadWord (Stop socket) = ⊥

@@ -1,0 +1,54 @@
+//! Arguments that are judged here rather than by the parser of the command line.
+ghost use Rattle.std.specs.Prelude.{◌≡◌, ◌≤◌, Err, IfOk, IfErr};
+ghost use Rattle.audit_serve_ready.specs.declared.limits.TheConstants.{MAX_BACKLOG};
+ghost use Rattle.audit_cli_daemon.specs.Words.{idle_asked, backlog_asked, IsNoMode};
+
+use audit_cli_store::{CommandError, OWNER_ONLY, mode_asked};
+use audit_serve_ready::{DEFAULT_BACKLOG, MAX_BACKLOG};
+use audit_text::number_in_text;
+
+/// How many seconds a client may move no byte while another one waits, if the command line doesn't say.
+pub const DEFAULT_IDLE: u64 = 60;
+
+/// Returns the number of seconds that a word asks for, or [`DEFAULT_IDLE`] without a word; 0 means without end. The
+/// word must be a number below 2^64, in 1 to 20 decimal digits. The only error is `BadArgument`.
+pub fn idle_asked(word: Option<&str>) -> Result<u64, CommandError>
+    ensures asked { result ≡ idle_asked word.entry }
+    ensures fault { IfErr result (λ fault. fault ≡ CommandError.BadArgument) }
+{
+    let Some(word) = word else {
+        return Ok(DEFAULT_IDLE);
+    };
+    match number_in_text(word.as_bytes()) {
+        Some(seconds) => Ok(seconds),
+        None => Err(CommandError::BadArgument),
+    }
+}
+
+/// Returns the number of bytes that a word asks to be kept for a client, or [`DEFAULT_BACKLOG`] without a word. The
+/// word must be a number up to [`MAX_BACKLOG`], in at most 20 decimal digits. The only error is `BadArgument`.
+pub fn backlog_asked(word: Option<&str>) -> Result<usize, CommandError>
+    ensures asked { result ≡ backlog_asked word.entry }
+    ensures most { IfOk result (λ bytes. bytes ≤ MAX_BACKLOG) }
+    ensures fault { IfErr result (λ fault. fault ≡ CommandError.BadArgument) }
+{
+    let Some(word) = word else {
+        return Ok(DEFAULT_BACKLOG);
+    };
+    match number_in_text(word.as_bytes()) {
+        Some(bytes) if bytes <= MAX_BACKLOG as u64 => Ok(bytes as usize),
+        _ => Err(CommandError::BadArgument),
+    }
+}
+
+/// Returns the permissions of the sockets' files that a word asks for. Without a word only the owner has access. The
+/// only error is `BadArgument`.
+pub fn socket_mode_asked(word: Option<&str>) -> Result<u32, CommandError>
+    ensures wrong { IsNoMode word.entry → result ≡ Err CommandError.BadArgument }
+    ensures fault { IfErr result (λ fault. fault ≡ CommandError.BadArgument) }
+{
+    match word {
+        Some(word) => mode_asked(word),
+        None => Ok(OWNER_ONLY),
+    }
+}

@@ -1,0 +1,66 @@
+use audit_serve_door::Journal;
+use audit_serve_ready::Departure;
+use std::io::Write;
+
+/// Counts the clients that were dropped or cut off, and prints a line for each where that is asked for.
+#[derive(Drop)]
+pub struct ClientJournal<'a, M> {
+    messages: &'a mut M,
+    explains: bool,
+    dropped: u64,
+    cut_off: u64,
+}
+
+impl<'a, M: Write> ClientJournal<'a, M> {
+    /// A journal without clients. If `explains` is set, it prints a line for each.
+    pub fn new(messages: &'a mut M, explains: bool) -> ClientJournal<'a, M> {
+        ClientJournal {
+            messages,
+            explains,
+            dropped: 0,
+            cut_off: 0,
+        }
+    }
+
+    /// Prints the counts, if lines are printed and there were such clients.
+    pub fn print_counts(&mut self) {
+        let (dropped, cut_off) = (self.dropped, self.cut_off);
+        if self.explains && (dropped > 0 || cut_off > 0) {
+            let _ = writeln!(
+                self.messages,
+                "audit: clients dropped: {dropped}, cut off: {cut_off}"
+            );
+        }
+    }
+
+    fn print(&mut self, what: &str, why: &str) {
+        if self.explains {
+            let _ = writeln!(self.messages, "audit: client {what}: {why}");
+        }
+    }
+}
+
+impl<M: Write> Journal for ClientJournal<'_, M> {
+    fn note(&mut self, departure: Departure, was_cut_off: bool) {
+        if was_cut_off {
+            self.cut_off = self.cut_off.saturating_add(1);
+            self.print("cut off", "its socket doesn't allow the request");
+        } else if let Some(why) = reason(departure) {
+            self.dropped = self.dropped.saturating_add(1);
+            self.print("dropped", why);
+        }
+    }
+}
+
+// Why a client was dropped; none if it left by itself.
+fn reason(departure: Departure) -> Option<&'static str> {
+    match departure {
+        Departure::Finished => None,
+        Departure::Malformed => Some("it sent no request"),
+        Departure::ReadFailed => Some("a read from it failed"),
+        Departure::WriteFailed => Some("a write to it failed"),
+        Departure::TooSlow => Some("it doesn't take its replies"),
+        Departure::Dismissed => Some("it was idle while another one waited"),
+        Departure::Memory => Some("memory was refused"),
+    }
+}

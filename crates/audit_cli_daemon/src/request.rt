@@ -1,0 +1,208 @@
+//! The requests to run a daemon and to stop it, and how they are carried out.
+ghost use Rattle.std.specs.Prelude.{◌≡◌, ◌⊎◌, ◌≤◌, Err, IfOk};
+ghost use Rattle.std.specs.Io.KnownBytes.{Keeps};
+ghost use Rattle.audit_serve_ready.specs.declared.limits.TheConstants.{MAX_BACKLOG};
+ghost use Rattle.audit_cli_daemon.specs.Words.{HasBadSetting, HasBadWord};
+
+use crate::arguments::{backlog_asked, idle_asked, socket_mode_asked};
+use crate::client_journal::ClientJournal;
+use crate::running::serve_until_stopped;
+use crate::sockets::Sockets;
+use crate::state_line::write_state;
+use crate::stopping::stop;
+use audit_cli_store::{CommandError, FileStore, Status, open_store, report, report_end};
+use audit_disk::SystemFile;
+use audit_serve_door::{SocketDoor, StopOrders};
+use audit_serve_rights::Rights;
+use audit_store::StoreError;
+use std::alloc::Global;
+use std::fs::Files;
+use std::io::{ErrorKind, Write};
+use std::net::Net;
+use std::time::{Clock, Duration};
+
+/// A request about a daemon, with the words of the command line as they were given.
+#[derive(Clone, Copy, Debug)]
+pub enum Request<'a> {
+    /// Runs a daemon.
+    Run(Settings<'a>),
+    /// Stops the daemon at a socket, and waits for its end.
+    Stop {
+        /// The path of the daemon's socket.
+        socket: &'a str,
+    },
+}
+
+/// What a daemon serves, and to whom.
+#[derive(Clone, Copy, Debug)]
+pub struct Settings<'a> {
+    /// The store's file.
+    pub file: &'a str,
+    /// The path of the socket for clients that append and read.
+    pub socket: &'a str,
+    /// The path of the socket for clients that only read.
+    pub reader: Option<&'a str>,
+    /// Whether clients may close the log.
+    pub may_close: bool,
+    /// How many seconds a client may be idle while another one waits.
+    pub idle: Option<&'a str>,
+    /// How many bytes of replies are kept for a client.
+    pub backlog: Option<&'a str>,
+    /// The permissions of the sockets' files, in three octal digits. Without this word only their owner has access.
+    pub socket_mode: Option<&'a str>,
+}
+
+// The words that were judged.
+#[derive(Clone, Copy)]
+struct Judged {
+    idle: Option<Duration>,
+    most: usize,
+    mode: u32,
+    rights: Rights,
+}
+
+/// Carries out a request. Lines that begin with `audit: ` are written to `messages`, all others to `output`. If
+/// `explains` is set, there is a line for each client that was dropped or cut off, and their counts. Returns the status
+/// with which the program exits.
+pub fn run<F: Files + Net + Clock, W: Write, M: Write>(
+    rt: &F,
+    alloc: Global,
+    request: Request<'_>,
+    explains: bool,
+    output: &mut W,
+    messages: &mut M,
+) -> Status
+where
+    F::File: SystemFile,
+    // A wrong word ends the program before anything is written; an output that can't be flushed is another fault.
+    ensures words { HasBadWord request.entry → (result ≡ Status.Usage) ⊎ (result ≡ Status.Device) }
+    ensures unwritten { HasBadWord request.entry → Keeps (W.contents output.old) (W.contents output.new) }
+{
+    match request {
+        Request::Run(settings) => run_daemon(rt, alloc, settings, explains, output, messages),
+        Request::Stop { socket } => match stop(rt, alloc, socket) {
+            Ok(status) => status,
+            Err(fault) => report(fault, messages),
+        },
+    }
+}
+
+// Whoever ordered the daemon to stop is answered last.
+fn run_daemon<F: Files + Net + Clock, W: Write, M: Write>(
+    rt: &F,
+    alloc: Global,
+    settings: Settings<'_>,
+    explains: bool,
+    output: &mut W,
+    messages: &mut M,
+) -> Status
+where
+    F::File: SystemFile,
+    ensures words { HasBadSetting settings.entry → (result ≡ Status.Usage) ⊎ (result ≡ Status.Device) }
+    ensures unwritten { HasBadSetting settings.entry → Keeps (W.contents output.old) (W.contents output.new) }
+{
+    let mut orders = None;
+    let done = perform(rt, alloc, settings, explains, output, messages, &mut orders);
+    let status = report_end(done, output.flush(), messages);
+    if let Some(orders) = orders {
+        orders.answer(status.code());
+    }
+    status
+}
+
+// The words are judged before the store is opened, and the store is opened before the sockets' files are made.
+fn perform<F: Files + Net + Clock, W: Write, M: Write>(
+    rt: &F,
+    alloc: Global,
+    settings: Settings<'_>,
+    explains: bool,
+    output: &mut W,
+    messages: &mut M,
+    orders: &mut Option<StopOrders>,
+) -> Result<(), CommandError>
+where
+    F::File: SystemFile,
+    ensures words { HasBadSetting settings.entry → result ≡ Err CommandError.BadArgument }
+    ensures unwritten { HasBadSetting settings.entry → Keeps (W.contents output.old) (W.contents output.new) }
+{
+    let judged = judge(settings)?;
+    let store = open_store(rt, alloc, settings.file)?.content;
+    let sockets = Sockets::new(alloc, settings.socket, settings.reader)?;
+    let journal = ClientJournal::new(messages, explains);
+    serve_sockets(rt, alloc, store, &sockets, judged, output, journal, orders)
+}
+
+fn judge(settings: Settings<'_>) -> Result<Judged, CommandError>
+    ensures wrong { HasBadSetting settings.entry → result ≡ Err CommandError.BadArgument }
+    ensures most { IfOk result (λ judged. judged.most ≤ MAX_BACKLOG) }
+{
+    let seconds = idle_asked(settings.idle)?;
+    Ok(Judged {
+        idle: if seconds > 0 {
+            Some(Duration::from_secs(seconds))
+        } else {
+            None
+        },
+        most: backlog_asked(settings.backlog)?,
+        mode: socket_mode_asked(settings.socket_mode)?,
+        rights: if settings.may_close {
+            Rights::Close
+        } else {
+            Rights::Append
+        },
+    })
+}
+
+fn fault_of(kind: ErrorKind) -> CommandError {
+    if kind == ErrorKind::OutOfMemory {
+        CommandError::Refused(StoreError::Memory)
+    } else {
+        CommandError::File
+    }
+}
+
+// The sockets' files are removed at the end, before the last line is written.
+fn serve_sockets<F: Files + Net + Clock, W: Write, M: Write>(
+    rt: &F,
+    alloc: Global,
+    store: FileStore<F::File>,
+    sockets: &Sockets<'_>,
+    judged: Judged,
+    output: &mut W,
+    journal: ClientJournal<'_, M>,
+    orders: &mut Option<StopOrders>,
+) -> Result<(), CommandError>
+where
+    F::File: SystemFile,
+    requires { judged.most ≤ MAX_BACKLOG }
+{
+    let listening = sockets.bind(rt, alloc, judged.mode, judged.rights)?;
+    let opened = SocketDoor::new(
+        rt,
+        rt,
+        alloc,
+        listening.entrances,
+        listening.orders,
+        judged.idle,
+        journal,
+    );
+    let mut door = match opened {
+        Ok(door) => door,
+        Err(error) => {
+            let _ = sockets.remove(rt);
+            return Err(fault_of(error.kind()));
+        }
+    };
+    let (store, served) = serve_until_stopped(alloc, store, judged.most, &mut door, output);
+    let has_failed = door.has_failed();
+    let (given, mut journal) = door.close();
+    *orders = Some(given);
+    journal.print_counts();
+    let removed = sockets.remove(rt);
+    served?;
+    if has_failed {
+        return Err(CommandError::File);
+    }
+    removed?;
+    write_state(alloc, b"stopped ", &store.commitment(), output)
+}

@@ -1,0 +1,37 @@
+use crate::incoming::Incoming;
+use audit_serve_rights::Rights;
+use mio::net::UnixStream;
+use std::io;
+use std::os::unix::net::UnixListener;
+
+/// A socket on which clients come in, and what they may ask for.
+#[derive(Drop)]
+pub struct Entrance {
+    pub(crate) incoming: Incoming,
+    rights: Rights,
+}
+
+/// A connection that came in, and what its client may ask for.
+#[derive(Drop)]
+pub(crate) struct Arrival {
+    pub(crate) stream: UnixStream,
+    pub(crate) rights: Rights,
+}
+
+impl Entrance {
+    /// Makes an entrance of a socket that listens.
+    pub fn new(listener: UnixListener, rights: Rights) -> io::Result<Entrance> {
+        Ok(Entrance {
+            incoming: Incoming::new(listener)?,
+            rights,
+        })
+    }
+
+    /// Accepts a connection, if one is there.
+    pub(crate) fn accept(&mut self) -> Option<Arrival> {
+        Some(Arrival {
+            stream: self.incoming.accept()?,
+            rights: self.rights,
+        })
+    }
+}
