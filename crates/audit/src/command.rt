@@ -1,4 +1,6 @@
 use crate::forms::{EXPLAIN, command_line};
+use crate::remote_command::remote_request;
+use audit_cli_remote::Request as Remote;
 use audit_cli_serve::Request as Serving;
 use audit_cli_store::{Access, Request, Site};
 use clap::{ArgMatches, Error};
@@ -19,6 +21,8 @@ pub struct CommandLine<'a> {
 pub enum Asked<'a> {
     /// A command that serves no sessions.
     Plain(Request<'a>),
+    /// A command that asks a server.
+    Remote(Remote<'a>),
     /// A command that serves sessions.
     Serving(Serving<'a>),
 }
@@ -41,6 +45,9 @@ pub fn request_of<'a, S: AsStr>(alloc: Global, words: &'a [S]) -> Result<Command
 
 // The request of a command with these arguments.
 fn asked_by<'a>(name: &str, given: &ArgMatches<'a>) -> Asked<'a> {
+    if let Some(remote) = remote_request(name, given) {
+        return Asked::Remote(remote);
+    }
     match name {
         "serve" => Asked::Serving(Serving::Serve {
             file: word(given, "FILE"),
@@ -130,6 +137,6 @@ fn site<'a>(given: &ArgMatches<'a>) -> Site<'a> {
 }
 
 // The value of a required argument. The parser has already refused command lines without it.
-fn word<'a>(given: &ArgMatches<'a>, id: &str) -> &'a str {
+pub(crate) fn word<'a>(given: &ArgMatches<'a>, id: &str) -> &'a str {
     given.get_str(id).unwrap_or("")
 }

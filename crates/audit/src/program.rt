@@ -33,6 +33,9 @@ where
     };
     let status = match line.asked {
         Asked::Plain(request) => audit_cli_store::run(rt, alloc, request, input, output, messages),
+        Asked::Remote(request) => audit_cli_remote::run(
+            rt, alloc, request, input, output, messages,
+        ),
         Asked::Serving(request) => audit_cli_serve::run(
             rt, alloc, request, input, output, messages,
         ),
