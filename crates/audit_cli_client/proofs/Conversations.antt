@@ -20,15 +20,15 @@ consumes_more (Some xs) None new first second a b = absurd a
 consumes_more (Some xs) (Some ys) None first second a b = absurd b
 consumes_more (Some xs) (Some ys) (Some zs) first second a b = a ∙ ap (λ r. first ++ r) b ∙ sym (append_assoc first second zs)
 
-consumes_none : (known : Option (List ℕ)) → Consumes known known []
+pub consumes_none : (known : Option (List ℕ)) → Consumes known known []
 consumes_none None = tt
 consumes_none (Some bytes) = refl
 
-appends_none : (known : Option (List ℕ)) → Appends known known []
+pub appends_none : (known : Option (List ℕ)) → Appends known known []
 appends_none None = tt
 appends_none (Some bytes) = sym (append-nil bytes)
 
-appends_more : (old mid new : Option (List ℕ)) (first second : List ℕ) → Appends old mid first → Appends mid new second → Appends old new (first ++ second)
+pub appends_more : (old mid new : Option (List ℕ)) (first second : List ℕ) → Appends old mid first → Appends mid new second → Appends old new (first ++ second)
 appends_more None mid new first second a b = tt
 appends_more (Some xs) None new first second a b = absurd a
 appends_more (Some xs) (Some ys) None first second a b = absurd b

@@ -1,4 +1,9 @@
 //! A witness that keeps what it sees.
+ghost use Rattle.std.specs.Prelude.{◌≡◌, ◌⊎◌, ◌∷◌, ◌++◌, [], List, IfOk, OnOk, OnErr};
+ghost use Rattle.audit_proof.specs.declared.commitment.Commitment.{Commitment};
+ghost use Rattle.audit_cli_client.specs.Keeping.{newest_of, KeepsOn, KeepsSight};
+ghost use Rattle.audit_cli_client.specs.Watching.{Sees};
+
 use crate::fault::ClientError;
 use crate::watching::{Sight, watch};
 use audit_proof::Commitment;
@@ -10,11 +15,18 @@ pub trait Kept {
     /// Why a commitment can't be added.
     type Error;
 
+    /// The commitments, in the order in which they were added.
+    ghost kept: { Self → List Commitment };
+
     /// The newest commitment, if any is kept.
-    fn newest(&self) -> Option<Commitment>;
+    fn newest(&self) -> Option<Commitment>
+        ensures { result ≡ newest_of (kept self.now) };
 
     /// Adds a commitment after the others. After an error it may have been added, or not.
-    fn add(&mut self, seen: &Commitment) -> Result<(), Self::Error>;
+    fn add(&mut self, seen: &Commitment) -> Result<(), Self::Error>
+        ensures done { OnOk result (kept self.new ≡ kept self.old ++ seen.now ∷ []) }
+        ensures part { OnErr result ((kept self.new ≡ kept self.old)
+            ⊎ (kept self.new ≡ kept self.old ++ seen.now ∷ [])) };
 }
 
 /// Why a witness saw nothing, or couldn't keep it.
@@ -32,7 +44,13 @@ pub fn watch_and_keep<W: Write, R: Read, K: Kept>(
     to: &mut W,
     from: &mut R,
     kept: &mut K,
-) -> Result<Sight, WatchError<K::Error>> {
+) -> Result<Sight, WatchError<K::Error>>
+    // Whatever happens, nothing is lost, and nothing is added but a commitment that may follow.
+    ensures kept { KeepsOn (K.kept kept.old) (K.kept kept.new) }
+    ensures seen { IfOk result (Sees (W.contents to.old) (W.contents to.new) (R.remaining from.old)
+        (R.remaining from.new) (newest_of (K.kept kept.old))) }
+    ensures added { IfOk result (KeepsSight (K.kept kept.old) (K.kept kept.new)) }
+{
     let sight = match watch(alloc, to, from, kept.newest()) {
         Ok(sight) => sight,
         Err(error) => return Err(WatchError::Client(error)),

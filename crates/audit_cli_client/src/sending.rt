@@ -1,8 +1,13 @@
 //! Sending events, each in a line of an input, and printing what the server answers.
-use crate::answering::{Answers, take_answers};
+ghost use Rattle.std.specs.Prelude.{◌≡◌, ◌+◌, ◌≤◌, true, false, vec_len, Some, None};
+ghost use Rattle.std.specs.Io.Buffered.{reader_remaining};
+ghost use Rattle.audit_cli_client.specs.Sending.{Sends, SendsOn, SendsAll, end_of_both, first_error};
+
+use crate::answering::take_answers;
 use crate::conversation::send_bytes;
 use crate::fault::ClientError;
-use crate::taking::{Taken, take_lines};
+use crate::send_error::SendError;
+use crate::taking::take_lines;
 use audit_text::LinesError;
 use std::alloc::Global;
 use std::io::{BufReader, Read, Write};
@@ -20,15 +25,6 @@ pub struct SendEnd {
     pub error: Option<SendError>,
 }
 
-/// Why sending ended before the input did.
-#[derive(Clone, Copy, Debug, PartialEq, Eq)]
-pub enum SendError {
-    /// A line of the input has no event, or the input couldn't be read.
-    Input(LinesError),
-    /// The server didn't answer, or not what was due.
-    Client(ClientError),
-}
-
 /// Sends the events in the lines of an input, and prints a line for each answer as soon as it is read. Lines are sent
 /// as they come: those that the buffer of the input has, but at most `window` of them, and then the answers to them
 /// are read before the next read of the input. The input has no limit, and the memory that is taken doesn't grow with
@@ -40,7 +36,15 @@ pub fn send_events<I: Read, W: Write, R: Read, O: Write>(
     from: &mut R,
     output: &mut O,
     window: u64,
-) -> SendEnd {
+) -> SendEnd
+    // What was written, read and printed, whatever happened.
+    ensures sends { Sends 0 (reader_remaining I.remaining input.old) (W.contents to.old) (W.contents to.new)
+        (R.remaining from.old) (O.contents output.old) (O.contents output.new) result }
+    // Without an error all lines were sent and answered.
+    ensures all { result.error ≡ None → SendsAll 0 (reader_remaining I.remaining input.old) (W.contents to.old)
+        (W.contents to.new) (R.remaining from.old) (R.remaining from.new) (O.contents output.old)
+        (O.contents output.new) result }
+{
     let mut room = Room::new(alloc);
     let mut end = SendEnd {
         sent: 0,
@@ -49,42 +53,47 @@ pub fn send_events<I: Read, W: Write, R: Read, O: Write>(
         error: None,
     };
     for _ in 0..u64::MAX {
-        let (round, more) = send_round(alloc, input, to, from, output, window, end.sent, &mut room);
-        end = end.then(&round);
-        if !more || end.error.is_some() {
+        let round = send_round(alloc, input, to, from, output, window, end.sent, &mut room);
+        end = both(&end, &round.end);
+        if !round.more {
             return end;
         }
     }
-    end.with(SendError::Input(LinesError::InputTooLong))
+    with_error(&end, SendError::Input(LinesError::InputTooLong))
 }
 
-impl SendEnd {
-    // The end of what was sent first and of what was sent after it.
-    fn then(&self, later: &SendEnd) -> SendEnd {
-        SendEnd {
-            sent: self.sent.saturating_add(later.sent),
-            answered: self.answered.saturating_add(later.answered),
-            refused: self.refused.saturating_add(later.refused),
-            error: later.error,
-        }
+// The end of what was sent first and of what was sent after it.
+fn both(first: &SendEnd, later: &SendEnd) -> SendEnd
+    requires sent { first.now.sent + later.now.sent ≤ u64.MAX }
+    requires answered { first.now.answered + later.now.answered ≤ u64.MAX }
+    requires refused { first.now.refused + later.now.refused ≤ u64.MAX }
+    ensures { result ≡ end_of_both first.now later.now }
+{
+    SendEnd {
+        sent: first.sent + later.sent,
+        answered: first.answered + later.answered,
+        refused: first.refused + later.refused,
+        error: later.error,
     }
+}
 
-    fn with(&self, error: SendError) -> SendEnd {
-        SendEnd {
-            sent: self.sent,
-            answered: self.answered,
-            refused: self.refused,
-            error: Some(error),
-        }
+fn with_error(end: &SendEnd, error: SendError) -> SendEnd
+    ensures { result ≡ record end.now { error = Some error } }
+{
+    SendEnd {
+        sent: end.sent,
+        answered: end.answered,
+        refused: end.refused,
+        error: Some(error),
     }
 }
 
 /// Buffers that are used again for each round.
 #[derive(Drop)]
-pub(crate) struct Room {
-    pub(crate) frames: Vec<u8>,
-    pub(crate) line: Vec<u8>,
-    pub(crate) body: Vec<u8>,
+struct Room {
+    frames: Vec<u8>,
+    line: Vec<u8>,
+    body: Vec<u8>,
 }
 
 impl Room {
@@ -97,8 +106,16 @@ impl Room {
     }
 }
 
-// Sends the next lines, and reads and prints their answers. Returns also whether the input may have more. If the
-// requests couldn't be written, the answers that the server gave before are still read.
+/// How a round ended.
+#[derive(Clone, Copy)]
+struct Round {
+    end: SendEnd,
+    // Whether another round is to follow.
+    more: bool,
+}
+
+// Sends the next lines, and reads and prints their answers. If the requests couldn't be written, the answers that the
+// server gave before are still read.
 fn send_round<I: Read, W: Write, R: Read, O: Write>(
     alloc: Global,
     input: &mut BufReader<I>,
@@ -108,30 +125,68 @@ fn send_round<I: Read, W: Write, R: Read, O: Write>(
     window: u64,
     before: u64,
     room: &mut Room,
-) -> (SendEnd, bool) {
-    room.frames.clear();
-    let taken = take_lines(alloc, input, window, before, &mut room.line, &mut room.frames);
+) -> Round
+    ensures fits { before + result.end.sent ≤ u64.MAX }
+    ensures sends { Sends before (reader_remaining I.remaining input.old) (W.contents to.old) (W.contents to.new)
+        (R.remaining from.old) (O.contents output.old) (O.contents output.new) result.end }
+    ensures on { result.more ≡ true → SendsOn before (reader_remaining I.remaining input.old)
+        (reader_remaining I.remaining input.new) (W.contents to.old) (W.contents to.new) (R.remaining from.old)
+        (R.remaining from.new) (O.contents output.old) (O.contents output.new) result.end }
+    ensures all { result.more ≡ false → result.end.error ≡ None → SendsAll before
+        (reader_remaining I.remaining input.old) (W.contents to.old) (W.contents to.new) (R.remaining from.old)
+        (R.remaining from.new) (O.contents output.old) (O.contents output.new) result.end }
+{
+    let taken = take_lines(
+        alloc,
+        input,
+        window,
+        before,
+        &mut room.line,
+        &mut room.frames,
+    );
     let sent = send_bytes(to, &room.frames);
-    let answers = take_answers(alloc, from, output, before, taken.count, &mut room.body, &mut room.line);
-    let end = SendEnd {
-        sent: taken.count,
-        answered: answers.count,
-        refused: answers.refused,
-        error: first_error(sent, answers.error, taken.error),
-    };
-    (end, taken.more)
+    let answers = take_answers(
+        alloc,
+        from,
+        output,
+        before,
+        taken.count,
+        &mut room.body,
+        &mut room.line,
+    );
+    let error = first_error(sent, answers.error, taken.error);
+    Round {
+        end: SendEnd {
+            sent: taken.count,
+            answered: answers.count,
+            refused: answers.refused,
+            error,
+        },
+        more: goes_on(taken.more, error),
+    }
 }
 
-// The connection's error goes before the input's: the lines before the input's fault were to be answered.
+fn goes_on(more: bool, error: Option<SendError>) -> bool
+    ensures more { result ≡ true → more ≡ true }
+    ensures right { result ≡ true → error ≡ None }
+    ensures over { result ≡ false → error ≡ None → more ≡ false }
+{
+    more && error.is_none()
+}
+
+// The error of an answer goes before that of a write, and both before the input's: the lines before the input's fault
+// were to be answered.
 fn first_error(
     sent: Result<(), ClientError>,
-    answered: Option<ClientError>,
+    answered: Option<SendError>,
     taken: Option<LinesError>,
-) -> Option<SendError> {
-    if let Err(error) = sent {
-        return Some(SendError::Client(error));
+) -> Option<SendError>
+    ensures { result ≡ first_error sent answered taken }
+{
+    if answered.is_some() {
+        return answered;
     }
-    if let Some(error) = answered {
+    if let Err(error) = sent {
         return Some(SendError::Client(error));
     }
     match taken {

@@ -1,4 +1,13 @@
 //! Taking events from the lines of an input, as requests.
+ghost use Rattle.std.specs.Prelude.{◌≡◌, ◌+◌, ◌<◌, ◌≤◌, ◌++◌, true, IfOk, IfErr, OnOk, OnErr, Ok};
+ghost use Rattle.std.specs.Io.Buffered.{reader_remaining};
+ghost use Rattle.audit_chain.specs.EventData.{EventData};
+ghost use Rattle.audit_text.specs.EventLine.{event_of_line};
+ghost use Rattle.audit_text.specs.declared.fault.LinesError.TheVariants.{InputTooLong};
+ghost use Rattle.audit_wire.specs.Stream.{request_frame};
+ghost use Rattle.audit_cli_client.specs.Sending.{line_tag, event_request, TakesRound, TakesNext, IsEventFault};
+ghost use Rattle.audit_cli_client.specs.Sending.{IsTakingFault};
+
 use audit_serve_sockets::{MAX_DIGITS, next_line};
 use audit_text::{LineError, LinesError, ParseError, event_of_line};
 use audit_wire::{RequestView, write_request};
@@ -19,8 +28,8 @@ pub(crate) struct Taken {
     pub error: Option<LinesError>,
 }
 
-/// Takes the next line, and those after it that the buffer already has, up to `window` of them. Their requests are
-/// appended to the frames. The first of them has the number `before` + 1.
+/// Takes the next line, and those after it that the buffer already has, up to `window` of them. Their requests replace
+/// the frames. The first of them has the number `before` + 1.
 pub(crate) fn take_lines<I: Read>(
     alloc: Global,
     input: &mut BufReader<I>,
@@ -28,7 +37,12 @@ pub(crate) fn take_lines<I: Read>(
     before: u64,
     line: &mut Vec<u8>,
     frames: &mut Vec<u8>,
-) -> Taken {
+) -> Taken
+    ensures fits { before + result.count ≤ u64.MAX }
+    ensures taken { TakesRound (reader_remaining I.remaining input.old) (reader_remaining I.remaining input.new)
+        before frames.new.items result }
+{
+    frames.clear();
     for count in 0..window {
         if count > 0 && !is_at_hand(input, frames) {
             return Taken {
@@ -67,7 +81,8 @@ fn is_at_hand<I: Read>(input: &BufReader<I>, frames: &[u8]) -> bool {
     frames.len() < FRAMES_ROOM && input.buffer().iter().any(|byte| *byte == b'\n')
 }
 
-// Takes a line, and appends the request of its event to the frames. Returns whether there was one.
+// Takes a line, and appends the request of its event to the frames. Returns whether there was one. After an error
+// nothing is appended.
 fn take_line<I: Read>(
     alloc: Global,
     input: &mut BufReader<I>,
@@ -75,7 +90,13 @@ fn take_line<I: Read>(
     count: u64,
     line: &mut Vec<u8>,
     frames: &mut Vec<u8>,
-) -> Result<bool, LinesError> {
+) -> Result<bool, LinesError>
+    ensures fits { result ≡ Ok true → before + count + 1 ≤ u64.MAX }
+    ensures taken { IfOk result (TakesNext (reader_remaining I.remaining input.old)
+        (reader_remaining I.remaining input.new) (before + count) frames.old.items frames.new.items) }
+    ensures kept { OnErr result (frames.new.items ≡ frames.old.items) }
+    ensures fault { IfErr result (IsTakingFault (reader_remaining I.remaining input.old) (before + count + 1)) }
+{
     if !next_line(input, line)? {
         return Ok(false);
     }
@@ -86,26 +107,46 @@ fn take_line<I: Read>(
             cause: LineError::PayloadTooLong,
         });
     }
-    match event_of_line(alloc, line) {
-        Ok(event) => {
-            let request = RequestView::Append {
-                tag: line_tag(number),
-                kind: event.kind(),
-                payload: event.payload(),
-            };
-            write_request(request, frames)?;
-            Ok(true)
+    put_event(alloc, number, line, frames)?;
+    Ok(true)
+}
+
+// Appends the request for the event in a line to the frames.
+fn put_event(
+    alloc: Global,
+    number: u64,
+    line: &[u8],
+    frames: &mut Vec<u8>,
+) -> Result<(), LinesError>
+    ensures put { OnOk result ((event : EventData) × (event_of_line line.now ≡ Ok event)
+        × (frames.new.items ≡ frames.old.items ++ request_frame (event_request number event))) }
+    ensures kept { OnErr result (frames.new.items ≡ frames.old.items) }
+    ensures fault { IfErr result (IsEventFault number line.now) }
+{
+    let event = match event_of_line(alloc, line) {
+        Ok(event) => event,
+        Err(ParseError::Fault(cause)) => {
+            return Err(LinesError::Line {
+                line: number,
+                cause,
+            });
         }
-        Err(ParseError::Fault(cause)) => Err(LinesError::Line {
-            line: number,
-            cause,
-        }),
-        Err(ParseError::Memory) => Err(LinesError::Memory),
-    }
+        Err(ParseError::Memory) => return Err(LinesError::Memory),
+    };
+    let request = RequestView::Append {
+        tag: line_tag(number),
+        kind: event.kind(),
+        payload: event.payload(),
+    };
+    write_request(request, frames)?;
+    Ok(())
 }
 
 // The number of a line, counting from 1.
-fn line_number(before: u64, count: u64) -> Result<u64, LinesError> {
+fn line_number(before: u64, count: u64) -> Result<u64, LinesError>
+    ensures number { IfOk result (λ number. number ≡ before + count + 1) }
+    ensures fault { IfErr result (λ fault. (fault ≡ InputTooLong) × (u64.MAX < before + count + 1)) }
+{
     match before.checked_add(count) {
         Some(lines) if lines < u64::MAX => Ok(lines + 1),
         _ => Err(LinesError::InputTooLong),
@@ -113,6 +154,8 @@ fn line_number(before: u64, count: u64) -> Result<u64, LinesError> {
 }
 
 /// The tag of the request for the event of a line: the low 32 bits of its number.
-pub(crate) fn line_tag(line: u64) -> u32 {
+pub(crate) fn line_tag(line: u64) -> u32
+    ensures { result ≡ line_tag line }
+{
     (line % (1 << 32)) as u32
 }

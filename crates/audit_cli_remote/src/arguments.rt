@@ -1,4 +1,8 @@
 //! Arguments that are checked here, not by the command line's parser.
+ghost use Rattle.std.specs.Prelude.{◌≡◌, IfErr};
+ghost use Rattle.audit_cli_remote.specs.Arguments.{judged_number, seconds_asked, window_asked};
+ghost use Rattle.audit_text.specs.Number.{number_in_text};
+
 use audit_cli_store::CommandError;
 use audit_text::number_in_text;
 
@@ -48,16 +52,13 @@ pub enum Question<'a> {
 }
 
 /// The words of a question: its name, and up to three more.
-pub type QuestionWords<'a> = (
-    &'a str,
-    Option<&'a str>,
-    Option<&'a str>,
-    Option<&'a str>,
-);
+pub type QuestionWords<'a> = (&'a str, Option<&'a str>, Option<&'a str>, Option<&'a str>);
 
 /// Parses a question. If its name or the number of its words is another, or a number has another form, the error is
 /// `BadArgument`. The numbers themselves are judged by the server.
-pub fn question_asked<'a>(words: QuestionWords<'a>) -> Result<Question<'a>, CommandError> {
+pub fn question_asked<'a>(words: QuestionWords<'a>) -> Result<Question<'a>, CommandError>
+    ensures { IfErr result (λ fault. fault ≡ CommandError.BadArgument) }
+{
     match question_in(words) {
         Some(question) => Ok(question),
         None => Err(CommandError::BadArgument),
@@ -88,16 +89,22 @@ fn question_in<'a>(words: QuestionWords<'a>) -> Option<Question<'a>> {
 }
 
 /// Parses a number of seconds, from 1 to [`MAX_SECONDS`].
-pub fn seconds_asked(word: &str) -> Result<u64, CommandError> {
+pub fn seconds_asked(word: &str) -> Result<u64, CommandError>
+    ensures { result ≡ seconds_asked word.now }
+{
     number_up_to(word, MAX_SECONDS)
 }
 
 /// Parses a number of lines, from 1 to [`MAX_WINDOW`].
-pub fn window_asked(word: &str) -> Result<u64, CommandError> {
+pub fn window_asked(word: &str) -> Result<u64, CommandError>
+    ensures { result ≡ window_asked word.now }
+{
     number_up_to(word, MAX_WINDOW)
 }
 
-fn number_up_to(word: &str, most: u64) -> Result<u64, CommandError> {
+fn number_up_to(word: &str, most: u64) -> Result<u64, CommandError>
+    ensures { result ≡ judged_number most (number_in_text word.now) }
+{
     match number_in_text(word.as_bytes()) {
         Some(number) if number >= 1 && number <= most => Ok(number),
         _ => Err(CommandError::BadArgument),

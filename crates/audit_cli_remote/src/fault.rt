@@ -1,4 +1,7 @@
-use audit_cli_client::{ClientError, refusal_name};
+ghost use Rattle.std.specs.Prelude.{◌≡◌, option_map};
+ghost use Rattle.audit_cli_remote.specs.Faults.{no_memory, remote_status, status_of_server, of_sending, judgment_of};
+
+use audit_cli_client::{ClientError, SendError, word_of_refusal};
 use audit_cli_store::{CommandError, Status, report};
 use audit_store::StoreError;
 use audit_text::LinesError;
@@ -29,7 +32,9 @@ pub enum RemoteError {
 
 impl RemoteError {
     /// Returns the status with which the program exits.
-    pub fn status(self) -> Status {
+    pub fn status(self) -> Status
+        ensures { result ≡ remote_status self }
+    {
         match self {
             RemoteError::Command(fault) => fault.status(),
             RemoteError::NoConnection | RemoteError::NotAcknowledged { .. } => Status::Device,
@@ -40,7 +45,9 @@ impl RemoteError {
 
     /// Prints the error in one line, and returns the status with which the program exits. A judgment of the log isn't
     /// printed here, because it is a line of the output. It allocates nothing.
-    pub fn report<M: Write>(self, messages: &mut M) -> Status {
+    pub fn report<M: Write>(self, messages: &mut M) -> Status
+        ensures { result ≡ remote_status self }
+    {
         let _ = match self {
             RemoteError::Command(fault) => {
                 let _ = report(fault, messages);
@@ -60,7 +67,9 @@ impl RemoteError {
     }
 
     /// The line of the output that judges the log, if the error is a judgment.
-    pub fn judgment(self) -> Option<&'static str> {
+    pub fn judgment(self) -> Option<&'static str>
+        ensures { option_map (λ words. words.now) result ≡ judgment_of self }
+    {
         match self {
             RemoteError::Server(ClientError::NotAccepted) => Some("not accepted\n"),
             RemoteError::Server(ClientError::Shorter) => Some("shorter\n"),
@@ -79,7 +88,9 @@ impl RemoteError {
     }
 }
 
-fn status_of_server(error: ClientError) -> Status {
+fn status_of_server(error: ClientError) -> Status
+    ensures { result ≡ status_of_server error }
+{
     match error {
         ClientError::Refused(Refusal::Device)
         | ClientError::Ended
@@ -97,7 +108,7 @@ fn status_of_server(error: ClientError) -> Status {
 fn print_server_error<M: Write>(error: ClientError, messages: &mut M) -> io::Result<()> {
     match error {
         ClientError::Refused(refusal) => {
-            let (number, name) = (refusal.code(), refusal_name(refusal));
+            let (number, name) = (refusal.code(), word_of_refusal(refusal));
             writeln!(messages, "audit: {number} {name}")
         }
         ClientError::BadReply => writeln!(messages, "audit: bad reply"),
@@ -181,6 +192,23 @@ impl<T: Drop> From<AllocFailed<T>> for RemoteError {
 }
 
 /// The error for refused memory.
-pub fn no_memory() -> RemoteError {
+pub fn no_memory() -> RemoteError
+    ensures { result ≡ no_memory }
+{
     RemoteError::Command(CommandError::Refused(StoreError::Memory))
+}
+
+impl From<SendError> for RemoteError {
+    ghost use Rattle.std.specs.Prelude.{◌≡◌};
+    ghost use Rattle.audit_cli_remote.specs.Faults.{of_sending};
+
+    ghost from_gives = { λ given fault. fault ≡ of_sending given };
+
+    fn from(error: SendError) -> Self {
+        match error {
+            SendError::Input(fault) => RemoteError::Command(CommandError::Lines(fault)),
+            SendError::Client(error) => RemoteError::Server(error),
+            SendError::Output => RemoteError::Command(CommandError::File),
+        }
+    }
 }

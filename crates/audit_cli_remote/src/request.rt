@@ -1,4 +1,11 @@
 //! The requests that ask a server, and how they are carried out.
+ghost use Rattle.std.specs.Prelude.{◌≡◌, ◌⊎◌, ℕ, List, Err, Some};
+ghost use Rattle.std.specs.Io.KnownBytes.{Appends, Keeps};
+ghost use Rattle.audit_text.specs.declared.fault.LinesError.{LinesError};
+ghost use Rattle.audit_cli_remote.specs.declared.fault.RemoteError.{RemoteError};
+ghost use Rattle.audit_cli_remote.specs.Faults.{IsNoJudgment, judgment_of};
+ghost use Rattle.audit_cli_remote.specs.Arguments.{AreNoSeconds, IsNoWindow, HasWrongNumber};
+
 use crate::arguments::{QuestionWords, question_asked, seconds_asked, window_asked};
 use crate::asking::ask_socket;
 use crate::fault::RemoteError;
@@ -60,7 +67,11 @@ pub fn run<F: Files + Net, R: Read, W: Write, M: Write>(
     input: &mut R,
     output: &mut W,
     messages: &mut M,
-) -> Status {
+) -> Status
+    // A wrong number ends the program before anything is written. An output that can't be flushed is another fault.
+    ensures words { HasWrongNumber request.entry → (result ≡ Status.Usage) ⊎ (result ≡ Status.Device) }
+    ensures unwritten { HasWrongNumber request.entry → Keeps (W.contents output.old) (W.contents output.new) }
+{
     let done = perform(rt, alloc, request, input, output, messages);
     let judged = print_judgment(done, output);
     let flushed = output.flush();
@@ -75,7 +86,12 @@ pub fn run<F: Files + Net, R: Read, W: Write, M: Write>(
 fn print_judgment<W: Write>(
     done: Result<Status, RemoteError>,
     output: &mut W,
-) -> Result<Status, RemoteError> {
+) -> Result<Status, RemoteError>
+    ensures other { IsNoJudgment done → (result ≡ done) × Keeps (W.contents output.old) (W.contents output.new) }
+    ensures judged { (fault : RemoteError) (words : List ℕ) → done ≡ Err fault → judgment_of fault ≡ Some words
+        → ((result ≡ done) × Appends (W.contents output.old) (W.contents output.new) words)
+        ⊎ (result ≡ Err (RemoteError.Command (CommandError.Lines LinesError.Write))) }
+{
     if let Err(fault) = done {
         if let Some(words) = fault.judgment() {
             write_whole(output, words.as_bytes())?;
@@ -92,7 +108,10 @@ fn perform<F: Files + Net, R: Read, W: Write, M: Write>(
     input: &mut R,
     output: &mut W,
     messages: &mut M,
-) -> Result<Status, RemoteError> {
+) -> Result<Status, RemoteError>
+    ensures words { HasWrongNumber request.entry → result ≡ Err (RemoteError.Command CommandError.BadArgument) }
+    ensures unwritten { HasWrongNumber request.entry → Keeps (W.contents output.old) (W.contents output.new) }
+{
     match request {
         Request::Ask {
             socket,
@@ -100,7 +119,7 @@ fn perform<F: Files + Net, R: Read, W: Write, M: Write>(
             timeout,
         } => {
             let question = question_asked(question)?;
-            let seconds = seconds_or(timeout, TIMEOUT)?;
+            let seconds = seconds_or_default(timeout)?;
             ask_socket(rt, alloc, socket, question, seconds, output)?;
         }
         Request::Send {
@@ -109,7 +128,7 @@ fn perform<F: Files + Net, R: Read, W: Write, M: Write>(
             timeout,
         } => {
             let window = window_or_default(window)?;
-            let seconds = seconds_or(timeout, TIMEOUT)?;
+            let seconds = seconds_or_default(timeout)?;
             return send_to_socket(rt, alloc, socket, window, seconds, input, output, messages);
         }
         Request::Watch {
@@ -118,40 +137,36 @@ fn perform<F: Files + Net, R: Read, W: Write, M: Write>(
             every,
             timeout,
         } => {
-            let seconds = seconds_or(timeout, TIMEOUT)?;
+            let seconds = seconds_or_default(timeout)?;
             let post = Post {
                 socket,
                 state,
                 seconds,
             };
-            watch(rt, alloc, post, every, output, messages)?;
+            match every {
+                Some(word) => {
+                    let every = seconds_asked(word)?;
+                    watch_for_ever(rt, alloc, post, every, output, messages)?;
+                }
+                None => watch_once(rt, alloc, post, output)?,
+            }
         }
     }
     Ok(Status::Done)
 }
 
-fn watch<F: Files + Net, W: Write, M: Write>(
-    rt: &F,
-    alloc: Global,
-    post: Post<'_>,
-    every: Option<&str>,
-    output: &mut W,
-    messages: &mut M,
-) -> Result<(), RemoteError> {
-    match every {
-        Some(word) => watch_for_ever(rt, alloc, post, seconds_asked(word)?, output, messages),
-        None => watch_once(rt, alloc, post, output),
-    }
-}
-
-fn seconds_or(word: Option<&str>, default: u64) -> Result<u64, CommandError> {
+fn seconds_or_default(word: Option<&str>) -> Result<u64, CommandError>
+    ensures { AreNoSeconds word.entry → result ≡ Err CommandError.BadArgument }
+{
     match word {
         Some(word) => seconds_asked(word),
-        None => Ok(default),
+        None => Ok(TIMEOUT),
     }
 }
 
-fn window_or_default(word: Option<&str>) -> Result<u64, CommandError> {
+fn window_or_default(word: Option<&str>) -> Result<u64, CommandError>
+    ensures { IsNoWindow word.entry → result ≡ Err CommandError.BadArgument }
+{
     match word {
         Some(word) => window_asked(word),
         None => Ok(WINDOW),

@@ -1,7 +1,10 @@
 //! Sending events to a server.
+ghost use Rattle.std.specs.Prelude.{◌≡◌};
+ghost use Rattle.audit_cli_remote.specs.Sent.{status_of_sent};
+
 use crate::connection::connect;
 use crate::fault::RemoteError;
-use audit_cli_client::{SendEnd, SendError, send_events};
+use audit_cli_client::{SendEnd, send_events};
 use audit_cli_store::Status;
 use std::alloc::Global;
 use std::io::{BufReader, Read, Write};
@@ -31,20 +34,26 @@ pub fn send_to_socket<F: Net, R: Read, W: Write, M: Write>(
 }
 
 // Prints why sending ended before the input did, if so, and which lines weren't acknowledged. Returns the status.
-fn report_sent<M: Write>(end: &SendEnd, messages: &mut M) -> Status {
-    let status = match end.error {
+fn report_sent<M: Write>(end: &SendEnd, messages: &mut M) -> Status
+    ensures { result ≡ status_of_sent end.now }
+{
+    let status = status_of_end(end, messages);
+    if end.sent > end.answered {
+        let left = RemoteError::NotAcknowledged {
+            lines: end.sent - end.answered,
+            first: end.answered + 1,
+        };
+        left.report(messages);
+    }
+    status
+}
+
+fn status_of_end<M: Write>(end: &SendEnd, messages: &mut M) -> Status
+    ensures { result ≡ status_of_sent end.now }
+{
+    match end.error {
+        Some(error) => RemoteError::from(error).report(messages),
         None if end.refused > 0 => Status::Refused,
         None => Status::Done,
-        Some(SendError::Input(error)) => RemoteError::from(error).report(messages),
-        Some(SendError::Client(error)) => RemoteError::from(error).report(messages),
-    };
-    if end.sent <= end.answered {
-        return status;
     }
-    let left = RemoteError::NotAcknowledged {
-        lines: end.sent - end.answered,
-        first: end.answered.saturating_add(1),
-    };
-    left.report(messages);
-    status
 }

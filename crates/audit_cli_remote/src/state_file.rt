@@ -1,5 +1,9 @@
 //! The file of a witness: a line for each commitment that it saw, the newest last.
-use crate::fault::{RemoteError, no_memory};
+ghost use Rattle.std.specs.Prelude.{◌≡◌, map, Some, IfOk};
+ghost use Rattle.audit_text.specs.Lines.{lines_of};
+ghost use Rattle.audit_cli_offline.specs.CommitmentWord.{commitment_in_word};
+
+use crate::fault::RemoteError;
 use audit_cli_client::Kept;
 use audit_cli_offline::commitment_in_word;
 use audit_cli_store::{CommandError, OutputFile};
@@ -55,6 +59,8 @@ impl<'a, F: Files> StateFile<'a, F> {
 impl<F: Files> Kept for StateFile<'_, F> {
     type Error = RemoteError;
 
+    ghost kept = { λ state. state.kept.items };
+
     fn newest(&self) -> Option<Commitment> {
         self.kept.last().copied()
     }
@@ -84,18 +90,18 @@ fn text_of_file<F: Files>(rt: &F, alloc: Global, path: &str) -> Result<Vec<u8>, 
 }
 
 // The commitments in the lines of a text.
-fn commitments_in(alloc: Global, text: &[u8]) -> Result<Vec<Commitment>, RemoteError> {
+fn commitments_in(alloc: Global, text: &[u8]) -> Result<Vec<Commitment>, RemoteError>
+    ensures all { IfOk result (λ kept. map commitment_in_word (lines_of text.now) ≡ map (λ one. Some one) kept.items) }
+{
     let mut kept = Vec::new(alloc);
     let mut rest = text;
-    let mut number = 1;
     while !rest.is_empty() {
         let (line, after) = split_at_first(rest, b'\n');
         let Some(commitment) = commitment_in_word(line) else {
-            return Err(RemoteError::BadStateLine(number));
+            return Err(RemoteError::BadStateLine(kept.len() as u64 + 1));
         };
         kept.push(commitment)?;
         rest = after;
-        number += 1;
     }
     Ok(kept)
 }

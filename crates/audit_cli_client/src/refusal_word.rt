@@ -1,7 +1,12 @@
+ghost use Rattle.std.specs.Prelude.{◌≡◌};
+ghost use Rattle.audit_cli_client.specs.Sending.{refusal_word};
+
 use audit_wire::Refusal;
 
-/// The name of a refusal, as the program prints it after its number.
-pub fn refusal_name(refusal: Refusal) -> &'static str {
+/// The name of a refusal, which the program prints after its number.
+pub fn word_of_refusal(refusal: Refusal) -> &'static str
+    ensures { result.now ≡ refusal_word refusal }
+{
     match refusal {
         Refusal::DamagedLog => "DamagedLog",
         Refusal::Full => "Full",
