@@ -1,7 +1,7 @@
 # Bash completion for `audit`: `source examples/completion.bash`.
 _audit() {
     local word=${COMP_WORDS[COMP_CWORD]} command=${COMP_WORDS[1]}
-    local commands="replay format append close show prove check export verify serve loop"
+    local commands="replay format append close show prove check export verify serve loop send ask watch"
     if [ "$COMP_CWORD" -eq 1 ]; then
         mapfile -t COMPREPLY < <(compgen -W "$commands --help --version" -- "$word")
         return
@@ -14,14 +14,18 @@ _audit() {
         export) options="$options --read-only --salvage" ;;
         serve) options="$options --sessions --socket-mode" ;;
         loop) options="$options --socket-mode" ;;
+        send) options="$options --window --timeout" ;;
+        ask) options="$options --timeout" ;;
+        watch) options="$options --every --timeout" ;;
         esac
         mapfile -t COMPREPLY < <(compgen -W "$options" -- "$word")
         return
     fi
     case $command:$COMP_CWORD in
     serve:[5-9]) mapfile -t COMPREPLY < <(compgen -W "--sessions --socket-mode" -- "$word") ;;
+    ask:3) mapfile -t COMPREPLY < <(compgen -W "commitment entry member increment export close" -- "$word") ;;
     prove:3) mapfile -t COMPREPLY < <(compgen -W "member increment" -- "$word") ;;
-    format:2 | append:2 | close:2 | show:2 | prove:2 | prove:6 | check:2 | export:[23] | verify:2 | serve:[23] | loop:[23] | format:4 | verify:3)
+    format:2 | append:2 | close:2 | show:2 | prove:2 | prove:6 | check:2 | export:[23] | verify:2 | serve:[23] | loop:[23] | format:4 | verify:3 | send:2 | ask:[24567] | watch:[23])
         mapfile -t COMPREPLY < <(compgen -f -- "$word")
         ;;
     *) COMPREPLY=() ;;

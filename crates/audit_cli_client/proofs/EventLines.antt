@@ -1,5 +1,5 @@
 -- The event in a line has a kind that a client may use.
-use Rattle.std.specs.Prelude.{◌≡◌, ◌≢◌, ℕ, nat_lt, nat_eq, ◌==◌, Bool, true, false, Option, Some, None, Result, Ok, Err, List, length, drop, codes, if◌then◌else◌, IfOk}
+use Rattle.std.specs.Prelude.{◌≡◌, ◌≢◌, ℕ, nat_lt, nat_eq, ◌==◌, Bool, true, false, Option, Some, None, Result, Ok, Err, List, length, drop, codes, if◌then◌else◌}
 use Rattle.std.specs.List.{starts_with, before_first, after_first}
 use Rattle.std.proofs.Common.{refl}
 use Rattle.std.proofs.lemmas.Bool.{eqb-false}
@@ -7,7 +7,7 @@ use Rattle.audit_chain.specs.EventData.{EventData}
 use Rattle.audit_base.specs.declared.limits.TheConstants.{MAX_PAYLOAD, RESERVED_KIND}
 use Rattle.audit_text.specs.declared.fault.LineError.{LineError}
 use Rattle.audit_text.specs.declared.fault.LineError.TheVariants.{BadEventLine, ReservedKind, PayloadTooLong}
-use Rattle.audit_text.specs.EventLine.{is_space, kind_in_text, payload_of, checked_event, event_of_texts, event_of_line}
+use Rattle.audit_text.specs.EventLine.{is_space, kind_in_text, payload_of, event_of_texts, event_of_line}
 
 abbrev pub IsUnreserved : Result EventData LineError → Type 0
 IsUnreserved (Ok event) = event.kind ≢ RESERVED_KIND

@@ -1,10 +1,10 @@
 -- What a witness keeps stays joined.
-use Rattle.std.proofs.Common.{◌≡◌, ◌⊎◌, Option, Some, None, List, [], ◌∷◌, ◌++◌, inl, inr, sym, subst}
+use Rattle.std.proofs.Common.{List, [], ◌∷◌, ◌++◌, inl, inr, sym, subst}
 use Rattle.audit_proof.specs.declared.commitment.Commitment.{Commitment}
-use Rattle.audit_cli_client.specs.Joined.{IsJoined, AreJoined}
-use Rattle.audit_cli_client.specs.Keeping.{newest_of, MayFollow, KeepsOn, AreRuns, kept_after}
+use Rattle.audit_cli_client.specs.Joined.{AreJoined}
+use Rattle.audit_cli_client.specs.Keeping.{last_kept, FollowsKept, KeepsOn, AreRuns, kept_after}
 
-joined_with : (kept : List Commitment) (seen : Commitment) → AreJoined kept → MayFollow (newest_of kept) seen → AreJoined (kept ++ seen ∷ [])
+joined_with : (kept : List Commitment) (seen : Commitment) → AreJoined kept → FollowsKept (last_kept kept) seen → AreJoined (kept ++ seen ∷ [])
 joined_with [] seen joined may = tt
 joined_with (only ∷ []) seen joined may = (may.1, tt)
 joined_with (first ∷ second ∷ later) seen joined may = (joined.0, joined_with (second ∷ later) seen joined.1 may)

@@ -2,7 +2,7 @@
 use Rattle.std.specs.Prelude.{◌<◌, map, Bool, true, false, if◌then◌else◌}
 use Rattle.std.specs.List.{flat_map}
 use Rattle.std.specs.Io.KnownBytes.{Appends, Consumes, Keeps}
-use Rattle.std.proofs.Common.{◌≡◌, ◌≢◌, ◌∙◌, ℕ, suc, ◌+◌, ◌≤◌, Option, Some, None, List, [], ◌∷◌, ◌++◌, length, length-append, append-nil, append_assoc, sym, ap, subst, refl, arith}
+use Rattle.std.proofs.Common.{◌≡◌, ◌∙◌, ℕ, suc, ◌+◌, ◌≤◌, Option, Some, None, List, [], ◌∷◌, ◌++◌, length, length-append, append-nil, append_assoc, sym, ap, subst, refl, arith}
 use Rattle.std.proofs.lemmas.Grind.{flat_map-append}
 use Rattle.std.proofs.lemmas.List.{map-append}
 use Rattle.std.proofs.lemmas.Option.{none-some}
@@ -10,11 +10,10 @@ use Rattle.audit_text.specs.Writing.{WritesInPart}
 use Rattle.audit_wire.specs.declared.reply.Reply.{Reply}
 use Rattle.audit_wire.specs.Frame.{frame}
 use Rattle.audit_wire.specs.Reply.{reply_in}
-use Rattle.audit_cli_client.specs.declared.fault.ClientError.{ClientError}
 use Rattle.audit_cli_client.specs.declared.send_error.SendError.{SendError}
 use Rattle.audit_cli_client.specs.declared.send_error.SendError.TheVariants.{Input, Client, Output}
-use Rattle.audit_cli_client.specs.Conversation.{ReadsReply, ReadsReplies}
-use Rattle.audit_cli_client.specs.Sending.{is_refusal, refusals_in, answer_line, answer_lines, IsAnswer, AreAnswers, ReadsFirst, TakesAnswer, FailsAnswer, Prints, PrintsAll, TakesAnswers}
+use Rattle.audit_cli_client.specs.Conversation.{ReadsReplies}
+use Rattle.audit_cli_client.specs.Sending.{is_refusal, refusals_in, answer_line, answer_lines, IsAnswer, AreAnswers, TakesAnswer, FailsAnswer, Prints, PrintsAll, TakesAnswers}
 use Rattle.audit_cli_client.proofs.Conversations.{consumes_more, appends_none, appends_more, appends_kept}
 use Rattle.audit_cli_client.proofs.Exports.{replies_none, replies_more}
 

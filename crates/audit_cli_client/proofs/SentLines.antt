@@ -1,7 +1,7 @@
 -- Rounds of sending, one after another.
-use Rattle.std.specs.Prelude.{◌<◌, Bool, true, false, Result, Ok, Err, IsOk, OnOk, OnErr}
+use Rattle.std.specs.Prelude.{true, false, Result, Ok, Err, IsOk, OnOk, OnErr}
 use Rattle.std.specs.Io.KnownBytes.{Appends}
-use Rattle.std.proofs.Common.{◌≡◌, ◌∙◌, ℕ, ◌+◌, ◌≤◌, Option, Some, None, List, [], ◌∷◌, ◌++◌, length, length-append, append-nil, sym, ap, subst, refl, arith}
+use Rattle.std.proofs.Common.{◌≡◌, ℕ, ◌+◌, ◌≤◌, Option, Some, None, List, [], ◌++◌, length, length-append, append-nil, sym, ap, subst, refl, arith}
 use Rattle.std.proofs.lemmas.Option.{none-some}
 use Rattle.std.proofs.lemmas.Bool.{false≢true}
 use Rattle.audit_chain.specs.EventData.{EventData}
@@ -13,7 +13,7 @@ use Rattle.audit_cli_client.specs.declared.send_error.SendError.TheVariants.{Inp
 use Rattle.audit_cli_client.specs.declared.sending.SendEnd.{SendEnd}
 use Rattle.audit_cli_client.specs.declared.taking.Taken.{Taken}
 use Rattle.audit_cli_client.specs.declared.answering.Answers.{Answers}
-use Rattle.audit_cli_client.specs.Sending.{event_frames, Prints, PrintsAll, TakesRound, TakesAnswers, Sends, SendsOn, SendsAll, end_of_both, first_error}
+use Rattle.audit_cli_client.specs.Sending.{event_frames, PrintsAll, TakesRound, TakesAnswers, Sends, SendsOn, SendsAll, end_of_both, first_error}
 use Rattle.audit_cli_client.proofs.Conversations.{appends_none, appends_more}
 use Rattle.audit_cli_client.proofs.TakenLines.{event_frames-append, takes_none, takes_more, takes_first, takes_first_more, takes_all_more}
 use Rattle.audit_cli_client.proofs.PrintedAnswers.{refusals_few, part_whole, part_after, prints_none, prints_all, prints_further, prints_all_further, prints_error}

@@ -1,8 +1,8 @@
 -- Lines that are taken one after another.
-use Rattle.std.specs.Prelude.{◌<◌, map, IfSome, Bool, true, false, Result, Ok, Err}
+use Rattle.std.specs.Prelude.{◌<◌, map, IfSome, true, false, Result, Ok, Err}
 use Rattle.std.specs.List.{flat_map}
-use Rattle.std.specs.Io.KnownBytes.{IsAtEnd, Keeps}
-use Rattle.std.proofs.Common.{◌≡◌, ◌≢◌, ◌∙◌, ◌⊎◌, ℕ, suc, ◌+◌, ◌≤◌, Option, Some, None, List, [], ◌∷◌, ◌++◌, length, length-append, append-nil, append_assoc, sym, ap, subst, refl, inl, inr, arith}
+use Rattle.std.specs.Io.KnownBytes.{IsAtEnd}
+use Rattle.std.proofs.Common.{◌≡◌, ◌∙◌, ℕ, suc, ◌+◌, ◌≤◌, Option, Some, None, List, [], ◌∷◌, ◌++◌, length, length-append, append-nil, append_assoc, sym, ap, refl, inl, inr, arith}
 use Rattle.std.proofs.lemmas.Grind.{flat_map-append}
 use Rattle.std.proofs.lemmas.List.{map-append}
 use Rattle.std.proofs.lemmas.Bool.{true≢false, false≢true}
@@ -12,7 +12,7 @@ use Rattle.audit_text.specs.Lines.{lines_of}
 use Rattle.audit_text.specs.EventLine.{event_of_line}
 use Rattle.audit_text.specs.declared.fault.LineError.{LineError}
 use Rattle.audit_text.specs.declared.fault.LinesError.{LinesError}
-use Rattle.audit_serve_sockets.specs.Input.{ReadsLine, IsFrontOfLong}
+use Rattle.audit_serve_sockets.specs.Input.{ReadsLine}
 use Rattle.audit_serve_sockets.specs.declared.limits.TheConstants.{MAX_DIGITS}
 use Rattle.audit_wire.specs.declared.request.Request.{Request}
 use Rattle.audit_wire.specs.Stream.{request_frame}

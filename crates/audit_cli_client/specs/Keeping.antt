@@ -6,19 +6,19 @@ use Rattle.audit_cli_client.specs.declared.watching.Sight.TheVariants.{Began, Sa
 use Rattle.audit_cli_client.specs.Joined.{IsJoined}
 
 -- the last of the commitments
-abbrev pub newest_of : List Commitment → Option Commitment
-newest_of [] = None
-newest_of (only ∷ []) = Some only
-newest_of (first ∷ second ∷ later) = newest_of (second ∷ later)
+abbrev pub last_kept : List Commitment → Option Commitment
+last_kept [] = None
+last_kept (only ∷ []) = Some only
+last_kept (first ∷ second ∷ later) = last_kept (second ∷ later)
 
 -- a commitment that may be added: the first, or one of more entries to which the newest is joined
-abbrev pub MayFollow : Option Commitment → Commitment → Type 0
-MayFollow None seen = Unit {0}
-MayFollow (Some newest) seen = (newest.count < seen.count) × IsJoined newest seen
+abbrev pub FollowsKept : Option Commitment → Commitment → Type 0
+FollowsKept None seen = Unit {0}
+FollowsKept (Some newest) seen = (newest.count < seen.count) × IsJoined newest seen
 
 -- the same commitments are kept, or one more that may follow
 abbrev pub KeepsOn : List Commitment → List Commitment → Type 0
-KeepsOn old new = (new ≡ old) ⊎ ((seen : Commitment) × (new ≡ old ++ seen ∷ []) × MayFollow (newest_of old) seen)
+KeepsOn old new = (new ≡ old) ⊎ ((seen : Commitment) × (new ≡ old ++ seen ∷ []) × FollowsKept (last_kept old) seen)
 
 -- what is kept after a sight
 abbrev pub KeepsSight : List Commitment → List Commitment → Sight → Type 0

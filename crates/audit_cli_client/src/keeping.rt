@@ -1,7 +1,7 @@
 //! A witness that keeps what it sees.
 ghost use Rattle.std.specs.Prelude.{◌≡◌, ◌⊎◌, ◌∷◌, ◌++◌, [], List, IfOk, OnOk, OnErr};
 ghost use Rattle.audit_proof.specs.declared.commitment.Commitment.{Commitment};
-ghost use Rattle.audit_cli_client.specs.Keeping.{newest_of, KeepsOn, KeepsSight};
+ghost use Rattle.audit_cli_client.specs.Keeping.{last_kept, KeepsOn, KeepsSight};
 ghost use Rattle.audit_cli_client.specs.Watching.{Sees};
 
 use crate::fault::ClientError;
@@ -20,7 +20,7 @@ pub trait Kept {
 
     /// The newest commitment, if any is kept.
     fn newest(&self) -> Option<Commitment>
-        ensures { result ≡ newest_of (kept self.now) };
+        ensures { result ≡ last_kept (kept self.now) };
 
     /// Adds a commitment after the others. After an error it may have been added, or not.
     fn add(&mut self, seen: &Commitment) -> Result<(), Self::Error>
@@ -48,7 +48,7 @@ pub fn watch_and_keep<W: Write, R: Read, K: Kept>(
     // Whatever happens, nothing is lost, and nothing is added but a commitment that may follow.
     ensures kept { KeepsOn (K.kept kept.old) (K.kept kept.new) }
     ensures seen { IfOk result (Sees (W.contents to.old) (W.contents to.new) (R.remaining from.old)
-        (R.remaining from.new) (newest_of (K.kept kept.old))) }
+        (R.remaining from.new) (last_kept (K.kept kept.old))) }
     ensures added { IfOk result (KeepsSight (K.kept kept.old) (K.kept kept.new)) }
 {
     let sight = match watch(alloc, to, from, kept.newest()) {

@@ -1,6 +1,5 @@
-use Rattle.std.proofs.Common.{◌≡◌, ◌∙◌, sym, ap, rules, arith, None, Some, false, true}
+use Rattle.std.proofs.Common.{◌∙◌, sym, ap, arith}
 use Rattle.std.specs.Io.Buffered.{reader_remaining}
-use Rattle.std.proofs.lemmas.Option.{none-some}
 use Rattle.audit_text.specs.declared.fault.LinesError.TheVariants.{InputTooLong}
 use Rattle.audit_cli_client.specs.declared.sending.SendEnd.{SendEnd}
 use Rattle.audit_cli_client.specs.declared.send_error.SendError.TheVariants.{Input}

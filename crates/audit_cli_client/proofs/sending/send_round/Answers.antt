@@ -1,5 +1,4 @@
-use Rattle.std.proofs.Common.{◌≡◌, ◌∙◌, ℕ, List, sym, subst, OnOk, OnErr, None, true, false}
-use Rattle.std.specs.Io.Buffered.{reader_remaining}
+use Rattle.std.proofs.Common.{◌∙◌, ℕ, List, sym, subst, OnOk, OnErr}
 use Rattle.std.specs.Io.KnownBytes.{Appends}
 use Rattle.audit_text.specs.Writing.{WritesInPart}
 use Rattle.audit_cli_client.proofs.SentLines.{round_sends, round_on, round_all}

@@ -1,5 +1,4 @@
-use Rattle.std.proofs.Common.{◌≡◌, ◌∙◌, sym, subst, rules, IfOk}
-use Rattle.audit_chain.specs.EventData.{EventData}
+use Rattle.std.proofs.Common.{◌∙◌, sym, subst, rules}
 use Rattle.audit_cli_client.proofs.EventLines.{IsUnreserved, unreserved_line}
 use Rattle.audit_cli_client.proofs.taking.put_event.Goals as goal
 

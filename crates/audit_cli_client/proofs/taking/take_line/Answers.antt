@@ -1,4 +1,4 @@
-use Rattle.std.proofs.Common.{◌≡◌, ◌≤◌, ◌∙◌, ◌+◌, ◌++◌, ℕ, suc, length, vec_len, ap, subst, sym, arith, rules, List, Ok, true}
+use Rattle.std.proofs.Common.{◌≡◌, ◌≤◌, ◌∙◌, ◌+◌, ◌++◌, ℕ, suc, length, vec_len, ap, subst, arith, rules, List, Ok, true}
 use Rattle.std.specs.Io.Buffered.{reader_remaining}
 use Rattle.audit_text.specs.EventLine.{event_of_line}
 use Rattle.audit_wire.specs.Stream.{request_frame}

@@ -1,4 +1,4 @@
-use Rattle.std.proofs.Common.{◌≡◌, ◌≤◌, ◌+◌, ℕ, ap, subst, arith, rules, Bool, Ok, None, true, false}
+use Rattle.std.proofs.Common.{◌≡◌, ◌+◌, ℕ, ap, subst, arith, rules, Ok, None, true, false}
 use Rattle.std.specs.Io.Buffered.{reader_remaining}
 use Rattle.audit_cli_client.specs.Sending.{TakesNext, TakesRound}
 use Rattle.audit_cli_client.proofs.TakenLines.{round_more, round_end, round_fault, taken_more}
