@@ -1,7 +1,7 @@
 # Bash completion for `audit`: `source examples/completion.bash`.
 _audit() {
     local word=${COMP_WORDS[COMP_CWORD]} command=${COMP_WORDS[1]}
-    local commands="replay format append close show prove check export verify serve loop daemon stop"
+    local commands="replay format append close show prove check export verify serve loop daemon stop send ask watch"
     if [ "$COMP_CWORD" -eq 1 ]; then
         mapfile -t COMPREPLY < <(compgen -W "$commands --help --version" -- "$word")
         return
@@ -15,6 +15,9 @@ _audit() {
         serve) options="$options --sessions --socket-mode" ;;
         loop) options="$options --socket-mode" ;;
         daemon) options="$options --reader --allow-close --idle --backlog --socket-mode" ;;
+        send) options="$options --window --timeout" ;;
+        ask) options="$options --timeout" ;;
+        watch) options="$options --every --timeout" ;;
         esac
         mapfile -t COMPREPLY < <(compgen -W "$options" -- "$word")
         return
@@ -25,8 +28,9 @@ _audit() {
     fi
     case $command:$COMP_CWORD in
     serve:[5-9]) mapfile -t COMPREPLY < <(compgen -W "--sessions --socket-mode" -- "$word") ;;
+    ask:3) mapfile -t COMPREPLY < <(compgen -W "commitment entry member increment export close" -- "$word") ;;
     prove:3) mapfile -t COMPREPLY < <(compgen -W "member increment" -- "$word") ;;
-    format:2 | append:2 | close:2 | show:2 | prove:2 | prove:6 | check:2 | export:[23] | verify:2 | serve:[23] | loop:[23] | daemon:[23] | stop:2 | format:4 | verify:3)
+    format:2 | append:2 | close:2 | show:2 | prove:2 | prove:6 | check:2 | export:[23] | verify:2 | serve:[23] | loop:[23] | daemon:[23] | stop:2 | format:4 | verify:3 | send:2 | ask:[24567] | watch:[23])
         mapfile -t COMPREPLY < <(compgen -f -- "$word")
         ;;
     *) COMPREPLY=() ;;

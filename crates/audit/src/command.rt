@@ -1,5 +1,7 @@
 use crate::forms::{EXPLAIN, command_line};
 use audit_cli_daemon::{Request as Daemon, Settings};
+use crate::remote_command::remote_request;
+use audit_cli_remote::Request as Remote;
 use audit_cli_serve::Request as Serving;
 use audit_cli_store::{Access, Request, Site};
 use clap::{ArgMatches, Error};
@@ -20,6 +22,8 @@ pub struct CommandLine<'a> {
 pub enum Asked<'a> {
     /// A command that serves no sessions.
     Plain(Request<'a>),
+    /// A command that asks a server.
+    Remote(Remote<'a>),
     /// A command that serves sessions.
     Serving(Serving<'a>),
     /// A command about a daemon.
@@ -44,6 +48,9 @@ pub fn request_of<'a, S: AsStr>(alloc: Global, words: &'a [S]) -> Result<Command
 
 // The request of a command with these arguments.
 fn asked_by<'a>(name: &str, given: &ArgMatches<'a>) -> Asked<'a> {
+    if let Some(remote) = remote_request(name, given) {
+        return Asked::Remote(remote);
+    }
     match name {
         "serve" => Asked::Serving(Serving::Serve {
             file: word(given, "FILE"),
@@ -149,6 +156,6 @@ fn site<'a>(given: &ArgMatches<'a>) -> Site<'a> {
 }
 
 // The value of a required argument. The parser has already refused command lines without it.
-fn word<'a>(given: &ArgMatches<'a>, id: &str) -> &'a str {
+pub(crate) fn word<'a>(given: &ArgMatches<'a>, id: &str) -> &'a str {
     given.get_str(id).unwrap_or("")
 }

@@ -1,4 +1,5 @@
 //! The commands, as the command line and its help show them.
+use crate::remote_forms::REMOTE_FORMS;
 use audit_base::{MAX_PAYLOAD, SESSIONS};
 use audit_cli_daemon::DEFAULT_IDLE;
 use audit_log::{MAX_SECTORS, MIN_SECTORS, VERSION as FORMAT_VERSION};
@@ -33,32 +34,32 @@ const _: () = prove!(
 const _: () = prove!(MIN_SECTORS == 3 && MAX_SECTORS == 16_777_216 && SESSIONS == 16);
 
 /// A command: its name, its help, the words that follow it, and its options.
-struct Form {
-    name: &'static str,
-    about: &'static str,
+pub(crate) struct Form {
+    pub(crate) name: &'static str,
+    pub(crate) about: &'static str,
     // The end of its help.
-    after: Option<&'static str>,
-    words: &'static [Word],
-    options: &'static [Choice],
+    pub(crate) after: Option<&'static str>,
+    pub(crate) words: &'static [Word],
+    pub(crate) options: &'static [Choice],
 }
 
 /// A word that follows the name of a command.
-struct Word {
-    name: &'static str,
-    help: &'static str,
-    is_required: bool,
+pub(crate) struct Word {
+    pub(crate) name: &'static str,
+    pub(crate) help: &'static str,
+    pub(crate) is_required: bool,
 }
 
 /// An option of a command.
-struct Choice {
-    name: &'static str,
+pub(crate) struct Choice {
+    pub(crate) name: &'static str,
     // The name of its value. An option without one is a flag.
-    value: Option<&'static str>,
-    help: &'static str,
+    pub(crate) value: Option<&'static str>,
+    pub(crate) help: &'static str,
     // The option that it requires.
-    needs: Option<&'static str>,
+    pub(crate) needs: Option<&'static str>,
     // The option that it can't be combined with.
-    excludes: Option<&'static str>,
+    pub(crate) excludes: Option<&'static str>,
 }
 
 static FORMS: [Form; 13] = [
@@ -406,6 +407,9 @@ pub fn command_line<'a>(alloc: Global) -> Result<Command<'a>, AllocError> {
         .about("A tamper-evident audit store")
         .version(VERSION);
     for form in FORMS.iter() {
+        command = command.subcommand(subcommand(alloc, form)?)?;
+    }
+    for form in REMOTE_FORMS.iter() {
         command = command.subcommand(subcommand(alloc, form)?)?;
     }
     Ok(command)

@@ -8,6 +8,8 @@ mod host;
 mod noted_file;
 mod notes;
 mod program;
+mod remote_command;
+mod remote_forms;
 mod streams;
 mod words;
 

@@ -1,8 +1,7 @@
 -- Conversations, one after the other.
-use Rattle.std.proofs.Common.{◌≡◌, ℕ, ◌≤◌, Option, Some, None, List, [], ◌∷◌, ◌++◌, length, take, drop, arith, refl, sym, ap, ◌∙◌, subst, append_assoc, append-nil}
+use Rattle.std.proofs.Common.{◌≡◌, ℕ, Option, Some, None, List, [], ◌∷◌, ◌++◌, length, take, drop, arith, refl, sym, ap, ◌∙◌, subst, append_assoc, append-nil}
 use Rattle.std.specs.Prelude.{◌*◌, ◌+◌, ◌/◌, ◌%◌, ◌<◌, map, slice_index}
 use Rattle.std.specs.Io.KnownBytes.{Appends, Consumes, Keeps}
-use Rattle.std.specs.List.{flat_map}
 use Rattle.std.specs.Int.{w16, to_be_bytes}
 use Rattle.std.proofs.lemmas.List.{take_all, drop_all}
 use Rattle.std.proofs.lemmas.Grind.{flat_map-append}
@@ -12,7 +11,7 @@ use Rattle.audit_wire.specs.declared.reply.Reply.{Reply}
 use Rattle.audit_wire.specs.Frame.{frame}
 use Rattle.audit_wire.specs.Reply.{reply_in}
 use Rattle.audit_wire.specs.Stream.{request_frame}
-use Rattle.audit_cli_client.specs.Conversation.{ReadsReply, ReadsReplies, Converses}
+use Rattle.audit_cli_client.specs.Conversation.{ReadsReply, Converses}
 
 pub consumes_more : (old mid new : Option (List ℕ)) (first second : List ℕ) → Consumes old mid first → Consumes mid new second → Consumes old new (first ++ second)
 consumes_more None mid new first second a b = tt
@@ -20,15 +19,15 @@ consumes_more (Some xs) None new first second a b = absurd a
 consumes_more (Some xs) (Some ys) None first second a b = absurd b
 consumes_more (Some xs) (Some ys) (Some zs) first second a b = a ∙ ap (λ r. first ++ r) b ∙ sym (append_assoc first second zs)
 
-consumes_none : (known : Option (List ℕ)) → Consumes known known []
+pub consumes_none : (known : Option (List ℕ)) → Consumes known known []
 consumes_none None = tt
 consumes_none (Some bytes) = refl
 
-appends_none : (known : Option (List ℕ)) → Appends known known []
+pub appends_none : (known : Option (List ℕ)) → Appends known known []
 appends_none None = tt
 appends_none (Some bytes) = sym (append-nil bytes)
 
-appends_more : (old mid new : Option (List ℕ)) (first second : List ℕ) → Appends old mid first → Appends mid new second → Appends old new (first ++ second)
+pub appends_more : (old mid new : Option (List ℕ)) (first second : List ℕ) → Appends old mid first → Appends mid new second → Appends old new (first ++ second)
 appends_more None mid new first second a b = tt
 appends_more (Some xs) None new first second a b = absurd a
 appends_more (Some xs) (Some ys) None first second a b = absurd b

@@ -1,5 +1,5 @@
 -- What the answers to questions are, and under what they were accepted.
-use Rattle.std.specs.Prelude.{◌≡◌, ◌==◌, ℕ, Option, List, [], ◌∷◌, Result, Ok, Err, if◌then◌else◌}
+use Rattle.std.specs.Prelude.{◌≡◌, ◌==◌, ℕ, Option, List, ◌∷◌, if◌then◌else◌}
 use Rattle.sha2.specs.Sha256.{sha256}
 use Rattle.audit_proof.specs.declared.commitment.Commitment.{Commitment}
 use Rattle.audit_proof.specs.ProofBytes.{Member, Increment}

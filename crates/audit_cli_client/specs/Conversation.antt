@@ -1,5 +1,5 @@
 -- What is written to a connection and read from it: requests, and replies.
-use Rattle.std.specs.Prelude.{◌≡◌, ℕ, Option, Some, List, [], ◌∷◌, map}
+use Rattle.std.specs.Prelude.{◌≡◌, ℕ, Option, Some, List, map}
 use Rattle.std.specs.List.{flat_map}
 use Rattle.std.specs.Io.KnownBytes.{Appends, Consumes}
 use Rattle.audit_wire.specs.declared.request.Request.{Request}

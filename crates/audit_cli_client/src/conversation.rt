@@ -1,7 +1,8 @@
 //! Requests that are written to a connection, and replies that are read from it.
-ghost use Rattle.std.specs.Prelude.{◌≡◌, ◌∷◌, [], length, IfOk, OnOk};
+ghost use Rattle.std.specs.Prelude.{◌≡◌, ◌≤◌, ◌∷◌, [], length, take, IfOk, OnOk, OnErr};
 ghost use Rattle.std.specs.Int.{w16, to_be_bytes};
-ghost use Rattle.std.specs.Io.KnownBytes.{Appends, Consumes};
+ghost use Rattle.std.specs.Io.KnownBytes.{Appends, Consumes, Keeps};
+ghost use Rattle.audit_text.specs.Writing.{WritesInPart};
 ghost use Rattle.audit_wire.specs.declared.limits.TheConstants.{LENGTH_BYTES};
 ghost use Rattle.audit_wire.specs.Frame.{frame};
 ghost use Rattle.audit_wire.specs.Request.{IsRequest};
@@ -47,16 +48,51 @@ fn send_request<W: Write>(
     send_bytes(to, &frame)
 }
 
-/// Writes all bytes to a connection.
+/// Writes all bytes to a connection. After an error a prefix of them was written.
 pub fn send_bytes<W: Write>(to: &mut W, bytes: &[u8]) -> Result<(), ClientError>
     ensures sent { OnOk result (Appends (W.contents to.old) (W.contents to.new) bytes.now) }
+    ensures part { OnErr result (WritesInPart (W.contents to.old) (W.contents to.new) bytes.now) }
 {
-    if let Err(error) = to.write_all(bytes) {
-        return Err(fault_of(&error));
-    }
+    send_rest(to, bytes)?;
     match to.flush() {
         Ok(()) => Ok(()),
         Err(error) => Err(fault_of(&error)),
+    }
+}
+
+fn send_rest<W: Write>(to: &mut W, bytes: &[u8]) -> Result<(), ClientError>
+    ensures sent { OnOk result (Appends (W.contents to.old) (W.contents to.new) bytes.now) }
+    ensures part { OnErr result (WritesInPart (W.contents to.old) (W.contents to.new) bytes.now) }
+{
+    let mut rest = bytes;
+    for _ in 0..u64::MAX {
+        if rest.is_empty() {
+            return Ok(());
+        }
+        let written = send_once(to, rest)?;
+        let (_, left) = rest.split_at(written);
+        rest = left;
+    }
+    Err(ClientError::Ended)
+}
+
+// Writes once. An interrupted write counts as no bytes, so the caller tries again.
+fn send_once<W: Write>(to: &mut W, bytes: &[u8]) -> Result<usize, ClientError>
+    ensures within { IfOk result (λ written. written ≤ length bytes.now) }
+    ensures written { IfOk result (λ written. Appends (W.contents to.old) (W.contents to.new)
+        (take written bytes.now)) }
+    ensures kept { OnErr result (Keeps (W.contents to.old) (W.contents to.new)) }
+{
+    match to.write(bytes) {
+        Ok(0) => Err(ClientError::Ended),
+        Ok(written) => Ok(written),
+        Err(error) => {
+            if error.kind() == ErrorKind::Interrupted {
+                Ok(0)
+            } else {
+                Err(fault_of(&error))
+            }
+        }
     }
 }
 

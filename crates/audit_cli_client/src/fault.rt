@@ -26,6 +26,9 @@ pub enum ClientError {
     /// The log has another root than the newest commitment that was kept, for the same number of entries.
     #[error("the log has another root")]
     OtherRoot,
+    /// What the server sent couldn't be written.
+    #[error("the output can't be written")]
+    Output,
     /// Memory was refused.
     #[error("out of memory")]
     Memory,

@@ -2,6 +2,7 @@
 ghost use Rattle.std.specs.Prelude.{◌∷◌, ◌++◌, [], List};
 ghost use Rattle.audit_proof.specs.declared.commitment.Commitment.{Commitment};
 ghost use Rattle.audit_cli_client.specs.Joined.{IsJoined, AreJoined};
+ghost use Rattle.audit_cli_client.specs.Keeping.{AreRuns, kept_after};
 
 /// Commitments of which each is joined to the next stay so when one is added to which the newest is joined. So they
 /// are over any runs of a witness that keeps what [`watch`](crate::watch) saw grow.
@@ -9,4 +10,12 @@ pub fn what_a_witness_keeps_is_joined()
     ensures first { (seen : Commitment) → AreJoined (seen ∷ []) }
     ensures more { (before : List Commitment) (kept seen : Commitment) → AreJoined (before ++ kept ∷ [])
         → IsJoined kept seen → AreJoined (before ++ kept ∷ seen ∷ []) }
+{}
+
+/// What a witness keeps stays joined over any sequence of runs, whatever the server gave in them: the commitments of
+/// its file are joined pairwise, if those that it began with are. So two different pasts under them are a SHA-256
+/// collision, by [`collide_three`](audit_proof::collide_three).
+pub fn runs_of_a_witness_stay_joined()
+    ensures { (start : List Commitment) (runs : List (List Commitment)) → AreJoined start → AreRuns start runs
+        → AreJoined (kept_after start runs) }
 {}

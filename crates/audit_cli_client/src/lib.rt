@@ -2,10 +2,17 @@
 //! commitment that the server gave before them in the same conversation.
 #![tactic(auto)]
 
+mod answering;
 mod asking;
 mod conversation;
+mod exporting;
 mod fault;
+mod keeping;
 pub mod laws;
+mod refusal_word;
+mod send_error;
+mod sending;
+mod taking;
 mod watching;
 
 pub use asking::{
@@ -13,5 +20,10 @@ pub use asking::{
     newest_commitment,
 };
 pub use conversation::{ask, next_reply, send_bytes};
+pub use exporting::{Export, export_entries};
 pub use fault::ClientError;
+pub use keeping::{Kept, WatchError, watch_and_keep};
+pub use refusal_word::word_of_refusal;
+pub use send_error::SendError;
+pub use sending::{SendEnd, send_events};
 pub use watching::{Sight, watch};

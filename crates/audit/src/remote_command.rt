@@ -1,0 +1,34 @@
+//! The commands that ask a server, as requests.
+use crate::command::word;
+use audit_cli_remote::Request as Remote;
+use clap::ArgMatches;
+
+/// The request of a command with these arguments, if it is a command that asks a server.
+pub fn remote_request<'a>(name: &str, given: &ArgMatches<'a>) -> Option<Remote<'a>> {
+    let socket = word(given, "SOCKET");
+    let timeout = given.get_str("timeout");
+    match name {
+        "ask" => Some(Remote::Ask {
+            socket,
+            question: (
+                word(given, "QUESTION"),
+                given.get_str("A"),
+                given.get_str("B"),
+                given.get_str("C"),
+            ),
+            timeout,
+        }),
+        "send" => Some(Remote::Send {
+            socket,
+            window: given.get_str("window"),
+            timeout,
+        }),
+        "watch" => Some(Remote::Watch {
+            socket,
+            state: word(given, "STATE"),
+            every: given.get_str("every"),
+            timeout,
+        }),
+        _ => None,
+    }
+}

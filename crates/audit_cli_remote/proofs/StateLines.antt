@@ -1,0 +1,29 @@
+-- The lines of a witness's file, read one after another.
+use Rattle.std.specs.Prelude.{◌<◌, map, Some, Option}
+use Rattle.std.proofs.Common.{◌≡◌, ◌∙◌, ℕ, List, [], ◌∷◌, ◌++◌, length, append_assoc, append-nil, sym, ap}
+use Rattle.std.proofs.lemmas.List.{map-append}
+use Rattle.audit_proof.specs.declared.commitment.Commitment.{Commitment}
+use Rattle.audit_text.specs.Lines.{lines_of, IsCutInLines}
+use Rattle.audit_text.proofs.FirstLine.{first_of_lines}
+use Rattle.audit_cli_offline.specs.CommitmentWord.{commitment_in_word}
+
+-- these commitments were read, and the other lines remain
+abbrev pub IsReadUpTo : List ℕ → List Commitment → List ℕ → Type 0
+IsReadUpTo text kept rest = map commitment_in_word (lines_of text) ≡ map (λ one. Some one) kept ++ map commitment_in_word (lines_of rest)
+
+pub one_line_more : (text : List ℕ) (kept : List Commitment) (one : Commitment) (rest line after : List ℕ) → IsReadUpTo text kept rest → 0 < length rest → IsCutInLines rest line after → commitment_in_word line ≡ Some one
+    → IsReadUpTo text (kept ++ one ∷ []) after
+one_line_more text kept one rest line after so_far some cut is =
+    so_far ∙ ap (λ (l : List (List ℕ)). map (λ (k : Commitment). Some k) kept ++ map commitment_in_word l) (first_of_lines rest line after some cut)
+    ∙ ap (λ (o : Option Commitment). map (λ (k : Commitment). Some k) kept ++ o ∷ map commitment_in_word (lines_of after)) is
+    ∙ sym (append_assoc (map (λ (k : Commitment). Some k) kept) (Some one ∷ []) (map commitment_in_word (lines_of after)))
+    ∙ ap (λ (l : List (Option Commitment)). l ++ map commitment_in_word (lines_of after)) (sym (map-append (λ (k : Commitment). Some k) kept (one ∷ [])))
+
+no_lines : (rest : List ℕ) → rest ≡ [] → lines_of rest ≡ []
+unfolding lines_of
+no_lines rest none = ap lines_of none
+
+pub all_lines_read : (text : List ℕ) (kept : List Commitment) (rest : List ℕ) → IsReadUpTo text kept rest → rest ≡ [] → map commitment_in_word (lines_of text) ≡ map (λ one. Some one) kept
+all_lines_read text kept rest so_far none =
+    so_far ∙ ap (λ (l : List (List ℕ)). map (λ (k : Commitment). Some k) kept ++ map commitment_in_word l) (no_lines rest none)
+    ∙ append-nil (map (λ (k : Commitment). Some k) kept)

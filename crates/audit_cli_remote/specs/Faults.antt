@@ -1,0 +1,80 @@
+-- The errors of commands that ask a server, and the status with which the program exits after each.
+use Rattle.std.specs.Prelude.{◌≡◌, ℕ, Bool, true, false, Option, Some, None, List, codes, Result, Ok, Err}
+use Rattle.audit_wire.specs.declared.refusal.Refusal.{Refusal}
+use Rattle.audit_wire.specs.declared.refusal.Refusal.TheVariants as refusal
+use Rattle.audit_store.specs.declared.store_error.StoreError.TheVariants as store
+use Rattle.audit_text.specs.declared.fault.LinesError.{LinesError}
+use Rattle.audit_cli_store.specs.declared.status.Status.{Status}
+use Rattle.audit_cli_store.specs.declared.status.Status.TheVariants as ends
+use Rattle.audit_cli_store.specs.declared.fault.CommandError.TheVariants.{Refused, File, Lines}
+use Rattle.audit_cli_store.specs.Faults as commands
+use Rattle.audit_cli_client.specs.declared.fault.ClientError.{ClientError}
+use Rattle.audit_cli_client.specs.declared.fault.ClientError.TheVariants as client
+use Rattle.audit_cli_client.specs.declared.send_error.SendError.{SendError}
+use Rattle.audit_cli_client.specs.declared.send_error.SendError.TheVariants as sending
+use Rattle.audit_cli_remote.specs.declared.fault.RemoteError.{RemoteError}
+use Rattle.audit_cli_remote.specs.declared.fault.RemoteError.TheVariants.{Command, NoConnection, Server, BadStateLine}
+use Rattle.audit_cli_remote.specs.declared.fault.RemoteError.TheVariants.{NotAcknowledged}
+
+-- the error for refused memory
+abbrev pub no_memory : RemoteError
+no_memory = Command (Refused store.Memory)
+
+-- a refusal of the server's device is a device's; every other refusal is one of the log
+abbrev pub status_of_answer : Refusal → Status
+status_of_answer refusal.DamagedLog = ends.Refused
+status_of_answer refusal.Full = ends.Refused
+status_of_answer refusal.NoSuchVersion = ends.Refused
+status_of_answer refusal.Worn = ends.Refused
+status_of_answer refusal.Device = ends.Device
+status_of_answer refusal.Closed = ends.Refused
+status_of_answer refusal.Malformed = ends.Refused
+
+-- An answer that isn't due or isn't accepted is refused; one that never comes, or can't be written, is a failed file.
+abbrev pub status_of_server : ClientError → Status
+status_of_server (client.Refused code) = status_of_answer code
+status_of_server client.BadReply = ends.Refused
+status_of_server client.Ended = ends.Device
+status_of_server client.TimedOut = ends.Device
+status_of_server client.NotAccepted = ends.Refused
+status_of_server client.Shorter = ends.Refused
+status_of_server client.OtherRoot = ends.Refused
+status_of_server client.Output = ends.Device
+status_of_server client.Memory = ends.Memory
+
+abbrev pub remote_status : RemoteError → Status
+remote_status (Command fault) = commands.status_of fault
+remote_status NoConnection = ends.Device
+remote_status (Server error) = status_of_server error
+remote_status (BadStateLine line) = ends.Refused
+remote_status (NotAcknowledged lines first) = ends.Device
+
+-- the command's error with the same meaning
+abbrev pub of_sending : SendError → RemoteError
+of_sending (sending.Input cause) = Command (Lines cause)
+of_sending (sending.Client error) = Server error
+of_sending sending.Output = Command File
+
+-- the line of the output that judges the log, if the error is a judgment
+abbrev pub judgment_in : ClientError → Option (List ℕ)
+judgment_in (client.Refused code) = None
+judgment_in client.BadReply = None
+judgment_in client.Ended = None
+judgment_in client.TimedOut = None
+judgment_in client.NotAccepted = Some (codes "not accepted\n")
+judgment_in client.Shorter = Some (codes "shorter\n")
+judgment_in client.OtherRoot = Some (codes "other root\n")
+judgment_in client.Output = None
+judgment_in client.Memory = None
+
+abbrev pub judgment_of : RemoteError → Option (List ℕ)
+judgment_of (Command fault) = None
+judgment_of NoConnection = None
+judgment_of (Server error) = judgment_in error
+judgment_of (BadStateLine line) = None
+judgment_of (NotAcknowledged lines first) = None
+
+-- the error isn't a judgment of the log
+abbrev pub IsNoJudgment : Result Status RemoteError → Type 0
+IsNoJudgment (Ok status) = Unit {0}
+IsNoJudgment (Err fault) = judgment_of fault ≡ None

@@ -1,0 +1,214 @@
+ghost use Rattle.std.specs.Prelude.{◌≡◌, option_map};
+ghost use Rattle.audit_cli_remote.specs.Faults.{no_memory, remote_status, status_of_server, of_sending, judgment_of};
+
+use audit_cli_client::{ClientError, SendError, word_of_refusal};
+use audit_cli_store::{CommandError, Status, report};
+use audit_store::StoreError;
+use audit_text::LinesError;
+use audit_wire::Refusal;
+use std::alloc::{AllocError, AllocFailed};
+use std::io;
+use std::io::Write;
+
+/// Why a command that asks a server failed.
+#[derive(Clone, Copy, Debug, PartialEq, Eq)]
+pub enum RemoteError {
+    /// An error that other commands have too: an argument, a file, lines or memory.
+    Command(CommandError),
+    /// There is no connection to the socket.
+    NoConnection,
+    /// The server didn't answer, or its answer isn't accepted.
+    Server(ClientError),
+    /// The line with this number, counted from 1, of a witness's file isn't a commitment.
+    BadStateLine(u64),
+    /// As many lines were sent, from the line with this number on, and weren't acknowledged.
+    NotAcknowledged {
+        /// Their number.
+        lines: u64,
+        /// The number of the first of them, counted from 1.
+        first: u64,
+    },
+}
+
+impl RemoteError {
+    /// Returns the status with which the program exits.
+    pub fn status(self) -> Status
+        ensures { result ≡ remote_status self }
+    {
+        match self {
+            RemoteError::Command(fault) => fault.status(),
+            RemoteError::NoConnection | RemoteError::NotAcknowledged { .. } => Status::Device,
+            RemoteError::Server(error) => status_of_server(error),
+            RemoteError::BadStateLine(_) => Status::Refused,
+        }
+    }
+
+    /// Prints the error in one line, and returns the status with which the program exits. A judgment of the log isn't
+    /// printed here, because it is a line of the output. It allocates nothing.
+    pub fn report<M: Write>(self, messages: &mut M) -> Status
+        ensures { result ≡ remote_status self }
+    {
+        let _ = match self {
+            RemoteError::Command(fault) => {
+                let _ = report(fault, messages);
+                Ok(())
+            }
+            RemoteError::NoConnection => writeln!(messages, "audit: file fault"),
+            RemoteError::Server(error) => print_server_error(error, messages),
+            RemoteError::BadStateLine(line) => {
+                writeln!(messages, "audit: line {line}: bad commitment line")
+            }
+            RemoteError::NotAcknowledged { lines, first } => writeln!(
+                messages,
+                "audit: {lines} lines from line {first} are not acknowledged"
+            ),
+        };
+        self.status()
+    }
+
+    /// The line of the output that judges the log, if the error is a judgment.
+    pub fn judgment(self) -> Option<&'static str>
+        ensures { option_map (λ words. words.now) result ≡ judgment_of self }
+    {
+        match self {
+            RemoteError::Server(ClientError::NotAccepted) => Some("not accepted\n"),
+            RemoteError::Server(ClientError::Shorter) => Some("shorter\n"),
+            RemoteError::Server(ClientError::OtherRoot) => Some("other root\n"),
+            _ => None,
+        }
+    }
+
+    /// Whether a later try may succeed: the server isn't there, or doesn't answer.
+    pub fn is_passing(self) -> bool {
+        matches!(
+            self,
+            RemoteError::NoConnection
+                | RemoteError::Server(ClientError::Ended | ClientError::TimedOut)
+        )
+    }
+}
+
+fn status_of_server(error: ClientError) -> Status
+    ensures { result ≡ status_of_server error }
+{
+    match error {
+        ClientError::Refused(Refusal::Device)
+        | ClientError::Ended
+        | ClientError::TimedOut
+        | ClientError::Output => Status::Device,
+        ClientError::Memory => Status::Memory,
+        ClientError::Refused(_)
+        | ClientError::BadReply
+        | ClientError::NotAccepted
+        | ClientError::Shorter
+        | ClientError::OtherRoot => Status::Refused,
+    }
+}
+
+fn print_server_error<M: Write>(error: ClientError, messages: &mut M) -> io::Result<()> {
+    match error {
+        ClientError::Refused(refusal) => {
+            let (number, name) = (refusal.code(), word_of_refusal(refusal));
+            writeln!(messages, "audit: {number} {name}")
+        }
+        ClientError::BadReply => writeln!(messages, "audit: bad reply"),
+        ClientError::Ended => writeln!(messages, "audit: connection ended"),
+        ClientError::TimedOut => writeln!(messages, "audit: no reply in time"),
+        ClientError::Output => writeln!(messages, "audit: file fault"),
+        ClientError::Memory => {
+            let _ = report(CommandError::Refused(StoreError::Memory), messages);
+            Ok(())
+        }
+        ClientError::NotAccepted | ClientError::Shorter | ClientError::OtherRoot => Ok(()),
+    }
+}
+
+impl From<CommandError> for RemoteError {
+    ghost use Rattle.std.specs.Prelude.{◌≡◌};
+    ghost use Rattle.audit_cli_remote.specs.declared.fault.RemoteError.TheVariants.{Command};
+
+    ghost from_gives = { λ cause fault. fault ≡ Command cause };
+
+    fn from(fault: CommandError) -> Self {
+        RemoteError::Command(fault)
+    }
+}
+
+impl From<ClientError> for RemoteError {
+    ghost use Rattle.std.specs.Prelude.{◌≡◌};
+    ghost use Rattle.audit_cli_remote.specs.declared.fault.RemoteError.TheVariants.{Server};
+
+    ghost from_gives = { λ cause fault. fault ≡ Server cause };
+
+    fn from(error: ClientError) -> Self {
+        RemoteError::Server(error)
+    }
+}
+
+impl From<LinesError> for RemoteError {
+    ghost use Rattle.std.specs.Prelude.{◌≡◌};
+    ghost use Rattle.audit_cli_remote.specs.declared.fault.RemoteError.TheVariants.{Command};
+    ghost use Rattle.audit_cli_store.specs.declared.fault.CommandError.TheVariants.{Lines};
+
+    ghost from_gives = { λ cause fault. fault ≡ Command (Lines cause) };
+
+    fn from(fault: LinesError) -> Self {
+        RemoteError::Command(CommandError::Lines(fault))
+    }
+}
+
+impl From<io::Error> for RemoteError {
+    ghost use Rattle.std.specs.Prelude.{◌≡◌};
+    ghost use Rattle.audit_cli_remote.specs.declared.fault.RemoteError.TheVariants.{Command};
+    ghost use Rattle.audit_cli_store.specs.declared.fault.CommandError.TheVariants.{File};
+
+    ghost from_gives = { λ _ fault. fault ≡ Command File };
+
+    fn from(_: io::Error) -> Self {
+        RemoteError::Command(CommandError::File)
+    }
+}
+
+impl From<AllocError> for RemoteError {
+    ghost use Rattle.std.specs.Prelude.{◌≡◌};
+    ghost use Rattle.audit_cli_remote.specs.Faults.{no_memory};
+
+    ghost from_gives = { λ _ fault. fault ≡ no_memory };
+
+    fn from(_: AllocError) -> Self {
+        no_memory()
+    }
+}
+
+impl<T: Drop> From<AllocFailed<T>> for RemoteError {
+    ghost use Rattle.std.specs.Prelude.{◌≡◌};
+    ghost use Rattle.audit_cli_remote.specs.Faults.{no_memory};
+
+    ghost from_gives = { λ _ fault. fault ≡ no_memory };
+
+    fn from(_: AllocFailed<T>) -> Self {
+        no_memory()
+    }
+}
+
+/// The error for refused memory.
+pub fn no_memory() -> RemoteError
+    ensures { result ≡ no_memory }
+{
+    RemoteError::Command(CommandError::Refused(StoreError::Memory))
+}
+
+impl From<SendError> for RemoteError {
+    ghost use Rattle.std.specs.Prelude.{◌≡◌};
+    ghost use Rattle.audit_cli_remote.specs.Faults.{of_sending};
+
+    ghost from_gives = { λ given fault. fault ≡ of_sending given };
+
+    fn from(error: SendError) -> Self {
+        match error {
+            SendError::Input(fault) => RemoteError::Command(CommandError::Lines(fault)),
+            SendError::Client(error) => RemoteError::Server(error),
+            SendError::Output => RemoteError::Command(CommandError::File),
+        }
+    }
+}

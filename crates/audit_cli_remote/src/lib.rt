@@ -1,0 +1,16 @@
+//! The commands of the program `audit` that ask a running store over its socket: clients and witnesses.
+#![tactic(auto)]
+
+mod arguments;
+mod asking;
+mod connection;
+mod fault;
+mod out;
+mod pause;
+mod request;
+mod sending;
+mod state_file;
+mod watching;
+
+pub use fault::RemoteError;
+pub use request::{Request, run};

@@ -1,0 +1,174 @@
+//! The requests that ask a server, and how they are carried out.
+ghost use Rattle.std.specs.Prelude.{◌≡◌, ◌⊎◌, ℕ, List, Err, Some};
+ghost use Rattle.std.specs.Io.KnownBytes.{Appends, Keeps};
+ghost use Rattle.audit_text.specs.declared.fault.LinesError.{LinesError};
+ghost use Rattle.audit_cli_remote.specs.declared.fault.RemoteError.{RemoteError};
+ghost use Rattle.audit_cli_remote.specs.Faults.{IsNoJudgment, judgment_of};
+ghost use Rattle.audit_cli_remote.specs.Arguments.{AreNoSeconds, IsNoWindow, HasWrongNumber};
+
+use crate::arguments::{QuestionWords, question_asked, seconds_asked, window_asked};
+use crate::asking::ask_socket;
+use crate::fault::RemoteError;
+use crate::sending::send_to_socket;
+use crate::watching::{Post, watch_for_ever, watch_once};
+use audit_cli_store::{CommandError, Status, report_flush};
+use audit_text::write_whole;
+use std::alloc::Global;
+use std::fs::Files;
+use std::io::{Read, Write};
+use std::net::Net;
+
+// How many seconds a reply is waited for if the command line doesn't say.
+const TIMEOUT: u64 = 30;
+
+// How many lines are sent ahead of their answers if the command line doesn't say.
+const WINDOW: u64 = 64;
+
+/// A request to a server, with the words of the command line as they were given.
+#[derive(Clone, Copy, Debug)]
+pub enum Request<'a> {
+    /// Asks a question.
+    Ask {
+        /// The path of the server's socket.
+        socket: &'a str,
+        /// The question.
+        question: QuestionWords<'a>,
+        /// How many seconds a reply is waited for; 30 if absent.
+        timeout: Option<&'a str>,
+    },
+    /// Sends the events in the lines of the input.
+    Send {
+        /// The path of the server's socket.
+        socket: &'a str,
+        /// How many lines are sent ahead of their answers; 64 if absent.
+        window: Option<&'a str>,
+        /// How many seconds an answer is waited for; 30 if absent.
+        timeout: Option<&'a str>,
+    },
+    /// Sees the newest commitment, and keeps it in a file if it follows from the one before.
+    Watch {
+        /// The path of the server's socket.
+        socket: &'a str,
+        /// The file.
+        state: &'a str,
+        /// After how many seconds to look again; if absent, it looks once.
+        every: Option<&'a str>,
+        /// How many seconds a reply is waited for; 30 if absent.
+        timeout: Option<&'a str>,
+    },
+}
+
+/// Carries out a request. Lines that begin with `audit: ` are written to `messages`, all others to `output`, which is
+/// flushed after each answer to an event and at the end. Returns the status with which the program exits.
+pub fn run<F: Files + Net, R: Read, W: Write, M: Write>(
+    rt: &F,
+    alloc: Global,
+    request: Request<'_>,
+    input: &mut R,
+    output: &mut W,
+    messages: &mut M,
+) -> Status
+    // A wrong number ends the program before anything is written. An output that can't be flushed is another fault.
+    ensures words { HasWrongNumber request.entry → (result ≡ Status.Usage) ⊎ (result ≡ Status.Device) }
+    ensures unwritten { HasWrongNumber request.entry → Keeps (W.contents output.old) (W.contents output.new) }
+{
+    let done = perform(rt, alloc, request, input, output, messages);
+    let judged = print_judgment(done, output);
+    let flushed = output.flush();
+    let status = match judged {
+        Ok(status) => status,
+        Err(fault) => fault.report(messages),
+    };
+    report_flush(status, flushed, messages)
+}
+
+// Prints the judgment of a log, if that is why the command failed.
+fn print_judgment<W: Write>(
+    done: Result<Status, RemoteError>,
+    output: &mut W,
+) -> Result<Status, RemoteError>
+    ensures other { IsNoJudgment done → (result ≡ done) × Keeps (W.contents output.old) (W.contents output.new) }
+    ensures judged { (fault : RemoteError) (words : List ℕ) → done ≡ Err fault → judgment_of fault ≡ Some words
+        → ((result ≡ done) × Appends (W.contents output.old) (W.contents output.new) words)
+        ⊎ (result ≡ Err (RemoteError.Command (CommandError.Lines LinesError.Write))) }
+{
+    if let Err(fault) = done {
+        if let Some(words) = fault.judgment() {
+            write_whole(output, words.as_bytes())?;
+        }
+    }
+    done
+}
+
+// The words are checked before the socket is opened.
+fn perform<F: Files + Net, R: Read, W: Write, M: Write>(
+    rt: &F,
+    alloc: Global,
+    request: Request<'_>,
+    input: &mut R,
+    output: &mut W,
+    messages: &mut M,
+) -> Result<Status, RemoteError>
+    ensures words { HasWrongNumber request.entry → result ≡ Err (RemoteError.Command CommandError.BadArgument) }
+    ensures unwritten { HasWrongNumber request.entry → Keeps (W.contents output.old) (W.contents output.new) }
+{
+    match request {
+        Request::Ask {
+            socket,
+            question,
+            timeout,
+        } => {
+            let question = question_asked(question)?;
+            let seconds = seconds_or_default(timeout)?;
+            ask_socket(rt, alloc, socket, question, seconds, output)?;
+        }
+        Request::Send {
+            socket,
+            window,
+            timeout,
+        } => {
+            let window = window_or_default(window)?;
+            let seconds = seconds_or_default(timeout)?;
+            return send_to_socket(rt, alloc, socket, window, seconds, input, output, messages);
+        }
+        Request::Watch {
+            socket,
+            state,
+            every,
+            timeout,
+        } => {
+            let seconds = seconds_or_default(timeout)?;
+            let post = Post {
+                socket,
+                state,
+                seconds,
+            };
+            match every {
+                Some(word) => {
+                    let every = seconds_asked(word)?;
+                    watch_for_ever(rt, alloc, post, every, output, messages)?;
+                }
+                None => watch_once(rt, alloc, post, output)?,
+            }
+        }
+    }
+    Ok(Status::Done)
+}
+
+fn seconds_or_default(word: Option<&str>) -> Result<u64, CommandError>
+    ensures { AreNoSeconds word.entry → result ≡ Err CommandError.BadArgument }
+{
+    match word {
+        Some(word) => seconds_asked(word),
+        None => Ok(TIMEOUT),
+    }
+}
+
+fn window_or_default(word: Option<&str>) -> Result<u64, CommandError>
+    ensures { IsNoWindow word.entry → result ≡ Err CommandError.BadArgument }
+{
+    match word {
+        Some(word) => window_asked(word),
+        None => Ok(WINDOW),
+    }
+}

@@ -1,0 +1,59 @@
+//! Sending events to a server.
+ghost use Rattle.std.specs.Prelude.{◌≡◌};
+ghost use Rattle.audit_cli_remote.specs.Sent.{status_of_sent};
+
+use crate::connection::connect;
+use crate::fault::RemoteError;
+use audit_cli_client::{SendEnd, send_events};
+use audit_cli_store::Status;
+use std::alloc::Global;
+use std::io::{BufReader, Read, Write};
+use std::net::Net;
+
+// The size in bytes of the buffer for the input: the most that is read at a time.
+const INPUT_ROOM: usize = 1 << 16;
+
+/// Sends the events of the input to a server, and prints its answers. Returns the status of a command whose lines were
+/// all answered.
+pub fn send_to_socket<F: Net, R: Read, W: Write, M: Write>(
+    rt: &F,
+    alloc: Global,
+    socket: &str,
+    window: u64,
+    seconds: u64,
+    input: &mut R,
+    output: &mut W,
+    messages: &mut M,
+) -> Result<Status, RemoteError> {
+    let mut lines = BufReader::with_capacity(alloc, INPUT_ROOM, input)?;
+    let stream = connect(rt, socket, seconds)?;
+    let mut to = &stream;
+    let mut from = BufReader::new(alloc, &stream)?;
+    let end = send_events(alloc, &mut lines, &mut to, &mut from, output, window);
+    Ok(report_sent(&end, messages))
+}
+
+// Prints why sending ended before the input did, if so, and which lines weren't acknowledged. Returns the status.
+fn report_sent<M: Write>(end: &SendEnd, messages: &mut M) -> Status
+    ensures { result ≡ status_of_sent end.now }
+{
+    let status = status_of_end(end, messages);
+    if end.sent > end.answered {
+        let left = RemoteError::NotAcknowledged {
+            lines: end.sent - end.answered,
+            first: end.answered + 1,
+        };
+        left.report(messages);
+    }
+    status
+}
+
+fn status_of_end<M: Write>(end: &SendEnd, messages: &mut M) -> Status
+    ensures { result ≡ status_of_sent end.now }
+{
+    match end.error {
+        Some(error) => RemoteError::from(error).report(messages),
+        None if end.refused > 0 => Status::Refused,
+        None => Status::Done,
+    }
+}
