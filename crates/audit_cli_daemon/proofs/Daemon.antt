@@ -1,6 +1,7 @@
 -- Serving a store to clients that come and go, by a new core.
-use Rattle.std.proofs.Common.{◌≡◌, ◌⊎◌, ◌∙◌, inl, inr, ℕ, Option, List, [], ◌∷◌, refl, sym, ap, subst}
-use Rattle.std.specs.Io.KnownBytes.{Appends}
+use Rattle.std.proofs.Common.{◌≡◌, ◌⊎◌, ◌∙◌, inl, inr, ℕ, Option, Some, None, Result, Ok, Err, List, [], ◌∷◌, refl, sym, ap, subst}
+use Rattle.std.specs.Prelude.{OnOk, IfErr}
+use Rattle.std.specs.Io.KnownBytes.{Appends, Keeps}
 use Rattle.audit_disk_model.specs.declared.sectors.Sectors as sectors
 use Rattle.audit_store.specs.Store.{active_header}
 use Rattle.audit_store.specs.declared.store.Store.{Store}
@@ -48,18 +49,15 @@ module _ {D : Type 0} {g : sectors.Ghosts D} {S : Type 0} (N : CallModel S) wher
   kept_by_core old new core last made left kept =
       subst (StoreKeepsOn old) (sym left) (subst (λ (store : Store D g). StoreKeepsOn store (store_in last)) made kept)
 
-  pub kept_when_served : (old new : Store D g) (core last : Core D g) (after : List (SlotData S)) → store_in core ≡ old → new ≡ store_in last → IsServedBy N core last no_clients after → StoreKeepsOn old new
+  kept_when_served : (old new : Store D g) (core last : Core D g) (after : List (SlotData S)) → store_in core ≡ old → new ≡ store_in last → IsServedBy N core last no_clients after → StoreKeepsOn old new
   kept_when_served old new core last after made left served = kept_by_core old new core last made left (kept_served N core last no_clients served.between served.served)
 
-  pub kept_when_stopped : (old new : Store D g) (core last : Core D g) (after : List (SlotData S)) (fault : CommandError) → store_in core ≡ old → new ≡ store_in last → IsStoppedBy N core last no_clients after fault → StoreKeepsOn old new
+  kept_when_stopped : (old new : Store D g) (core last : Core D g) (after : List (SlotData S)) (fault : CommandError) → store_in core ≡ old → new ≡ store_in last → IsStoppedBy N core last no_clients after fault → StoreKeepsOn old new
   kept_when_stopped old new core last after fault made left stopped = kept_by_core old new core last made left (kept_stopped N core last no_clients after stopped.2)
 
-  pub store_served : (old new : Store D g) (core last : Core D g) (after : List (SlotData S)) → IsNewCore old core → new ≡ store_in last → IsServedBy N core last no_clients after → ServesStore N old new
-  store_served old new core last after made left served = record { core = core; made = made; last = last; left = left; after = after; served = served }
-
-  pub daemon_stopped : (old new : Store D g) (written later : Option (List ℕ)) (core last : Core D g) (after : List (SlotData S)) (fault : CommandError) → IsNewCore old core → new ≡ store_in last
-      → IsStoppedBy N core last no_clients after fault → Appends written later (ready_line (active_header old)) → StopsDaemon N old new written later fault
-  daemon_stopped old new written later core last after fault made left stopped line = inr (
+  store_stopped : (old new : Store D g) (written later : Option (List ℕ)) (core last : Core D g) (after : List (SlotData S)) (fault : CommandError) → IsNewCore old core → new ≡ store_in last
+      → Appends written later (ready_line (active_header old)) → IsStoppedBy N core last no_clients after fault → StopsDaemon N old new written later fault
+  store_stopped old new written later core last after fault made left line stopped = inr (
     stopped.0,
     stopped.1,
     record {
@@ -73,3 +71,32 @@ module _ {D : Type 0} {g : sectors.Ghosts D} {S : Type 0} (N : CallModel S) wher
     },
     line,
   )
+
+  -- What a daemon came to, whose core was new and whose places had no clients.
+  module _ (old new : Store D g) (core last : Core D g) (before after : List (SlotData S)) (vacant : before ≡ no_clients) (made : IsNewCore old core) (left : new ≡ store_in last) where
+    served_by : IsServedBy N core last before after → IsServedBy N core last no_clients after
+    served_by served = subst (λ (slots : List (SlotData S)). IsServedBy N core last slots after) vacant served
+
+    stopped_by : (fault : CommandError) → IsStoppedBy N core last before after fault → IsStoppedBy N core last no_clients after fault
+    stopped_by fault stopped = subst (λ (slots : List (SlotData S)). IsStoppedBy N core last slots after fault) vacant stopped
+
+    pub kept_either : (result : Result (Unit {0}) CommandError) → OnOk result (IsServedBy N core last before after) → IfErr result (IsStoppedBy N core last before after) → StoreKeepsOn old new
+    kept_either (Ok done) served stopped = kept_when_served old new core last after made.store_is left (served_by served)
+    kept_either (Err fault) served stopped = kept_when_stopped old new core last after fault made.store_is left (stopped_by fault stopped)
+
+    pub store_served : (result : Result (Unit {0}) CommandError) → OnOk result (IsServedBy N core last before after) → OnOk result (ServesStore N old new)
+    store_served (Ok done) served = record { core = core; made = made; last = last; left = left; after = after; served = served_by served }
+    store_served (Err fault) served = tt
+
+    pub daemon_stopped : (written later : Option (List ℕ)) (result : Result (Unit {0}) CommandError) → Appends written later (ready_line (active_header old)) → IfErr result (IsStoppedBy N core last before after)
+        → IfErr result (StopsDaemon N old new written later)
+    daemon_stopped written later (Ok done) line stopped = tt
+    daemon_stopped written later (Err fault) line stopped = store_stopped old new written later core last after fault made left line (stopped_by fault stopped)
+
+pub whatever_came : {E P : Type 0} (result : Result (Unit {0}) E) → P → OnOk result P
+whatever_came (Ok done) holds = holds
+whatever_came (Err fault) holds = tt
+
+pub keeps_same : (known : Option (List ℕ)) → Keeps known known
+keeps_same None = tt
+keeps_same (Some bytes) = refl
