@@ -13,7 +13,7 @@ use Rattle.audit_wire.specs.Reply.{reply_in}
 use Rattle.audit_cli_client.specs.declared.send_error.SendError.{SendError}
 use Rattle.audit_cli_client.specs.declared.send_error.SendError.TheVariants.{Input, Client, Output}
 use Rattle.audit_cli_client.specs.Conversation.{ReadsReplies}
-use Rattle.audit_cli_client.specs.Sending.{is_refusal, refusals_in, answer_line, answer_lines, IsAnswer, AreAnswers, TakesAnswer, FailsAnswer, Prints, PrintsAll, TakesAnswers}
+use Rattle.audit_cli_client.specs.Sending.{is_refusal, refusals_in, answer_line, answer_lines, AnswersLine, AreAnswers, TakesAnswer, FailsAnswer, Prints, PrintsAll, TakesAnswers}
 use Rattle.audit_cli_client.proofs.Conversations.{consumes_more, appends_none, appends_more, appends_kept}
 use Rattle.audit_cli_client.proofs.Exports.{replies_none, replies_more}
 
@@ -97,7 +97,7 @@ prints_more {r0 = r0} {r1 = r1} {r2 = r2} {o0 = o0} {o1 = o1} {o2 = o2} {before 
       refused_is =
           sum_is ∙ ap (λ (b : Bool). if b then refused + 1 else refused) k.refuses_is ∙ one_refusal (is_refusal answer) refused ∙ ap (λ (m : ℕ). m + refusals_in (answer ∷ [])) h.refused_is
           ∙ sym (refusals_append h.answers (answer ∷ []));
-      due = due_append before h.answers (answer ∷ []) h.due (subst (λ (m : ℕ). IsAnswer m answer) place k.due, tt);
+      due = due_append before h.answers (answer ∷ []) h.due (subst (λ (m : ℕ). AnswersLine m answer) place k.due, tt);
       read = replies_more r0 r1 r2 h.answers answer h.read k.read;
       printed = subst (Appends o0 o2)
           (ap (λ (m : ℕ). answer_lines before h.answers ++ answer_line m answer) place ∙ ap (λ (l : List ℕ). answer_lines before h.answers ++ l) (sym (append-nil (answer_line (suc (before + length h.answers)) answer)))
@@ -147,7 +147,7 @@ stopped {r0 = r0} {r1 = r1} {o0 = o0} {o1 = o1} {before = before} {n = n} r2 o2 
         torn = answer ∷ [];
         answered_is = sym h.counted;
         refused_is = h.refused_is;
-        due = due_append before h.answers (answer ∷ []) h.due (subst (λ (m : ℕ). IsAnswer m answer) place k.due, tt);
+        due = due_append before h.answers (answer ∷ []) h.due (subst (λ (m : ℕ). AnswersLine m answer) place k.due, tt);
         read = (k.mid, replies_more r0 r1 k.mid h.answers answer h.read k.read);
         part = subst (WritesInPart o0 o2)
             (ap (λ (m : ℕ). answer_lines before h.answers ++ answer_line m answer) place ∙ ap (λ (l : List ℕ). answer_lines before h.answers ++ l) (sym (append-nil (answer_line (suc (before + length h.answers)) answer)))

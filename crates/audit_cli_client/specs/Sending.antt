@@ -89,18 +89,18 @@ is_refusal (reply.Incremental tag hashes) = false
 is_refusal (reply.Entry tag entry) = false
 
 -- an acknowledgement or a refusal with the tag of the request for the event of this line
-abbrev pub IsAnswer : ℕ → Reply → Type 0
-IsAnswer line (reply.Acknowledgement tag index count root) = tag ≡ line_tag line
-IsAnswer line (reply.Refused tag code) = tag ≡ line_tag line
-IsAnswer line (reply.Commitment tag count root) = ⊥
-IsAnswer line (reply.Membership tag hashes entry) = ⊥
-IsAnswer line (reply.Incremental tag hashes) = ⊥
-IsAnswer line (reply.Entry tag entry) = ⊥
+abbrev pub AnswersLine : ℕ → Reply → Type 0
+AnswersLine line (reply.Acknowledgement tag index count root) = tag ≡ line_tag line
+AnswersLine line (reply.Refused tag code) = tag ≡ line_tag line
+AnswersLine line (reply.Commitment tag count root) = ⊥
+AnswersLine line (reply.Membership tag hashes entry) = ⊥
+AnswersLine line (reply.Incremental tag hashes) = ⊥
+AnswersLine line (reply.Entry tag entry) = ⊥
 
 -- each answers its own line, from the line after the first `before` on
 abbrev pub AreAnswers : ℕ → List Reply → Type 0
 AreAnswers before [] = Unit {0}
-AreAnswers before (answer ∷ answers) = IsAnswer (suc before) answer × AreAnswers (suc before) answers
+AreAnswers before (answer ∷ answers) = AnswersLine (suc before) answer × AreAnswers (suc before) answers
 
 -- the lines that are printed for them
 abbrev pub answer_lines : ℕ → List Reply → List ℕ
@@ -177,7 +177,7 @@ pub record TakesRound (old new : Option (List ℕ)) (before : ℕ) (frames : Lis
 pub record TakesAnswer (read_old read_new old new : Option (List ℕ)) (line : ℕ) (refuses : Bool) : Type 0 where
   pub answer : Reply
   pub read : ReadsReply read_old read_new answer
-  pub due : IsAnswer line answer
+  pub due : AnswersLine line answer
   pub printed : Appends old new (answer_line line answer)
   pub refuses_is : refuses ≡ is_refusal answer
 
@@ -186,7 +186,7 @@ pub record TearsAnswer (read_old old new : Option (List ℕ)) (line : ℕ) : Typ
   pub answer : Reply
   pub mid : Option (List ℕ)
   pub read : ReadsReply read_old mid answer
-  pub due : IsAnswer line answer
+  pub due : AnswersLine line answer
   pub part : WritesInPart old new (answer_line line answer)
 
 -- nothing was printed, unless it was the output that failed

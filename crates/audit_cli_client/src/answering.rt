@@ -2,7 +2,7 @@
 ghost use Rattle.std.specs.Prelude.{◌≡◌, ◌+◌, ◌<◌, ◌≤◌, if◌then◌else◌, OnOk, OnErr, IfOk, IfErr};
 ghost use Rattle.std.specs.Io.KnownBytes.{Appends};
 ghost use Rattle.audit_text.specs.Writing.{WritesInPart};
-ghost use Rattle.audit_cli_client.specs.Sending.{is_refusal, answer_line, acknowledgement_line, refusal_line, IsAnswer};
+ghost use Rattle.audit_cli_client.specs.Sending.{is_refusal, answer_line, acknowledgement_line, refusal_line, AnswersLine};
 ghost use Rattle.audit_cli_client.specs.Sending.{TakesAnswer, FailsAnswer, TakesAnswers};
 
 use crate::asking::not_due;
@@ -112,7 +112,7 @@ fn print_line<O: Write>(output: &mut O, line: &[u8]) -> Result<(), SendError>
 // Replaces the contents of the buffer with the line of an answer, if the reply is one to this line of the input.
 // Returns whether it is a refusal.
 fn put_answer(line: &mut Vec<u8>, number: u64, given: &Reply) -> Result<bool, ClientError>
-    ensures due { OnOk result (IsAnswer number given.now) }
+    ensures due { OnOk result (AnswersLine number given.now) }
     ensures put { OnOk result (line.new.items ≡ answer_line number given.now) }
     ensures refuses { IfOk result (λ refuses. refuses ≡ is_refusal given.now) }
 {

@@ -19,7 +19,7 @@ use Rattle.audit_server_clients.specs.NewCore.{IsNewCore}
 use Rattle.audit_server_clients.proofs.Keeping.{kept_served, kept_stopped}
 use Rattle.audit_cli_store.specs.declared.fault.CommandError.{CommandError}
 use Rattle.audit_cli_daemon.specs.State.{ready_line}
-use Rattle.audit_cli_daemon.specs.Running.{no_clients, IsServedBy, IsStoppedBy, ServesStore, StopsStore, StopsDaemon}
+use Rattle.audit_cli_daemon.specs.Running.{no_clients, IsServedBy, EndsByRefusal, ServesStore, StopsStore, StopsDaemon}
 
 module _ {D : Type 0} {g : sectors.Ghosts D} {S : Type 0} (N : CallModel S) where
   abbrev store_in : Core D g → Store D g
@@ -52,11 +52,11 @@ module _ {D : Type 0} {g : sectors.Ghosts D} {S : Type 0} (N : CallModel S) wher
   kept_when_served : (old new : Store D g) (core last : Core D g) (after : List (SlotData S)) → store_in core ≡ old → new ≡ store_in last → IsServedBy N core last no_clients after → StoreKeepsOn old new
   kept_when_served old new core last after made left served = kept_by_core old new core last made left (kept_served N core last no_clients served.between served.served)
 
-  kept_when_stopped : (old new : Store D g) (core last : Core D g) (after : List (SlotData S)) (fault : CommandError) → store_in core ≡ old → new ≡ store_in last → IsStoppedBy N core last no_clients after fault → StoreKeepsOn old new
+  kept_when_stopped : (old new : Store D g) (core last : Core D g) (after : List (SlotData S)) (fault : CommandError) → store_in core ≡ old → new ≡ store_in last → EndsByRefusal N core last no_clients after fault → StoreKeepsOn old new
   kept_when_stopped old new core last after fault made left stopped = kept_by_core old new core last made left (kept_stopped N core last no_clients after stopped.2)
 
   store_stopped : (old new : Store D g) (written later : Option (List ℕ)) (core last : Core D g) (after : List (SlotData S)) (fault : CommandError) → IsNewCore old core → new ≡ store_in last
-      → Appends written later (ready_line (active_header old)) → IsStoppedBy N core last no_clients after fault → StopsDaemon N old new written later fault
+      → Appends written later (ready_line (active_header old)) → EndsByRefusal N core last no_clients after fault → StopsDaemon N old new written later fault
   store_stopped old new written later core last after fault made left line stopped = inr (
     stopped.0,
     stopped.1,
@@ -77,10 +77,10 @@ module _ {D : Type 0} {g : sectors.Ghosts D} {S : Type 0} (N : CallModel S) wher
     served_by : IsServedBy N core last before after → IsServedBy N core last no_clients after
     served_by served = subst (λ (slots : List (SlotData S)). IsServedBy N core last slots after) vacant served
 
-    stopped_by : (fault : CommandError) → IsStoppedBy N core last before after fault → IsStoppedBy N core last no_clients after fault
-    stopped_by fault stopped = subst (λ (slots : List (SlotData S)). IsStoppedBy N core last slots after fault) vacant stopped
+    stopped_by : (fault : CommandError) → EndsByRefusal N core last before after fault → EndsByRefusal N core last no_clients after fault
+    stopped_by fault stopped = subst (λ (slots : List (SlotData S)). EndsByRefusal N core last slots after fault) vacant stopped
 
-    pub kept_either : (result : Result (Unit {0}) CommandError) → OnOk result (IsServedBy N core last before after) → IfErr result (IsStoppedBy N core last before after) → StoreKeepsOn old new
+    pub kept_either : (result : Result (Unit {0}) CommandError) → OnOk result (IsServedBy N core last before after) → IfErr result (EndsByRefusal N core last before after) → StoreKeepsOn old new
     kept_either (Ok done) served stopped = kept_when_served old new core last after made.store_is left (served_by served)
     kept_either (Err fault) served stopped = kept_when_stopped old new core last after fault made.store_is left (stopped_by fault stopped)
 
@@ -88,7 +88,7 @@ module _ {D : Type 0} {g : sectors.Ghosts D} {S : Type 0} (N : CallModel S) wher
     store_served (Ok done) served = record { core = core; made = made; last = last; left = left; after = after; served = served_by served }
     store_served (Err fault) served = tt
 
-    pub daemon_stopped : (written later : Option (List ℕ)) (result : Result (Unit {0}) CommandError) → Appends written later (ready_line (active_header old)) → IfErr result (IsStoppedBy N core last before after)
+    pub daemon_stopped : (written later : Option (List ℕ)) (result : Result (Unit {0}) CommandError) → Appends written later (ready_line (active_header old)) → IfErr result (EndsByRefusal N core last before after)
         → IfErr result (StopsDaemon N old new written later)
     daemon_stopped written later (Ok done) line stopped = tt
     daemon_stopped written later (Err fault) line stopped = store_stopped old new written later core last after fault made left line (stopped_by fault stopped)

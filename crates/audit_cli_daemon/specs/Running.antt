@@ -33,8 +33,8 @@ module _ {D : Type 0} {g : sectors.Ghosts D} {S : Type 0} (N : CallModel S) wher
     pub finished : WritesOn N between after
 
   -- the core refused a step
-  abbrev pub IsStoppedBy : Core D g → Core D g → List (SlotData S) → List (SlotData S) → CommandError → Type 0
-  IsStoppedBy old new before after fault = (error : StoreError) × (fault ≡ Refused error)
+  abbrev pub EndsByRefusal : Core D g → Core D g → List (SlotData S) → List (SlotData S) → CommandError → Type 0
+  EndsByRefusal old new before after fault = (error : StoreError) × (fault ≡ Refused error)
       × StopsServing core_model N (λ first later. Refuses first later error) old new before after
 
   -- the same by a new core over the store
