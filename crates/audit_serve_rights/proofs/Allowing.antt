@@ -13,7 +13,7 @@ use Rattle.audit_serve_rights.specs.declared.position.Position.TheVariants as po
 use Rattle.audit_serve_rights.specs.declared.guarded.Guarded.{Guarded}
 use Rattle.audit_serve_rights.specs.Front.{allowed_front, front_within}
 use Rattle.audit_serve_rights.specs.Position.{is_ended, is_cut, is_over, is_proper, front_from}
-use Rattle.audit_serve_rights.specs.Guarded.{is_cut_off, IsNewGuarded, writes_in, IsGuarded, guarded_calls}
+use Rattle.audit_serve_rights.specs.Guarded.{stream_of, is_cut_off, IsNewGuarded, writes_in, IsGuarded}
 use Rattle.audit_serve_rights.specs.Allowed.{IsServedAllowed}
 use Rattle.audit_serve_rights.proofs.Front.{front_none}
 
@@ -137,28 +137,31 @@ module _ {S : Type 0} (N : CallModel S) where
       ])
       (λ one. third_or read cut shut one))
 
-  served_allowed : (k : ℕ) (stream : S) (rights : Rights) (client now : Guarded S) (steps : List StepData) (sent : List ℕ) (calls : List StreamCall) (after : SlotData (Guarded S))
-      → IsNewGuarded stream rights client → IsServedAt (guarded_calls N) k steps [] sent calls (serving client []) after → client_of after ≡ Some now → IsGuarded N client now calls
-      → IsServedAllowed N k rights stream steps sent after
-  served_allowed k stream rights client now steps sent calls after is served there did = record {
-    client = now;
-    there = there;
-    calls = did.inner;
-    did = subst (λ (from : S). N.DidCalls from now.stream did.inner) is.stream_is did.did;
-    fed = sym (append-nil (bytes_fed k steps)) ∙ sym served.read ∙ given_from_start stream rights client now calls is did;
-    ends = ends_from_start stream rights client now calls is did (is_shut after) (ends_in k steps) served.ends;
-    dropped = served.accounted.dropped;
-    written = served.accounted.written
-        ∙ ap (λ (bytes : List ℕ). bytes ++ (kept_of after ++ served.accounted.dropped)) (sym (sent_by_writes calls) ∙ ap bytes_sent did.writes ∙ sent_by_writes did.inner);
-    none_dropped = served.accounted.none_dropped;
-    whole = whole_of_writes false did.inner (subst (AreWrittenWhole false) did.writes (whole_to_writes false calls served.accounted.whole));
-    fails = λ failed. served.accounted.fails (sym (failed_by_writes calls) ∙ ap has_failed_write did.writes ∙ failed_by_writes did.inner ∙ failed);
-  }
+module _ {S T : Type 0} (N : CallModel S) (M : CallModel T) (guarded_of : T → Guarded S) (through : (one other : T) (calls : List StreamCall) → M.DidCalls one other calls → IsGuarded N (guarded_of one) (guarded_of other) calls) where
+  served_allowed : (k : ℕ) (stream : S) (rights : Rights) (client now : T) (steps : List StepData) (sent : List ℕ) (calls : List StreamCall) (after : SlotData T) → IsNewGuarded stream rights (guarded_of client)
+      → IsServedAt M k steps [] sent calls (serving client []) after → client_of after ≡ Some now → IsGuarded N (guarded_of client) (guarded_of now) calls → IsServedAllowed N guarded_of k rights stream steps sent after
+  served_allowed k stream rights client now steps sent calls after is served there did =
+      let first = guarded_of client in
+      let last = guarded_of now in
+      record {
+        client = now;
+        there = there;
+        calls = did.inner;
+        did = subst (λ (from : S). N.DidCalls from (stream_of last) did.inner) is.stream_is did.did;
+        fed = sym (append-nil (bytes_fed k steps)) ∙ sym served.read ∙ given_from_start N stream rights first last calls is did;
+        ends = ends_from_start N stream rights first last calls is did (is_shut after) (ends_in k steps) served.ends;
+        dropped = served.accounted.dropped;
+        written = served.accounted.written
+            ∙ ap (λ (bytes : List ℕ). bytes ++ (kept_of after ++ served.accounted.dropped)) (sym (sent_by_writes calls) ∙ ap bytes_sent did.writes ∙ sent_by_writes did.inner);
+        none_dropped = served.accounted.none_dropped;
+        whole = whole_of_writes false did.inner (subst (AreWrittenWhole false) did.writes (whole_to_writes false calls served.accounted.whole));
+        fails = λ failed. served.accounted.fails (sym (failed_by_writes calls) ∙ ap has_failed_write did.writes ∙ failed_by_writes did.inner ∙ failed);
+      }
 
-  pub served_is_allowed : (k : ℕ) (stream : S) (rights : Rights) (client : Guarded S) (steps : List StepData) (sent : List ℕ) (calls : List StreamCall) (after : SlotData (Guarded S))
-      → IsNewGuarded stream rights client → IsServedAt (guarded_calls N) k steps [] sent calls (serving client []) after → IsServedAllowed N k rights stream steps sent after
+  pub served_is_allowed : (k : ℕ) (stream : S) (rights : Rights) (client : T) (steps : List StepData) (sent : List ℕ) (calls : List StreamCall) (after : SlotData T) → IsNewGuarded stream rights (guarded_of client)
+      → IsServedAt M k steps [] sent calls (serving client []) after → IsServedAllowed N guarded_of k rights stream steps sent after
   served_is_allowed k stream rights client steps sent calls after is served = by_client (client_of after) refl served.accounted.client
     where
-      by_client : (there : Option (Guarded S)) → client_of after ≡ there → HasCalled (guarded_calls N) (Some client) there calls → IsServedAllowed N k rights stream steps sent after
+      by_client : (there : Option T) → client_of after ≡ there → HasCalled M (Some client) there calls → IsServedAllowed N guarded_of k rights stream steps sent after
       by_client None is_there did = absurd did
-      by_client (Some now) is_there did = served_allowed k stream rights client now steps sent calls after is served is_there did
+      by_client (Some now) is_there did = served_allowed k stream rights client now steps sent calls after is served is_there (through client now calls did)

@@ -11,18 +11,19 @@ use Rattle.audit_serve_rights.specs.declared.guarded.Guarded.{Guarded}
 use Rattle.audit_serve_rights.specs.Front.{allowed_front}
 use Rattle.audit_serve_rights.specs.Guarded.{stream_of, is_cut_off}
 
--- The client that came with this stream is still in its place, and the stream had these calls. The steps fed session k
+-- The client that came with this stream is still in its place, and the stream had these calls. A client is a guarded
+-- stream, or has one. The steps fed session k
 -- what is allowed of the bytes that they gave. They ended it only if a read found the end or failed, a frame came that
 -- isn't allowed, or the place was shut. What was taken of its output was written to the stream, or is kept for the
 -- client, or was dropped when the place was shut.
-pub record IsServedAllowed {S : Type 0} (N : CallModel S) (k : ℕ) (rights : Rights) (stream : S)
-    (steps : List StepData) (sent : List ℕ) (after : SlotData (Guarded S)) : Type 0 where
-  pub client : Guarded S
+pub record IsServedAllowed {S T : Type 0} (N : CallModel S) (guarded_of : T → Guarded S) (k : ℕ) (rights : Rights)
+    (stream : S) (steps : List StepData) (sent : List ℕ) (after : SlotData T) : Type 0 where
+  pub client : T
   pub there : client_of after ≡ Some client
   pub calls : List StreamCall
-  pub did : N.DidCalls stream (stream_of client) calls
+  pub did : N.DidCalls stream (stream_of (guarded_of client)) calls
   pub fed : bytes_fed k steps ≡ allowed_front rights (has_read_at_end calls) (bytes_read calls)
-  pub ends : (ends_in k steps ≡ 0) ⊎ ((has_last_read calls || is_cut_off client || is_shut after) ≡ true)
+  pub ends : (ends_in k steps ≡ 0) ⊎ ((has_last_read calls || is_cut_off (guarded_of client) || is_shut after) ≡ true)
   pub dropped : List ℕ
   pub written : sent ≡ bytes_sent calls ++ (kept_of after ++ dropped)
   pub none_dropped : is_shut after ≡ false → dropped ≡ []

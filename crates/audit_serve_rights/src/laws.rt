@@ -4,6 +4,7 @@ ghost use Rattle.std.specs.List.{take_while};
 ghost use Rattle.audit_base.specs.Bytes.{AreBytes};
 ghost use Rattle.audit_wire.specs.Frame.{size_of};
 ghost use Rattle.audit_wire.specs.Stream.{framed_requests};
+ghost use Rattle.audit_serve_passes.specs.Streams.{StreamCall};
 ghost use Rattle.audit_serve_ready.specs.Slot.{SlotData};
 ghost use Rattle.audit_serve_ready.specs.Places.{slot_at};
 ghost use Rattle.audit_serve_ready.specs.Clients.{ClientChange, a_coming, AreChanges};
@@ -12,7 +13,7 @@ ghost use Rattle.audit_serve_rights.specs.declared.rights.Rights.{Rights};
 ghost use Rattle.audit_serve_rights.specs.declared.guarded.Guarded.{Guarded};
 ghost use Rattle.audit_serve_rights.specs.Rights.{allows, may_ask};
 ghost use Rattle.audit_serve_rights.specs.Front.{allowed_front};
-ghost use Rattle.audit_serve_rights.specs.Guarded.{IsNewGuarded, guarded_calls};
+ghost use Rattle.audit_serve_rights.specs.Guarded.{IsNewGuarded, IsGuarded};
 ghost use Rattle.audit_serve_rights.specs.Allowed.{IsServedAllowed};
 
 use audit_serve_passes::SessionCore;
@@ -39,12 +40,15 @@ pub fn only_allowed_requests_are_let_through()
 /// place before. All bytes that were fed to its session are the longest front of those that its stream gave that ends
 /// before the first frame that isn't allowed; of a frame whose kind hasn't come nothing was fed. Nobody else's bytes
 /// were fed to it, and what was taken of its output was written to its stream, or is kept for it, or was dropped when
-/// its place was shut.
-pub fn only_what_is_allowed_is_fed<C: SessionCore, S: ReadyStream>()
-    ensures { (k : ℕ) (stream : S) (rights : Rights) (client : Guarded S) (changes : List (ClientChange (Guarded S)))
-        (old new : C) (before after : List (SlotData (Guarded S)))
-        → IsNewGuarded stream rights client
-        → AreChanges C.model (guarded_calls S.calls) (a_coming k client ∷ changes) old new before after
-        → StaysAt k changes
-        → IsServedAllowed S.calls k rights stream (steps_in changes) (taken_in k changes) (slot_at k after) }
+/// its place was shut. The client's stream is a [`Guarded`](crate::Guarded), or has one and hands its calls on to it.
+pub fn only_what_is_allowed_is_fed<C: SessionCore, T: ReadyStream, S: ReadyStream>()
+    ensures { (guarded_of : T → Guarded S)
+        → ((one other : T) (calls : List StreamCall) → T.calls.DidCalls one other calls
+        → IsGuarded S.calls (guarded_of one) (guarded_of other) calls)
+        → (k : ℕ) (stream : S) (rights : Rights) (client : T) (changes : List (ClientChange T)) (old new : C)
+        (before after : List (SlotData T))
+        → IsNewGuarded stream rights (guarded_of client)
+        → AreChanges C.model T.calls (a_coming k client ∷ changes) old new before after → StaysAt k changes
+        → IsServedAllowed S.calls guarded_of k rights stream (steps_in changes) (taken_in k changes)
+        (slot_at k after) }
 {}

@@ -1,4 +1,4 @@
-//! The tests of serving sessions: in passes, and of clients that come and go.
+//! The tests of serving sessions: in passes, of clients that come and go, and by rights.
 #![tactic(auto)]
 
 #[cfg(test)]
@@ -7,3 +7,5 @@ mod clients;
 mod passes;
 #[cfg(test)]
 mod recorder;
+#[cfg(test)]
+mod rights;
