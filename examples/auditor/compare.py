@@ -3,9 +3,9 @@
 
 usage: compare.py PROGRAM FOLDER
 
-FOLDER is one that `examples/tour -d FOLDER` made. Each question goes to both: statuses and outputs have to be the same, and so
-have messages but for the name before them. Each answer that there is has to come at least once. Prints what differs, and in
-the end how many questions were asked.
+FOLDER was made by `examples/tour -d FOLDER`. Both are asked each question. Statuses and outputs must be the same, and so must
+messages except for the name before them. Every possible answer must occur at least once. Prints every difference, and at the
+end how many questions were asked.
 """
 import collections
 import contextlib
@@ -33,7 +33,7 @@ class Comparison:
         self.answers = collections.Counter()
 
     def ask(self, module, command, *words):
-        """One question to both."""
+        """Asks both the same."""
         run = subprocess.run([self.program, command, *words], stdin=subprocess.DEVNULL, capture_output=True, text=True)
         theirs = run.returncode, run.stdout, run.stderr.replace("audit: ", "", 1)
         output, messages = io.StringIO(), io.StringIO()
@@ -125,7 +125,7 @@ def compare_damaged_proofs(comparison, older, newer):
 
 
 def compare_largest_trees(comparison):
-    """The last entry of a log of the most entries, and of one of more: its proof climbs from the left alone, or has one hash."""
+    """The last entry of a log of the greatest length, and of a longer one: its proof has siblings only on the left, or one hash."""
     value = history.leaf_hash(b"entry")
     for _ in range(24):
         value = history.inner_node(bytes(32), value)
@@ -158,14 +158,14 @@ def compare_exports(comparison, entries, newer):
 
 
 def sealed(key, last_link, kind, payload):
-    """The entry of an event, under the key of its turn and after the last link."""
+    """The entry of an event, under its key and after the last link."""
     cipher = read_export.under_keystream(read_export.sha256(b"Encryption Key", kind, key), payload)
     link = read_export.sha256(last_link, cipher, kind)
     return kind + len(cipher).to_bytes(4, "big") + cipher + link + hmac.new(key, link, hashlib.sha256).digest()
 
 
 def compare_closed_exports(comparison, entries):
-    """The export with an entry after it that closes the log, with no payload and with one."""
+    """The export followed by an entry that closes the log, without and with a payload."""
     key = read_export.read_key("first.key")
     for _ in entries:
         key = read_export.sha256(b"Increment Hash", key)

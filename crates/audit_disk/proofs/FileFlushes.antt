@@ -1,9 +1,10 @@
 -- Handing a row to the file leaves the device as it looked.
-use Rattle.std.proofs.Common.{inl, inr, ⊎_elim, ◌≡◌, ◌⊎◌, ℕ, ◌+◌, ◌-◌, ◌*◌, ◌^◌, ◌<◌, ◌≤◌, min, Ok, Err, Result, is_ok, true, List, [], length, take, refl, sym, ◌∙◌, ap, subst, arith}
+use Rattle.std.proofs.Common.{inl, inr, ⊎_elim, ◌≡◌, ◌⊎◌, ℕ, ◌+◌, ◌-◌, ◌*◌, ◌^◌, ◌<◌, ◌≤◌, min, Ok, Err, Result, is_ok, true, false, List, [], length, take, refl, sym, ◌∙◌, ap, subst, arith}
 use Rattle.std.proofs.lemmas.List.{take_all}
 use Rattle.std.proofs.lemmas.Bool.{cases_lt, false≢true}
 use Rattle.audit_disk_model.specs.Image.{Sector, Image}
 use Rattle.audit_disk_model.specs.View.{View, last_count}
+use Rattle.audit_disk_model.specs.Calls.{HasRisen}
 use Rattle.audit_disk_model.specs.declared.fault.DeviceFault.{DeviceFault}
 use Rattle.audit_disk.specs.File.{FileView, FileContinues, sectors_of, IsRowWrite}
 use Rattle.audit_disk.specs.FileView.{with_row, IsWholeRow, LeftWithRow, file_moment, row_at, file_view, row_view, IsSameDevice}
@@ -220,3 +221,8 @@ module _ (old new : FileView) (sectors start start' clock failures : ℕ) (kept 
 pub row_ok : {old new : FileView} {offset : ℕ} {row : List Sector} (result : Result (Unit {0}) DeviceFault) → is_ok result ≡ true → IsRowWrite {E = DeviceFault} old new offset row result → IsRowWrite {E = DeviceFault} old new offset row (Ok tt)
 row_ok (Ok done) passed write = write
 row_ok (Err fault) passed write = absurd (false≢true passed)
+
+-- a row that failed was counted
+pub row_failed : {old new : FileView} {offset : ℕ} {row : List Sector} (result : Result (Unit {0}) DeviceFault) → is_ok result ≡ false → IsRowWrite {E = DeviceFault} old new offset row result → HasRisen old.failures new.failures
+row_failed (Ok done) passed write = absurd (false≢true (sym passed))
+row_failed (Err fault) passed write = write.failures

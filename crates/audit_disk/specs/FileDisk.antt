@@ -1,5 +1,6 @@
 -- A device in a file.
-use Rattle.std.specs.Prelude.{◌≡◌, ◌⊎◌, ℕ, ◌+◌, ◌-◌, ◌<◌, ◌≤◌, Bool, true, false, Option, Some, None, List, [], take, IsErr, unwrap_or}
+use Rattle.std.specs.Prelude.{◌≡◌, ◌⊎◌, ℕ, ◌+◌, ◌-◌, ◌<◌, ◌≤◌, min, Bool, true, false, Option, Some, None, List, []}
+use Rattle.std.specs.Prelude.{take, IsErr, unwrap_or}
 use Rattle.std.specs.Option.{is_some}
 use Rattle.audit_disk_model.specs.Image.{Sector, Image}
 use Rattle.audit_disk_model.specs.View.{View, last_count}
@@ -15,6 +16,10 @@ use Rattle.audit_disk.specs.declared.sector_file.SectorFile as files
 abbrev pub end_from : Option ℕ → ℕ
 end_from None = last_count
 end_from (Some from) = LAST_SINGLE
+
+-- two more calls of the file have failed, or the count is at its maximum
+abbrev pub HasRisenTwice : ℕ → ℕ → Type 0
+HasRisenTwice old new = min (old + 2) last_count ≤ new
 
 -- a device of the first sectors of another
 pub record IsFrontOf (front whole : View) (count : ℕ) : Type 0 where
@@ -72,6 +77,12 @@ module _ {F : Type 0} {g : files.Ghosts F} where
   pub record PassesCalls (disk : FileDisk F g) : Type 0 where
     pub working : has_stopped disk ≡ false
     pub below_end : (file_disk_view disk).clock < end_of disk
+
+  -- Two calls of the file have failed: a row, and then one of its sectors by itself. So close to the end of the clock
+  -- that its sectors aren't written again, the row is enough.
+  abbrev pub HasLostRow : FileDisk F g → FileDisk F g → Type 0
+  HasLostRow old new = (file_disk_view old).clock < LAST_SINGLE
+      → HasRisenTwice (file_of old).failures (file_of new).failures
 
   -- no call reaches the file any more, because a sync or a row failed or the clock is at its end
   abbrev pub IsShut : FileDisk F g → Type 0

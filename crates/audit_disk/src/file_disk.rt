@@ -53,12 +53,13 @@ pub struct FileDisk<F: SectorFile> {
 }
 
 impl<F: SectorFile> FileDisk<F> {
-    ghost use Rattle.std.specs.Prelude.{IsTrue, IsFalse, IsErr, IfOk, Ok, OnOk, OnErr, is_err, [], false, min};
+    ghost use Rattle.std.specs.Prelude.{IsTrue, IsFalse, IsOk, IsErr, IfOk, Ok, OnOk, OnErr, is_err, [], false, min};
     ghost use Rattle.audit_disk_model.specs.View.{last_count};
     ghost use Rattle.audit_disk_model.specs.Calls.{IsRead, IsWrite, IsSync, HasRisen};
     ghost use Rattle.audit_disk.specs.File.{IsFileWrite, IsFileSync, ReadsFile};
     ghost use Rattle.audit_disk.specs.KeptRow.{IsEmptyRow};
     ghost use Rattle.audit_disk.specs.FileDisk.{file_disk_view, file_inside, file_of, has_stopped, waiting, end_of};
+    ghost use Rattle.audit_disk.specs.FileDisk.{HasLostRow};
     ghost use Rattle.audit_disk.specs.FileDisk.{IsOverFile, IsFrontOf, PassesCalls, IsShut, CanKeep, IsElsewhere};
     ghost use Rattle.audit_disk.specs.FileView.{IsSameDevice, IsCallRefused};
 
@@ -171,7 +172,10 @@ impl<F: SectorFile> FileDisk<F> {
         ensures working { has_stopped self.new ≡ is_err result }
         ensures done { OnOk result (waiting self.new ≡ []) }
         ensures passes { OnOk result (PassesCalls self.old → PassesCalls self.new) }
+        ensures unneeded { waiting self.old ≡ [] → self.new.file ≡ self.old.file }
+        ensures succeeds { waiting self.old ≡ [] → IsOk result }
         ensures fault { OnErr result (HasRisen (file_of self.old).failures (file_of self.new).failures) }
+        ensures lost { OnErr result (HasLostRow self.old self.new) }
         ensures more { min (file_of self.old).failures last_count ≤ (file_of self.new).failures }
     {
         if self.single_from.is_some() || self.kept.count == 0 {
@@ -268,8 +272,8 @@ impl<F: SectorFile> FileDisk<F> {
 impl<F: SectorFile> Sectors for FileDisk<F> {
     ghost use Rattle.std.specs.Prelude.{true, false, ◌||◌, is_err, OnErr, OnOk, []};
     ghost use Rattle.audit_disk_model.specs.Calls.{IsRead, IsWrite, IsSync, HasRisen};
-    ghost use Rattle.audit_disk.specs.File.{ReadsFile};
-    ghost use Rattle.audit_disk.specs.FileDisk.{file_disk_view, file_of, has_stopped, waiting};
+    ghost use Rattle.audit_disk.specs.File.{ReadsFile, IsFileWrite, IsFileSync};
+    ghost use Rattle.audit_disk.specs.FileDisk.{file_disk_view, file_of, has_stopped, waiting, HasLostRow};
     ghost use Rattle.audit_disk.specs.FileDisk.{PassesCalls, IsShut, IsKeptBack};
 
     ghost view = { λ disk. file_view (F.file disk.file.inner) disk.sectors disk.kept.start (kept_sectors disk.kept)
@@ -289,7 +293,8 @@ impl<F: SectorFile> Sectors for FileDisk<F> {
     }
 
     /// Ok returns what the file last returned for this sector, and nothing was written there since: a row that has the
-    /// sector is handed over first. Errors: after a failed sync or row, or if a call of the file failed.
+    /// sector is handed over first. Errors: after a failed sync or row, or if a call of the file failed. A failed read
+    /// doesn't stop the device: only a row does, which failed, and then one of its sectors by itself.
     fn read(&mut self, at: u64, into: &mut [u8; SECTOR_SIZE]) -> Result<(), DeviceFault>
         requires { at < (file_disk_view self.old).size }
         ensures read { IsRead (file_disk_view self.old) (file_disk_view self.new) at into.new result }
@@ -297,6 +302,7 @@ impl<F: SectorFile> Sectors for FileDisk<F> {
             → ReadsFile (file_of self.old) (file_of self.new) (SECTOR_SIZE * at) into.new result }
         ensures kept_back { has_stopped self.old ≡ true → IsKeptBack self.old self.new result }
         ensures stopped { has_stopped self.old ≡ true → has_stopped self.new ≡ true }
+        ensures stops { has_stopped self.old ≡ false → has_stopped self.new ≡ true → HasLostRow self.old self.new }
         ensures working { OnOk result (has_stopped self.new ≡ false) }
     {
         if self.failed_at.is_some() {
@@ -313,14 +319,18 @@ impl<F: SectorFile> Sectors for FileDisk<F> {
 
     /// Keeps the write, or writes to the file at offset 512 * `at` and returns its result. An error means that a call
     /// of the file failed, or that the device refuses calls: after a failed sync or row, or at the end of the clock
-    /// (after a row that failed, 128 calls before it).
+    /// (after a row that failed, 128 calls before it). If nothing is kept before and after it, the call is the file's. An
+    /// error stops the device only if a row failed, and then one of its sectors by itself.
     fn write(&mut self, at: u64, bytes: &[u8; SECTOR_SIZE]) -> Result<(), DeviceFault>
         requires { at < (file_disk_view self.old).size }
         ensures write { IsWrite (file_disk_view self.old) (file_disk_view self.new) at bytes.now result }
         ensures file { PassesCalls self.old
             → OnErr result (HasRisen (file_of self.old).failures (file_of self.new).failures) }
+        ensures alone { PassesCalls self.old → waiting self.old ≡ [] → waiting self.new ≡ []
+            → IsFileWrite (file_of self.old) (file_of self.new) (SECTOR_SIZE * at) bytes.now result }
         ensures kept_back { IsShut self.old → IsKeptBack self.old self.new result }
         ensures stopped { has_stopped self.old ≡ true → has_stopped self.new ≡ true }
+        ensures stops { PassesCalls self.old → has_stopped self.new ≡ true → HasLostRow self.old self.new }
         ensures working { OnOk result (has_stopped self.new ≡ false) }
     {
         if self.is_shut() {
@@ -340,12 +350,14 @@ impl<F: SectorFile> Sectors for FileDisk<F> {
         self.write_alone(at, bytes)
     }
 
-    /// Hands over what is kept, syncs the file and returns its result, unless the device refuses calls. After an error
-    /// every call fails.
+    /// Hands over what is kept, syncs the file and returns its result, unless the device refuses calls. If nothing is
+    /// kept, the call is the file's. After an error every call fails.
     fn sync(&mut self) -> Result<(), DeviceFault>
         ensures sync { IsSync (file_disk_view self.old) (file_disk_view self.new) result }
         ensures file { PassesCalls self.old
             → OnErr result (HasRisen (file_of self.old).failures (file_of self.new).failures) }
+        ensures alone { PassesCalls self.old → waiting self.old ≡ []
+            → IsFileSync (file_of self.old) (file_of self.new) result }
         ensures handed { OnOk result (waiting self.new ≡ []) }
         ensures kept_back { IsShut self.old → IsKeptBack self.old self.new result }
         ensures stopped { has_stopped self.new ≡ (has_stopped self.old || is_err result) }

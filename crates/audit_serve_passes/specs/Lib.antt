@@ -6,4 +6,3 @@ pub mod Core
 pub mod Rounds
 pub mod Transition
 pub mod Pairs
-pub mod Recorder

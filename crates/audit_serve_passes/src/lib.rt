@@ -28,6 +28,3 @@ pub use session_core::SessionCore;
 pub use session_stream::SessionStream;
 pub use stream_fault::StreamError;
 pub use stream_pair::StreamPair;
-
-#[cfg(test)]
-mod tests;

@@ -1,11 +1,9 @@
 -- Calls of a guarded stream.
-use Rattle.std.proofs.Common.{◌≡◌, ◌⊎◌, ℕ, zero, suc, ◌+◌, ◌<◌, ◌≤◌, Bool, true, false, ◌||◌, ◌==◌, cond, Result, Ok, Err, List, [], ◌∷◌, ◌++◌, length, take, drop, refl, sym, ap, subst, ◌∙◌, append_assoc, arith, inl, inr, true≢false}
+use Rattle.std.proofs.Common.{◌≡◌, ℕ, zero, suc, ◌+◌, ◌<◌, ◌≤◌, Bool, true, false, ◌||◌, ◌==◌, cond, Ok, Err, List, [], ◌∷◌, ◌++◌, length, take, drop, refl, sym, ap, ◌∙◌, append_assoc, arith, inl, inr, true≢false}
 use Rattle.std.proofs.lemmas.List.{append-nil, take-take, length-take-le}
 use Rattle.audit_wire.specs.Frame.{size_of}
-use Rattle.audit_serve_passes.specs.declared.stream_fault.StreamError.{StreamError}
-use Rattle.audit_serve_passes.specs.Streams.{StreamCall, a_read, a_write, a_failed_write, CallModel, bytes_read}
+use Rattle.audit_serve_passes.specs.Streams.{StreamCall, a_read, CallModel, bytes_read}
 use Rattle.audit_serve_passes.specs.Known.{has_read_at_end}
-use Rattle.audit_serve_ready.specs.Ready.{ready_write_call}
 use Rattle.audit_serve_ready.specs.Places.{is_last_read, has_last_read}
 use Rattle.audit_serve_rights.specs.declared.rights.Rights.{Rights}
 use Rattle.audit_serve_rights.specs.declared.position.Position.{Position}
@@ -14,8 +12,8 @@ use Rattle.audit_serve_rights.specs.declared.passed.Passed.{Passed}
 use Rattle.audit_serve_rights.specs.declared.passed.Passed.TheVariants as passed
 use Rattle.audit_serve_rights.specs.declared.guarded.Guarded.{Guarded}
 use Rattle.audit_serve_rights.specs.Front.{front_within}
-use Rattle.audit_serve_rights.specs.Position.{held_at, left_at, is_ended, is_over, is_proper, front_from, Passes}
-use Rattle.audit_serve_rights.specs.Passed.{passed_calls, IsGivenWithin, LetsThrough}
+use Rattle.audit_serve_rights.specs.Position.{held_at, left_at, is_ended, is_over, is_proper, front_from}
+use Rattle.audit_serve_rights.specs.Passed.{has_failed_read, passed_calls, IsGivenWithin, LetsThrough}
 use Rattle.audit_serve_rights.specs.Guarded.{writes_in, IsGuarded}
 use Rattle.audit_serve_rights.proofs.Positions.{take_more}
 
@@ -51,14 +49,6 @@ with_held (position.Inside left) rights ended bytes live = refl
 with_held position.Ended rights ended bytes live = absurd (true≢false live)
 with_held position.CutOff rights ended bytes live = absurd (true≢false live)
 
-over_gives_nothing : (p : Position) (rights : Rights) (ended : Bool) (bytes : List ℕ) → is_over p ≡ true → [] ≡ front_from p rights ended bytes
-over_gives_nothing position.Start rights ended bytes over = absurd (true≢false (sym over))
-over_gives_nothing (position.High high) rights ended bytes over = absurd (true≢false (sym over))
-over_gives_nothing (position.Length high low) rights ended bytes over = absurd (true≢false (sym over))
-over_gives_nothing (position.Inside left) rights ended bytes over = absurd (true≢false (sym over))
-over_gives_nothing position.Ended rights ended bytes over = refl
-over_gives_nothing position.CutOff rights ended bytes over = refl
-
 some_taken : (count : ℕ) (bytes : List ℕ) → 0 < count → count ≤ length bytes → is_last_read (a_read (take count bytes)) ≡ false
 some_taken zero bytes some within = absurd (omega (arith, some))
 some_taken (suc count) [] some within = absurd (omega (arith, within))
@@ -69,33 +59,6 @@ not_at_end [] is = absurd (true≢false is)
 not_at_end (byte ∷ bytes) is = refl
 
 -- ---- what is given of bytes that came
-
-zero_of : (n : ℕ) → n ≤ 0 → n ≡ 0
-zero_of n none = omega (arith, none)
-
--- the first bytes, or the end at a frame that isn't allowed
-pub gives_some : (rights : Rights) (left : ℕ) (bytes : List ℕ) (count : ℕ) (new : Position) → Passes rights left bytes count new → (0 < count) ⊎ (is_over new ≡ true)
-    → LetsThrough rights left bytes (passed.Given (Ok count)) new
-gives_some rights left bytes count new passes why = record {
-  within = passes.within;
-  front = λ ended later. passes.front ended later ∙ ap (λ (bytes : List ℕ). bytes ++ front_from new rights ended later) (sym (append-nil (take count bytes)));
-  live = passes.live;
-  last = λ is. elim why [
-    | inl some ↦ not_both (is_last_read (a_read (take count bytes)) || false) (ap (λ (b : Bool). b || false) (some_taken count bytes some passes.within)) is
-    | inr over ↦ over
-  ];
-  more = λ isnt. absurd (true≢false isnt);
-}
-
-pub gives_none : (rights : Rights) (left : ℕ) (bytes : List ℕ) (count : ℕ) (new : Position) → Passes rights left bytes count new → count ≤ 0 → is_over new ≡ false
-    → LetsThrough rights left bytes passed.Held new
-gives_none rights left bytes count new passes none live = record {
-  within = tt;
-  front = λ ended later. passes.front ended later ∙ subst (λ (n : ℕ). take n bytes ++ front_from new rights ended later ≡ front_from new rights ended later) (sym (zero_of count none)) refl;
-  live = passes.live;
-  last = λ is. absurd (true≢false (sym is));
-  more = λ isnt. live;
-}
 
 no_writes_passed : (result : Passed) (buffer : List ℕ) → writes_in (passed_calls result buffer) ≡ []
 no_writes_passed passed.Nothing buffer = refl
@@ -110,38 +73,9 @@ passed_front (passed.Given (Ok count)) most buffer fits within =
     ap (λ (bytes : List ℕ). a_read bytes ∷ []) (sym (take-take count most buffer (omega (arith, within, length-take-le most buffer fits))))
 passed_front (passed.Given (Err fault)) most buffer fits within = refl
 
-pub given_within : (result : Passed) (most : ℕ) (buffer : List ℕ) → most ≤ length buffer → IsGivenWithin result (length (take most buffer)) → IsGivenWithin result (length buffer)
-given_within passed.Nothing most buffer fits within = tt
-given_within passed.Held most buffer fits within = tt
-given_within (passed.Given (Ok count)) most buffer fits within = omega (arith, fits, within, length-take-le most buffer fits)
-given_within (passed.Given (Err fault)) most buffer fits within = tt
-
 -- ---- calls
 
 module _ {S : Type 0} (N : CallModel S) where
-  -- a call that gives no byte, and finds no end
-  pub guarded_same : (old new : Guarded S) (calls inner : List StreamCall) → N.DidCalls old.stream new.stream inner → new.rights ≡ old.rights → new.position ≡ old.position → writes_in calls ≡ writes_in inner
-      → bytes_read calls ≡ [] → bytes_read inner ≡ [] → (has_last_read calls ≡ true → has_last_read inner ≡ true) → has_read_at_end inner ≡ false → IsGuarded N old new calls
-  guarded_same old new calls inner did rights same writes none_given none_read last no_end = record {
-    inner = inner;
-    did = did;
-    rights = rights;
-    writes = writes;
-    given = λ later ended may.
-        ap (λ (bytes : List ℕ). front_from old.position old.rights ended (bytes ++ later)) none_read
-        ∙ ap (λ (p : Position). front_from p old.rights ended later) (sym same)
-        ∙ ap (λ (bytes : List ℕ). bytes ++ front_from new.position old.rights ended later) (sym none_given);
-    last = λ is. inl (last is);
-    at_end = λ is. not_both (has_read_at_end inner) no_end is;
-    ended = λ is. inr (sym (ap is_ended same) ∙ is);
-    quiet = λ is. (none_read, same);
-  }
-
-  pub guarded_write : (old new : Guarded S) (result : Result ℕ StreamError) (bytes : List ℕ) → N.DidCalls old.stream new.stream (ready_write_call result bytes ∷ []) → new.rights ≡ old.rights → new.position ≡ old.position
-      → IsGuarded N old new (ready_write_call result bytes ∷ [])
-  guarded_write old new (Ok count) bytes did rights same = guarded_same old new (a_write (take count bytes) ∷ []) (a_write (take count bytes) ∷ []) did rights same refl refl refl (λ is. is) refl
-  guarded_write old new (Err fault) bytes did rights same = guarded_same old new (a_failed_write bytes ∷ []) (a_failed_write bytes ∷ []) did rights same refl refl refl (λ is. is) refl
-
   pub guarded_over : (guarded : Guarded S) → is_over guarded.position ≡ true → IsGuarded N guarded guarded (a_read [] ∷ [])
   guarded_over guarded over = record {
     inner = [];
@@ -149,6 +83,7 @@ module _ {S : Type 0} (N : CallModel S) where
     rights = refl;
     writes = refl;
     given = λ later ended may. refl;
+    failed = refl;
     last = λ is. inr over;
     at_end = λ is. absurd (true≢false (sym is));
     ended = λ is. inr is;
@@ -169,6 +104,7 @@ module _ {S : Type 0} (N : CallModel S) where
         ∙ held_given old.position old.rights live old.proper
         ∙ sym front
         ∙ sym (ap (λ (p : Position). (take held buffer ++ []) ++ front_from p old.rights ended later) «at» ∙ append-nil (take held buffer ++ []) ∙ append-nil (take held buffer));
+    failed = refl;
     last = λ is. inl refl;
     at_end = λ is. ap is_ended «at»;
     ended = λ is. inl refl;
@@ -197,6 +133,7 @@ module _ {S : Type 0} (N : CallModel S) where
             ∙ ap (front_from (position.Inside (left_at old.position)) old.rights ended) (sym (append_assoc (held_at old.position) fresh later) ∙ ap (λ (xs : List ℕ). xs ++ later) (sym whole))
             ∙ lets.front ended later
             ∙ ap (λ (calls : List StreamCall). bytes_read calls ++ front_from new.position old.rights ended later) (sym same);
+        failed = ap has_failed_read same ∙ lets.no_fault;
         last = λ is. inr (lets.last (sym (ap has_last_read same) ∙ is));
         at_end = λ is. not_both (has_read_at_end (a_read fresh ∷ [])) no_end is;
         ended = λ is. not_both (is_ended new.position) lets.live is;

@@ -3,3 +3,4 @@ pub mod Positions
 pub mod Passing
 pub mod Guarding
 pub mod Allowing
+pub mod Requests

@@ -53,9 +53,6 @@ leads_to_position rights (high ∷ []) = record { front = λ ended later. refl; 
 leads_to_position rights (high ∷ low ∷ []) = at_length rights high low (size_of high low == 0) refl
 leads_to_position rights (high ∷ low ∷ kind ∷ body) = at_kind rights high low kind body ((size_of high low == 0) || allows rights kind) refl
 
-pub leads_inside : (rights : Rights) (left : ℕ) (bytes : List ℕ) → 0 < left → LeadsTo rights left bytes (position.Inside left)
-leads_inside rights left bytes some = record { front = λ ended later. refl; proper = refl; live = refl; has = some }
-
 -- ---- some bytes of a frame
 
 take_none : (n : ℕ) → take {A = ℕ} n [] ≡ []

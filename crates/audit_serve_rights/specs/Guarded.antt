@@ -11,6 +11,7 @@ use Rattle.audit_serve_rights.specs.declared.position.Position.{Position}
 use Rattle.audit_serve_rights.specs.declared.position.Position.TheVariants as position
 use Rattle.audit_serve_rights.specs.declared.guarded.Guarded.{Guarded}
 use Rattle.audit_serve_rights.specs.Position.{is_ended, is_cut, is_over, front_from}
+use Rattle.audit_serve_rights.specs.Passed.{is_failed_read, has_failed_read}
 
 abbrev pub stream_of : {S : Type 0} → Guarded S → S
 stream_of guarded = guarded.stream
@@ -41,7 +42,7 @@ abbrev pub MayFollow : List StreamCall → List ℕ → Bool → Type 0
 MayFollow inner later ended = has_read_at_end inner ≡ true → (later ≡ []) × (ended ≡ true)
 
 -- These calls were those of the inner stream, of whose bytes what is allowed was given, whatever comes later. Writes
--- are the same. The end was given only if a read of the inner stream found the end or failed, or at a frame that isn't
+-- are the same, and a read failed if one of the inner stream did. The end was given only if a read of the inner stream found the end or failed, or at a frame that isn't
 -- allowed. Then nothing more is read.
 pub record IsGuarded {S : Type 0} (N : CallModel S) (old new : Guarded S) (calls : List StreamCall) : Type 0 where
   pub inner : List StreamCall
@@ -51,6 +52,7 @@ pub record IsGuarded {S : Type 0} (N : CallModel S) (old new : Guarded S) (calls
   pub given : (later : List ℕ) (ended : Bool) → MayFollow inner later ended
       → front_from old.position old.rights ended (bytes_read inner ++ later)
       ≡ bytes_read calls ++ front_from new.position old.rights ended later
+  pub failed : has_failed_read calls ≡ has_failed_read inner
   pub last : has_last_read calls ≡ true → (has_last_read inner ≡ true) ⊎ (is_over new.position ≡ true)
   pub at_end : has_read_at_end inner ≡ true → is_ended new.position ≡ true
   pub ended : is_ended new.position ≡ true → (has_read_at_end inner ≡ true) ⊎ (is_ended old.position ≡ true)
@@ -73,6 +75,13 @@ end_found-append [] later = refl
 end_found-append (call ∷ calls) later =
     ap (λ (more : Bool). is_read_at_end call || more) (end_found-append calls later)
     ∙ or_of_three (is_read_at_end call) (has_read_at_end calls) (has_read_at_end later)
+
+failed_read-append : (calls later : List StreamCall)
+    → has_failed_read (calls ++ later) ≡ (has_failed_read calls || has_failed_read later)
+failed_read-append [] later = refl
+failed_read-append (call ∷ calls) later =
+    ap (λ (more : Bool). is_failed_read call || more) (failed_read-append calls later)
+    ∙ or_of_three (is_failed_read call) (has_failed_read calls) (has_failed_read later)
 
 last_read-append : (calls later : List StreamCall)
     → has_last_read (calls ++ later) ≡ (has_last_read calls || has_last_read later)
@@ -109,6 +118,7 @@ module _ {S : Type 0} (N : CallModel S) where
     rights = refl;
     writes = refl;
     given = λ later ended may. refl;
+    failed = refl;
     last = λ is. absurd (true≢false (sym is));
     at_end = λ is. absurd (true≢false (sym is));
     ended = λ is. inr is;
@@ -162,6 +172,10 @@ module _ {S : Type 0} (N : CallModel S) where
             ∙ ap (λ (rest : List StreamCall). writes_in first.inner ++ rest) second.writes
             ∙ sym (writes-append first.inner second.inner);
         given = both_given old mid new calls further first second;
+        failed = failed_read-append calls further
+            ∙ ap (λ (one : Bool). one || has_failed_read further) first.failed
+            ∙ ap (λ (other : Bool). has_failed_read first.inner || other) second.failed
+            ∙ sym (failed_read-append first.inner second.inner);
         last = λ is. one_of (has_last_read calls) (has_last_read further) (sym (last_read-append calls further) ∙ is)
             (λ one. elim (first.last one) [
               | inl e ↦ inl (last_read-append first.inner second.inner ∙ left_of read read_later e)

@@ -1,6 +1,7 @@
 -- What is given of what a stream gave.
-use Rattle.std.specs.Prelude.{◌≡◌, ℕ, ◌≤◌, Bool, true, false, Ok, Err, List, [], ◌∷◌, ◌++◌, length}
-use Rattle.audit_serve_passes.specs.Streams.{StreamCall, bytes_read, read_call}
+use Rattle.std.specs.Prelude.{◌≡◌, ℕ, ◌≤◌, Bool, true, false, ◌||◌, Ok, Err, List, [], ◌∷◌, ◌++◌, length}
+use Rattle.audit_serve_passes.specs.Streams.{StreamCall, a_read, a_failed_read, a_write, a_failed_write}
+use Rattle.audit_serve_passes.specs.Streams.{bytes_read, read_call}
 use Rattle.audit_serve_ready.specs.Places.{has_last_read}
 use Rattle.audit_serve_rights.specs.declared.rights.Rights.{Rights}
 use Rattle.audit_serve_rights.specs.declared.position.Position.{Position}
@@ -20,6 +21,17 @@ is_given passed.Nothing = false
 is_given passed.Held = false
 is_given (passed.Given given) = true
 
+-- a read failed, and whether one of several calls did
+abbrev pub is_failed_read : StreamCall → Bool
+is_failed_read (a_read bytes) = false
+is_failed_read a_failed_read = true
+is_failed_read (a_write bytes) = false
+is_failed_read (a_failed_write bytes) = false
+
+abbrev pub has_failed_read : List StreamCall → Bool
+has_failed_read [] = false
+has_failed_read (call ∷ calls) = is_failed_read call || has_failed_read calls
+
 -- at most so many bytes are given
 abbrev pub IsGivenWithin : Passed → ℕ → Type 0
 IsGivenWithin passed.Nothing most = Unit {0}
@@ -36,3 +48,4 @@ pub record LetsThrough (rights : Rights) (left : ℕ) (bytes : List ℕ) (result
   pub live : is_ended new ≡ false
   pub last : has_last_read (passed_calls result bytes) ≡ true → is_over new ≡ true
   pub more : is_given result ≡ false → is_over new ≡ false
+  pub no_fault : has_failed_read (passed_calls result bytes) ≡ false

@@ -1,7 +1,9 @@
-//! The tests of serving clients that come and go.
+//! The tests of serving sessions: in passes, and of clients that come and go.
 #![tactic(auto)]
 
 #[cfg(test)]
-mod recorder;
+mod clients;
 #[cfg(test)]
-mod tests;
+mod passes;
+#[cfg(test)]
+mod recorder;

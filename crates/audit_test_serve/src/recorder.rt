@@ -3,7 +3,7 @@ ghost use Rattle.std.specs.Prelude.{◌≡◌, ◌<◌, ℕ, [], ◌∷◌, IfOk
 ghost use Rattle.audit_base.specs.declared.limits.TheConstants.{SESSIONS};
 ghost use Rattle.audit_serve_passes.specs.Steps.{a_piece, an_end, a_flush};
 ghost use Rattle.audit_serve_passes.specs.Core.{CoreModel, no_bytes, bytes_for};
-ghost use Rattle.audit_serve_passes.specs.Recorder.{recorder_model};
+ghost use Rattle.audit_test_serve.specs.Recorder.{recorder_model};
 
 use audit_base::SESSIONS;
 use audit_serve_passes::SessionCore;
@@ -37,7 +37,7 @@ pub struct Recorder {
 
 impl Model for Recorder {
     ghost use Rattle.std.specs.Prelude.{◌≡◌, length, map};
-    ghost use Rattle.audit_serve_passes.specs.Recorder.{RecorderData};
+    ghost use Rattle.audit_test_serve.specs.Recorder.{RecorderData};
     ghost use Rattle.audit_base.specs.declared.limits.TheConstants.{SESSIONS};
 
     ghost Value = { RecorderData };

@@ -5,10 +5,11 @@ use Rattle.audit_disk_model.specs.declared.fault.DeviceFault.{DeviceFault}
 use Rattle.audit_disk.specs.File.{IsRowWrite}
 use Rattle.audit_disk.specs.FileView.{active_row}
 use Rattle.audit_disk.specs.KeptRow.{kept_sectors, whole_kept, length-kept}
-use Rattle.audit_disk.proofs.FileFlushes.{flush_done, flush_singly, flush_lost, row_ok}
+use Rattle.audit_disk.proofs.FileFlushes.{flush_done, flush_singly, flush_lost, row_ok, row_failed}
 use Rattle.audit_disk.proofs.Reached.{reached_now, none_of, active_rows, kept_nothing}
 use Rattle.audit_disk.proofs.RowTries.{not_tried, tried_again}
 use Rattle.audit_disk.proofs.RowWrites.{same_length_after, goes_then}
+use Rattle.audit_disk.proofs.file_disk.FileDisk.flush.Goals.{else-is_ok-2-via-then-is_ok-2+else-self-lt-LAST_SINGLE, else-is_ok-2-via-else-is_ok-2}
 use Rattle.audit_disk.proofs.file_disk.FileDisk.flush.Goals as goal
 
 pub write_row-requires : goal.write_row-requires
@@ -172,3 +173,13 @@ returns-clause-same g c =
     (λ honest. omega (arith, disk.in_step honest (none_of disk.failed_at c.requires) (none_of disk.single_from rows), at_clock, split_now, disk.row_in_order))
     twice refl split_later (omega (arith, at_clock, split_now, split_later)) refl refl
     (active_rows disk.single_from kept rows)
+
+pub returns-clause-lost : goal.returns-clause-lost
+returns-clause-lost g c below =
+    let first = row_failed c.write_row.result (sym c.is_ok.ensures.value ∙ c.if-is_ok.false) c.write_row.ensures in
+    elim c.else-is_ok-2.branch [
+      | else-is_ok-2-via-then-is_ok-2+else-self-lt-LAST_SINGLE w ↦ absurd (omega (arith, below, w.if-self-lt-LAST_SINGLE.false))
+      | else-is_ok-2-via-else-is_ok-2 w ↦
+          let second = row_failed c.write_each.result (sym c.is_ok-2.ensures.value ∙ w.if-is_ok-2.false) c.write_each.ensures in
+          omega (arith, first, second)
+    ]

@@ -1,6 +1,6 @@
 use Rattle.std.proofs.Common.{◌≡◌, ◌<◌, ℕ, List, [], Vec, length, map, set, get_or, ap, ◌∙◌, arith}
 use Rattle.std.proofs.lemmas.List.{map-set, get_or-set_same, get_or-set_other, length-map}
-use Rattle.audit_serve_passes.specs.Recorder.{RecorderData, recorded_output}
+use Rattle.audit_test_serve.specs.Recorder.{RecorderData, recorded_output}
 use Rattle.audit_test_serve.proofs.recorder.RecorderSessionCore.take_output.Goals as goal
 
 module _ {Z : Type 0} where

@@ -3,13 +3,11 @@ ghost use Rattle.std.specs.Prelude.{◌<◌, ◌≤◌, [], ◌∷◌, length, I
 ghost use Rattle.audit_serve_passes.specs.Streams.{read_call, write_call};
 ghost use Rattle.audit_serve_passes.specs.Pairs.{unknown_calls};
 
-mod recorder;
-
-use crate::{
+use crate::recorder::{Asked, Recorder};
+use audit_serve_passes::{
     Duplex, DuplexStream, MAX_TURNS, ServeEnd, ServeFault, SessionCore, StreamError, StreamPair,
     serve,
 };
-use recorder::{Asked, Recorder};
 use std::alloc::{AllocError, Global};
 use std::io::{self, ErrorKind, Read, Write};
 use std::test::Fail;

@@ -1,0 +1,5 @@
+//! The tests of the offline verifier.
+#![tactic(auto)]
+
+#[cfg(test)]
+mod tests;
