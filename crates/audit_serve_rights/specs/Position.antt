@@ -8,13 +8,13 @@ use Rattle.audit_serve_rights.specs.Rights.{allows}
 use Rattle.audit_serve_rights.specs.Front.{allowed_front}
 
 -- the bytes that are held back
-abbrev pub held_at : Position → List ℕ
-held_at position.Start = []
-held_at (position.High high) = high ∷ []
-held_at (position.Length high low) = high ∷ low ∷ []
-held_at (position.Inside left) = []
-held_at position.Ended = []
-held_at position.CutOff = []
+abbrev pub held_back_at : Position → List ℕ
+held_back_at position.Start = []
+held_back_at (position.High high) = high ∷ []
+held_back_at (position.Length high low) = high ∷ low ∷ []
+held_back_at (position.Inside left) = []
+held_back_at position.Ended = []
+held_back_at position.CutOff = []
 
 -- how many bytes follow of a frame that is let through
 abbrev pub left_at : Position → ℕ
