@@ -41,9 +41,9 @@ writes_in (a_failed_write bytes ∷ calls) = a_failed_write bytes ∷ writes_in 
 abbrev pub MayStillCome : List StreamCall → List ℕ → Bool → Type 0
 MayStillCome inner later ended = has_read_at_end inner ≡ true → (later ≡ []) × (ended ≡ true)
 
--- These calls were those of the inner stream, of whose bytes what is allowed was given, whatever comes later. Writes
--- are the same, and a read failed if one of the inner stream did. The end was given only if a read of the inner stream found the end or failed, or at a frame that isn't
--- allowed. Then nothing more is read.
+-- The inner stream had calls of which these are what was let through. Of its bytes what is allowed was given, whatever
+-- comes later. Writes are the same, and a read failed if one of the inner stream did. The end was given only if a read
+-- of the inner stream found the end or failed, or at a frame that isn't allowed. Then nothing more is read.
 pub record IsGuarded {S : Type 0} (N : CallModel S) (old new : Guarded S) (calls : List StreamCall) : Type 0 where
   pub inner : List StreamCall
   pub did : N.DidCalls old.stream new.stream inner

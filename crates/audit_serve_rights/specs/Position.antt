@@ -1,5 +1,6 @@
 -- Where a stream of frames is, up to the bytes that were let through.
-use Rattle.std.specs.Prelude.{◌≡◌, ℕ, ◌+◌, ◌<◌, ◌≤◌, Bool, true, false, not, ◌||◌, ◌==◌, if◌then◌else◌, List, [], ◌∷◌, ◌++◌, length, take, drop}
+use Rattle.std.specs.Prelude.{◌≡◌, ℕ, ◌+◌, ◌<◌, ◌≤◌, Bool, true, false, not, ◌||◌, ◌==◌, if◌then◌else◌}
+use Rattle.std.specs.Prelude.{List, [], ◌∷◌, ◌++◌, length, take, drop}
 use Rattle.audit_wire.specs.Frame.{size_of}
 use Rattle.audit_serve_rights.specs.declared.rights.Rights.{Rights}
 use Rattle.audit_serve_rights.specs.declared.position.Position.{Position}
