@@ -12,7 +12,7 @@ use Rattle.audit_serve_rights.specs.declared.passed.Passed.{Passed}
 use Rattle.audit_serve_rights.specs.declared.passed.Passed.TheVariants as passed
 use Rattle.audit_serve_rights.specs.declared.guarded.Guarded.{Guarded}
 use Rattle.audit_serve_rights.specs.Front.{front_within}
-use Rattle.audit_serve_rights.specs.Position.{held_bytes, left_at, is_ended, is_over, is_proper, front_from}
+use Rattle.audit_serve_rights.specs.Position.{held_back_at, left_at, is_ended, is_over, is_proper, front_from}
 use Rattle.audit_serve_rights.specs.Passed.{has_failed_read, passed_calls, IsGivenWithin, LetsThrough}
 use Rattle.audit_serve_rights.specs.Guarded.{writes_in, IsGuarded}
 use Rattle.audit_serve_rights.proofs.Positions.{take_more}
@@ -31,7 +31,7 @@ none_left rights zero = refl
 none_left rights (suc n) = refl
 
 -- what is held back is let through at the end
-held_given : (p : Position) (rights : Rights) → is_over p ≡ false → is_proper p ≡ true → front_from p rights true [] ≡ held_bytes p
+held_given : (p : Position) (rights : Rights) → is_over p ≡ false → is_proper p ≡ true → front_from p rights true [] ≡ held_back_at p
 unfolding front_within
 held_given position.Start rights live proper = refl
 held_given (position.High high) rights live proper = refl
@@ -41,7 +41,7 @@ held_given position.Ended rights live proper = absurd (true≢false live)
 held_given position.CutOff rights live proper = absurd (true≢false live)
 
 -- what is held back counts as if it came now
-with_held : (p : Position) (rights : Rights) (ended : Bool) (bytes : List ℕ) → is_over p ≡ false → front_from p rights ended bytes ≡ front_from (position.Inside (left_at p)) rights ended (held_bytes p ++ bytes)
+with_held : (p : Position) (rights : Rights) (ended : Bool) (bytes : List ℕ) → is_over p ≡ false → front_from p rights ended bytes ≡ front_from (position.Inside (left_at p)) rights ended (held_back_at p ++ bytes)
 with_held position.Start rights ended bytes live = refl
 with_held (position.High high) rights ended bytes live = refl
 with_held (position.Length high low) rights ended bytes live = refl
@@ -92,7 +92,7 @@ module _ {S : Type 0} (N : CallModel S) where
 
   -- a read that found the end
   pub guarded_end : (old new : Guarded S) (buffer : List ℕ) (held : ℕ) → is_over old.position ≡ false → N.DidCalls old.stream new.stream (a_read [] ∷ []) → new.rights ≡ old.rights → new.position ≡ position.Ended
-      → take held buffer ≡ held_bytes old.position → IsGuarded N old new (a_read (take held buffer) ∷ [])
+      → take held buffer ≡ held_back_at old.position → IsGuarded N old new (a_read (take held buffer) ∷ [])
   guarded_end old new buffer held live did rights «at» front = record {
     inner = a_read [] ∷ [];
     did = did;
@@ -112,13 +112,13 @@ module _ {S : Type 0} (N : CallModel S) where
   }
 
   -- a read that found bytes
-  pub guarded_through : (old new : Guarded S) (buffer : List ℕ) (held count : ℕ) (result : Passed) → is_over old.position ≡ false → take held buffer ≡ held_bytes old.position → 0 < count → held + count ≤ length buffer
+  pub guarded_through : (old new : Guarded S) (buffer : List ℕ) (held count : ℕ) (result : Passed) → is_over old.position ≡ false → take held buffer ≡ held_back_at old.position → 0 < count → held + count ≤ length buffer
       → count ≤ length (drop held buffer) → N.DidCalls old.stream new.stream (a_read (take count (drop held buffer)) ∷ []) → new.rights ≡ old.rights
       → LetsThrough old.rights (left_at old.position) (take (held + count) buffer) result new.position → IsGuarded N old new (passed_calls result buffer)
   guarded_through old new buffer held count result live front some fits fits_rest did rights lets =
       let fresh = take count (drop held buffer) in
       let bytes = take (held + count) buffer in
-      let whole : bytes ≡ held_bytes old.position ++ fresh =
+      let whole : bytes ≡ held_back_at old.position ++ fresh =
       take_more held (held + count) buffer (omega arith) ∙ ap (λ (n : ℕ). take held buffer ++ take n (drop held buffer)) (omega arith) ∙ ap (λ (xs : List ℕ). xs ++ fresh) front in
       let same = passed_front result (held + count) buffer fits lets.within in
       let no_end = not_at_end fresh (some_taken count (drop held buffer) some fits_rest) in
@@ -130,7 +130,7 @@ module _ {S : Type 0} (N : CallModel S) where
         given = λ later ended may.
             ap (λ (xs : List ℕ). front_from old.position old.rights ended (xs ++ later)) (append-nil fresh)
             ∙ with_held old.position old.rights ended (fresh ++ later) live
-            ∙ ap (front_from (position.Inside (left_at old.position)) old.rights ended) (sym (append_assoc (held_bytes old.position) fresh later) ∙ ap (λ (xs : List ℕ). xs ++ later) (sym whole))
+            ∙ ap (front_from (position.Inside (left_at old.position)) old.rights ended) (sym (append_assoc (held_back_at old.position) fresh later) ∙ ap (λ (xs : List ℕ). xs ++ later) (sym whole))
             ∙ lets.front ended later
             ∙ ap (λ (calls : List StreamCall). bytes_read calls ++ front_from new.position old.rights ended later) (sym same);
         failed = ap has_failed_read same ∙ lets.no_fault;

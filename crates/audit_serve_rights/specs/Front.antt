@@ -1,11 +1,12 @@
 -- What is let through of a stream of frames.
-use Rattle.std.specs.Prelude.{ℕ, zero, suc, ◌+◌, Bool, ◌||◌, ◌==◌, if◌then◌else◌, List, [], ◌∷◌, ◌++◌, length, take, drop}
+use Rattle.std.specs.Prelude.{ℕ, zero, suc, ◌+◌, Bool, ◌||◌, ◌==◌, if◌then◌else◌, List, [], ◌∷◌, ◌++◌}
+use Rattle.std.specs.Prelude.{length, take, drop}
 use Rattle.audit_wire.specs.Frame.{size_of}
 use Rattle.audit_serve_rights.specs.declared.rights.Rights.{Rights}
 use Rattle.audit_serve_rights.specs.Rights.{allows}
 
--- The size of the first frame, or 0 if it isn't allowed. Of a frame whose kind hasn't come nothing is let through unless
--- the stream has ended; an empty one has no kind, and is.
+-- The size of the first frame, or 0 if it isn't allowed. Of a frame whose kind hasn't come nothing is let through
+-- unless the stream has ended; an empty frame has no kind, and is let through.
 abbrev pub allowed_size : Rights → Bool → List ℕ → ℕ
 allowed_size rights ended [] = 0
 allowed_size rights ended (high ∷ []) = if ended then 1 else 0

@@ -38,18 +38,18 @@ writes_in (a_write bytes ∷ calls) = a_write bytes ∷ writes_in calls
 writes_in (a_failed_write bytes ∷ calls) = a_failed_write bytes ∷ writes_in calls
 
 -- what may still come after these calls of a stream: nothing, if a read found its end
-abbrev pub MayCome : List StreamCall → List ℕ → Bool → Type 0
-MayCome inner later ended = has_read_at_end inner ≡ true → (later ≡ []) × (ended ≡ true)
+abbrev pub MayStillCome : List StreamCall → List ℕ → Bool → Type 0
+MayStillCome inner later ended = has_read_at_end inner ≡ true → (later ≡ []) × (ended ≡ true)
 
--- These calls were those of the inner stream, of whose bytes what is allowed was given, whatever comes later. Writes
--- are the same, and a read failed if one of the inner stream did. The end was given only if a read of the inner stream found the end or failed, or at a frame that isn't
--- allowed. Then nothing more is read.
+-- The inner stream had calls of which these are what was let through. Of its bytes what is allowed was given, whatever
+-- comes later. Writes are the same, and a read failed if one of the inner stream did. The end was given only if a read
+-- of the inner stream found the end or failed, or at a frame that isn't allowed. Then nothing more is read.
 pub record IsGuarded {S : Type 0} (N : CallModel S) (old new : Guarded S) (calls : List StreamCall) : Type 0 where
   pub inner : List StreamCall
   pub did : N.DidCalls old.stream new.stream inner
   pub rights : new.rights ≡ old.rights
   pub writes : writes_in calls ≡ writes_in inner
-  pub given : (later : List ℕ) (ended : Bool) → MayCome inner later ended
+  pub given : (later : List ℕ) (ended : Bool) → MayStillCome inner later ended
       → front_from old.position old.rights ended (bytes_read inner ++ later)
       ≡ bytes_read calls ++ front_from new.position old.rights ended later
   pub failed : has_failed_read calls ≡ has_failed_read inner
@@ -128,8 +128,8 @@ module _ {S : Type 0} (N : CallModel S) where
   -- the end that the first calls found lets nothing follow
   none_follows : (old mid new : Guarded S) (calls further : List StreamCall) (first : IsGuarded N old mid calls)
       (second : IsGuarded N mid new further) (later : List ℕ) (ended : Bool)
-      → MayCome (first.inner ++ second.inner) later ended
-      → MayCome first.inner (bytes_read second.inner ++ later) ended
+      → MayStillCome (first.inner ++ second.inner) later ended
+      → MayStillCome first.inner (bytes_read second.inner ++ later) ended
   none_follows old mid new calls further first second later ended may = λ found.
       let all = may (end_found-append first.inner second.inner
       ∙ left_of (has_read_at_end first.inner) (has_read_at_end second.inner) found) in
@@ -138,7 +138,7 @@ module _ {S : Type 0} (N : CallModel S) where
 
   both_given : (old mid new : Guarded S) (calls further : List StreamCall) (first : IsGuarded N old mid calls)
       (second : IsGuarded N mid new further) (later : List ℕ) (ended : Bool)
-      → MayCome (first.inner ++ second.inner) later ended
+      → MayStillCome (first.inner ++ second.inner) later ended
       → front_from old.position old.rights ended (bytes_read (first.inner ++ second.inner) ++ later)
       ≡ bytes_read (calls ++ further) ++ front_from new.position old.rights ended later
   both_given old mid new calls further first second later ended may =

@@ -1,5 +1,6 @@
 -- Where a stream of frames is, up to the bytes that were let through.
-use Rattle.std.specs.Prelude.{◌≡◌, ℕ, ◌+◌, ◌<◌, ◌≤◌, Bool, true, false, not, ◌||◌, ◌==◌, if◌then◌else◌, List, [], ◌∷◌, ◌++◌, length, take, drop}
+use Rattle.std.specs.Prelude.{◌≡◌, ℕ, ◌+◌, ◌<◌, ◌≤◌, Bool, true, false, not, ◌||◌, ◌==◌, if◌then◌else◌}
+use Rattle.std.specs.Prelude.{List, [], ◌∷◌, ◌++◌, length, take, drop}
 use Rattle.audit_wire.specs.Frame.{size_of}
 use Rattle.audit_serve_rights.specs.declared.rights.Rights.{Rights}
 use Rattle.audit_serve_rights.specs.declared.position.Position.{Position}
@@ -8,13 +9,13 @@ use Rattle.audit_serve_rights.specs.Rights.{allows}
 use Rattle.audit_serve_rights.specs.Front.{allowed_front}
 
 -- the bytes that are held back
-abbrev pub held_bytes : Position → List ℕ
-held_bytes position.Start = []
-held_bytes (position.High high) = high ∷ []
-held_bytes (position.Length high low) = high ∷ low ∷ []
-held_bytes (position.Inside left) = []
-held_bytes position.Ended = []
-held_bytes position.CutOff = []
+abbrev pub held_back_at : Position → List ℕ
+held_back_at position.Start = []
+held_back_at (position.High high) = high ∷ []
+held_back_at (position.Length high low) = high ∷ low ∷ []
+held_back_at (position.Inside left) = []
+held_back_at position.Ended = []
+held_back_at position.CutOff = []
 
 -- how many bytes follow of a frame that is let through
 abbrev pub left_at : Position → ℕ

@@ -19,8 +19,8 @@ ghost use Rattle.audit_serve_rights.specs.Allowed.{IsServedAllowed};
 use audit_serve_passes::SessionCore;
 use audit_serve_ready::ReadyStream;
 
-/// What is let through of a stream is a front of its bytes, frame by frame. The requests that are framed in it are those
-/// of the stream up to the first one that the client may not make.
+/// What is let through of a stream is a front of its bytes, frame by frame. The requests that are framed in it are
+/// those of the stream up to the first one that the client may not make.
 pub fn only_allowed_requests_are_let_through()
     ensures front { (rights : Rights) (ended : Bool) (bytes : List ℕ)
         → (rest : List ℕ) × (bytes ≡ allowed_front rights ended bytes ++ rest) }
@@ -38,9 +38,10 @@ pub fn only_allowed_requests_are_let_through()
 
 /// A client of which only allowed frames are let through, from its coming on, as long as it stays, whoever was in its
 /// place before. All bytes that were fed to its session are the longest front of those that its stream gave that ends
-/// before the first frame that isn't allowed; of a frame whose kind hasn't come nothing was fed. Nobody else's bytes
-/// were fed to it, and what was taken of its output was written to its stream, or is kept for it, or was dropped when
-/// its place was shut. The client's stream is a [`Guarded`](crate::Guarded), or has one and hands its calls on to it.
+/// before the first frame that isn't allowed; of a frame whose kind hasn't come nothing was fed unless the stream
+/// ended. Nobody else's bytes were fed to it, and what was taken of its output was written to its stream, or is kept
+/// for it, or was dropped when its place was shut. The client's stream is a [`Guarded`](crate::Guarded), or has one
+/// and hands its calls on to it.
 pub fn only_what_is_allowed_is_fed<C: SessionCore, T: ReadyStream, S: ReadyStream>()
     ensures { (guarded_of : T → Guarded S)
         → ((one other : T) (calls : List StreamCall) → T.calls.DidCalls one other calls

@@ -1,7 +1,7 @@
 ghost use Rattle.std.specs.Prelude.{◌≡◌, ◌≤◌, ◌<◌, false, true, length, take, [], ◌∷◌};
 ghost use Rattle.audit_wire.specs.Frame.{size_of};
 ghost use Rattle.audit_serve_rights.specs.declared.rights.Rights.{Rights};
-ghost use Rattle.audit_serve_rights.specs.Position.{held_bytes, left_at, is_over, position_of, LeadsTo, Passes};
+ghost use Rattle.audit_serve_rights.specs.Position.{held_back_at, left_at, is_over, position_of, LeadsTo, Passes};
 
 use crate::rights::Rights;
 use audit_wire::LENGTH_BYTES;
@@ -125,8 +125,8 @@ impl Position {
     /// Writes the bytes that are held back into the front of the buffer, and returns how many they are.
     pub(crate) fn put_held(self, buffer: &mut [u8]) -> usize
         requires { LENGTH_BYTES ≤ length buffer.old }
-        ensures count { result ≡ length (held_bytes self) }
-        ensures front { take result buffer.new ≡ held_bytes self }
+        ensures count { result ≡ length (held_back_at self) }
+        ensures front { take result buffer.new ≡ held_back_at self }
         ensures most { result ≤ LENGTH_BYTES }
     {
         match self {
