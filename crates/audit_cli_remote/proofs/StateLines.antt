@@ -20,14 +20,10 @@ one_line_more text kept one rest line after so_far some cut is =
     ∙ sym (append_assoc (map (λ (k : Commitment). Some k) kept) (Some one ∷ []) (map commitment_in_word (lines_of after)))
     ∙ ap (λ (l : List (Option Commitment)). l ++ map commitment_in_word (lines_of after)) (sym (map-append (λ (k : Commitment). Some k) kept (one ∷ [])))
 
-no_lines : (rest : List ℕ) → rest ≡ [] → lines_of rest ≡ []
+pub all_lines_read : (text : List ℕ) (kept : List Commitment) (rest : List ℕ) → IsReadUpTo text kept rest → length rest ≡ 0 → map commitment_in_word (lines_of text) ≡ map (λ one. Some one) kept
 unfolding lines_of
-no_lines rest none = ap lines_of none
-
-pub all_lines_read : (text : List ℕ) (kept : List Commitment) (rest : List ℕ) → IsReadUpTo text kept rest → rest ≡ [] → map commitment_in_word (lines_of text) ≡ map (λ one. Some one) kept
-all_lines_read text kept rest so_far none =
-    so_far ∙ ap (λ (l : List (List ℕ)). map (λ (k : Commitment). Some k) kept ++ map commitment_in_word l) (no_lines rest none)
-    ∙ append-nil (map (λ (k : Commitment). Some k) kept)
+all_lines_read text kept [] so_far none = so_far ∙ append-nil (map (λ (k : Commitment). Some k) kept)
+all_lines_read text kept (byte ∷ rest) so_far none = absurd (omega (arith, none))
 
 -- the last of a list is at its last place
 pub last_place : (kept : List Commitment) → slice_get kept (length kept - 1) ≡ last_kept kept
