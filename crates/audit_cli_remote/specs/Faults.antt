@@ -1,9 +1,8 @@
 -- The errors of commands that ask a server, and the status with which the program exits after each.
-use Rattle.std.specs.Prelude.{◌≡◌, ℕ, Bool, true, false, Option, Some, None, List, codes, Result, Ok, Err}
+use Rattle.std.specs.Prelude.{◌≡◌, ℕ, Option, Some, None, List, codes, Result, Ok, Err}
 use Rattle.audit_wire.specs.declared.refusal.Refusal.{Refusal}
 use Rattle.audit_wire.specs.declared.refusal.Refusal.TheVariants as refusal
 use Rattle.audit_store.specs.declared.store_error.StoreError.TheVariants as store
-use Rattle.audit_text.specs.declared.fault.LinesError.{LinesError}
 use Rattle.audit_cli_store.specs.declared.status.Status.{Status}
 use Rattle.audit_cli_store.specs.declared.status.Status.TheVariants as ends
 use Rattle.audit_cli_store.specs.declared.fault.CommandError.TheVariants.{Refused, File, Lines}

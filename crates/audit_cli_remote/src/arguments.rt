@@ -90,20 +90,23 @@ fn question_in<'a>(words: QuestionWords<'a>) -> Option<Question<'a>> {
 
 /// Parses a number of seconds, from 1 to [`MAX_SECONDS`].
 pub fn seconds_asked(word: &str) -> Result<u64, CommandError>
-    ensures { result ≡ seconds_asked word.now }
+    ensures asked { result ≡ seconds_asked word.now }
+    ensures fault { IfErr result (λ fault. fault ≡ CommandError.BadArgument) }
 {
     number_up_to(word, MAX_SECONDS)
 }
 
 /// Parses a number of lines, from 1 to [`MAX_WINDOW`].
 pub fn window_asked(word: &str) -> Result<u64, CommandError>
-    ensures { result ≡ window_asked word.now }
+    ensures asked { result ≡ window_asked word.now }
+    ensures fault { IfErr result (λ fault. fault ≡ CommandError.BadArgument) }
 {
     number_up_to(word, MAX_WINDOW)
 }
 
 fn number_up_to(word: &str, most: u64) -> Result<u64, CommandError>
-    ensures { result ≡ judged_number most (number_in_text word.now) }
+    ensures asked { result ≡ judged_number most (number_in_text word.now) }
+    ensures fault { IfErr result (λ fault. fault ≡ CommandError.BadArgument) }
 {
     match number_in_text(word.as_bytes()) {
         Some(number) if number >= 1 && number <= most => Ok(number),

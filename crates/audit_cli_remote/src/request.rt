@@ -1,5 +1,5 @@
 //! The requests that ask a server, and how they are carried out.
-ghost use Rattle.std.specs.Prelude.{◌≡◌, ◌⊎◌, ℕ, List, Err, Some};
+ghost use Rattle.std.specs.Prelude.{◌≡◌, ◌⊎◌, ℕ, List, Err, Some, IfErr};
 ghost use Rattle.std.specs.Io.KnownBytes.{Appends, Keeps};
 ghost use Rattle.audit_text.specs.declared.fault.LinesError.{LinesError};
 ghost use Rattle.audit_cli_remote.specs.declared.fault.RemoteError.{RemoteError};
@@ -156,7 +156,8 @@ fn perform<F: Files + Net, R: Read, W: Write, M: Write>(
 }
 
 fn seconds_or_default(word: Option<&str>) -> Result<u64, CommandError>
-    ensures { AreNoSeconds word.entry → result ≡ Err CommandError.BadArgument }
+    ensures wrong { AreNoSeconds word.entry → result ≡ Err CommandError.BadArgument }
+    ensures fault { IfErr result (λ fault. fault ≡ CommandError.BadArgument) }
 {
     match word {
         Some(word) => seconds_asked(word),
@@ -165,7 +166,8 @@ fn seconds_or_default(word: Option<&str>) -> Result<u64, CommandError>
 }
 
 fn window_or_default(word: Option<&str>) -> Result<u64, CommandError>
-    ensures { IsNoWindow word.entry → result ≡ Err CommandError.BadArgument }
+    ensures wrong { IsNoWindow word.entry → result ≡ Err CommandError.BadArgument }
+    ensures fault { IfErr result (λ fault. fault ≡ CommandError.BadArgument) }
 {
     match word {
         Some(word) => window_asked(word),
