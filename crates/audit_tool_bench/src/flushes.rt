@@ -1,13 +1,16 @@
 //! Group commit of small events from sessions, compared with the file calls and the SHA-256 messages that it can't
 //! avoid.
+use crate::bare::BareFile;
 use crate::sessions::{ROUNDS, started, time_frames};
-use crate::stores::{hash_messages, write_bare};
+use crate::stores::hash_messages;
 use crate::times::{Rounds, Times, since};
 use audit_disk::Sectors;
 use audit_log::LOG_START;
 use audit_server::Core;
 use audit_store::Store;
 use std::alloc::Global;
+use std::fs::OpenFile;
+use std::os::unix::fs::FileExt;
 use std::rt::Clock;
 use std::time::Instant;
 
@@ -31,15 +34,15 @@ const PAIR_LEN: usize = 65;
 
 /// Times flushes of `size` appends. Before each one it times the SHA-256 messages, and the writes and syncs of the
 /// same sectors through a second handle of the file. The file already has its sectors.
-pub fn time_flushes<R: AllocGlobal + Clock + Eprint, D: Sectors + Drop>(
+pub fn time_flushes<R: AllocGlobal + Clock + Eprint, D: Sectors + Drop, F: FileExt + OpenFile>(
     rt: &R,
     store: Store<D>,
-    bare: &mut D,
+    bare: &BareFile<F>,
     size: u32,
 ) -> anyhow::Result<Store<D>> {
     let count = store.commitment().count;
     let sectors = u64::from(size).saturating_mul(u64::from(ROUNDS));
-    write_bare(bare, LOG_START.saturating_add(count), sectors)?;
+    bare.write_batch(LOG_START.saturating_add(count), sectors)?;
     let mut core = started(rt.alloc(), store)?;
     let times = time_rounds(rt, &mut core, bare, count, size)?;
     eprintln!(rt;
@@ -50,10 +53,10 @@ pub fn time_flushes<R: AllocGlobal + Clock + Eprint, D: Sectors + Drop>(
 }
 
 // The times of flushes of this many appends to a store of this many events.
-fn time_rounds<R: AllocGlobal + Clock, D: Sectors>(
+fn time_rounds<R: AllocGlobal + Clock, D: Sectors, F: FileExt + OpenFile>(
     rt: &R,
     core: &mut Core<D>,
-    bare: &mut D,
+    bare: &BareFile<F>,
     before: u64,
     size: u32,
 ) -> anyhow::Result<Times> {
@@ -67,16 +70,16 @@ fn time_rounds<R: AllocGlobal + Clock, D: Sectors>(
     rounds.low()
 }
 
-fn time_flush<R: AllocGlobal + Clock, D: Sectors>(
+fn time_flush<R: AllocGlobal + Clock, D: Sectors, F: FileExt + OpenFile>(
     rt: &R,
     core: &mut Core<D>,
-    bare: &mut D,
+    bare: &BareFile<F>,
     count: u64,
     frames: &[[u8; APPEND_LEN]],
 ) -> anyhow::Result<Times> {
     let start = Instant::now(rt)?;
     let seen = hash_batch(count, frames.len() as u64);
-    write_bare(bare, LOG_START.saturating_add(count), frames.len() as u64)?;
+    bare.write_batch(LOG_START.saturating_add(count), frames.len() as u64)?;
     let alone = since(rt, start)?;
     Ok(Times {
         whole: time_frames(rt, core, frames, ACKNOWLEDGEMENT)?,

@@ -1,6 +1,7 @@
 //! The cost of events with the longest payload, compared with the SHA-256, the ChaCha20 and the file calls that they
 //! can't avoid.
-use crate::stores::{BATCH_LENS, bare_disk, hash_messages, new_store, write_bare};
+use crate::bare::{BareFile, open_bare};
+use crate::stores::{BATCH_LENS, hash_messages, new_store};
 use crate::times::{Times, since};
 use anyhow::bail;
 use audit_base::{MAX_ENTRY, MAX_ENTRY_SECTORS, MAX_PAYLOAD};
@@ -14,7 +15,8 @@ use rand_core::SeedableRng;
 use rand_core::utils::NextWord;
 use sha2::{Digest, Sha256};
 use std::alloc::{AllocError, Global};
-use std::fs::Files;
+use std::fs::{Files, OpenFile};
+use std::os::unix::fs::FileExt;
 use std::rt::Clock;
 use std::time::Instant;
 
@@ -35,15 +37,15 @@ pub fn measure<R: Files + AllocGlobal + Clock + Eprint>(
     events: u32,
 ) -> anyhow::Result<()>
 where
-    R::File: SystemFile,
+    R::File: SystemFile + FileExt,
 {
     let mut store = new_store(rt, file, MAX_ENTRY_SECTORS * u64::from(events) + 2)?;
-    let mut bare = bare_disk(rt, file)?;
+    let bare = open_bare(rt, file)?;
     print_times(
         rt,
         "appending",
         events,
-        time_appends(rt, &mut store, &mut bare, events)?,
+        time_appends(rt, &mut store, &bare, events)?,
     )?;
     print_times(rt, "verifying", events, time_verifying(rt, &mut store)?)
 }
@@ -55,10 +57,10 @@ fn print_times<R: Eprint>(rt: &R, name: &str, events: u32, times: Times) -> anyh
 }
 
 // The total time of this many appends.
-fn time_appends<R: AllocGlobal + Clock, D: Sectors>(
+fn time_appends<R: AllocGlobal + Clock, D: Sectors, F: FileExt + OpenFile>(
     rt: &R,
     store: &mut Store<D>,
-    bare: &mut D,
+    bare: &BareFile<F>,
     events: u32,
 ) -> anyhow::Result<Times> {
     let mut text = vec![in rt.alloc(); 0x5a; MAX_ENTRY + 1]?;
@@ -71,17 +73,17 @@ fn time_appends<R: AllocGlobal + Clock, D: Sectors>(
 
 // Times the work that the append of an event can't avoid, with the file calls through a second handle; then times the
 // append.
-fn time_append<R: AllocGlobal + Clock, D: Sectors>(
+fn time_append<R: AllocGlobal + Clock, D: Sectors, F: FileExt + OpenFile>(
     rt: &R,
     store: &mut Store<D>,
-    bare: &mut D,
+    bare: &BareFile<F>,
     text: &mut [u8],
     number: u64,
 ) -> anyhow::Result<Times> {
     let batch = large_event(rt.alloc(), number)?;
     let start = Instant::now(rt)?;
     let seen = work_of_event(text, number) ^ hash_messages(&BATCH_LENS, number);
-    write_bare(bare, store.end(), MAX_ENTRY_SECTORS)?;
+    bare.write_batch(store.end(), MAX_ENTRY_SECTORS)?;
     let alone = since(rt, start)?;
     let start = Instant::now(rt)?;
     store.append(&batch)?;

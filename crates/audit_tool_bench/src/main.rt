@@ -10,6 +10,7 @@
 //! - `large`: appending this many events with the longest payload, and verifying them.
 #![tactic(auto)]
 
+mod bare;
 mod blocks;
 mod exports;
 mod flushes;

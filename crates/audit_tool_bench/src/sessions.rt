@@ -1,4 +1,5 @@
 //! The cost of sessions over a store in a file: group commit of small events, and replies to questions.
+use crate::bare::{BareFile, open_bare};
 use crate::flushes::time_flushes;
 use crate::questions::time_questions;
 use crate::stores::{LARGE_BATCH, append_large, bare_disk, new_store, small_events};
@@ -10,7 +11,8 @@ use audit_server::Core;
 use audit_store::Store;
 use audit_wire::first_frame;
 use std::alloc::Global;
-use std::fs::Files;
+use std::fs::{Files, OpenFile};
+use std::os::unix::fs::FileExt;
 use std::rt::Clock;
 use std::time::Instant;
 
@@ -32,20 +34,19 @@ pub fn measure<R: Files + AllocGlobal + Clock + Eprint>(
     events: u32,
 ) -> anyhow::Result<()>
 where
-    R::File: SystemFile,
+    R::File: SystemFile + FileExt,
 {
     let events = u64::from(events);
     let store = new_store(rt, file, SPARE_SECTORS + events)?;
-    let mut bare = bare_disk(rt, file)?;
-    let mut store = time_sizes(rt, store, &mut bare)?;
+    let mut store = time_sizes(rt, store, &open_bare(rt, file)?)?;
     fill(rt.alloc(), &mut store, events)?;
-    time_questions(rt, store, &mut bare)
+    time_questions(rt, store, &mut bare_disk(rt, file)?)
 }
 
-fn time_sizes<R: AllocGlobal + Clock + Eprint, D: Sectors + Drop>(
+fn time_sizes<R: AllocGlobal + Clock + Eprint, D: Sectors + Drop, F: FileExt + OpenFile>(
     rt: &R,
     store: Store<D>,
-    bare: &mut D,
+    bare: &BareFile<F>,
 ) -> anyhow::Result<Store<D>> {
     let mut store = store;
     for size in FLUSH_SIZES {

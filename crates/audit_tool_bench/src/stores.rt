@@ -1,4 +1,5 @@
 //! The cost of a store in a file, compared with the file calls and the SHA-256 blocks that it can't avoid.
+use crate::bare::{BareFile, open_bare};
 use crate::times::{Times, since};
 use anyhow::{Context, bail};
 use audit_chain::{Event, Key};
@@ -6,7 +7,8 @@ use audit_disk::{FileDisk, OsFile, SECTOR_SIZE, Sectors, SystemFile};
 use audit_store::{Failed, Store};
 use sha2::{Digest, Sha256};
 use std::alloc::Global;
-use std::fs::{self, Files, OpenOptions};
+use std::fs::{self, Files, OpenFile, OpenOptions};
+use std::os::unix::fs::FileExt;
 use std::rt::Clock;
 use std::time::Instant;
 
@@ -43,7 +45,7 @@ pub fn measure<R: Files + AllocGlobal + Clock + Eprint>(
     events: u32,
 ) -> anyhow::Result<()>
 where
-    R::File: SystemFile,
+    R::File: SystemFile + FileExt,
 {
     fill_store(rt, file, events)?;
     time_openings(rt, file)?;
@@ -56,12 +58,12 @@ fn fill_store<R: Files + AllocGlobal + Clock + Eprint>(
     events: u32,
 ) -> anyhow::Result<()>
 where
-    R::File: SystemFile,
+    R::File: SystemFile + FileExt,
 {
     let mut store = new_store(rt, file, SPARE_SECTORS + u64::from(events))?;
-    let mut bare = bare_disk(rt, file)?;
-    time_batches(rt, &mut store, &mut bare, 1)?;
-    time_batches(rt, &mut store, &mut bare, LARGE_BATCH)?;
+    let bare = open_bare(rt, file)?;
+    time_batches(rt, &mut store, &bare, 1)?;
+    time_batches(rt, &mut store, &bare, LARGE_BATCH)?;
     append_large(rt.alloc(), &mut store, u64::from(events / LARGE_BATCH))
 }
 
@@ -118,10 +120,10 @@ pub fn small_events(alloc: Global, count: u32) -> anyhow::Result<Vec<Event>> {
 }
 
 // Times the appends of batches of this many events, compared with the work that they can't avoid.
-fn time_batches<R: AllocGlobal + Clock + Eprint, D: Sectors>(
+fn time_batches<R: AllocGlobal + Clock + Eprint, D: Sectors, F: FileExt + OpenFile>(
     rt: &R,
     store: &mut Store<D>,
-    bare: &mut D,
+    bare: &BareFile<F>,
     size: u32,
 ) -> anyhow::Result<()> {
     let batch = small_events(rt.alloc(), size)?;
@@ -140,16 +142,16 @@ fn time_batches<R: AllocGlobal + Clock + Eprint, D: Sectors>(
 
 // Times the work that the append of a batch can't avoid: the SHA-256 blocks, and the writes and syncs of the same
 // sectors through a second handle of the file. Then it times the append.
-fn time_batch<R: Clock, D: Sectors>(
+fn time_batch<R: Clock, D: Sectors, F: FileExt + OpenFile>(
     rt: &R,
     store: &mut Store<D>,
-    bare: &mut D,
+    bare: &BareFile<F>,
     batch: &[Event],
     round: u32,
 ) -> anyhow::Result<Times> {
     let start = Instant::now(rt)?;
     let seen = hash_batch(batch.len() as u64, round);
-    write_bare(bare, store.end(), batch.len() as u64)?;
+    bare.write_batch(store.end(), batch.len() as u64)?;
     let alone = since(rt, start)?;
     let start = Instant::now(rt)?;
     store.append(batch)?;
@@ -163,28 +165,6 @@ fn time_batch<R: Clock, D: Sectors>(
 // Hashes the messages of a batch of `size` events.
 fn hash_batch(size: u64, round: u32) -> u8 {
     hash_events(&SEALED_LENS, size) ^ hash_messages(&BATCH_LENS, u64::from(round))
-}
-
-/// Writes what a batch writes, with other contents, and syncs three times: `count` sectors from `first` on, and both
-/// headers.
-pub fn write_bare<D: Sectors>(disk: &mut D, first: u64, count: u64) -> anyhow::Result<()> {
-    for at in first..first.saturating_add(count) {
-        write_one(disk, at)?;
-    }
-    disk.sync()?;
-    write_one(disk, 0)?;
-    disk.sync()?;
-    write_one(disk, 1)?;
-    disk.sync()?;
-    Ok(())
-}
-
-fn write_one<D: Sectors>(disk: &mut D, at: u64) -> anyhow::Result<()> {
-    if at >= disk.size() {
-        bail!("the file is too short");
-    }
-    disk.write(at, &[0x5a; SECTOR_SIZE])?;
-    Ok(())
 }
 
 // Hashes the messages of `events` events.
