@@ -133,11 +133,14 @@ fn go_over_twice<R: Read>(
         bail!("the export is not accepted");
     };
     let mut entries = EntryReader::new(&first_key());
-    while let Ok(Some(event)) = entries.next_event(alloc, second) {
-        if event.kind() != 1 {
-            bail!("another event is read");
-        }
+    for _ in 0..accepted.count {
+        let Ok(Some(_)) = entries.next_event(alloc, second) else {
+            bail!("an entry isn't read again");
+        };
     }
+    let Ok(None) = entries.next_event(alloc, second) else {
+        bail!("the second pass doesn't end");
+    };
     if !entries.has_reached(&accepted) {
         bail!("the second pass ends elsewhere");
     }
