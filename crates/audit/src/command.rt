@@ -1,6 +1,6 @@
 use crate::forms::{EXPLAIN, command_line};
-use audit_cli_daemon::{Request as Daemon, Settings};
 use crate::remote_command::remote_request;
+use audit_cli_daemon::{Request as Daemon, Settings};
 use audit_cli_remote::Request as Remote;
 use audit_cli_serve::Request as Serving;
 use audit_cli_store::{Access, Request, Site};

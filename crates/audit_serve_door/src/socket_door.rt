@@ -191,7 +191,11 @@ impl<'a, C: Clock, J: Journal + Drop> SocketDoor<'a, C, J> {
             self.until = self.now.checked_add(finishing_time());
             return Next::Stop;
         };
-        if self.now < until { Next::Again } else { Next::Stop }
+        if self.now < until {
+            Next::Again
+        } else {
+            Next::Stop
+        }
     }
 }
 
