@@ -90,7 +90,7 @@ pub static REMOTE_FORMS: [Form; 3] = [
             Choice {
                 name: "every",
                 value: Some("SECONDS"),
-                help: "Looks again after so many seconds, 1 to 86400, and prints only changes",
+                help: "Looks again every SECONDS, 1 to 86400, and prints only changes",
                 needs: None,
                 excludes: None,
             },

@@ -14,7 +14,7 @@ use audit_wire::{RequestView, write_request};
 use std::alloc::Global;
 use std::io::{BufReader, Read};
 
-// Once the requests of a round have so many bytes, no more are added to them.
+// A round whose requests have this many bytes takes no further lines.
 const FRAMES_ROOM: usize = 1 << 16;
 
 /// The lines that were taken for a round.

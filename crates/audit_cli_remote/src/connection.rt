@@ -7,7 +7,7 @@ use std::net::Net;
 use std::os::unix::net::UnixStream;
 use std::time::Duration;
 
-/// Connects to a socket. Each read and each write fails once it has waited for so many seconds.
+/// Connects to a socket. Each read and each write fails once it has waited for `seconds`.
 pub fn connect<F: Net>(rt: &F, socket: &str, seconds: u64) -> Result<UnixStream, RemoteError> {
     match connect_timed(rt, socket, Duration::from_secs(seconds)) {
         Ok(stream) => Ok(stream),

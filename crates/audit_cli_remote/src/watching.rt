@@ -33,7 +33,7 @@ pub fn watch_once<F: Files + Net, W: Write>(
     print_sight(alloc, sight, output)
 }
 
-/// Looks again and again, with a pause of so many seconds after each look, and prints what has changed. A server that
+/// Looks again and again, pausing for `every` seconds after each look, and prints what has changed. A server that
 /// isn't there, or doesn't answer, is reported once until something else is seen.
 pub fn watch_for_ever<F: Files + Net, W: Write, M: Write>(
     rt: &F,

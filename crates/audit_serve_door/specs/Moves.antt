@@ -7,7 +7,7 @@ use Rattle.audit_serve_passes.specs.Streams.{StreamCall, a_read, a_failed_read, 
 abbrev pub one_more : ℕ → ℕ
 one_more count = (count + 1) % 2 ^ 64
 
--- the count after so many bytes were moved, or none
+-- the count after a call that moved this number of bytes, or none
 abbrev pub count_after : ℕ → ℕ → ℕ
 count_after count zero = count
 count_after count (suc bytes) = one_more count

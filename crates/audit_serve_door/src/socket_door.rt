@@ -126,28 +126,36 @@ impl<'a, C: Clock, J: Journal + Drop> SocketDoor<'a, C, J> {
         entrance.accept()
     }
 
-    // How long a pause may last: without end while nobody waits.
+    // How long a pause may last: without end while nothing is to be tried again and nobody is to be dismissed.
     fn limit(&self) -> Option<Duration> {
         if let Some(until) = self.until {
             return Some(until.duration_since(self.now));
         }
+        if self.is_one_left() {
+            return Some(retry_time());
+        }
+        self.time_to_dismissal()
+    }
+
+    // Whether a connection may be there that couldn't be accepted: an order, or a client if none waits.
+    fn is_one_left(&self) -> bool {
+        self.orders.incoming.may_have_some() || self.waiting.is_none() && self.is_client_left()
+    }
+
+    fn is_client_left(&self) -> bool {
+        self.entrances
+            .iter()
+            .any(|entrance| entrance.incoming.may_have_some())
+    }
+
+    // When the client that has been idle for the longest time is to be dismissed, if another one waits.
+    fn time_to_dismissal(&self) -> Option<Duration> {
         if self.waiting.is_none() {
-            return if self.is_one_left() {
-                Some(retry_time())
-            } else {
-                None
-            };
+            return None;
         }
         let idle = self.idle?;
         let (_, since) = self.places.longest_idle()?;
         Some(idle.saturating_sub(self.now.duration_since(since)))
-    }
-
-    // Whether a connection may be there that couldn't be accepted.
-    fn is_one_left(&self) -> bool {
-        self.entrances
-            .iter()
-            .any(|entrance| entrance.incoming.may_have_some())
     }
 
     // Waits for the system to report that something is ready.

@@ -32,14 +32,14 @@ abbrev pub has_failed_read : List StreamCall → Bool
 has_failed_read [] = false
 has_failed_read (call ∷ calls) = is_failed_read call || has_failed_read calls
 
--- at most so many bytes are given
+-- at most `most` bytes are given
 abbrev pub IsGivenWithin : Passed → ℕ → Type 0
 IsGivenWithin passed.Nothing most = Unit {0}
 IsGivenWithin passed.Held most = Unit {0}
 IsGivenWithin (passed.Given (Ok count)) most = count ≤ most
 IsGivenWithin (passed.Given (Err fault)) most = Unit {0}
 
--- From a place where so many bytes follow of a frame that is let through, this is given of these bytes. The end is
+-- In a frame that is let through, of which `left` bytes are still to come, this is given of these bytes. The end is
 -- given only at a frame that isn't allowed.
 pub record LetsThrough (rights : Rights) (left : ℕ) (bytes : List ℕ) (result : Passed) (new : Position) : Type 0 where
   pub within : IsGivenWithin result (length bytes)

@@ -98,7 +98,7 @@ HasBytes (position.Inside left) = 0 < left
 HasBytes position.Ended = Unit {0}
 HasBytes position.CutOff = Unit {0}
 
--- From a place where so many bytes follow of a frame that is let through, these bytes lead to this position.
+-- from a frame that is let through, of which `left` bytes are still to come, these bytes lead to this position
 pub record LeadsTo (rights : Rights) (left : ℕ) (bytes : List ℕ) (new : Position) : Type 0 where
   pub front : (ended : Bool) (later : List ℕ) → front_from (position.Inside left) rights ended (bytes ++ later)
       ≡ front_from new rights ended (ahead new bytes later)
@@ -114,7 +114,7 @@ pub record Passes (rights : Rights) (left : ℕ) (bytes : List ℕ) (passed : �
   pub proper : is_proper new ≡ true
   pub live : is_ended new ≡ false
 
--- These bytes led to a place where so many bytes follow of a frame that is let through.
+-- these bytes led into a frame that is let through, of which `left` bytes are still to come
 pub record HasPassed (rights : Rights) (left : ℕ) (bytes : List ℕ) (passed now : ℕ) : Type 0 where
   pub within : passed ≤ length bytes
   pub front : (ended : Bool) (later : List ℕ) → front_from (position.Inside left) rights ended (bytes ++ later)

@@ -15,7 +15,7 @@ pub(crate) enum Position {
     High(u8),
     /// The same, and the frame's length is held back.
     Length(u8, u8),
-    /// In a frame that is let through, of which so many bytes follow.
+    /// In a frame that is let through; this many bytes of it are still to come.
     Inside(usize),
     /// The stream has ended.
     Ended,
@@ -65,7 +65,7 @@ fn size_of(high: u8, low: u8) -> usize
     usize::from(u16::from_be_bytes([high, low]))
 }
 
-/// Where the next bytes lead to from a place where so many bytes follow of a frame that is let through.
+/// Where the next bytes lead to from a frame that is let through, of which `left` bytes are still to come.
 fn enter(rights: Rights, left: usize, bytes: &[u8]) -> Position
     ensures { LeadsTo rights left bytes.now result }
 {
