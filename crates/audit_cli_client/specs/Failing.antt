@@ -70,35 +70,37 @@ pub record IsAnsweredOtherwise (written_old written_new read_old read_new : Opti
 
 -- ---- answers
 
-abbrev pub IsNewest : Reply → Type 0
-IsNewest given = (newest : Commitment) × (given ≡ reply.Commitment NEWEST_TAG newest.count newest.root)
+abbrev pub IsNewestReply : Reply → Type 0
+IsNewestReply given = (newest : Commitment) × (given ≡ reply.Commitment NEWEST_TAG newest.count newest.root)
 
-abbrev pub IsClosing : Reply → Type 0
-IsClosing given = (index : ℕ) × (last : Commitment) × (given ≡ reply.Acknowledgement ASKED_TAG index last.count last.root)
+abbrev pub IsClosingReply : Reply → Type 0
+IsClosingReply given = (index : ℕ) × (last : Commitment)
+    × (given ≡ reply.Acknowledgement ASKED_TAG index last.count last.root)
 
-abbrev pub IsMember : Reply → Type 0
-IsMember given = (hashes : List (List ℕ)) × (entry : List ℕ) × (given ≡ reply.Membership ASKED_TAG hashes entry)
+abbrev pub IsMemberReply : Reply → Type 0
+IsMemberReply given = (hashes : List (List ℕ)) × (entry : List ℕ) × (given ≡ reply.Membership ASKED_TAG hashes entry)
     × IsReply given
 
-abbrev pub IsIncrement : ℕ → Reply → Type 0
-IsIncrement tag given = (hashes : List (List ℕ)) × (given ≡ reply.Incremental tag hashes) × IsReply given
+abbrev pub IsIncrementReply : ℕ → Reply → Type 0
+IsIncrementReply tag given = (hashes : List (List ℕ)) × (given ≡ reply.Incremental tag hashes) × IsReply given
 
 -- ---- questions
 
 -- the newest commitment was asked for, and something else came
 abbrev pub FailsNewest : Option (List ℕ) → Option (List ℕ) → Option (List ℕ) → Option (List ℕ) → ClientError → Type 0
 FailsNewest written_old written_new read_old read_new error = IsLost error ⊎ IsAnsweredOtherwise
-    written_old written_new read_old read_new (request.Commitment NEWEST_TAG ∷ []) [] NEWEST_TAG IsNewest error
+    written_old written_new read_old read_new (request.Commitment NEWEST_TAG ∷ []) [] NEWEST_TAG IsNewestReply error
 
 abbrev pub FailsClosing : Option (List ℕ) → Option (List ℕ) → Option (List ℕ) → Option (List ℕ) → ClientError → Type 0
 FailsClosing written_old written_new read_old read_new error = IsLost error ⊎ IsAnsweredOtherwise
-    written_old written_new read_old read_new (request.Close ASKED_TAG ∷ []) [] ASKED_TAG IsClosing error
+    written_old written_new read_old read_new (request.Close ASKED_TAG ∷ []) [] ASKED_TAG IsClosingReply error
 
 -- The increment between two commitments was asked for, and something else came; or it came, and isn't accepted.
-abbrev pub FailsJoining : Option (List ℕ) → Option (List ℕ) → Option (List ℕ) → Option (List ℕ) → Commitment → Commitment → ClientError → Type 0
+abbrev pub FailsJoining : Option (List ℕ) → Option (List ℕ) → Option (List ℕ) → Option (List ℕ) → Commitment → Commitment
+    → ClientError → Type 0
 FailsJoining written_old written_new read_old read_new older newer error = IsLost error ⊎ (
     IsAnsweredOtherwise written_old written_new read_old read_new
-        (request.Incremental JOIN_TAG older.count newer.count ∷ []) [] JOIN_TAG (IsIncrement JOIN_TAG) error
+        (request.Incremental JOIN_TAG older.count newer.count ∷ []) [] JOIN_TAG (IsIncrementReply JOIN_TAG) error
     ⊎ ((error ≡ client.NotAccepted) × (hashes : List (List ℕ))
         × Converses written_old written_new read_old read_new
             (request.Incremental JOIN_TAG older.count newer.count ∷ []) (reply.Incremental JOIN_TAG hashes ∷ [])
@@ -115,7 +117,7 @@ FailsEntry written_old written_new read_old read_new index error =
     FailsNewest written_old written_new read_old read_new error ⊎ ((newest : Commitment) × (
         IsAnsweredOtherwise written_old written_new read_old read_new
             (request.Commitment NEWEST_TAG ∷ request.Membership ASKED_TAG index newest.count ∷ [])
-            (newest_reply newest ∷ []) ASKED_TAG IsMember error
+            (newest_reply newest ∷ []) ASKED_TAG IsMemberReply error
         ⊎ ((error ≡ client.NotAccepted) × (hashes : List (List ℕ)) × (entry : List ℕ)
             × Converses written_old written_new read_old read_new
                 (request.Commitment NEWEST_TAG ∷ request.Membership ASKED_TAG index newest.count ∷ [])
@@ -124,7 +126,8 @@ FailsEntry written_old written_new read_old read_new index error =
 
 -- What a witness doesn't believe, after it asked for the newest commitment: a log of fewer entries than the commitment
 -- that it kept, or of as many and another root, or another answer than an increment that is accepted.
-abbrev pub Disbelieves : Option (List ℕ) → Option (List ℕ) → Option (List ℕ) → Option (List ℕ) → Commitment → Commitment → ClientError → Type 0
+abbrev pub Disbelieves : Option (List ℕ) → Option (List ℕ) → Option (List ℕ) → Option (List ℕ) → Commitment → Commitment
+    → ClientError → Type 0
 Disbelieves written_old written_new read_old read_new kept newest error =
     ((error ≡ client.Shorter) × (newest.count < kept.count) × Converses written_old written_new read_old read_new
         (request.Commitment NEWEST_TAG ∷ []) (newest_reply newest ∷ []))
@@ -133,13 +136,14 @@ Disbelieves written_old written_new read_old read_new kept newest error =
             (request.Commitment NEWEST_TAG ∷ []) (newest_reply newest ∷ []))
     ⊎ (IsAnsweredOtherwise written_old written_new read_old read_new
         (request.Commitment NEWEST_TAG ∷ request.Incremental JOIN_TAG kept.count newest.count ∷ [])
-        (newest_reply newest ∷ []) JOIN_TAG (IsIncrement JOIN_TAG) error
+        (newest_reply newest ∷ []) JOIN_TAG (IsIncrementReply JOIN_TAG) error
     ⊎ ((error ≡ client.NotAccepted) × (hashes : List (List ℕ)) × Converses written_old written_new read_old read_new
             (request.Commitment NEWEST_TAG ∷ request.Incremental JOIN_TAG kept.count newest.count ∷ [])
             (newest_reply newest ∷ reply.Incremental JOIN_TAG hashes ∷ [])
         × (AcceptsIncrement sha256 kept newest hashes → ⊥))))
 
-abbrev pub FailsWatch : Option (List ℕ) → Option (List ℕ) → Option (List ℕ) → Option (List ℕ) → Option Commitment → ClientError → Type 0
+abbrev pub FailsWatch : Option (List ℕ) → Option (List ℕ) → Option (List ℕ) → Option (List ℕ) → Option Commitment
+    → ClientError → Type 0
 FailsWatch written_old written_new read_old read_new kept error =
     FailsNewest written_old written_new read_old read_new error ⊎ ((newest before : Commitment) × (kept ≡ Some before)
         × Disbelieves written_old written_new read_old read_new before newest error)

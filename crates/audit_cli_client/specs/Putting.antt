@@ -17,25 +17,27 @@ abbrev pub PutsOnly : Option (Option (List ℕ)) → Option (Option (List ℕ)) 
 PutsOnly old new IsAccepted = (new ≡ old) ⊎ ((bytes : List ℕ) × IsAccepted bytes × IsFile new bytes)
 
 -- the bytes of the entry of an index, which is accepted under the commitment that the server gave
-abbrev pub GivesEntry : Option (List ℕ) → Option (List ℕ) → Option (List ℕ) → Option (List ℕ) → ℕ → List ℕ → Type 0
-GivesEntry written_old written_new read_old read_new index bytes =
+abbrev pub IsGivenEntry : Option (List ℕ) → Option (List ℕ) → Option (List ℕ) → Option (List ℕ) → ℕ → List ℕ → Type 0
+IsGivenEntry written_old written_new read_old read_new index bytes =
     (newest : Commitment) × AnswersEntry written_old written_new read_old read_new newest index bytes
 
 -- the bytes of a membership proof for this index and count, which is accepted under a commitment for which that one
 -- vouches
-abbrev pub GivesMember : Option (List ℕ) → Option (List ℕ) → Option (List ℕ) → Option (List ℕ) → ℕ → ℕ → List ℕ → Type 0
-GivesMember written_old written_new read_old read_new index count bytes = (newest : Commitment) × (proof : Member)
+abbrev pub IsGivenMember : Option (List ℕ) → Option (List ℕ) → Option (List ℕ) → Option (List ℕ) → ℕ → ℕ → List ℕ
+    → Type 0
+IsGivenMember written_old written_new read_old read_new index count bytes = (newest : Commitment) × (proof : Member)
     × (proof.index ≡ index) × (proof.count ≡ count) × (bytes ≡ member_bytes proof)
     × AnswersMember written_old written_new read_old read_new newest proof
 
 -- the same of an incremental proof between two counts
-abbrev pub GivesIncrement : Option (List ℕ) → Option (List ℕ) → Option (List ℕ) → Option (List ℕ) → ℕ → ℕ → List ℕ → Type 0
-GivesIncrement written_old written_new read_old read_new older newer bytes =
+abbrev pub IsGivenIncrement : Option (List ℕ) → Option (List ℕ) → Option (List ℕ) → Option (List ℕ) → ℕ → ℕ → List ℕ
+    → Type 0
+IsGivenIncrement written_old written_new read_old read_new older newer bytes =
     (newest : Commitment) × (proof : Increment)
     × (proof.older ≡ older) × (proof.newer ≡ newer) × (bytes ≡ increment_bytes proof)
     × AnswersIncrement written_old written_new read_old read_new newest proof
 
 -- the bytes of all entries, to which the commitment that the server gave is the commitment
-abbrev pub GivesEntries : Option (List ℕ) → Option (List ℕ) → Option (List ℕ) → Option (List ℕ) → List ℕ → Type 0
-GivesEntries written_old written_new read_old read_new bytes = (entries : List (List ℕ))
+abbrev pub AreGivenEntries : Option (List ℕ) → Option (List ℕ) → Option (List ℕ) → Option (List ℕ) → List ℕ → Type 0
+AreGivenEntries written_old written_new read_old read_new bytes = (entries : List (List ℕ))
     × GivesExport written_old written_new read_old read_new entries × (bytes ≡ concat entries)

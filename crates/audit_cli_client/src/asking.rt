@@ -10,8 +10,9 @@ ghost use Rattle.audit_wire.specs.declared.request.Request.TheVariants as reques
 ghost use Rattle.audit_wire.specs.declared.reply.Reply.TheVariants as reply;
 ghost use Rattle.audit_cli_client.specs.Asking.{not_due, AnswersMember, AnswersIncrement, AnswersEntry};
 ghost use Rattle.audit_cli_client.specs.Conversation.{Converses};
-ghost use Rattle.audit_cli_client.specs.Failing.{IsLost, IsAnsweredOtherwise, IsNoAnswer, IsNewest, IsClosing, IsMember};
-ghost use Rattle.audit_cli_client.specs.Failing.{IsIncrement, FailsNewest, FailsClosing, FailsJoining, FailsEntry};
+ghost use Rattle.audit_cli_client.specs.Failing.{IsLost, IsAnsweredOtherwise, IsNoAnswer, IsNewestReply, IsClosingReply};
+ghost use Rattle.audit_cli_client.specs.Failing.{IsMemberReply, IsIncrementReply, FailsNewest, FailsClosing};
+ghost use Rattle.audit_cli_client.specs.Failing.{FailsJoining, FailsEntry};
 ghost use Rattle.audit_cli_client.specs.Joined.{IsVouchedFor};
 
 use crate::conversation::ask;
@@ -58,7 +59,7 @@ pub fn newest_commitment<W: Write, R: Read>(
 
 fn newest_in(given: &Reply) -> Result<Commitment, ClientError>
     ensures found { IfOk result (λ newest. given.now ≡ reply.Commitment NEWEST_TAG newest.count newest.root) }
-    ensures fault { IfErr result (IsNoAnswer NEWEST_TAG IsNewest given.now) }
+    ensures fault { IfErr result (IsNoAnswer NEWEST_TAG IsNewestReply given.now) }
 {
     match given {
         Reply::Commitment { tag, count, root } if *tag == NEWEST_TAG => Ok(Commitment {
@@ -88,7 +89,7 @@ pub fn close_log<W: Write, R: Read>(
 fn last_in(given: &Reply) -> Result<Commitment, ClientError>
     ensures found { IfOk result (λ last. (index : ℕ)
         × (given.now ≡ reply.Acknowledgement ASKED_TAG index last.count last.root)) }
-    ensures fault { IfErr result (IsNoAnswer ASKED_TAG IsClosing given.now) }
+    ensures fault { IfErr result (IsNoAnswer ASKED_TAG IsClosingReply given.now) }
 {
     match given {
         Reply::Acknowledgement {
@@ -224,7 +225,7 @@ fn ask_member<W: Write, R: Read>(
     ensures short { IfOk result (λ proof. vec_len proof.entry ≤ MAX_ENTRY) }
     ensures fault { IfErr result (λ error. IsLost error ⊎ IsAnsweredOtherwise (W.contents to.old) (W.contents to.new)
         (R.remaining from.old) (R.remaining from.new) (request.Membership ASKED_TAG index count ∷ []) [] ASKED_TAG
-        IsMember error) }
+        IsMemberReply error) }
 {
     let asked = RequestView::Membership {
         tag: ASKED_TAG,
@@ -246,7 +247,7 @@ fn member_in(given: Reply) -> Result<(Vec<Hash>, Vec<u8>), ClientError>
     ensures found { IfOk result (λ parts. given ≡ reply.Membership ASKED_TAG parts.0.items parts.1.items) }
     ensures few { IfOk result (λ parts. vec_len parts.0 ≤ MAX_MEMBER_HASHES) }
     ensures short { IfOk result (λ parts. vec_len parts.1 ≤ MAX_ENTRY) }
-    ensures fault { IfErr result (IsNoAnswer ASKED_TAG IsMember given) }
+    ensures fault { IfErr result (IsNoAnswer ASKED_TAG IsMemberReply given) }
 {
     match given {
         Reply::Membership { tag, hashes, entry } if tag == ASKED_TAG => {
@@ -277,7 +278,7 @@ fn ask_increment<W: Write, R: Read>(
     ensures few { IfOk result (λ proof. vec_len proof.hashes ≤ MAX_INCREMENT_HASHES) }
     ensures fault { IfErr result (λ error. IsLost error ⊎ IsAnsweredOtherwise (W.contents to.old) (W.contents to.new)
         (R.remaining from.old) (R.remaining from.new) (request.Incremental own_tag older newer ∷ []) [] own_tag
-        (IsIncrement own_tag) error) }
+        (IsIncrementReply own_tag) error) }
 {
     let asked = RequestView::Incremental {
         tag: own_tag,
@@ -297,7 +298,7 @@ fn ask_increment<W: Write, R: Read>(
 fn increment_in(own_tag: u32, given: Reply) -> Result<Vec<Hash>, ClientError>
     ensures found { IfOk result (λ hashes. given ≡ reply.Incremental own_tag hashes.items) }
     ensures few { IfOk result (λ hashes. vec_len hashes ≤ MAX_INCREMENT_HASHES) }
-    ensures fault { IfErr result (IsNoAnswer own_tag (IsIncrement own_tag) given) }
+    ensures fault { IfErr result (IsNoAnswer own_tag (IsIncrementReply own_tag) given) }
 {
     match given {
         Reply::Incremental { tag, hashes } if tag == own_tag => {

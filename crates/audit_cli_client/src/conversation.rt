@@ -1,5 +1,5 @@
 //! Requests that are written to a connection, and replies that are read from it.
-ghost use Rattle.std.specs.Prelude.{◌≡◌, ◌≤◌, ◌⊎◌, ◌∷◌, [], length, take, None, IfOk, IfErr, OnOk, OnErr};
+ghost use Rattle.std.specs.Prelude.{◌≡◌, ◌≤◌, ◌⊎◌, ◌∷◌, [], length, take, Some, None, IfOk, IfErr, OnOk, OnErr};
 ghost use Rattle.std.specs.Int.{w16, to_be_bytes};
 ghost use Rattle.std.specs.Io.KnownBytes.{Appends, Consumes, Keeps};
 ghost use Rattle.audit_text.specs.Writing.{WritesInPart};
@@ -28,6 +28,8 @@ pub fn ask<W: Write, R: Read>(
     requires { IsRequest (request_shown request) }
     ensures done { IfOk result (λ given. Converses (W.contents to.old) (W.contents to.new)
         (R.remaining from.old) (R.remaining from.new) (request_shown request.entry ∷ []) (given ∷ [])) }
+    ensures heard { IfOk result (λ given. Exchanges (W.contents to.old) (W.contents to.new)
+        (R.remaining from.old) (R.remaining from.new) (request_shown request.entry ∷ []) [] (Some given)) }
     ensures fault { IfErr result (λ error. IsLost error ⊎ ((error ≡ BadReply) × Exchanges (W.contents to.old)
         (W.contents to.new) (R.remaining from.old) (R.remaining from.new) (request_shown request.entry ∷ []) [] None)) }
 {

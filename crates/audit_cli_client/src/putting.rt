@@ -1,6 +1,7 @@
 //! Answers that are put into a file once they are accepted.
 ghost use Rattle.std.specs.Prelude.{◌≡◌, ◌⊎◌, ℕ, List, [], length, Option, Some, None, IfOk, OnOk, OnErr};
-ghost use Rattle.audit_cli_client.specs.Putting.{IsFile, PutsOnly, GivesEntry, GivesMember, GivesIncrement, GivesEntries};
+ghost use Rattle.audit_cli_client.specs.Putting.{IsFile, PutsOnly, IsGivenEntry, IsGivenMember, IsGivenIncrement};
+ghost use Rattle.audit_cli_client.specs.Putting.{AreGivenEntries};
 
 use crate::asking::{entry_of, increment_proof, member_proof};
 use crate::exporting::{Export, export_entries};
@@ -54,10 +55,11 @@ pub fn put_entry<W: Write, R: Read, O: Out>(
     out: &mut O,
 ) -> Result<u64, AskError<O::Error>>
     // Whatever happens, nothing is put but what is accepted under the commitment that was read.
-    ensures only { PutsOnly (O.file out.old) (O.file out.new) (GivesEntry (W.contents to.old) (W.contents to.new)
+    ensures only { PutsOnly (O.file out.old) (O.file out.new) (IsGivenEntry (W.contents to.old) (W.contents to.new)
         (R.remaining from.old) (R.remaining from.new) index) }
     ensures done { IfOk result (λ size. (bytes : List ℕ) × (size ≡ length bytes) × IsFile (O.file out.new) bytes
-        × GivesEntry (W.contents to.old) (W.contents to.new) (R.remaining from.old) (R.remaining from.new) index bytes) }
+        × IsGivenEntry (W.contents to.old) (W.contents to.new) (R.remaining from.old) (R.remaining from.new)
+        index bytes) }
 {
     match entry_of(alloc, to, from, index) {
         Ok(entry) => put_bytes(&entry, out),
@@ -75,10 +77,10 @@ pub fn put_member<W: Write, R: Read, O: Out>(
     count: u64,
     out: &mut O,
 ) -> Result<u64, AskError<O::Error>>
-    ensures only { PutsOnly (O.file out.old) (O.file out.new) (GivesMember (W.contents to.old) (W.contents to.new)
+    ensures only { PutsOnly (O.file out.old) (O.file out.new) (IsGivenMember (W.contents to.old) (W.contents to.new)
         (R.remaining from.old) (R.remaining from.new) index count) }
     ensures done { IfOk result (λ size. (bytes : List ℕ) × (size ≡ length bytes) × IsFile (O.file out.new) bytes
-        × GivesMember (W.contents to.old) (W.contents to.new) (R.remaining from.old) (R.remaining from.new)
+        × IsGivenMember (W.contents to.old) (W.contents to.new) (R.remaining from.old) (R.remaining from.new)
         index count bytes) }
 {
     match member_proof(alloc, to, from, index, count) {
@@ -97,10 +99,10 @@ pub fn put_increment<W: Write, R: Read, O: Out>(
     newer: u64,
     out: &mut O,
 ) -> Result<u64, AskError<O::Error>>
-    ensures only { PutsOnly (O.file out.old) (O.file out.new) (GivesIncrement (W.contents to.old) (W.contents to.new)
+    ensures only { PutsOnly (O.file out.old) (O.file out.new) (IsGivenIncrement (W.contents to.old) (W.contents to.new)
         (R.remaining from.old) (R.remaining from.new) older newer) }
     ensures done { IfOk result (λ size. (bytes : List ℕ) × (size ≡ length bytes) × IsFile (O.file out.new) bytes
-        × GivesIncrement (W.contents to.old) (W.contents to.new) (R.remaining from.old) (R.remaining from.new)
+        × IsGivenIncrement (W.contents to.old) (W.contents to.new) (R.remaining from.old) (R.remaining from.new)
         older newer bytes) }
 {
     match increment_proof(alloc, to, from, older, newer) {
@@ -135,10 +137,10 @@ pub fn put_export<W: Write, R: Read, O: Out>(
     from: &mut R,
     out: &mut O,
 ) -> Result<Export, AskError<O::Error>>
-    ensures only { PutsOnly (O.file out.old) (O.file out.new) (GivesEntries (W.contents to.old) (W.contents to.new)
+    ensures only { PutsOnly (O.file out.old) (O.file out.new) (AreGivenEntries (W.contents to.old) (W.contents to.new)
         (R.remaining from.old) (R.remaining from.new)) }
     ensures done { IfOk result (λ export. (bytes : List ℕ) × (export.size ≡ length bytes)
-        × IsFile (O.file out.new) bytes × GivesEntries (W.contents to.old) (W.contents to.new)
+        × IsFile (O.file out.new) bytes × AreGivenEntries (W.contents to.old) (W.contents to.new)
         (R.remaining from.old) (R.remaining from.new) bytes) }
 {
     let mut draft = match out.draft() {
