@@ -54,7 +54,8 @@ pub fn newest_commitment<W: Write, R: Read>(
         (R.remaining from.new)) }
 {
     let given = ask(alloc, to, from, RequestView::Commitment { tag: NEWEST_TAG })?;
-    newest_in(&given)
+    let newest = newest_in(&given)?;
+    Ok(newest)
 }
 
 fn newest_in(given: &Reply) -> Result<Commitment, ClientError>
@@ -83,7 +84,8 @@ pub fn close_log<W: Write, R: Read>(
         (R.remaining from.new)) }
 {
     let given = ask(alloc, to, from, RequestView::Close { tag: ASKED_TAG })?;
-    last_in(&given)
+    let last = last_in(&given)?;
+    Ok(last)
 }
 
 fn last_in(given: &Reply) -> Result<Commitment, ClientError>
