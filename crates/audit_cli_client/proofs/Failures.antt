@@ -66,7 +66,7 @@ exchanges_after written_old written written_new read_old read read_new asked lat
   bodies = h.replies.bodies ++ k.bodies;
   last = k.last;
   bytes = subst (Consumes read_old read_new)
-      (sym (ap (λ front. front ++ frame k.last) (flat_map-append frame h.replies.bodies k.bodies) ∙ append_assoc _ _ _))
+      (sym (ap (λ front. front ++ frame k.last) (flat_map-append frame h.replies.bodies k.bodies) ∙ append_assoc (flat_map frame h.replies.bodies) (flat_map frame k.bodies) (frame k.last)))
       (consumes_more read_old read read_new _ _ h.replies.bytes k.bytes);
   replies = map-append reply_in h.replies.bodies k.bodies
       ∙ ap (λ front. front ++ map reply_in k.bodies) h.replies.read

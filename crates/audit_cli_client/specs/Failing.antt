@@ -16,6 +16,8 @@ use Rattle.audit_wire.specs.Stream.{request_frame}
 use Rattle.audit_cli_client.specs.declared.asking.TheConstants.{NEWEST_TAG, ASKED_TAG, JOIN_TAG}
 use Rattle.audit_cli_client.specs.declared.fault.ClientError.{ClientError}
 use Rattle.audit_cli_client.specs.declared.fault.ClientError.TheVariants as client
+use Rattle.audit_cli_client.specs.declared.keeping.WatchError.{WatchError}
+use Rattle.audit_cli_client.specs.declared.keeping.WatchError.TheVariants as watching
 use Rattle.audit_cli_client.specs.Asking.{not_due}
 use Rattle.audit_cli_client.specs.Conversation.{Converses}
 
@@ -147,3 +149,10 @@ abbrev pub FailsWatch : Option (List ℕ) → Option (List ℕ) → Option (List
 FailsWatch written_old written_new read_old read_new kept error =
     FailsNewest written_old written_new read_old read_new error ⊎ ((newest before : Commitment) × (kept ≡ Some before)
         × Disbelieves written_old written_new read_old read_new before newest error)
+
+-- the same of a witness that keeps what it sees
+abbrev pub FailsKeeping : {E : Type 0} → Option (List ℕ) → Option (List ℕ) → Option (List ℕ) → Option (List ℕ)
+    → Option Commitment → WatchError E → Type 0
+FailsKeeping written_old written_new read_old read_new kept (watching.Client error) =
+    FailsWatch written_old written_new read_old read_new kept error
+FailsKeeping written_old written_new read_old read_new kept (watching.Kept error) = Unit {0}

@@ -235,7 +235,8 @@ fn ask_member<W: Write, R: Read>(
         count,
     };
     let given = ask(alloc, to, from, asked)?;
-    let (hashes, entry) = member_in(given)?;
+    let parts = member_in(given)?;
+    let (hashes, entry) = parts;
     Ok(MemberProof {
         index,
         count,

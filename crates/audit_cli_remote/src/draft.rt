@@ -3,7 +3,7 @@ use std::io::{self, BufWriter, Write};
 
 /// A file that is written, or bytes that are held for standard output.
 #[derive(Drop)]
-pub enum Draft<F> {
+pub enum Draft<F: Write + Drop> {
     /// A file that replaces another when it is put.
     File(BufWriter<OutputFile<F>>),
     /// Bytes for standard output.

@@ -1,4 +1,5 @@
 use Rattle.std.proofs.Common.{refl, inl, inr, arith}
+use Rattle.std.proofs.lemmas.Result.{err_from_is_err_and}
 use Rattle.audit_cli_client.proofs.Conversations.{converses_more}
 use Rattle.audit_cli_client.proofs.Failures.{fails_to_join_after}
 use Rattle.audit_cli_client.proofs.watching.watch.Goals as goal
@@ -16,8 +17,11 @@ returns-in_ok-join-clause-seen g c =
     })
 
 pub returns-in_err-newest-clause-fault : goal.returns-in_err-newest-clause-fault
-returns-in_err-newest-clause-fault g c = inl c.in_err-newest.ensures.fault
+returns-in_err-newest-clause-fault g c =
+    let p = err_from_is_err_and c.from_residual.result c.from_residual.ensures.1 in
+    rw (p.1, p.2) (inl c.in_err-newest.ensures.fault)
 
 pub returns-in_err-join-clause-fault : goal.returns-in_err-join-clause-fault
 returns-in_err-join-clause-fault g c =
-    rw c.in-Some.is (fails_to_join_after _ _ _ _ _ _ _ _ _ c.in_ok-newest.ensures.done c.in_err-join.ensures.fault)
+    let p = err_from_is_err_and c.from_residual-in_err-join.result c.from_residual-in_err-join.ensures.1 in
+    rw (p.1, p.2) (rw c.in-Some.is (fails_to_join_after _ _ _ _ _ _ _ _ _ c.in_ok-newest.ensures.done c.in_err-join.ensures.fault))
