@@ -89,7 +89,7 @@ otherwise_after written_old written written_new read_old read read_new asked lat
 
 pub fails_to_join : (written_old written_new read_old read_new : Option (List ℕ)) (older newer : Commitment) (error : ClientError)
     → IsLost error ⊎ IsAnsweredOtherwise written_old written_new read_old read_new
-        (request.Incremental JOIN_TAG older.count newer.count ∷ []) [] JOIN_TAG (IsIncrementReply JOIN_TAG) error
+    (request.Incremental JOIN_TAG older.count newer.count ∷ []) [] JOIN_TAG (IsIncrementReply JOIN_TAG) error
     → FailsJoining written_old written_new read_old read_new older newer error
 fails_to_join written_old written_new read_old read_new older newer error (inl lost) = inl lost
 fails_to_join written_old written_new read_old read_new older newer error (inr other) = inr (inl other)
@@ -103,12 +103,17 @@ fails_to_join_after written_old written written_new read_old read read_new kept 
 fails_to_join_after written_old written written_new read_old read read_new kept newest error h (inr (inl other)) =
     inr (newest, kept, refl, inr (inr (inl (otherwise_after written_old written written_new read_old read read_new _ _ _ _ _ _ _ h other))))
 fails_to_join_after written_old written written_new read_old read read_new kept newest error h (inr (inr refused)) =
-    inr (newest, kept, refl, inr (inr (inr (
-      refused.0,
-      refused.1,
-      converses_more written_old written written_new read_old read read_new _ _ _ _ h refused.2,
-      refused.3,
-    ))))
+    inr (
+      newest,
+      kept,
+      refl,
+      inr (inr (inr (
+        refused.0,
+        refused.1,
+        converses_more written_old written written_new read_old read read_new _ _ _ _ h refused.2,
+        refused.3,
+      ))),
+    )
 
 -- a membership proof was asked for after the newest commitment was given, and something else came
 pub fails_to_prove_after : (written_old written written_new read_old read read_new : Option (List ℕ)) (newest : Commitment) (index : ℕ) (error : ClientError)

@@ -3,7 +3,6 @@ use Rattle.std.specs.Prelude.{◌≡◌, ◌⊎◌, ◌<◌, ℕ, Option, Some, 
 use Rattle.std.specs.List.{flat_map}
 use Rattle.std.specs.Io.KnownBytes.{Appends, Consumes}
 use Rattle.sha2.specs.Sha256.{sha256}
-use Rattle.audit_base.specs.declared.limits.TheConstants.{MAX_ENTRY, MAX_MEMBER_HASHES, MAX_INCREMENT_HASHES}
 use Rattle.audit_proof.specs.declared.commitment.Commitment.{Commitment}
 use Rattle.audit_proof.specs.Acceptance.{AcceptsMembership, AcceptsIncrement}
 use Rattle.audit_wire.specs.declared.request.Request.{Request}
@@ -102,11 +101,11 @@ abbrev pub FailsJoining : Option (List ℕ) → Option (List ℕ) → Option (Li
     → ClientError → Type 0
 FailsJoining written_old written_new read_old read_new older newer error = IsLost error ⊎ (
     IsAnsweredOtherwise written_old written_new read_old read_new
-        (request.Incremental JOIN_TAG older.count newer.count ∷ []) [] JOIN_TAG (IsIncrementReply JOIN_TAG) error
+    (request.Incremental JOIN_TAG older.count newer.count ∷ []) [] JOIN_TAG (IsIncrementReply JOIN_TAG) error
     ⊎ ((error ≡ client.NotAccepted) × (hashes : List (List ℕ))
-        × Converses written_old written_new read_old read_new
-            (request.Incremental JOIN_TAG older.count newer.count ∷ []) (reply.Incremental JOIN_TAG hashes ∷ [])
-        × (AcceptsIncrement sha256 older newer hashes → ⊥)))
+    × Converses written_old written_new read_old read_new
+    (request.Incremental JOIN_TAG older.count newer.count ∷ []) (reply.Incremental JOIN_TAG hashes ∷ [])
+    × (AcceptsIncrement sha256 older newer hashes → ⊥)))
 
 -- the reply with the newest commitment
 abbrev pub newest_reply : Commitment → Reply
@@ -117,14 +116,14 @@ newest_reply newest = reply.Commitment NEWEST_TAG newest.count newest.root
 abbrev pub FailsEntry : Option (List ℕ) → Option (List ℕ) → Option (List ℕ) → Option (List ℕ) → ℕ → ClientError → Type 0
 FailsEntry written_old written_new read_old read_new index error =
     FailsNewest written_old written_new read_old read_new error ⊎ ((newest : Commitment) × (
-        IsAnsweredOtherwise written_old written_new read_old read_new
-            (request.Commitment NEWEST_TAG ∷ request.Membership ASKED_TAG index newest.count ∷ [])
-            (newest_reply newest ∷ []) ASKED_TAG IsMemberReply error
-        ⊎ ((error ≡ client.NotAccepted) × (hashes : List (List ℕ)) × (entry : List ℕ)
-            × Converses written_old written_new read_old read_new
-                (request.Commitment NEWEST_TAG ∷ request.Membership ASKED_TAG index newest.count ∷ [])
-                (newest_reply newest ∷ reply.Membership ASKED_TAG hashes entry ∷ [])
-            × (AcceptsMembership sha256 newest index entry hashes → ⊥))))
+    IsAnsweredOtherwise written_old written_new read_old read_new
+    (request.Commitment NEWEST_TAG ∷ request.Membership ASKED_TAG index newest.count ∷ [])
+    (newest_reply newest ∷ []) ASKED_TAG IsMemberReply error
+    ⊎ ((error ≡ client.NotAccepted) × (hashes : List (List ℕ)) × (entry : List ℕ)
+    × Converses written_old written_new read_old read_new
+    (request.Commitment NEWEST_TAG ∷ request.Membership ASKED_TAG index newest.count ∷ [])
+    (newest_reply newest ∷ reply.Membership ASKED_TAG hashes entry ∷ [])
+    × (AcceptsMembership sha256 newest index entry hashes → ⊥))))
 
 -- What a witness doesn't believe, after it asked for the newest commitment: a log of fewer entries than the commitment
 -- that it kept, or of as many and another root, or another answer than an increment that is accepted.
@@ -132,23 +131,23 @@ abbrev pub Disbelieves : Option (List ℕ) → Option (List ℕ) → Option (Lis
     → ClientError → Type 0
 Disbelieves written_old written_new read_old read_new kept newest error =
     ((error ≡ client.Shorter) × (newest.count < kept.count) × Converses written_old written_new read_old read_new
-        (request.Commitment NEWEST_TAG ∷ []) (newest_reply newest ∷ []))
+    (request.Commitment NEWEST_TAG ∷ []) (newest_reply newest ∷ []))
     ⊎ (((error ≡ client.OtherRoot) × (newest.count ≡ kept.count) × (newest ≡ kept → ⊥)
-        × Converses written_old written_new read_old read_new
-            (request.Commitment NEWEST_TAG ∷ []) (newest_reply newest ∷ []))
+    × Converses written_old written_new read_old read_new
+    (request.Commitment NEWEST_TAG ∷ []) (newest_reply newest ∷ []))
     ⊎ (IsAnsweredOtherwise written_old written_new read_old read_new
-        (request.Commitment NEWEST_TAG ∷ request.Incremental JOIN_TAG kept.count newest.count ∷ [])
-        (newest_reply newest ∷ []) JOIN_TAG (IsIncrementReply JOIN_TAG) error
+    (request.Commitment NEWEST_TAG ∷ request.Incremental JOIN_TAG kept.count newest.count ∷ [])
+    (newest_reply newest ∷ []) JOIN_TAG (IsIncrementReply JOIN_TAG) error
     ⊎ ((error ≡ client.NotAccepted) × (hashes : List (List ℕ)) × Converses written_old written_new read_old read_new
-            (request.Commitment NEWEST_TAG ∷ request.Incremental JOIN_TAG kept.count newest.count ∷ [])
-            (newest_reply newest ∷ reply.Incremental JOIN_TAG hashes ∷ [])
-        × (AcceptsIncrement sha256 kept newest hashes → ⊥))))
+    (request.Commitment NEWEST_TAG ∷ request.Incremental JOIN_TAG kept.count newest.count ∷ [])
+    (newest_reply newest ∷ reply.Incremental JOIN_TAG hashes ∷ [])
+    × (AcceptsIncrement sha256 kept newest hashes → ⊥))))
 
 abbrev pub FailsWatch : Option (List ℕ) → Option (List ℕ) → Option (List ℕ) → Option (List ℕ) → Option Commitment
     → ClientError → Type 0
 FailsWatch written_old written_new read_old read_new kept error =
     FailsNewest written_old written_new read_old read_new error ⊎ ((newest before : Commitment) × (kept ≡ Some before)
-        × Disbelieves written_old written_new read_old read_new before newest error)
+    × Disbelieves written_old written_new read_old read_new before newest error)
 
 -- the same of a witness that keeps what it sees
 abbrev pub FailsKeeping : {E : Type 0} → Option (List ℕ) → Option (List ℕ) → Option (List ℕ) → Option (List ℕ)

@@ -95,7 +95,10 @@ fn last_in(given: &Reply) -> Result<Commitment, ClientError>
 {
     match given {
         Reply::Acknowledgement {
-            tag, count, root, ..
+            tag,
+            count,
+            root,
+            ..
         } if *tag == ASKED_TAG => Ok(Commitment {
             count: *count,
             root: *root,

@@ -41,11 +41,7 @@ pub fn connect<F: Dial + Clock>(
     }
 }
 
-fn connect_timed<F: Dial + Clock>(
-    rt: &F,
-    socket: &str,
-    limit: Duration,
-) -> io::Result<UnixStream> {
+fn connect_timed<F: Dial + Clock>(rt: &F, socket: &str, limit: Duration) -> io::Result<UnixStream> {
     let stream = dial_in_time(rt, socket, limit)?;
     stream.set_nonblocking(false)?;
     stream.set_read_timeout(Some(limit))?;

@@ -33,12 +33,7 @@ pub struct OutFile<'a, F> {
 
 impl<'a, F: Files> OutFile<'a, F> {
     /// The file at this path. It doesn't replace the socket.
-    pub fn new(
-        rt: &'a F,
-        alloc: Global,
-        socket: FileIdentity,
-        path: &'a str,
-    ) -> OutFile<'a, F> {
+    pub fn new(rt: &'a F, alloc: Global, socket: FileIdentity, path: &'a str) -> OutFile<'a, F> {
         OutFile {
             rt,
             alloc,
@@ -81,9 +76,7 @@ impl<F: Files> Out for OutFile<'_, F> {
             return Ok(Draft::Held(Vec::new(self.alloc)));
         }
         let made = OutputFile::create(self.rt, self.alloc, self.socket, self.path)?;
-        Ok(Draft::File(BufWriter::with_capacity(
-            self.alloc, FILE_ROOM, made,
-        )?))
+        Ok(Draft::File(BufWriter::with_capacity(self.alloc, FILE_ROOM, made)?))
     }
 
     fn put(&mut self, draft: Draft<F::File>) -> Result<(), RemoteError> {

@@ -77,7 +77,11 @@ fn look_again<F: Files + Dial + Clock, W: Write, M: Write>(
     }
 }
 
-fn look<F: Files + Dial + Clock>(rt: &F, alloc: Global, post: Post<'_>) -> Result<Sight, RemoteError> {
+fn look<F: Files + Dial + Clock>(
+    rt: &F,
+    alloc: Global,
+    post: Post<'_>,
+) -> Result<Sight, RemoteError> {
     let identity = socket_identity(rt, post.socket)?;
     let mut kept = StateFile::read(rt, alloc, post.state, identity)?;
     let stream = connect(rt, post.socket, post.seconds)?;

@@ -1,4 +1,3 @@
-use Rattle.std.proofs.Common.{inl, inr, refl}
 use Rattle.std.proofs.lemmas.Result.{err_from_is_err_and}
 use Rattle.audit_cli_client.proofs.Failures.{fails_to_join}
 use Rattle.audit_cli_client.proofs.asking.join.Goals as goal
