@@ -1,8 +1,10 @@
 use crate::noted_file::NotedFile;
 use crate::notes::Notes;
+use audit_cli_remote::Dial;
+use mio::net::UnixStream as Dialed;
 use std::alloc::Allocator;
 use std::fs::{Files, Metadata, OpenOptions, Permissions};
-use std::io;
+use std::io::{self, ErrorKind};
 use std::net::{Net, SocketAddr};
 use std::os::fd::{BorrowedFd, OwnedFd};
 use std::os::unix::net::{self as unix, UnixStream};
@@ -113,6 +115,17 @@ impl<R: Net> Net for Host<'_, '_, R> {
 
     fn unix_socket(&self) -> io::Result<OwnedFd> {
         self.rt.unix_socket()
+    }
+}
+
+impl<R: Net> Dial for Host<'_, '_, R> {
+    // It isn't a failure if no more clients can wait: the socket is tried again.
+    fn dial(&self, path: &str) -> io::Result<UnixStream> {
+        match Dialed::connect(self.rt, path) {
+            Ok(stream) => Ok(UnixStream::from(stream)),
+            Err(error) if error.kind() == ErrorKind::WouldBlock => Err(error),
+            Err(error) => self.noted(path, Err(error)),
+        }
     }
 }
 

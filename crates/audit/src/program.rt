@@ -1,6 +1,7 @@
 use crate::command::{Asked, request_of};
 use crate::explaining::explain;
 use crate::notes::Notes;
+use audit_cli_remote::Dial;
 use audit_cli_store::{CommandError, Status, report};
 use audit_disk::SystemFile;
 use audit_store::StoreError;
@@ -15,7 +16,7 @@ use std::time::Clock;
 /// Runs the program on the words of a command line, of which the first is its name. Lines that begin with `audit: `,
 /// and clap's usage, are written to `messages`. All other text is written to `output`, which is flushed at the end.
 /// Causes and warnings follow if `messages` is a terminal, or if the command line requests them.
-pub fn run<F: Files + Net + Clock, R: Read, W: Write, M: Write>(
+pub fn run<F: Files + Net + Clock + Dial, R: Read, W: Write, M: Write>(
     rt: &F,
     alloc: Global,
     words: &[String],

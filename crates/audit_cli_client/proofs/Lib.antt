@@ -5,3 +5,5 @@ pub mod EventLines
 pub mod TakenLines
 pub mod PrintedAnswers
 pub mod SentLines
+pub mod Failures
+pub mod PutFiles

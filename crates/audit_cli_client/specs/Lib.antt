@@ -5,3 +5,5 @@ pub mod Watching
 pub mod Exporting
 pub mod Keeping
 pub mod Sending
+pub mod Putting
+pub mod Failing

@@ -1,5 +1,5 @@
 //! Questions to a server, each answer checked under the commitment that the server gave before it.
-ghost use Rattle.std.specs.Prelude.{◌≡◌, ◌≤◌, ◌∷◌, [], ℕ, List, IfOk, OnOk, vec_len};
+ghost use Rattle.std.specs.Prelude.{◌≡◌, ◌≤◌, ◌⊎◌, ◌∷◌, [], ℕ, List, IfOk, IfErr, OnOk, vec_len};
 ghost use Rattle.audit_base.specs.declared.limits.TheConstants.{MAX_ENTRY, MAX_MEMBER_HASHES, MAX_INCREMENT_HASHES};
 ghost use Rattle.sha2.specs.Sha256.{sha256};
 ghost use Rattle.audit_proof.specs.Acceptance.{AcceptsMembership, AcceptsIncrement};
@@ -10,10 +10,14 @@ ghost use Rattle.audit_wire.specs.declared.request.Request.TheVariants as reques
 ghost use Rattle.audit_wire.specs.declared.reply.Reply.TheVariants as reply;
 ghost use Rattle.audit_cli_client.specs.Asking.{not_due, AnswersMember, AnswersIncrement, AnswersEntry};
 ghost use Rattle.audit_cli_client.specs.Conversation.{Converses};
+ghost use Rattle.audit_cli_client.specs.Failing.{IsLost, IsAnsweredOtherwise, IsNoAnswer, IsNewestReply, IsClosingReply};
+ghost use Rattle.audit_cli_client.specs.Failing.{IsMemberReply, IsIncrementReply, FailsNewest, FailsClosing};
+ghost use Rattle.audit_cli_client.specs.Failing.{FailsJoining, FailsEntry};
 ghost use Rattle.audit_cli_client.specs.Joined.{IsVouchedFor};
 
 use crate::conversation::ask;
 use crate::fault::ClientError;
+use audit_base::Hash;
 use audit_proof::{
     Commitment, IncrementProof, MAX_ENTRY, MAX_INCREMENT_HASHES, MAX_MEMBER_HASHES, MemberProof,
     accepts_increment, accepts_member, root_of_membership, roots_of_increment, write_increment,
@@ -43,16 +47,27 @@ pub fn newest_commitment<W: Write, R: Read>(
     to: &mut W,
     from: &mut R,
 ) -> Result<Commitment, ClientError>
-    ensures { IfOk result (λ newest. Converses (W.contents to.old) (W.contents to.new)
+    ensures done { IfOk result (λ newest. Converses (W.contents to.old) (W.contents to.new)
         (R.remaining from.old) (R.remaining from.new) (request.Commitment NEWEST_TAG ∷ [])
         (reply.Commitment NEWEST_TAG newest.count newest.root ∷ [])) }
+    ensures fault { IfErr result (FailsNewest (W.contents to.old) (W.contents to.new) (R.remaining from.old)
+        (R.remaining from.new)) }
 {
     let given = ask(alloc, to, from, RequestView::Commitment { tag: NEWEST_TAG })?;
+    let newest = newest_in(&given)?;
+    Ok(newest)
+}
+
+fn newest_in(given: &Reply) -> Result<Commitment, ClientError>
+    ensures found { IfOk result (λ newest. given.now ≡ reply.Commitment NEWEST_TAG newest.count newest.root) }
+    ensures fault { IfErr result (IsNoAnswer NEWEST_TAG IsNewestReply given.now) }
+{
     match given {
-        Reply::Commitment { tag, count, root } if tag == NEWEST_TAG => {
-            Ok(Commitment { count, root })
-        }
-        other => Err(not_due(NEWEST_TAG, &other)),
+        Reply::Commitment { tag, count, root } if *tag == NEWEST_TAG => Ok(Commitment {
+            count: *count,
+            root: *root,
+        }),
+        other => Err(not_due(NEWEST_TAG, other)),
     }
 }
 
@@ -62,19 +77,33 @@ pub fn close_log<W: Write, R: Read>(
     to: &mut W,
     from: &mut R,
 ) -> Result<Commitment, ClientError>
-    ensures { IfOk result (λ last. (index : ℕ) × Converses (W.contents to.old) (W.contents to.new)
+    ensures done { IfOk result (λ last. (index : ℕ) × Converses (W.contents to.old) (W.contents to.new)
         (R.remaining from.old) (R.remaining from.new) (request.Close ASKED_TAG ∷ [])
         (reply.Acknowledgement ASKED_TAG index last.count last.root ∷ [])) }
+    ensures fault { IfErr result (FailsClosing (W.contents to.old) (W.contents to.new) (R.remaining from.old)
+        (R.remaining from.new)) }
 {
     let given = ask(alloc, to, from, RequestView::Close { tag: ASKED_TAG })?;
+    let last = last_in(&given)?;
+    Ok(last)
+}
+
+fn last_in(given: &Reply) -> Result<Commitment, ClientError>
+    ensures found { IfOk result (λ last. (index : ℕ)
+        × (given.now ≡ reply.Acknowledgement ASKED_TAG index last.count last.root)) }
+    ensures fault { IfErr result (IsNoAnswer ASKED_TAG IsClosingReply given.now) }
+{
     match given {
         Reply::Acknowledgement {
             tag,
             count,
             root,
             ..
-        } if tag == ASKED_TAG => Ok(Commitment { count, root }),
-        other => Err(not_due(ASKED_TAG, &other)),
+        } if *tag == ASKED_TAG => Ok(Commitment {
+            count: *count,
+            root: *root,
+        }),
+        other => Err(not_due(ASKED_TAG, other)),
     }
 }
 
@@ -85,8 +114,10 @@ pub fn entry_of<W: Write, R: Read>(
     from: &mut R,
     index: u64,
 ) -> Result<Vec<u8>, ClientError>
-    ensures { IfOk result (λ entry. (newest : Commitment) × AnswersEntry (W.contents to.old) (W.contents to.new)
+    ensures done { IfOk result (λ entry. (newest : Commitment) × AnswersEntry (W.contents to.old) (W.contents to.new)
         (R.remaining from.old) (R.remaining from.new) newest index entry.items) }
+    ensures fault { IfErr result (FailsEntry (W.contents to.old) (W.contents to.new) (R.remaining from.old)
+        (R.remaining from.new) index) }
 {
     let newest = newest_commitment(alloc, to, from)?;
     let proof = ask_member(alloc, to, from, index, newest.count)?;
@@ -168,9 +199,11 @@ pub fn join<W: Write, R: Read>(
     older: &Commitment,
     newer: &Commitment,
 ) -> Result<(), ClientError>
-    ensures { OnOk result ((asked : List Request) × (given : List Reply) × (hashes : List (List ℕ))
+    ensures done { OnOk result ((asked : List Request) × (given : List Reply) × (hashes : List (List ℕ))
         × Converses (W.contents to.old) (W.contents to.new) (R.remaining from.old) (R.remaining from.new) asked given
         × AcceptsIncrement sha256 older.now newer.now hashes) }
+    ensures fault { IfErr result (FailsJoining (W.contents to.old) (W.contents to.new) (R.remaining from.old)
+        (R.remaining from.new) older.now newer.now) }
 {
     let proof = ask_increment(alloc, to, from, JOIN_TAG, older.count, newer.count)?;
     if accepts_increment(older, newer, &proof.hashes) {
@@ -195,6 +228,9 @@ fn ask_member<W: Write, R: Read>(
     ensures count { IfOk result (λ proof. proof.count ≡ count) }
     ensures few { IfOk result (λ proof. vec_len proof.hashes ≤ MAX_MEMBER_HASHES) }
     ensures short { IfOk result (λ proof. vec_len proof.entry ≤ MAX_ENTRY) }
+    ensures fault { IfErr result (λ error. IsLost error ⊎ IsAnsweredOtherwise (W.contents to.old) (W.contents to.new)
+        (R.remaining from.old) (R.remaining from.new) (request.Membership ASKED_TAG index count ∷ []) [] ASKED_TAG
+        IsMemberReply error) }
 {
     let asked = RequestView::Membership {
         tag: ASKED_TAG,
@@ -202,18 +238,30 @@ fn ask_member<W: Write, R: Read>(
         count,
     };
     let given = ask(alloc, to, from, asked)?;
+    let parts = member_in(given)?;
+    let (hashes, entry) = parts;
+    Ok(MemberProof {
+        index,
+        count,
+        hashes,
+        entry,
+    })
+}
+
+// The hashes and the entry of a membership proof.
+fn member_in(given: Reply) -> Result<(Vec<Hash>, Vec<u8>), ClientError>
+    ensures found { IfOk result (λ parts. given ≡ reply.Membership ASKED_TAG parts.0.items parts.1.items) }
+    ensures few { IfOk result (λ parts. vec_len parts.0 ≤ MAX_MEMBER_HASHES) }
+    ensures short { IfOk result (λ parts. vec_len parts.1 ≤ MAX_ENTRY) }
+    ensures fault { IfErr result (IsNoAnswer ASKED_TAG IsMemberReply given) }
+{
     match given {
         Reply::Membership { tag, hashes, entry } if tag == ASKED_TAG => {
             let (hashes, entry) = (hashes.into_vec(), entry.into_vec());
             if hashes.len() > MAX_MEMBER_HASHES || entry.len() > MAX_ENTRY {
                 return Err(ClientError::BadReply);
             }
-            Ok(MemberProof {
-                index,
-                count,
-                hashes,
-                entry,
-            })
+            Ok((hashes, entry))
         }
         other => Err(not_due(ASKED_TAG, &other)),
     }
@@ -234,6 +282,9 @@ fn ask_increment<W: Write, R: Read>(
     ensures older { IfOk result (λ proof. proof.older ≡ older) }
     ensures newer { IfOk result (λ proof. proof.newer ≡ newer) }
     ensures few { IfOk result (λ proof. vec_len proof.hashes ≤ MAX_INCREMENT_HASHES) }
+    ensures fault { IfErr result (λ error. IsLost error ⊎ IsAnsweredOtherwise (W.contents to.old) (W.contents to.new)
+        (R.remaining from.old) (R.remaining from.new) (request.Incremental own_tag older newer ∷ []) [] own_tag
+        (IsIncrementReply own_tag) error) }
 {
     let asked = RequestView::Incremental {
         tag: own_tag,
@@ -241,17 +292,27 @@ fn ask_increment<W: Write, R: Read>(
         newer,
     };
     let given = ask(alloc, to, from, asked)?;
+    let hashes = increment_in(own_tag, given)?;
+    Ok(IncrementProof {
+        older,
+        newer,
+        hashes,
+    })
+}
+
+// The hashes of an incremental proof.
+fn increment_in(own_tag: u32, given: Reply) -> Result<Vec<Hash>, ClientError>
+    ensures found { IfOk result (λ hashes. given ≡ reply.Incremental own_tag hashes.items) }
+    ensures few { IfOk result (λ hashes. vec_len hashes ≤ MAX_INCREMENT_HASHES) }
+    ensures fault { IfErr result (IsNoAnswer own_tag (IsIncrementReply own_tag) given) }
+{
     match given {
         Reply::Incremental { tag, hashes } if tag == own_tag => {
             let hashes = hashes.into_vec();
             if hashes.len() > MAX_INCREMENT_HASHES {
                 return Err(ClientError::BadReply);
             }
-            Ok(IncrementProof {
-                older,
-                newer,
-                hashes,
-            })
+            Ok(hashes)
         }
         other => Err(not_due(own_tag, &other)),
     }

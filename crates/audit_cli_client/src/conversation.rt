@@ -1,5 +1,5 @@
 //! Requests that are written to a connection, and replies that are read from it.
-ghost use Rattle.std.specs.Prelude.{◌≡◌, ◌≤◌, ◌∷◌, [], length, take, IfOk, OnOk, OnErr};
+ghost use Rattle.std.specs.Prelude.{◌≡◌, ◌≤◌, ◌⊎◌, ◌∷◌, [], length, take, Some, None, IfOk, IfErr, OnOk, OnErr};
 ghost use Rattle.std.specs.Int.{w16, to_be_bytes};
 ghost use Rattle.std.specs.Io.KnownBytes.{Appends, Consumes, Keeps};
 ghost use Rattle.audit_text.specs.Writing.{WritesInPart};
@@ -8,7 +8,9 @@ ghost use Rattle.audit_wire.specs.Frame.{frame};
 ghost use Rattle.audit_wire.specs.Request.{IsRequest};
 ghost use Rattle.audit_wire.specs.Stream.{request_frame};
 ghost use Rattle.audit_wire.specs.View.{request_shown};
+ghost use Rattle.audit_cli_client.specs.declared.fault.ClientError.TheVariants.{BadReply};
 ghost use Rattle.audit_cli_client.specs.Conversation.{ReadsReply, Converses};
+ghost use Rattle.audit_cli_client.specs.Failing.{IsLost, FailsToRead, Exchanges};
 
 use crate::fault::ClientError;
 use audit_wire::{LENGTH_BYTES, Reply, ReplyError, RequestView, read_reply, write_request};
@@ -24,8 +26,12 @@ pub fn ask<W: Write, R: Read>(
     request: RequestView<'_>,
 ) -> Result<Reply, ClientError>
     requires { IsRequest (request_shown request) }
-    ensures { IfOk result (λ given. Converses (W.contents to.old) (W.contents to.new)
+    ensures done { IfOk result (λ given. Converses (W.contents to.old) (W.contents to.new)
         (R.remaining from.old) (R.remaining from.new) (request_shown request.entry ∷ []) (given ∷ [])) }
+    ensures heard { IfOk result (λ given. Exchanges (W.contents to.old) (W.contents to.new)
+        (R.remaining from.old) (R.remaining from.new) (request_shown request.entry ∷ []) [] (Some given)) }
+    ensures fault { IfErr result (λ error. IsLost error ⊎ ((error ≡ BadReply) × Exchanges (W.contents to.old)
+        (W.contents to.new) (R.remaining from.old) (R.remaining from.new) (request_shown request.entry ∷ []) [] None)) }
 {
     send_request(alloc, to, request)?;
     let mut body = Vec::new(alloc);
@@ -42,6 +48,7 @@ fn send_request<W: Write>(
     requires { IsRequest (request_shown request) }
     ensures sent { OnOk result (Appends (W.contents to.old) (W.contents to.new)
         (request_frame (request_shown request.entry))) }
+    ensures fault { IfErr result IsLost }
 {
     let mut frame = Vec::new(alloc);
     write_request(request, &mut frame)?;
@@ -52,6 +59,7 @@ fn send_request<W: Write>(
 pub fn send_bytes<W: Write>(to: &mut W, bytes: &[u8]) -> Result<(), ClientError>
     ensures sent { OnOk result (Appends (W.contents to.old) (W.contents to.new) bytes.now) }
     ensures part { OnErr result (WritesInPart (W.contents to.old) (W.contents to.new) bytes.now) }
+    ensures fault { IfErr result IsLost }
 {
     send_rest(to, bytes)?;
     match to.flush() {
@@ -63,6 +71,7 @@ pub fn send_bytes<W: Write>(to: &mut W, bytes: &[u8]) -> Result<(), ClientError>
 fn send_rest<W: Write>(to: &mut W, bytes: &[u8]) -> Result<(), ClientError>
     ensures sent { OnOk result (Appends (W.contents to.old) (W.contents to.new) bytes.now) }
     ensures part { OnErr result (WritesInPart (W.contents to.old) (W.contents to.new) bytes.now) }
+    ensures fault { IfErr result IsLost }
 {
     let mut rest = bytes;
     for _ in 0..u64::MAX {
@@ -82,6 +91,7 @@ fn send_once<W: Write>(to: &mut W, bytes: &[u8]) -> Result<usize, ClientError>
     ensures written { IfOk result (λ written. Appends (W.contents to.old) (W.contents to.new)
         (take written bytes.now)) }
     ensures kept { OnErr result (Keeps (W.contents to.old) (W.contents to.new)) }
+    ensures fault { IfErr result IsLost }
 {
     match to.write(bytes) {
         Ok(0) => Err(ClientError::Ended),
@@ -103,6 +113,7 @@ pub fn next_reply<R: Read>(
     body: &mut Vec<u8>,
 ) -> Result<Reply, ClientError>
     ensures read { IfOk result (ReadsReply (R.remaining from.old) (R.remaining from.new)) }
+    ensures fault { IfErr result (FailsToRead (R.remaining from.old) (R.remaining from.new)) }
 {
     read_body(from, body)?;
     match read_reply(alloc, body) {
@@ -116,6 +127,7 @@ pub fn next_reply<R: Read>(
 #[tactic(auto, using(crate::proofs::Conversations::frame_read))]
 fn read_body<R: Read>(from: &mut R, body: &mut Vec<u8>) -> Result<(), ClientError>
     ensures read { OnOk result (Consumes (R.remaining from.old) (R.remaining from.new) (frame body.new.items)) }
+    ensures fault { IfErr result IsLost }
 {
     let size = read_size(from)?;
     read_sized(from, body, size as usize)?;
@@ -124,7 +136,9 @@ fn read_body<R: Read>(from: &mut R, body: &mut Vec<u8>) -> Result<(), ClientErro
 
 // Reads the length field of a frame.
 fn read_size<R: Read>(from: &mut R) -> Result<u16, ClientError>
-    ensures { IfOk result (λ size. Consumes (R.remaining from.old) (R.remaining from.new) (to_be_bytes w16 size)) }
+    ensures read { IfOk result (λ size. Consumes (R.remaining from.old) (R.remaining from.new)
+        (to_be_bytes w16 size)) }
+    ensures fault { IfErr result IsLost }
 {
     let mut size = [0; LENGTH_BYTES];
     receive(from, &mut size)?;
@@ -142,6 +156,7 @@ fn size_in(field: &[u8]) -> u16
 fn read_sized<R: Read>(from: &mut R, body: &mut Vec<u8>, size: usize) -> Result<(), ClientError>
     ensures read { OnOk result (Consumes (R.remaining from.old) (R.remaining from.new) body.new.items) }
     ensures size { OnOk result (length body.new.items ≡ size) }
+    ensures fault { IfErr result IsLost }
 {
     body.clear();
     body.resize(size, 0)?;
@@ -152,6 +167,7 @@ fn read_sized<R: Read>(from: &mut R, body: &mut Vec<u8>, size: usize) -> Result<
 // Reads as many bytes as the buffer has.
 fn receive<R: Read>(from: &mut R, buffer: &mut [u8]) -> Result<(), ClientError>
     ensures read { OnOk result (Consumes (R.remaining from.old) (R.remaining from.new) buffer.new) }
+    ensures fault { IfErr result IsLost }
 {
     match from.read_exact(buffer) {
         Ok(()) => Ok(()),
@@ -160,7 +176,9 @@ fn receive<R: Read>(from: &mut R, buffer: &mut [u8]) -> Result<(), ClientError>
 }
 
 // A socket whose time is over answers with one of two errors.
-fn fault_of(error: &Error) -> ClientError {
+fn fault_of(error: &Error) -> ClientError
+    ensures { IsLost result }
+{
     match error.kind() {
         ErrorKind::WouldBlock | ErrorKind::TimedOut => ClientError::TimedOut,
         ErrorKind::OutOfMemory => ClientError::Memory,

@@ -1,6 +1,8 @@
 //! A witness that keeps what it sees.
-ghost use Rattle.std.specs.Prelude.{◌≡◌, ◌⊎◌, ◌∷◌, ◌++◌, [], List, IfOk, OnOk, OnErr};
+ghost use Rattle.std.specs.Prelude.{◌≡◌, ◌⊎◌, ◌∷◌, ◌++◌, [], List, Err, IfOk, IfErr, OnOk, OnErr};
 ghost use Rattle.audit_proof.specs.declared.commitment.Commitment.{Commitment};
+ghost use Rattle.audit_cli_client.specs.declared.fault.ClientError.{ClientError};
+ghost use Rattle.audit_cli_client.specs.Failing.{FailsKeeping};
 ghost use Rattle.audit_cli_client.specs.Keeping.{last_kept, KeepsOn, KeepsSight};
 ghost use Rattle.audit_cli_client.specs.Watching.{Sees};
 
@@ -50,6 +52,11 @@ pub fn watch_and_keep<W: Write, R: Read, K: Kept>(
     ensures seen { IfOk result (Sees (W.contents to.old) (W.contents to.new) (R.remaining from.old)
         (R.remaining from.new) (last_kept (K.kept kept.old))) }
     ensures added { IfOk result (KeepsSight (K.kept kept.old) (K.kept kept.new)) }
+    // What isn't believed is why, and nothing is added then.
+    ensures fault { IfErr result (FailsKeeping (W.contents to.old) (W.contents to.new) (R.remaining from.old)
+        (R.remaining from.new) (last_kept (K.kept kept.old))) }
+    ensures untouched { (error : ClientError) → result ≡ Err (WatchError.Client error)
+        → K.kept kept.new ≡ K.kept kept.old }
 {
     let sight = match watch(alloc, to, from, kept.newest()) {
         Ok(sight) => sight,

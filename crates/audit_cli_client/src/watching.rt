@@ -1,5 +1,6 @@
 //! A witness: what it sees of a log, after the commitment that it kept.
-ghost use Rattle.std.specs.Prelude.{IfOk};
+ghost use Rattle.std.specs.Prelude.{IfOk, IfErr};
+ghost use Rattle.audit_cli_client.specs.Failing.{FailsWatch};
 ghost use Rattle.audit_cli_client.specs.Watching.{Sees};
 
 use crate::asking::{join, newest_commitment};
@@ -31,6 +32,8 @@ pub fn watch<W: Write, R: Read>(
     kept: Option<Commitment>,
 ) -> Result<Sight, ClientError>
     ensures seen { IfOk result (Sees (W.contents to.old) (W.contents to.new) (R.remaining from.old)
+        (R.remaining from.new) kept) }
+    ensures fault { IfErr result (FailsWatch (W.contents to.old) (W.contents to.new) (R.remaining from.old)
         (R.remaining from.new) kept) }
 {
     let newest = newest_commitment(alloc, to, from)?;

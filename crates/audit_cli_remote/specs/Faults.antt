@@ -9,6 +9,8 @@ use Rattle.audit_cli_store.specs.declared.fault.CommandError.TheVariants.{Refuse
 use Rattle.audit_cli_store.specs.Faults as commands
 use Rattle.audit_cli_client.specs.declared.fault.ClientError.{ClientError}
 use Rattle.audit_cli_client.specs.declared.fault.ClientError.TheVariants as client
+use Rattle.audit_cli_client.specs.declared.putting.AskError.{AskError}
+use Rattle.audit_cli_client.specs.declared.putting.AskError.TheVariants as asking
 use Rattle.audit_cli_client.specs.declared.send_error.SendError.{SendError}
 use Rattle.audit_cli_client.specs.declared.send_error.SendError.TheVariants as sending
 use Rattle.audit_cli_remote.specs.declared.fault.RemoteError.{RemoteError}
@@ -53,6 +55,10 @@ abbrev pub of_sending : SendError → RemoteError
 of_sending (sending.Input cause) = Command (Lines cause)
 of_sending (sending.Client error) = Server error
 of_sending sending.Output = Command File
+
+abbrev pub of_asking : AskError RemoteError → RemoteError
+of_asking (asking.Client error) = Server error
+of_asking (asking.Out error) = error
 
 -- the line of the output that judges the log, if the error is a judgment
 abbrev pub judgment_in : ClientError → Option (List ℕ)

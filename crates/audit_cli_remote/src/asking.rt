@@ -1,25 +1,22 @@
 //! Questions to a server, whose answers are written to files.
 use crate::arguments::Question;
-use crate::connection::{connect, socket_identity};
+use crate::connection::{Dial, connect, socket_identity};
 use crate::fault::RemoteError;
-use crate::out::write_out;
+use crate::out::OutFile;
 use audit_cli_client::{
-    Export, close_log, entry_of, export_entries, increment_proof, member_proof, newest_commitment,
+    close_log, newest_commitment, put_entry, put_export, put_increment, put_member,
 };
-use audit_cli_store::{CommandError, OutputFile, write_exported};
+use audit_cli_store::{CommandError, write_exported};
 use audit_disk::FileIdentity;
 use audit_proof::Commitment;
 use audit_text::{push_number, put_line, write_whole};
 use std::alloc::Global;
 use std::fs::{self, Files};
-use std::io::{BufReader, BufWriter, Read, Write};
-use std::net::Net;
-
-// The size in bytes of the buffer for an export.
-const EXPORT_ROOM: usize = 1 << 16;
+use std::io::{BufReader, Read, Write};
+use std::time::Clock;
 
 /// Asks a server, writes the answer to its file, and prints its line.
-pub fn ask_socket<F: Files + Net, W: Write>(
+pub fn ask_socket<F: Files + Dial + Clock, W: Write>(
     rt: &F,
     alloc: Global,
     socket: &str,
@@ -53,19 +50,22 @@ fn answer<F: Files, A: Write, B: Read, W: Write>(
             print_commitment(alloc, b"closed ", &last, output)
         }
         Question::Entry { index, out } => {
-            let entry = entry_of(alloc, to, from, index)?;
-            if write_out(rt, alloc, socket, out, &entry, output)? {
-                write_exported(alloc, 1, entry.len() as u64, output)?;
+            let mut file = OutFile::new(rt, alloc, socket, out);
+            let size = put_entry(alloc, to, from, index, &mut file)?;
+            if write_held(&file, output)? {
+                write_exported(alloc, 1, size, output)?;
             }
             Ok(())
         }
         Question::Member { index, count, out } => {
-            let proof = member_proof(alloc, to, from, index, count)?;
-            write_proof(rt, alloc, socket, out, &proof, output)
+            let mut file = OutFile::new(rt, alloc, socket, out);
+            let size = put_member(alloc, to, from, index, count, &mut file)?;
+            print_proof(alloc, &file, size, output)
         }
         Question::Increment { older, newer, out } => {
-            let proof = increment_proof(alloc, to, from, older, newer)?;
-            write_proof(rt, alloc, socket, out, &proof, output)
+            let mut file = OutFile::new(rt, alloc, socket, out);
+            let size = put_increment(alloc, to, from, older, newer, &mut file)?;
+            print_proof(alloc, &file, size, output)
         }
         Question::Export { out } => export_to(rt, alloc, socket, to, from, out, output),
     }
@@ -83,19 +83,28 @@ fn print_commitment<W: Write>(
     Ok(())
 }
 
-fn write_proof<F: Files, W: Write>(
-    rt: &F,
+// Writes what is to go to standard output. Returns whether a line is to follow.
+fn write_held<F: Files, W: Write>(
+    file: &OutFile<'_, F>,
+    output: &mut W,
+) -> Result<bool, RemoteError> {
+    if let Some(bytes) = file.held() {
+        write_whole(output, bytes)?;
+    }
+    Ok(file.takes_line())
+}
+
+fn print_proof<F: Files, W: Write>(
     alloc: Global,
-    socket: FileIdentity,
-    out: &str,
-    proof: &[u8],
+    file: &OutFile<'_, F>,
+    size: u64,
     output: &mut W,
 ) -> Result<(), RemoteError> {
-    if !write_out(rt, alloc, socket, out, proof, output)? {
+    if !write_held(file, output)? {
         return Ok(());
     }
     let mut line = Vec::new(alloc);
-    push_number(&mut line, b"proof ", proof.len() as u64)?;
+    push_number(&mut line, b"proof ", size)?;
     line.extend_from_slice(b"\n")?;
     write_whole(output, &line)?;
     Ok(())
@@ -112,36 +121,17 @@ fn export_to<F: Files, A: Write, B: Read, W: Write>(
     out: &str,
     output: &mut W,
 ) -> Result<(), RemoteError> {
-    if !can_be_replaced(rt, out) {
+    let mut file = OutFile::new(rt, alloc, socket, out);
+    if file.is_standard_output() || !can_be_replaced(rt, out) {
         return Err(RemoteError::Command(CommandError::BadArgument));
     }
-    let mut made = OutputFile::create(rt, alloc, socket, out)?;
-    let export = match receive_export(alloc, to, from, &mut made) {
-        Ok(export) => export,
-        Err(fault) => {
-            made.discard(rt);
-            return Err(fault);
-        }
-    };
-    made.publish(rt)?;
+    let export = put_export(alloc, to, from, &mut file)?;
     Ok(write_exported(alloc, export.count, export.size, output)?)
 }
 
 fn can_be_replaced<F: Files>(rt: &F, out: &str) -> bool {
     match fs::metadata(rt, out) {
         Ok(found) => found.is_file(),
-        Err(_) => out != "-",
+        Err(_) => true,
     }
-}
-
-fn receive_export<A: Write, B: Read, W: Write>(
-    alloc: Global,
-    to: &mut A,
-    from: &mut B,
-    file: &mut W,
-) -> Result<Export, RemoteError> {
-    let mut buffered = BufWriter::with_capacity(alloc, EXPORT_ROOM, file)?;
-    let export = export_entries(alloc, to, from, &mut buffered)?;
-    buffered.flush()?;
-    Ok(export)
 }

@@ -1,7 +1,7 @@
 ghost use Rattle.std.specs.Prelude.{◌≡◌, option_map};
 ghost use Rattle.audit_cli_remote.specs.Faults.{no_memory, remote_status, status_of_server, of_sending, judgment_of};
 
-use audit_cli_client::{ClientError, SendError, word_of_refusal};
+use audit_cli_client::{AskError, ClientError, SendError, word_of_refusal};
 use audit_cli_store::{CommandError, Status, report};
 use audit_store::StoreError;
 use audit_text::LinesError;
@@ -209,6 +209,20 @@ impl From<SendError> for RemoteError {
             SendError::Input(fault) => RemoteError::Command(CommandError::Lines(fault)),
             SendError::Client(error) => RemoteError::Server(error),
             SendError::Output => RemoteError::Command(CommandError::File),
+        }
+    }
+}
+
+impl From<AskError<RemoteError>> for RemoteError {
+    ghost use Rattle.std.specs.Prelude.{◌≡◌};
+    ghost use Rattle.audit_cli_remote.specs.Faults.{of_asking};
+
+    ghost from_gives = { λ given fault. fault ≡ of_asking given };
+
+    fn from(error: AskError<RemoteError>) -> Self {
+        match error {
+            AskError::Client(error) => RemoteError::Server(error),
+            AskError::Out(error) => error,
         }
     }
 }

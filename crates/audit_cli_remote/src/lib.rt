@@ -4,13 +4,14 @@
 mod arguments;
 mod asking;
 mod connection;
+mod draft;
 mod fault;
 mod out;
-mod pause;
 mod request;
 mod sending;
 mod state_file;
 mod watching;
 
+pub use connection::Dial;
 pub use fault::RemoteError;
 pub use request::{Request, run};

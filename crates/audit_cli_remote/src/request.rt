@@ -8,6 +8,7 @@ ghost use Rattle.audit_cli_remote.specs.Arguments.{AreNoSeconds, IsNoWindow, Has
 
 use crate::arguments::{QuestionWords, question_asked, seconds_asked, window_asked};
 use crate::asking::ask_socket;
+use crate::connection::Dial;
 use crate::fault::RemoteError;
 use crate::sending::send_to_socket;
 use crate::watching::{Post, watch_for_ever, watch_once};
@@ -16,7 +17,7 @@ use audit_text::write_whole;
 use std::alloc::Global;
 use std::fs::Files;
 use std::io::{Read, Write};
-use std::net::Net;
+use std::time::Clock;
 
 // How many seconds a reply is waited for if the command line doesn't say.
 const TIMEOUT: u64 = 30;
@@ -60,7 +61,7 @@ pub enum Request<'a> {
 
 /// Carries out a request. Lines that begin with `audit: ` are written to `messages`, all others to `output`, which is
 /// flushed after each answer to an event and at the end. Returns the status with which the program exits.
-pub fn run<F: Files + Net, R: Read, W: Write, M: Write>(
+pub fn run<F: Files + Dial + Clock, R: Read, W: Write, M: Write>(
     rt: &F,
     alloc: Global,
     request: Request<'_>,
@@ -101,7 +102,7 @@ fn print_judgment<W: Write>(
 }
 
 // The words are checked before the socket is opened.
-fn perform<F: Files + Net, R: Read, W: Write, M: Write>(
+fn perform<F: Files + Dial + Clock, R: Read, W: Write, M: Write>(
     rt: &F,
     alloc: Global,
     request: Request<'_>,

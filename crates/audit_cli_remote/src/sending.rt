@@ -2,20 +2,20 @@
 ghost use Rattle.std.specs.Prelude.{◌≡◌};
 ghost use Rattle.audit_cli_remote.specs.Sent.{status_of_sent};
 
-use crate::connection::connect;
+use crate::connection::{Dial, connect};
 use crate::fault::RemoteError;
 use audit_cli_client::{SendEnd, send_events};
 use audit_cli_store::Status;
 use std::alloc::Global;
 use std::io::{BufReader, Read, Write};
-use std::net::Net;
+use std::time::Clock;
 
 // The size in bytes of the buffer for the input: the most that is read at a time.
 const INPUT_ROOM: usize = 1 << 16;
 
 /// Sends the events of the input to a server, and prints its answers. Returns the status of a command whose lines were
 /// all answered.
-pub fn send_to_socket<F: Net, R: Read, W: Write, M: Write>(
+pub fn send_to_socket<F: Dial + Clock, R: Read, W: Write, M: Write>(
     rt: &F,
     alloc: Global,
     socket: &str,

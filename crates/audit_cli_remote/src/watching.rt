@@ -1,7 +1,6 @@
 //! A witness of a log, which keeps what it sees in a file.
-use crate::connection::{connect, socket_identity};
+use crate::connection::{Dial, connect, socket_identity};
 use crate::fault::RemoteError;
-use crate::pause::pause;
 use crate::state_file::{StateFile, push_commitment};
 use audit_cli_client::{Sight, WatchError, watch_and_keep};
 use audit_proof::Commitment;
@@ -9,7 +8,8 @@ use audit_text::write_whole;
 use std::alloc::Global;
 use std::fs::Files;
 use std::io::{BufReader, Write};
-use std::net::Net;
+use std::thread;
+use std::time::{Clock, Duration};
 
 /// What a witness needs: the server's socket, its own file, and how long it waits for a reply.
 #[derive(Clone, Copy, Debug)]
@@ -23,7 +23,7 @@ pub struct Post<'a> {
 }
 
 /// Looks once, and prints what was seen.
-pub fn watch_once<F: Files + Net, W: Write>(
+pub fn watch_once<F: Files + Dial + Clock, W: Write>(
     rt: &F,
     alloc: Global,
     post: Post<'_>,
@@ -35,7 +35,7 @@ pub fn watch_once<F: Files + Net, W: Write>(
 
 /// Looks again and again, pausing for `every` seconds after each look, and prints what has changed. A server that
 /// isn't there, or doesn't answer, is reported once until something else is seen.
-pub fn watch_for_ever<F: Files + Net, W: Write, M: Write>(
+pub fn watch_for_ever<F: Files + Dial + Clock, W: Write, M: Write>(
     rt: &F,
     alloc: Global,
     post: Post<'_>,
@@ -46,13 +46,13 @@ pub fn watch_for_ever<F: Files + Net, W: Write, M: Write>(
     let mut reported = None;
     for _ in 0..u64::MAX {
         reported = look_again(rt, alloc, post, reported, output, messages)?;
-        pause(rt, alloc, every)?;
+        thread::sleep(rt, Duration::from_secs(every));
     }
     Ok(())
 }
 
 // Looks once more. Returns what was reported of a server that isn't there.
-fn look_again<F: Files + Net, W: Write, M: Write>(
+fn look_again<F: Files + Dial + Clock, W: Write, M: Write>(
     rt: &F,
     alloc: Global,
     post: Post<'_>,
@@ -77,7 +77,11 @@ fn look_again<F: Files + Net, W: Write, M: Write>(
     }
 }
 
-fn look<F: Files + Net>(rt: &F, alloc: Global, post: Post<'_>) -> Result<Sight, RemoteError> {
+fn look<F: Files + Dial + Clock>(
+    rt: &F,
+    alloc: Global,
+    post: Post<'_>,
+) -> Result<Sight, RemoteError> {
     let identity = socket_identity(rt, post.socket)?;
     let mut kept = StateFile::read(rt, alloc, post.state, identity)?;
     let stream = connect(rt, post.socket, post.seconds)?;

@@ -15,7 +15,7 @@ returns g c =
       record {
         asked = _;
         given = _;
-        conversation = converses_more _ _ _ _ _ _ _ _ _ _ c.in_ok-newest.ensures (converses_more _ _ _ _ _ _ _ _ _ _ c.in_ok-proof.ensures.done v.2);
+        conversation = converses_more _ _ _ _ _ _ _ _ _ _ c.in_ok-newest.ensures.done (converses_more _ _ _ _ _ _ _ _ _ _ c.in_ok-proof.ensures.done v.2);
         begins = record { requests = _; replies = _; first = refl; answer = refl };
         older_root = c.in-Some.roots.0;
         newer_root = c.in-Some.roots.1;

@@ -15,7 +15,7 @@ returns g c =
       record {
         asked = _;
         given = _;
-        conversation = converses_more _ _ _ _ _ _ _ _ _ _ c.in_ok-newest.ensures (converses_more _ _ _ _ _ _ _ _ _ _ c.in_ok-proof.ensures.done v.2);
+        conversation = converses_more _ _ _ _ _ _ _ _ _ _ c.in_ok-newest.ensures.done (converses_more _ _ _ _ _ _ _ _ _ _ c.in_ok-proof.ensures.done v.2);
         begins = record { requests = _; replies = _; first = refl; answer = refl };
         root = c.in-Some.root;
         accepted = rw (c.in_ok-proof.ensures.index, c.in_ok-proof.ensures.count, sym c.deref.ensures.value, sym c.deref-2.ensures.value) c.in-Some.ensures.root;

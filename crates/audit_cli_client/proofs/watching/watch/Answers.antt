@@ -1,17 +1,27 @@
-use Rattle.std.proofs.Common.{refl, inr, arith}
+use Rattle.std.proofs.Common.{refl, inl, inr, arith}
+use Rattle.std.proofs.lemmas.Result.{err_from_is_err_and}
 use Rattle.audit_cli_client.proofs.Conversations.{converses_more}
+use Rattle.audit_cli_client.proofs.Failures.{fails_to_join_after}
 use Rattle.audit_cli_client.proofs.watching.watch.Goals as goal
 
-pub returns-in_ok-join : goal.returns-in_ok-join
-returns-in_ok-join g c =
-    let j = c.in_ok-join.ensures in
+pub returns-in_ok-join-clause-seen : goal.returns-in_ok-join-clause-seen
+returns-in_ok-join-clause-seen g c =
+    let j = c.in_ok-join.ensures.done in
     rw c.in-Some.is (record {
-      seen = record {
-        asked = _;
-        given = _;
-        newest = c.in_ok-newest.newest;
-        conversation = converses_more _ _ _ _ _ _ _ _ _ _ c.in_ok-newest.ensures j.3;
-        begins = record { requests = _; replies = _; first = refl; answer = refl };
-        judged = (refl, omega (arith, c.if-newest-kept.false, c.if-newest-kept-2.false), inr (j.2, j.4));
-      };
+      asked = _;
+      given = _;
+      newest = c.in_ok-newest.newest;
+      conversation = converses_more _ _ _ _ _ _ _ _ _ _ c.in_ok-newest.ensures.done j.3;
+      begins = record { requests = _; replies = _; first = refl; answer = refl };
+      judged = (refl, omega (arith, c.if-newest-kept.false, c.if-newest-kept-2.false), inr (j.2, j.4));
     })
+
+pub returns-in_err-newest-clause-fault : goal.returns-in_err-newest-clause-fault
+returns-in_err-newest-clause-fault g c =
+    let p = err_from_is_err_and c.from_residual.result c.from_residual.ensures.1 in
+    rw (p.1, p.2) (inl c.in_err-newest.ensures.fault)
+
+pub returns-in_err-join-clause-fault : goal.returns-in_err-join-clause-fault
+returns-in_err-join-clause-fault g c =
+    let p = err_from_is_err_and c.from_residual-in_err-join.result c.from_residual-in_err-join.ensures.1 in
+    rw (p.1, p.2) (rw c.in-Some.is (fails_to_join_after _ _ _ _ _ _ _ _ _ c.in_ok-newest.ensures.done c.in_err-join.ensures.fault))
