@@ -13,3 +13,8 @@ pub fn finishing_time() -> Duration {
 pub fn retry_time() -> Duration {
     Duration::from_secs(1)
 }
+
+/// How long a pass asks for more after it has found something.
+pub fn gathering_time() -> Duration {
+    Duration::from_micros(20)
+}

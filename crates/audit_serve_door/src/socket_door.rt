@@ -1,7 +1,7 @@
 use crate::client::Client;
 use crate::entrance::{Arrival, Entrance};
 use crate::journal::Journal;
-use crate::limits::{finishing_time, retry_time};
+use crate::limits::{finishing_time, gathering_time, retry_time};
 use crate::metered::Metered;
 use crate::nonblocking::Nonblocking;
 use crate::places::Places;
@@ -45,6 +45,8 @@ pub struct SocketDoor<'a, C, J> {
     // The place whose client is to be dismissed.
     due: Option<usize>,
     now: Instant,
+    // When a reading last found something.
+    found: Instant,
     // After the order to stop: until when clients may take their replies.
     until: Option<Instant>,
     has_failed: bool,
@@ -79,6 +81,7 @@ impl<'a, C: Clock, J: Journal + Drop> SocketDoor<'a, C, J> {
             idle,
             due: None,
             now,
+            found: now,
             until: None,
             has_failed: false,
         };
@@ -230,6 +233,16 @@ impl<C: Clock, J: Journal + Drop> Door for SocketDoor<'_, C, J> {
     fn dismisses(&mut self, place: usize, client: &Client) -> bool {
         let is_idle = self.places.note(place, client.moves(), self.now);
         is_idle && self.due == Some(place)
+    }
+
+    fn asks_again(&mut self, found: bool) -> bool {
+        let Ok(now) = Instant::now(self.clock) else {
+            return false;
+        };
+        if found {
+            self.found = now;
+        }
+        now.duration_since(self.found) < gathering_time()
     }
 
     fn gone(&mut self, place: usize, client: Client, departure: Departure) {

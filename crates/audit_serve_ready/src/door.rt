@@ -22,6 +22,11 @@ pub trait Door {
     /// client in each pass.
     fn dismisses(&mut self, place: usize, client: &Self::Stream) -> bool;
 
+    /// Called in a pass in which something was read, while a client has sent nothing that was read in the last such
+    /// pass; with whether the latest reading found something. Returns whether all that have sent nothing are asked
+    /// again before the core flushes. A pass asks 1,024 times at most, and the call must not wait.
+    fn asks_again(&mut self, found: bool) -> bool;
+
     /// Takes a client back that has left its place, or that couldn't be admitted to it.
     fn gone(&mut self, place: usize, client: Self::Stream, departure: Departure);
 

@@ -1,15 +1,16 @@
 //! Serving clients that come and go, over streams whose calls don't wait.
 //!
-//! A client has a place, which is that of a session, from its coming to its going. In each pass every client has one
-//! read, then the core flushes, and then each client takes what it can of the replies: [`serve_clients`]. Nobody waits
-//! for a client. A stream is a [`ReadyStream`], clients come in by a [`Door`], and what decides on the bytes of the
-//! sessions is a [`SessionCore`](audit_serve_passes::SessionCore).
+//! A client has a place, which is that of a session, from its coming to its going. In each pass what clients have sent
+//! is read, one piece of each, then the core flushes, and then each client takes what it can of the replies:
+//! [`serve_clients`]. Nobody waits for a client. A stream is a [`ReadyStream`], clients come in by a [`Door`], and what
+//! decides on the bytes of the sessions is a [`SessionCore`](audit_serve_passes::SessionCore).
 #![tactic(auto)]
 
 mod backlog;
 mod clients;
 mod departure;
 mod door;
+mod gathering;
 pub mod laws;
 mod limits;
 mod ready_stream;

@@ -6,17 +6,21 @@ ghost use Rattle.audit_serve_ready.specs.Clients.{ServesClients, StopsServing};
 
 use crate::clients::{let_go, let_in};
 use crate::door::{Door, Next};
+use crate::gathering::Marks;
 use crate::ready_stream::ReadyStream;
 use crate::slot::Slot;
 use crate::turns::serve_present;
+use audit_base::SESSIONS;
 use audit_serve_passes::{MAX_PIECE, SessionCore};
 
 /// Serves clients as they come and go, until the door says to stop or the core refuses a step. The first place is that
 /// of session 0; a session whose place has no client is ended first.
 ///
-/// A pass reads once from each client, at most [`MAX_PIECE`] bytes, and feeds them to its session. Then the core
-/// flushes, and each client is sent what waits for it: what it doesn't take is kept for it. A client whose session has
-/// ended goes when it has taken everything, and the next client gets its place and a session that begins anew.
+/// A pass reads one piece from each client, at most [`MAX_PIECE`] bytes, and feeds it to its session. So that one commit
+/// has what comes meanwhile, the door may have clients that have sent nothing asked again ([`Door::asks_again`]). Then
+/// the core flushes, and each client is sent what waits for it: what it doesn't take is kept for it. A client whose
+/// session has ended goes when it has taken everything, and the next client gets its place and a session that begins
+/// anew.
 ///
 /// If the core refuses a step, serving stops at once, and the clients keep their places. Whatever happens, what was
 /// fed to a client's session is what was read from its stream, except for a piece that a refused step may have lost.
@@ -32,9 +36,10 @@ pub fn serve_clients<C: SessionCore, D: Door>(
     ensures stopped { IfErr result (λ error. StopsServing C.model D.Stream.calls (λ old new. C.refuses old new error)
         core.old core.new slots.old slots.new) }
 {
+    let mut busy = [false; SESSIONS];
     let mut buffer = [0; MAX_PIECE];
     for _ in 0..u64::MAX {
-        let moved = serve_pass(core, slots, door, &mut buffer)?;
+        let moved = serve_pass(core, slots, door, &mut busy, &mut buffer)?;
         if door.pause(moved) == Next::Stop {
             break;
         }
@@ -47,6 +52,7 @@ fn serve_pass<C: SessionCore, D: Door>(
     core: &mut C,
     slots: &mut [Slot<D::Stream>],
     door: &mut D,
+    busy: &mut Marks,
     buffer: &mut [u8],
 ) -> Result<bool, C::Error>
     requires count { length slots.old ≤ SESSIONS }
@@ -56,7 +62,7 @@ fn serve_pass<C: SessionCore, D: Door>(
     ensures stopped { IfErr result (λ error. StopsServing C.model D.Stream.calls (λ old new. C.refuses old new error)
         core.old core.new slots.old slots.new) }
 {
-    let served = serve_present(core, slots, door, buffer)?;
+    let served = serve_present(core, slots, door, busy, buffer)?;
     let gone = let_go(core, slots, door);
     let come = let_in(core, slots, door);
     Ok(served | gone | come)

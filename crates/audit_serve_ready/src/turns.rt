@@ -8,6 +8,7 @@ ghost use Rattle.audit_serve_ready.specs.Places.{ServesPlace, ServesPlaces, Stop
 
 use crate::departure::Departure;
 use crate::door::Door;
+use crate::gathering::{Marks, gather};
 use crate::ready_stream::ReadyStream;
 use crate::slot::Slot;
 use audit_serve_passes::{SessionCore, StreamError};
@@ -59,10 +60,19 @@ fn take_read<C: SessionCore>(
     }
 }
 
-/// Does so for each live session, in rising order.
+/// Whether a session is live and has not had its turn.
+pub(crate) fn is_due<C: SessionCore>(core: &C, session: usize, had_turn: &Marks) -> bool
+    requires { session < SESSIONS }
+{
+    !had_turn[session] && !core.ended(session)
+}
+
+/// Does so for each live session that has not had its turn, in rising order. Those for which anything was done have had
+/// it then. Returns whether there was one.
 pub(crate) fn read_turns<C: SessionCore, S: ReadyStream + Drop>(
     core: &mut C,
     slots: &mut [Slot<S>],
+    had_turn: &mut Marks,
     buffer: &mut [u8],
 ) -> Result<bool, C::Error>
     requires count { length slots.old ≤ SESSIONS }
@@ -74,13 +84,15 @@ pub(crate) fn read_turns<C: SessionCore, S: ReadyStream + Drop>(
     ensures done { OnOk result (ServesPlaces S.calls (C.model.DidSteps core.old core.new) no_bytes
         slots.old slots.new) }
 {
-    let mut moved = false;
+    let mut found = false;
     for session in 0..slots.len() {
-        if !core.ended(session) {
-            moved |= read_turn(core, session, &mut slots[session], buffer)?;
+        if is_due(core, session, had_turn) {
+            let had = read_turn(core, session, &mut slots[session], buffer)?;
+            had_turn[session] = had;
+            found |= had;
         }
     }
-    Ok(moved)
+    Ok(found)
 }
 
 /// Keeps what waits for a session for its client, and writes what the client takes now. Returns whether it took bytes
@@ -140,12 +152,13 @@ fn is_dismissed<D: Door>(slot: &Slot<D::Stream>, place: usize, door: &mut D) -> 
     }
 }
 
-/// A pass over the clients that are there: each live session has its turn of reading, the core flushes, and each
-/// session has its turn of writing. Returns whether anything moved.
+/// A pass over the clients that are there: what they sent is gathered, the core flushes, and each session has its turn
+/// of writing. Returns whether anything moved.
 pub(crate) fn serve_present<C: SessionCore, D: Door>(
     core: &mut C,
     slots: &mut [Slot<D::Stream>],
     door: &mut D,
+    busy: &mut Marks,
     buffer: &mut [u8],
 ) -> Result<bool, C::Error>
     requires count { length slots.old ≤ SESSIONS }
@@ -160,7 +173,7 @@ pub(crate) fn serve_present<C: SessionCore, D: Door>(
     ensures empty { OnOk result (AreEmpty C.model (length slots.old) core.new) }
 {
     dismiss(core, slots, door);
-    let was_read = read_turns(core, slots, buffer)?;
+    let was_read = gather(core, slots, door, busy, buffer)?;
     core.flush()?;
     let was_written = write_turns(core, slots);
     Ok(was_read | was_written)

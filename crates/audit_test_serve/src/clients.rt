@@ -86,6 +86,10 @@ impl Door for Clients {
         self.replies = self.replies.saturating_add(client.taken);
     }
 
+    fn asks_again(&mut self, found: bool) -> bool {
+        found
+    }
+
     fn pause(&mut self, _moved: bool) -> Next {
         self.passes = self.passes.saturating_add(1);
         if self.passes > 200 {

@@ -4,6 +4,8 @@
 #[cfg(test)]
 mod clients;
 #[cfg(test)]
+mod latecomers;
+#[cfg(test)]
 mod passes;
 #[cfg(test)]
 mod recorder;

@@ -20,6 +20,10 @@
 //! - `sweep FIRST COUNT`: plays COUNT lists of steps from number FIRST on, drawn by a cipher. Their stores are
 //!   reopened, exported, verified and replayed. Prints how many events they hold, how many were acknowledged, a digest
 //!   of the roots, how many lists were replayed, and how many have more bytes than `replay` reads.
+//! - `clients FIRST COUNT`: plays COUNT runs of a daemon in memory from number FIRST on, in each of which 40 clients
+//!   come and go at random. Prints a digest of what the clients received, why they went, and what the stores hold.
+//! - `failures NUMBER COUNT`: plays the clients of run NUMBER over COUNT devices, of which the first fails once at its
+//!   first call, the next one at its second, and so on. It is an error if an acknowledged event is lost.
 //! - `lengths`: reads an append and a membership proof for each length of a payload, and prints a digest of what was
 //!   read.
 //! - `serve CALLS READ READS WRITE WAITS HEX HEX`: serves two streams over a device that fails once, after CALLS
@@ -27,13 +31,16 @@
 //!   each write. If WAITS is 1, a second read fails until something was written to the other stream.
 #![tactic(auto)]
 
+mod clients;
 mod cuts;
 mod devices;
+mod failures;
 mod hostile;
 mod lengths;
 mod lists;
 mod plan;
 mod random;
+mod random_door;
 mod replays;
 mod scene;
 mod serving;
@@ -41,6 +48,7 @@ mod stores;
 mod streams;
 mod sweep;
 mod texts;
+mod visitor;
 
 use scene::Scene;
 

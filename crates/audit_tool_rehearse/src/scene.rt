@@ -1,6 +1,8 @@
 //! Playing the lines of a scene.
+use crate::clients::play_clients;
 use crate::cuts::try_cuts;
 use crate::devices::play_devices;
+use crate::failures::play_failures;
 use crate::hostile::play_hostile;
 use crate::lengths::try_lengths;
 use crate::lists::play_lists;
@@ -34,9 +36,8 @@ impl Scene {
             "open" => self.open(rt),
             "first" => self.begin_first(rt, rest),
             "lengths" => try_lengths(rt),
-            "cuts" | "lists" | "serve" | "hostile" | "devices" | "sweep" => play_apart(
-                rt, task, rest,
-            ),
+            "cuts" | "lists" | "serve" | "clients" | "failures" | "hostile" | "devices" | "sweep" =>
+                { play_apart(rt, task, rest) }
             _ => self.step(rt, task, rest),
         }
     }
@@ -101,6 +102,8 @@ fn play_apart<R: AllocGlobal + Print>(rt: &R, task: &str, rest: &str) -> anyhow:
         "hostile" => play_hostile(rt, rest),
         "devices" => play_devices(rt, rest),
         "sweep" => play_sweep(rt, rest),
+        "clients" => play_clients(rt, rest),
+        "failures" => play_failures(rt, rest),
         _ => serve_scene(rt, rest),
     }
 }

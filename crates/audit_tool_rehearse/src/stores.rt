@@ -88,7 +88,8 @@ pub fn blocks_of(alloc: Global, disk: &mut MemDisk) -> anyhow::Result<Vec<[u8; S
     Ok(blocks)
 }
 
-fn core_over(alloc: Global, store: Store<Device>) -> anyhow::Result<Core<Device>> {
+/// A core over a store.
+pub fn core_over(alloc: Global, store: Store<Device>) -> anyhow::Result<Core<Device>> {
     let mut left = store;
     for _ in 0..TRIES {
         match Core::new(alloc, left) {

@@ -96,8 +96,8 @@ fn add_reopened(
     Ok(())
 }
 
-// The entries of a store, after reopening it.
-fn entries_of(alloc: Global, store: Store<Device>) -> anyhow::Result<Vec<Vec<u8>>> {
+/// The entries of a store, after reopening it.
+pub fn entries_of(alloc: Global, store: Store<Device>) -> anyhow::Result<Vec<Vec<u8>>> {
     let mut store = made(Store::open(alloc, store.into_disk()))?;
     let mut entries = Vec::new(alloc);
     for index in 0..store.commitment().count {
@@ -106,8 +106,8 @@ fn entries_of(alloc: Global, store: Store<Device>) -> anyhow::Result<Vec<Vec<u8>
     Ok(entries)
 }
 
-// The events that the verifier finds in an export of these entries.
-fn verified_events(
+/// The events that the verifier finds in an export of these entries.
+pub fn verified_events(
     alloc: Global,
     entries: &[Vec<u8>],
     commitment: &Commitment,

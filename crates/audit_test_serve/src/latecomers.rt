@@ -1,0 +1,120 @@
+// Clients whose bytes come while others are read. The test sets what each read returns, and compares the steps that the
+// core was asked to do, in order.
+ghost use Rattle.audit_serve_passes.specs.Pairs.{unknown_calls};
+
+use crate::recorder::{Asked, Recorder};
+use audit_serve_passes::StreamError;
+use audit_serve_ready::{
+    DEFAULT_BACKLOG, Departure, Door, Next, ReadyStream, serve_clients, vacant_slots,
+};
+use std::test::Fail;
+
+/// How many bytes each read of a client's stream returns: none where nothing is there, zero at its end.
+type Reads<'a> = &'a [Option<usize>];
+
+#[derive(Drop)]
+struct Client<'a> {
+    reads: Reads<'a>,
+    done: usize,
+}
+
+impl ReadyStream for Client<'_> {
+    ghost calls = { unknown_calls };
+
+    fn read_ready(&mut self, buffer: &mut [u8]) -> Option<Result<usize, StreamError>> {
+        let given = self.reads.get(self.done).copied();
+        self.done = self.done.saturating_add(1);
+        match given {
+            Some(Some(count)) => Some(Ok(buffer.len().min(count))),
+            Some(None) | None => None,
+        }
+    }
+
+    fn write_ready(&mut self, bytes: &[u8]) -> Result<usize, StreamError> {
+        Ok(bytes.len())
+    }
+}
+
+/// Clients that come after the first pass, and how many passes are left.
+#[derive(Drop)]
+struct Crowd<'a> {
+    clients: &'a [Reads<'a>],
+    came: usize,
+    passes: usize,
+}
+
+impl<'a> Door for Crowd<'a> {
+    type Stream = Client<'a>;
+
+    fn next_client(&mut self, _place: usize) -> Option<Client<'a>> {
+        let reads = self.clients.get(self.came).copied()?;
+        self.came = self.came.saturating_add(1);
+        Some(Client { reads, done: 0 })
+    }
+
+    fn dismisses(&mut self, _place: usize, _client: &Client<'a>) -> bool {
+        false
+    }
+
+    fn gone(&mut self, _place: usize, _client: Client<'a>, _departure: Departure) {}
+
+    fn asks_again(&mut self, _found: bool) -> bool {
+        true
+    }
+
+    fn pause(&mut self, _moved: bool) -> Next {
+        self.passes = self.passes.saturating_sub(1);
+        if self.passes == 0 {
+            Next::Stop
+        } else {
+            Next::Again
+        }
+    }
+}
+
+const EARLY: [Option<usize>; 3] = [Some(1), Some(2), Some(0)];
+
+const LATE: [Option<usize>; 3] = [None, Some(3), Some(0)];
+
+const SILENT: [Option<usize>; 0] = [];
+
+// The first pass ends the sessions of places without clients. In the next one the late client is asked again, since the
+// early one has sent something, and one flush has both. Nobody is read twice in a pass.
+#[test]
+fn one_flush_has_what_comes_meanwhile(rt: HostRuntime) -> Result<(), Fail> {
+    let alloc = rt.alloc();
+    let mut core = Recorder::new(alloc, usize::MAX)?;
+    let mut slots = vacant_slots(alloc, 3, DEFAULT_BACKLOG)?;
+    let mut door = Crowd {
+        clients: &[&LATE, &EARLY, &SILENT],
+        came: 0,
+        passes: 4,
+    };
+    assert!(rt; serve_clients(&mut core, &mut slots, &mut door).is_ok());
+    assert!(rt;
+        core.was_asked(&[
+            Asked::End { session: 0 },
+            Asked::End { session: 1 },
+            Asked::End { session: 2 },
+            Asked::Flush,
+            Asked::Feed {
+                session: 1,
+                size: 1
+            },
+            Asked::Feed {
+                session: 0,
+                size: 3
+            },
+            Asked::Flush,
+            Asked::End { session: 0 },
+            Asked::Feed {
+                session: 1,
+                size: 2
+            },
+            Asked::Flush,
+            Asked::End { session: 1 },
+            Asked::Flush,
+        ])
+    );
+    Ok(())
+}

@@ -1,0 +1,77 @@
+//! Runs of clients that come and go at random, and a digest of everything that they received.
+ghost use Rattle.std.specs.Prelude.{◌≤◌, length, IfOk};
+ghost use Rattle.audit_base.specs.declared.limits.TheConstants.{SESSIONS};
+
+use crate::lists::add_store;
+use crate::random::Random;
+use crate::random_door::RandomDoor;
+use crate::stores::{Device, new_core, worn_core};
+use crate::texts::{text_of, two_numbers};
+use crate::visitor::Visitor;
+use anyhow::bail;
+use audit_base::SESSIONS;
+use audit_serve_ready::{MAX_BACKLOG, Slot, finish_writing, serve_clients, vacant_slots};
+use audit_server::Core;
+use sha2::{Digest, Sha256};
+use std::alloc::{AllocError, Global};
+
+/// Plays a range of numbered runs, and prints the digest.
+pub fn play_clients<R: AllocGlobal + Print>(rt: &R, rest: &str) -> anyhow::Result<()> {
+    let (first, count) = two_numbers(rest)?;
+    let mut hasher = Sha256::new();
+    for place in 0..count {
+        let digest = play_run(rt.alloc(), first.saturating_add(place))?;
+        hasher.update(&digest);
+    }
+    let digest: [u8; 32] = hasher.finalize();
+    println!(rt; "clients from {first} {}", text_of(rt.alloc(), &digest)?)?;
+    Ok(())
+}
+
+// Plays a run, and returns the digest of what the door was told, of what the clients that were left have received, and
+// of the store.
+fn play_run(alloc: Global, number: u64) -> anyhow::Result<[u8; 32]> {
+    let mut random = Random::new(number);
+    let mut core = some_core(alloc, &mut random)?;
+    let mut slots = some_slots(alloc, &mut random)?;
+    let mut door = RandomDoor::new(alloc, random);
+    if let Err(error) = serve_clients(&mut core, &mut slots, &mut door) {
+        bail!("run {number} was refused: {error}");
+    }
+    finish_writing(&mut slots, &mut door);
+    let mut hasher = door.into_hasher();
+    add_left(&slots, &mut hasher);
+    add_store(core.into_store(), &mut hasher)?;
+    Ok(hasher.finalize())
+}
+
+// A core over a store of 3 to 82 sectors. One store in eight has a generation left for one commit.
+fn some_core(alloc: Global, random: &mut Random) -> anyhow::Result<Core<Device>> {
+    let sectors = random.below(80).saturating_add(3);
+    match random.below(8) {
+        0 => worn_core(alloc, sectors, 1),
+        _ => new_core(alloc, sectors, u64::MAX),
+    }
+}
+
+/// One to sixteen places, with a backlog that many clients, some or none exceed.
+pub fn some_slots(alloc: Global, random: &mut Random) -> Result<Vec<Slot<Visitor>>, AllocError>
+    ensures { IfOk result (λ slots. length slots.items ≤ SESSIONS) }
+{
+    let places = (random.up_to(SESSIONS as u64) as usize).min(SESSIONS);
+    let most = match random.below(3) {
+        0 => 60,
+        1 => 2_000,
+        _ => MAX_BACKLOG,
+    };
+    vacant_slots(alloc, places, most.min(MAX_BACKLOG))
+}
+
+// Adds the clients that are in their places.
+fn add_left(slots: &[Slot<Visitor>], hasher: &mut Sha256) {
+    for slot in slots {
+        if let Some(client) = slot.client() {
+            client.add_to(hasher);
+        }
+    }
+}
