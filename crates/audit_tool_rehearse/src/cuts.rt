@@ -1,8 +1,8 @@
 //! A stream cut into pieces: the answers don't depend on the pieces.
 use crate::stores::{Device, new_core};
+use crate::subject::Core;
 use crate::texts::text_of;
 use anyhow::{anyhow, bail};
-use audit_server::Core;
 use std::alloc::Global;
 
 // An append of `hi` under kind 1 with tag 7.

@@ -4,13 +4,13 @@ use crate::lists::{add_device, random_core};
 use crate::random::Random;
 use crate::stores::{Device, blocks_of, open_core};
 use crate::streams::stream_of;
+use crate::subject::{Core, Store};
 use crate::texts::{text_of, two_numbers};
 use audit_base::u64_at;
 use audit_chain::Event;
 use audit_disk::{FailOnce, MemDisk, SECTOR_SIZE};
 use audit_log::{FIRST_VERSION, VERSION};
-use audit_server::Core;
-use audit_store::{Store, StoreError};
+use audit_store::StoreError;
 use sha2::{Digest, Sha256};
 use std::alloc::{AllocError, Global};
 

@@ -3,12 +3,11 @@ use crate::plan::Plan;
 use crate::random::Random;
 use crate::stores::{Device, first_core, new_core, worn_core};
 use crate::streams::stream_of;
+use crate::subject::{Core, Store};
 use crate::texts::text_of;
 use anyhow::bail;
 use audit_base::SESSIONS;
 use audit_disk::{MemDisk, SECTOR_SIZE, Sectors};
-use audit_server::{Core, drive};
-use audit_store::Store;
 use sha2::{Digest, Sha256};
 use std::alloc::{AllocError, Global};
 
@@ -117,7 +116,7 @@ fn drive_four(core: &mut Core<Device>, plan: &mut Plan) -> anyhow::Result<()> {
         plan.next_step(),
         plan.next_step(),
     ];
-    if let Err(fault) = drive(core, &steps) {
+    if let Err(fault) = core.drive(&steps) {
         bail!("step {} was refused: {}", fault.step, fault.error);
     }
     Ok(())
@@ -129,7 +128,7 @@ fn gather(
     outputs: &mut [Vec<u8>],
     session: usize,
 ) -> Result<(), AllocError> {
-    let output = core.take_output(session % SESSIONS);
+    let output = core.take_output(session);
     if let Some(gathered) = outputs.get_mut(session) {
         gathered.extend_from_slice(&output)?;
     }

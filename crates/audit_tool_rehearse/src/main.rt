@@ -46,6 +46,7 @@ mod scene;
 mod serving;
 mod stores;
 mod streams;
+mod subject;
 mod sweep;
 mod texts;
 mod visitor;

@@ -8,13 +8,14 @@ use crate::lengths::try_lengths;
 use crate::lists::play_lists;
 use crate::serving::serve_scene;
 use crate::stores::{Device, TRIES, first_core, new_core, open_core, worn_core};
+use crate::subject::{Core, Store};
 use crate::sweep::play_sweep;
 use crate::texts::{bytes_of, number_of, text_of, two_numbers};
 use anyhow::{Context, bail};
 use audit_base::SESSIONS;
 use audit_disk::MemDisk;
-use audit_server::{Core, Step, drive};
-use audit_store::{Store, StoreError};
+use audit_server::Step;
+use audit_store::StoreError;
 
 /// The current core, if there is one.
 #[derive(Drop)]
@@ -137,7 +138,7 @@ fn feed<R: Print>(
 ) -> anyhow::Result<()> {
     let mut rest = piece;
     for _ in 0..TRIES {
-        let Err(fault) = core.feed(session % SESSIONS, rest) else {
+        let Err(fault) = core.feed(session, rest) else {
             return Ok(());
         };
         println!(rt; "refused {} taken {}", fault.error.name(), fault.taken)?;
@@ -151,7 +152,7 @@ fn feed<R: Print>(
 
 fn end<R: Print>(rt: &R, core: &mut Core<Device>, session: usize) -> anyhow::Result<()> {
     for _ in 0..TRIES {
-        let Err(error) = core.end(session % SESSIONS) else {
+        let Err(error) = core.end(session) else {
             return Ok(());
         };
         println!(rt; "refused {}", error.name())?;
@@ -188,7 +189,7 @@ fn drive_steps<R: Print>(
         Step::End { session },
         Step::Flush,
     ];
-    if let Err(fault) = drive(core, &steps) {
+    if let Err(fault) = core.drive(&steps) {
         println!(rt;
             "refused {} taken {} in step {}",
             fault.error.name(),
@@ -204,9 +205,9 @@ fn show<R: AllocGlobal + Print>(
     core: &mut Core<Device>,
     session: usize,
 ) -> anyhow::Result<()> {
-    let output = core.take_output(session % SESSIONS);
+    let output = core.take_output(session);
     let text = text_of(rt.alloc(), &output)?;
-    let end = if core.ended(session % SESSIONS) {
+    let end = if core.ended(session) {
         " ended"
     } else {
         ""

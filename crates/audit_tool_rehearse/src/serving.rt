@@ -2,7 +2,7 @@
 use crate::stores::new_core;
 use crate::texts::{bytes_of, number_of, text_of};
 use anyhow::Context;
-use audit_serve_passes::{ServeEnd, ServeFault, StreamPair, serve};
+use audit_serve_passes::{ServeEnd, ServeFault, StreamPair};
 use audit_store::StoreError;
 use std::alloc::{AllocError, Global};
 use std::cell::Cell;
@@ -144,7 +144,7 @@ struct Served {
 // Serves the streams over a device that fails once, after `calls` calls.
 fn serve_both(alloc: Global, calls: u64, streams: &mut [Stream; 2]) -> anyhow::Result<Served> {
     let mut core = new_core(alloc, 16, calls)?;
-    let end = serve(&mut core, streams);
+    let end = core.serve(streams);
     Ok(Served {
         turns: end.turns,
         end: name_of(&end),

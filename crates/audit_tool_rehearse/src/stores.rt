@@ -1,10 +1,10 @@
 //! Stores in memory, and cores over them.
+use crate::subject::{Core, Store};
 use anyhow::bail;
 use audit_chain::Key;
 use audit_disk::{FailOnce, MemDisk, SECTOR_SIZE, Sectors};
 use audit_log::{FIRST_VERSION, Header, VERSION};
-use audit_server::Core;
-use audit_store::{Failed, Store};
+use audit_store::Failed;
 use std::alloc::Global;
 
 /// The device of a scene. If it isn't to fail, the failing call is never reached.
@@ -94,7 +94,7 @@ pub fn core_over(alloc: Global, store: Store<Device>) -> anyhow::Result<Core<Dev
     for _ in 0..TRIES {
         match Core::new(alloc, left) {
             Ok(core) => return Ok(core),
-            Err(failed) => left = failed.store,
+            Err(store) => left = store,
         }
     }
     bail!("there is no memory for a core")

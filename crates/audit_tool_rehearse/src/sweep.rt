@@ -3,11 +3,11 @@ use crate::lists::{drive_groups, gather_each, no_outputs, random_plan, random_st
 use crate::random::Random;
 use crate::replays::is_replayed;
 use crate::stores::{Device, made, new_core};
+use crate::subject::Store;
 use crate::texts::{text_of, two_numbers};
 use anyhow::{Context, bail};
 use audit_chain::{Event, Key};
 use audit_proof::Commitment;
-use audit_store::Store;
 use audit_verify::verify;
 use audit_wire::first_frame;
 use sha2::{Digest, Sha256};

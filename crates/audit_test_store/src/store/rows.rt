@@ -176,7 +176,7 @@ const RUNS: [(u64, [u64; 3], [u64; 3]); 4] = [
     (3, [4, 10, 19], [6, 12, 21]),
 ];
 
-// The commitment to the events of so many batches.
+// The commitment to the events of the first batches.
 fn commitment_to(batches: u64) -> Result<Commitment, Fail> {
     let place = (batches % 4) as usize;
     Ok(Commitment {
@@ -273,7 +273,7 @@ fn expect_repaired(
     Err(Fail::new("it isn't opened"))
 }
 
-// Stops a run in rows after so many calls, and crashes with the picks of this mask. Then how many batches are left, and
+// A run in rows is stopped after some calls, and crashes with the picks of a mask. Then how many batches are left, and
 // how many calls an opening makes: two syncs and a row of zeros, and a header and its sync if the headers differ. Last,
 // the same if that row is torn, and written again sector by sector: nine after two batches, six after three.
 const CRASHES: [(u64, u64, u64, u64, u64); 12] = [
