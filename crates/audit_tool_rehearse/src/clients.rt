@@ -6,12 +6,12 @@ use crate::lists::add_store;
 use crate::random::Random;
 use crate::random_door::RandomDoor;
 use crate::stores::{Device, new_core, worn_core};
+use crate::subject::Core;
 use crate::texts::{text_of, two_numbers};
 use crate::visitor::Visitor;
 use anyhow::bail;
 use audit_base::SESSIONS;
-use audit_serve_ready::{MAX_BACKLOG, Slot, finish_writing, serve_clients, vacant_slots};
-use audit_server::Core;
+use audit_serve_ready::{MAX_BACKLOG, Slot, finish_writing, vacant_slots};
 use sha2::{Digest, Sha256};
 use std::alloc::{AllocError, Global};
 
@@ -35,7 +35,7 @@ fn play_run(alloc: Global, number: u64) -> anyhow::Result<[u8; 32]> {
     let mut core = some_core(alloc, &mut random)?;
     let mut slots = some_slots(alloc, &mut random)?;
     let mut door = RandomDoor::new(alloc, random);
-    if let Err(error) = serve_clients(&mut core, &mut slots, &mut door) {
+    if let Err(error) = core.serve_clients(&mut slots, &mut door) {
         bail!("run {number} was refused: {error}");
     }
     finish_writing(&mut slots, &mut door);

@@ -3,15 +3,14 @@ use crate::clients::some_slots;
 use crate::random::Random;
 use crate::random_door::RandomDoor;
 use crate::stores::{Device, core_over, made, new_core};
+use crate::subject::{Core, Store};
 use crate::sweep::{entries_of, verified_events};
 use crate::texts::two_numbers;
 use crate::visitor::Visitor;
 use anyhow::Context;
 use audit_disk::FailOnce;
 use audit_proof::Commitment;
-use audit_serve_ready::{finish_writing, serve_clients};
-use audit_server::Core;
-use audit_store::Store;
+use audit_serve_ready::finish_writing;
 use audit_wire::first_frame;
 use std::alloc::Global;
 
@@ -50,7 +49,7 @@ fn play_failing(alloc: Global, number: u64, core: Core<Device>) -> anyhow::Resul
     let mut random = Random::new(number);
     let mut slots = some_slots(alloc, &mut random)?;
     let mut door = RandomDoor::new(alloc, random);
-    if serve_clients(&mut core, &mut slots, &mut door).is_ok() {
+    if core.serve_clients(&mut slots, &mut door).is_ok() {
         finish_writing(&mut slots, &mut door);
     }
     let entries = reopened(alloc, core)?;

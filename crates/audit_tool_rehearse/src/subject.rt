@@ -2,12 +2,15 @@
 //! scene prints what they return, and owes nothing but its own safety, which takes much less time to prove where no
 //! contract is in the way.
 ghost use Rattle.std.specs.List.{AllByRecursion};
+ghost use Rattle.std.specs.Prelude.{◌≤◌, length};
+ghost use Rattle.audit_base.specs.declared.limits.TheConstants.{SESSIONS};
 ghost use Rattle.audit_server.specs.Driving.{IsOfSession};
 
 use audit_base::SESSIONS;
 use audit_chain::{Event, Key};
 use audit_disk::Sectors;
 use audit_proof::Commitment;
+use audit_serve_ready::{Door, Slot};
 use audit_server::{CoreFailed, DriveFault, FeedFault, ServeEnd, SessionStream, Step};
 use audit_store::{Failed, Receipt, StoreError};
 use std::alloc::Global;
@@ -100,6 +103,16 @@ impl<D: Sectors> Core<D> {
 
     pub fn serve<S: SessionStream>(&mut self, streams: &mut [S; 2]) -> ServeEnd<StoreError> {
         audit_server::serve(&mut self.inner, streams)
+    }
+
+    pub fn serve_clients<G: Door>(
+        &mut self,
+        slots: &mut [Slot<G::Stream>],
+        door: &mut G,
+    ) -> Result<(), StoreError>
+        requires { length slots.old ≤ SESSIONS }
+    {
+        audit_serve_ready::serve_clients(&mut self.inner, slots, door)
     }
 
     pub fn take_output(&mut self, session: usize) -> Vec<u8> {
