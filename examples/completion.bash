@@ -10,6 +10,7 @@ _audit() {
         local options="--explain --help"
         case $command in
         format) options="$options --mode --in-place --erase" ;;
+        append) options="$options --text --follow --expect" ;;
         show | prove) options="$options --read-only" ;;
         export) options="$options --read-only --salvage" ;;
         serve) options="$options --sessions --socket-mode" ;;

@@ -1,6 +1,7 @@
 use crate::forms::{EXPLAIN, command_line};
 use crate::remote_command::remote_request;
 use audit_cli_daemon::{Request as Daemon, Settings};
+use audit_cli_follow::Request as Lines;
 use audit_cli_remote::Request as Remote;
 use audit_cli_serve::Request as Serving;
 use audit_cli_store::{Access, Request, Site};
@@ -22,6 +23,8 @@ pub struct CommandLine<'a> {
 pub enum Asked<'a> {
     /// A command that serves no sessions.
     Plain(Request<'a>),
+    /// An append of lines of text, or of lines as they come, or to a store of a certain count.
+    Lines(Lines<'a>),
     /// A command that asks a server.
     Remote(Remote<'a>),
     /// A command that serves sessions.
@@ -51,6 +54,9 @@ fn asked_by<'a>(name: &str, given: &ArgMatches<'a>) -> Asked<'a> {
     if let Some(remote) = remote_request(name, given) {
         return Asked::Remote(remote);
     }
+    if let Some(lines) = lines_request(name, given) {
+        return Asked::Lines(lines);
+    }
     match name {
         "serve" => Asked::Serving(Serving::Serve {
             file: word(given, "FILE"),
@@ -70,6 +76,21 @@ fn asked_by<'a>(name: &str, given: &ArgMatches<'a>) -> Asked<'a> {
         }),
         _ => Asked::Plain(plain_request(name, given)),
     }
+}
+
+// The request of an append with options.
+fn lines_request<'a>(name: &str, given: &ArgMatches<'a>) -> Option<Lines<'a>> {
+    if name != "append" {
+        return None;
+    }
+    let lines = Lines {
+        file: word(given, "FILE"),
+        text: given.get_str("text"),
+        expect: given.get_str("expect"),
+        follows: given.get_flag("follow"),
+    };
+    let has_options = lines.follows || lines.text.is_some() || lines.expect.is_some();
+    has_options.then_some(lines)
 }
 
 fn settings<'a>(given: &ArgMatches<'a>) -> Settings<'a> {

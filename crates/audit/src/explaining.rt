@@ -82,6 +82,7 @@ fn warn<F: Files, M: Write>(rt: &F, file: Option<&str>, messages: &mut M) -> io:
 fn key_places(asked: Asked<'_>) -> KeyPlaces<'_> {
     let (store, key_file) = match asked {
         Asked::Plain(request) => places_of(request),
+        Asked::Lines(lines) => (Some(lines.file), None),
         Asked::Remote(_) => (None, None),
         Asked::Serving(Serving::Serve { file, .. } | Serving::Loop { file, .. }) => {
             (Some(file), None)

@@ -18,6 +18,10 @@ const VERSION: &str = "2";
 const LIMITS: &str =
     "An event has a payload of at most 32696 bytes, and the input has at most 16777216 bytes.";
 
+// The same, for `append`.
+const APPEND_LIMITS: &str =
+    "An event has a payload of at most 32696 bytes, and the input has at most 16777216 bytes. With --follow the input has no limit.";
+
 // The help of that option.
 const EXPLAINS: &str =
     "Prints the cause of a fault and warnings in lines of their own, as on a terminal";
@@ -118,13 +122,35 @@ static FORMS: [Form; 13] = [
     Form {
         name: "append",
         about: "Appends events from standard input, and prints a line for each batch",
-        after: Some(LIMITS),
+        after: Some(APPEND_LIMITS),
         words: &[Word {
             name: "FILE",
             help: "The file of the store",
             is_required: true,
         }],
-        options: &[],
+        options: &[
+            Choice {
+                name: "text",
+                value: Some("KIND"),
+                help: "Each line is the payload of an event of KIND, 0 to 4294967294",
+                needs: None,
+                excludes: None,
+            },
+            Choice {
+                name: "follow",
+                value: None,
+                help: "Appends lines as they come, and prints the line of each batch at once",
+                needs: None,
+                excludes: None,
+            },
+            Choice {
+                name: "expect",
+                value: Some("COUNT"),
+                help: "Appends nothing if the store has another count",
+                needs: None,
+                excludes: None,
+            },
+        ],
     },
     Form {
         name: "close",

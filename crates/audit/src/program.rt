@@ -36,6 +36,9 @@ where
     let explains = is_terminal || line.explain;
     let status = match line.asked {
         Asked::Plain(request) => audit_cli_store::run(rt, alloc, request, input, output, messages),
+        Asked::Lines(request) => {
+            audit_cli_follow::run(rt, alloc, request, input, output, messages)
+        }
         Asked::Remote(request) => audit_cli_remote::run(
             rt, alloc, request, input, output, messages,
         ),

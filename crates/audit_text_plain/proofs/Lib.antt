@@ -1,0 +1,2 @@
+pub mod ReadingBack
+pub mod TextEvents

@@ -1,0 +1,21 @@
+//! Laws of text. Each function does nothing: its contract is the law.
+ghost use Rattle.std.specs.Prelude.{◌≡◌, ◌≤◌, ◌≢◌, ℕ, List, map, length};
+ghost use Rattle.std.specs.List.{AllByRecursion, flat_map};
+ghost use Rattle.audit_base.specs.Bytes.{AreBytes};
+ghost use Rattle.audit_base.specs.declared.limits.TheConstants.{MAX_PAYLOAD, RESERVED_KIND};
+ghost use Rattle.audit_text_plain.specs.declared.line_form.LineForm.TheVariants.{Text};
+ghost use Rattle.audit_text_plain.specs.LineEvents.{AreEventsOf, text_event};
+ghost use Rattle.audit_text_plain.specs.PrintedText.{text_line, read_back};
+
+/// Payloads that were printed as lines are read back from them, whatever bytes they have.
+pub fn printed_payloads_are_read_back()
+    ensures { (payloads : List (List ℕ)) → AllByRecursion AreBytes payloads
+        → read_back (flat_map text_line payloads) ≡ payloads }
+{}
+
+/// The events of a text are its lines: one event a line, with the bytes of the line as its payload.
+pub fn events_of_a_text_are_its_lines()
+    ensures { (kind : ℕ) (lines : List (List ℕ)) → kind ≢ RESERVED_KIND
+        → AllByRecursion (λ (line : List ℕ). length line ≤ MAX_PAYLOAD) lines
+        → AreEventsOf (Text kind) lines (map (text_event kind) lines) }
+{}
