@@ -11,8 +11,9 @@ use std::alloc::{AllocError, Global};
 /// The option of every command.
 pub const EXPLAIN: &str = "explain";
 
-/// What `--version` prints after the name: the newest version of the format.
-const VERSION: &str = "2";
+/// What `--version` prints after the name: the program's version, the formats that it reads, and the logic in which it
+/// is proved, which is the last word of `rt version`.
+const VERSION: &str = "2.1.0, formats 1 and 2, logic dac8208d650f15bf";
 
 // The input limits, in the help of the commands that read events.
 const LIMITS: &str =
