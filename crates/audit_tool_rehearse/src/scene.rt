@@ -207,11 +207,7 @@ fn show<R: AllocGlobal + Print>(
 ) -> anyhow::Result<()> {
     let output = core.take_output(session);
     let text = text_of(rt.alloc(), &output)?;
-    let end = if core.ended(session) {
-        " ended"
-    } else {
-        ""
-    };
+    let end = if core.ended(session) { " ended" } else { "" };
     println!(rt; "{session} {text}{end}")?;
     Ok(())
 }
