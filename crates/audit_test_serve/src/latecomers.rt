@@ -9,16 +9,16 @@ use audit_serve_ready::{
 };
 use std::test::Fail;
 
-/// How many bytes each read of a client's stream returns: none where nothing is there, zero at its end.
-type Reads<'a> = &'a [Option<usize>];
+/// How many bytes each of the first reads of a client's stream returns: none where nothing is there, zero at its end.
+type Reads = [Option<usize>; 3];
 
 #[derive(Drop)]
-struct Client<'a> {
-    reads: Reads<'a>,
+struct Client {
+    reads: Reads,
     done: usize,
 }
 
-impl ReadyStream for Client<'_> {
+impl ReadyStream for Client {
     ghost calls = { unknown_calls };
 
     fn read_ready(&mut self, buffer: &mut [u8]) -> Option<Result<usize, StreamError>> {
@@ -37,26 +37,26 @@ impl ReadyStream for Client<'_> {
 
 /// Clients that come after the first pass, and how many passes are left.
 #[derive(Drop)]
-struct Crowd<'a> {
-    clients: &'a [Reads<'a>],
+struct Crowd {
+    clients: [Reads; 3],
     came: usize,
     passes: usize,
 }
 
-impl<'a> Door for Crowd<'a> {
-    type Stream = Client<'a>;
+impl Door for Crowd {
+    type Stream = Client;
 
-    fn next_client(&mut self, _place: usize) -> Option<Client<'a>> {
+    fn next_client(&mut self, _place: usize) -> Option<Client> {
         let reads = self.clients.get(self.came).copied()?;
         self.came = self.came.saturating_add(1);
         Some(Client { reads, done: 0 })
     }
 
-    fn dismisses(&mut self, _place: usize, _client: &Client<'a>) -> bool {
+    fn dismisses(&mut self, _place: usize, _client: &Client) -> bool {
         false
     }
 
-    fn gone(&mut self, _place: usize, _client: Client<'a>, _departure: Departure) {}
+    fn gone(&mut self, _place: usize, _client: Client, _departure: Departure) {}
 
     fn asks_again(&mut self, _found: bool) -> bool {
         true
@@ -72,11 +72,11 @@ impl<'a> Door for Crowd<'a> {
     }
 }
 
-const EARLY: [Option<usize>; 3] = [Some(1), Some(2), Some(0)];
+const EARLY: Reads = [Some(1), Some(2), Some(0)];
 
-const LATE: [Option<usize>; 3] = [None, Some(3), Some(0)];
+const LATE: Reads = [None, Some(3), Some(0)];
 
-const SILENT: [Option<usize>; 0] = [];
+const SILENT: Reads = [None, None, None];
 
 // The first pass ends the sessions of places without clients. In the next one the late client is asked again, since the
 // early one has sent something, and one flush has both. Nobody is read twice in a pass.
@@ -86,7 +86,7 @@ fn one_flush_has_what_comes_meanwhile(rt: HostRuntime) -> Result<(), Fail> {
     let mut core = Recorder::new(alloc, usize::MAX)?;
     let mut slots = vacant_slots(alloc, 3, DEFAULT_BACKLOG)?;
     let mut door = Crowd {
-        clients: &[&LATE, &EARLY, &SILENT],
+        clients: [LATE, EARLY, SILENT],
         came: 0,
         passes: 4,
     };
