@@ -1,4 +1,4 @@
-use crate::forms::{EXPLAIN, command_line};
+use crate::forms::{EXPLAIN, NO_PROGRESS, command_line};
 use crate::remote_command::remote_request;
 use audit_cli_daemon::{Request as Daemon, Settings};
 use audit_cli_follow::Request as Lines;
@@ -16,6 +16,8 @@ pub struct CommandLine<'a> {
     pub asked: Asked<'a>,
     /// Whether causes and warnings are printed even without a terminal.
     pub explain: bool,
+    /// Whether a terminal shows how far the command is.
+    pub shows_progress: bool,
 }
 
 /// The requested command.
@@ -41,10 +43,12 @@ pub fn request_of<'a, S: AsStr>(alloc: Global, words: &'a [S]) -> Result<Command
         Some((name, given)) => Ok(CommandLine {
             asked: asked_by(name, given),
             explain: given.get_flag(EXPLAIN),
+            shows_progress: !given.get_flag(NO_PROGRESS),
         }),
         None => Ok(CommandLine {
             asked: Asked::Plain(Request::Replay),
             explain: false,
+            shows_progress: false,
         }),
     }
 }

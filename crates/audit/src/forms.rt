@@ -8,8 +8,11 @@ use audit_text::INPUT_LIMIT;
 use clap::{Arg, ArgAction, Command};
 use std::alloc::{AllocError, Global};
 
-/// The option of every command.
+/// An option of every command.
 pub const EXPLAIN: &str = "explain";
+
+/// Another option of every command.
+pub const NO_PROGRESS: &str = "no-progress";
 
 /// What `--version` prints after the name: the program's version, the formats that it reads, and the logic in which it
 /// is proved, which is the last word of `rt version`.
@@ -26,6 +29,9 @@ const APPEND_LIMITS: &str =
 // The help of that option.
 const EXPLAINS: &str =
     "Prints the cause of a fault and warnings in lines of their own, as on a terminal";
+
+// The help of the other one.
+const NO_PROGRESSES: &str = "Shows no progress on a terminal";
 
 // The numbers in this file's texts are those of the code.
 const _: () = prove!(FORMAT_VERSION == 2);
@@ -449,7 +455,9 @@ fn subcommand<'a>(alloc: Global, form: &'static Form) -> Result<Command<'a>, All
         None => command,
     };
     let command = with_words(alloc, command, form.words)?;
-    with_options(alloc, command, form.options)?.arg(flag(alloc, EXPLAIN, EXPLAINS))
+    with_options(alloc, command, form.options)?
+        .arg(flag(alloc, EXPLAIN, EXPLAINS))?
+        .arg(flag(alloc, NO_PROGRESS, NO_PROGRESSES))
 }
 
 fn with_words<'a>(

@@ -3,7 +3,7 @@ use crate::notes::Notes;
 use audit_cli_remote::Dial;
 use mio::net::UnixStream as Dialed;
 use std::alloc::Allocator;
-use std::fs::{Files, Metadata, OpenOptions, Permissions};
+use std::fs::{Files, Metadata, OpenFile, OpenOptions, Permissions};
 use std::io::{self, ErrorKind};
 use std::net::{Net, SocketAddr};
 use std::os::fd::{BorrowedFd, OwnedFd};
@@ -39,7 +39,13 @@ impl<'n, 'w, R: Files> Files for Host<'n, 'w, R> {
     fn open_file(&self, how: &OpenOptions, path: &str) -> io::Result<NotedFile<'n, 'w, R::File>> {
         let file = self.noted(path, self.rt.open_file(how, path))?;
         self.notes.forget();
-        Ok(NotedFile::new(file, self.notes.subject_of(path), self.notes))
+        let subject = self.notes.subject_of(path);
+        let total = if self.notes.is_length_shown(subject) {
+            length_of(&file)
+        } else {
+            None
+        };
+        Ok(NotedFile::new(file, subject, self.notes).with_total(total))
     }
 
     fn open_dir(&self, path: &str) -> io::Result<R::Dir> {
@@ -140,6 +146,14 @@ impl<R: Clock> Clock for Host<'_, '_, R> {
 
     fn sleep(&self, duration: Duration) {
         self.rt.sleep(duration)
+    }
+}
+
+// The length of a file that has one.
+fn length_of<F: OpenFile>(file: &F) -> Option<u64> {
+    match file.metadata() {
+        Ok(found) if found.is_file() && found.len() > 0 => Some(found.len()),
+        _ => None,
     }
 }
 

@@ -8,6 +8,7 @@ mod host;
 mod noted_file;
 mod notes;
 mod program;
+mod progress;
 mod remote_command;
 mod remote_forms;
 mod streams;
@@ -19,6 +20,7 @@ use host::Host;
 use noted_file::NotedFile;
 use notes::{Notes, Subject};
 use program::run;
+use progress::{Messages, Progress};
 use std::env::Args;
 use std::io::{self, BufWriter, ErrorKind, IsTerminal};
 use std::process::ExitCode;
@@ -48,10 +50,18 @@ fn start(rt: &HostRuntime) -> Status {
 
 fn run_words(rt: &HostRuntime, words: Args) -> io::Result<Status> {
     let words: Vec<String> = words.collect(rt.alloc())?;
-    run_noted(rt, &words, &Notes::new(&words))
+    let progress = Progress::new(rt);
+    let status = run_noted(rt, &words, &Notes::new(&words, &progress), &progress);
+    progress.erase();
+    status
 }
 
-fn run_noted(rt: &HostRuntime, words: &[String], notes: &Notes<'_>) -> io::Result<Status> {
+fn run_noted(
+    rt: &HostRuntime,
+    words: &[String],
+    notes: &Notes<'_>,
+    progress: &Progress<'_>,
+) -> io::Result<Status> {
     let alloc = rt.alloc();
     let mut input = NotedFile::new(rt.reader(), Subject::Input, notes);
     let output = NotedFile::new(io::writer(rt), Subject::Output, notes);
@@ -64,7 +74,7 @@ fn run_noted(rt: &HostRuntime, words: &[String], notes: &Notes<'_>) -> io::Resul
         rt.stderr().is_terminal(),
         &mut input,
         &mut output,
-        &mut rt.stderr(),
+        &mut Messages::new(progress),
     ))
 }
 

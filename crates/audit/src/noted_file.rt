@@ -1,14 +1,23 @@
 use crate::notes::{Notes, Subject};
+use crate::progress::Motion;
 use audit_disk::{PositionedFile, SECTOR_SIZE, SystemFile};
+use std::cell::Cell;
 use std::fs::{Metadata, OpenFile, Permissions, TryLockError};
 use std::io::{self, Read, Seek, SeekFrom, Write};
 
-/// An open file or standard stream whose failures are noted.
+// The header sectors of a store, which are written again with each batch, and say nothing of how far it is.
+const HEADERS: u64 = 2 * SECTOR_SIZE as u64;
+
+/// An open file or standard stream whose failures are noted, and how far it is read or written.
 #[derive(Drop)]
 pub struct NotedFile<'n, 'w, F> {
     inner: F,
     subject: Subject,
     notes: &'n Notes<'w>,
+    // How many bytes were read and written in a row.
+    place: u64,
+    // Where it ends, if that is known.
+    total: Cell<Option<u64>>,
 }
 
 impl<'n, 'w, F> NotedFile<'n, 'w, F> {
@@ -18,6 +27,35 @@ impl<'n, 'w, F> NotedFile<'n, 'w, F> {
             inner,
             subject,
             notes,
+            place: 0,
+            total: Cell::new(None),
+        }
+    }
+
+    /// The same file, of which it is known where it ends.
+    pub fn with_total(self, total: Option<u64>) -> NotedFile<'n, 'w, F> {
+        self.total.set(total);
+        self
+    }
+
+    fn moved(&self, motion: Motion, place: u64) {
+        self.notes
+            .moved(motion, self.subject, place, self.total.get());
+    }
+
+    // Notes that so many bytes more were read or written.
+    fn went_on(&mut self, motion: Motion, moved: &io::Result<usize>) {
+        if let Ok(count) = moved {
+            self.place = self.place.saturating_add(*count as u64);
+            self.moved(motion, self.place);
+        }
+    }
+
+    // Notes that a row of sectors was read or written, but for the headers.
+    fn was_at(&self, motion: Motion, sectors: usize, offset: u64) {
+        if offset >= HEADERS {
+            let bytes = (sectors as u64).saturating_mul(SECTOR_SIZE as u64);
+            self.moved(motion, offset.saturating_add(bytes));
         }
     }
 }
@@ -26,14 +64,19 @@ impl<F: Read> Read for NotedFile<'_, '_, F> {
     fn read(&mut self, into: &mut [u8]) -> io::Result<usize> {
         let read = self.inner.read(into);
         self.notes.watch(self.subject, &read);
+        self.went_on(Motion::Reading, &read);
         read
     }
 }
 
 impl<F: Write> Write for NotedFile<'_, '_, F> {
     fn write(&mut self, bytes: &[u8]) -> io::Result<usize> {
+        if self.subject == Subject::Output {
+            self.notes.erase_progress();
+        }
         let written = self.inner.write(bytes);
         self.notes.watch(self.subject, &written);
+        self.went_on(Motion::Writing, &written);
         written
     }
 
@@ -62,6 +105,7 @@ impl<F: OpenFile> OpenFile for NotedFile<'_, '_, F> {
     fn set_len(&self, size: u64) -> io::Result<()> {
         let cut = self.inner.set_len(size);
         self.notes.watch(self.subject, &cut);
+        self.total.set(Some(size));
         cut
     }
 
@@ -90,12 +134,14 @@ impl<F: PositionedFile> PositionedFile for NotedFile<'_, '_, F> {
     fn read_exact_at(&mut self, into: &mut [[u8; SECTOR_SIZE]], offset: u64) -> io::Result<()> {
         let read = self.inner.read_exact_at(into, offset);
         self.notes.watch(self.subject, &read);
+        self.was_at(Motion::Reading, into.len(), offset);
         read
     }
 
     fn write_all_at(&mut self, row: &[[u8; SECTOR_SIZE]], offset: u64) -> io::Result<()> {
         let written = self.inner.write_all_at(row, offset);
         self.notes.watch(self.subject, &written);
+        self.was_at(Motion::Writing, row.len(), offset);
         written
     }
 

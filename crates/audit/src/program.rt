@@ -1,8 +1,8 @@
 use crate::command::{Asked, request_of};
 use crate::explaining::explain;
-use crate::notes::Notes;
-use audit_cli_remote::Dial;
-use audit_cli_store::{CommandError, Status, report};
+use crate::notes::{Notes, Subject};
+use audit_cli_remote::{Dial, Request as Remote};
+use audit_cli_store::{CommandError, Request, Status, report};
 use audit_disk::SystemFile;
 use audit_store::StoreError;
 use clap::Error;
@@ -34,6 +34,9 @@ where
         Err(error) => return print_usage(&error, output, messages),
     };
     let explains = is_terminal || line.explain;
+    if line.shows_progress {
+        show_progress(line.asked, notes);
+    }
     let status = match line.asked {
         Asked::Plain(request) => audit_cli_store::run(rt, alloc, request, input, output, messages),
         Asked::Lines(request) => {
@@ -53,6 +56,34 @@ where
         let _ = explain(rt, line.asked, status, notes, messages);
     }
     status
+}
+
+// Shows how far a command is that may take long, by the file that it reads or writes most.
+fn show_progress(asked: Asked<'_>, notes: &Notes<'_>) {
+    match asked {
+        Asked::Plain(Request::Verify { export, .. }) => {
+            notes.show_progress(notes.subject_of(export), true)
+        }
+        Asked::Plain(
+            Request::Format { file, .. }
+            | Request::Append { file }
+            | Request::Close { file }
+            | Request::Show { file, .. }
+            | Request::Prove { file, .. }
+            | Request::Export { file, .. },
+        ) => notes.show_progress(notes.subject_of(file), false),
+        Asked::Lines(lines) if !lines.follows => {
+            notes.show_progress(notes.subject_of(lines.file), false)
+        }
+        Asked::Remote(Remote::Send { .. }) => notes.show_progress(Subject::Input, false),
+        Asked::Remote(
+            Remote::Ask {
+                question: ("export", Some(out), _, _),
+                ..
+            },
+        ) => notes.show_progress(notes.subject_of(out), false),
+        _ => {}
+    }
 }
 
 // Prints clap's help or usage, or reports that memory ran out.
