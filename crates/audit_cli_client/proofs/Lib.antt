@@ -7,3 +7,4 @@ pub mod PrintedAnswers
 pub mod SentLines
 pub mod Failures
 pub mod PutFiles
+pub mod FailedExports
