@@ -180,14 +180,14 @@ FailsIncrement written_old written_new read_old read_new older newer error =
 -- ---- all entries
 
 -- The entry of this index was to be read, and something else came.
-abbrev pub IsNoEntry : Option (List ℕ) → Option (List ℕ) → ℕ → ClientError → Type 0
-IsNoEntry read_old read_new index error = (said : Option Reply) × Hears read_old read_new said
+abbrev pub IsNotTheEntry : Option (List ℕ) → Option (List ℕ) → ℕ → ClientError → Type 0
+IsNotTheEntry read_old read_new index error = (said : Option Reply) × Hears read_old read_new said
     × (error ≡ error_for (entry_tag index) said) × IfSome said (λ given. IsEntryReply index given → ⊥)
 
 -- The connection was lost, or the entry couldn't be written, or something else came.
 abbrev pub FailsReceiving : Option (List ℕ) → Option (List ℕ) → ℕ → ClientError → Type 0
 FailsReceiving read_old read_new index error =
-    IsLost error ⊎ ((error ≡ client.Output) ⊎ IsNoEntry read_old read_new index error)
+    IsLost error ⊎ ((error ≡ client.Output) ⊎ IsNotTheEntry read_old read_new index error)
 
 -- After this conversation entries were asked for, up to a number of them; some came, and then something else.
 pub record LacksEntry (written_old written_new read_old read_new : Option (List ℕ)) (asked : List Request)
