@@ -8,3 +8,4 @@ pub mod SentLines
 pub mod Failures
 pub mod PutFiles
 pub mod FailedExports
+pub mod LongLines
