@@ -16,7 +16,7 @@ _audit() {
         serve) options="$options --sessions --socket-mode" ;;
         loop) options="$options --socket-mode" ;;
         daemon) options="$options --reader --allow-close --idle --backlog --socket-mode" ;;
-        send) options="$options --window --timeout" ;;
+        send) options="$options --text --window --timeout" ;;
         ask) options="$options --timeout" ;;
         watch) options="$options --every --timeout" ;;
         esac

@@ -20,6 +20,7 @@ pub fn remote_request<'a>(name: &str, given: &ArgMatches<'a>) -> Option<Remote<'
         }),
         "send" => Some(Remote::Send {
             socket,
+            text: given.get_str("text"),
             window: given.get_str("window"),
             timeout,
         }),

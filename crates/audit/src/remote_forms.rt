@@ -14,6 +14,13 @@ pub static REMOTE_FORMS: [Form; 3] = [
         }],
         options: &[
             Choice {
+                name: "text",
+                value: Some("KIND"),
+                help: "Each line is the payload of an event of KIND, 0 to 4294967294",
+                needs: None,
+                excludes: None,
+            },
+            Choice {
                 name: "window",
                 value: Some("N"),
                 help: "How many events are sent ahead of their answers, 1 to 1024 [default: 64]",

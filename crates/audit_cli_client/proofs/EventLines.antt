@@ -8,6 +8,9 @@ use Rattle.audit_base.specs.declared.limits.TheConstants.{MAX_PAYLOAD, RESERVED_
 use Rattle.audit_text.specs.declared.fault.LineError.{LineError}
 use Rattle.audit_text.specs.declared.fault.LineError.TheVariants.{BadEventLine, ReservedKind, PayloadTooLong}
 use Rattle.audit_text.specs.EventLine.{is_space, kind_in_text, payload_of, event_of_texts, event_of_line}
+use Rattle.audit_text_plain.specs.declared.line_form.LineForm.{LineForm}
+use Rattle.audit_text_plain.specs.declared.line_form.LineForm.TheVariants.{Spelled, Text}
+use Rattle.audit_text_plain.specs.LineEvents.{event_in_line}
 
 abbrev pub IsUnreserved : Result EventData LineError → Type 0
 IsUnreserved (Ok event) = event.kind ≢ RESERVED_KIND
@@ -31,7 +34,11 @@ if_begun : (begun : Bool) (kind : Option ℕ) (payload : Option (List ℕ)) → 
 if_begun true kind payload = unreserved_texts kind payload
 if_begun false kind payload = tt
 
-pub unreserved_line : (line : List ℕ) → IsUnreserved (event_of_line line)
+unreserved_line : (line : List ℕ) → IsUnreserved (event_of_line line)
 unfolding event_of_line
 unreserved_line line =
     if_begun (starts_with nat_eq line (codes "event ")) (kind_in_text (before_first is_space (drop 6 line))) (payload_of (after_first is_space (drop 6 line)))
+
+pub unreserved_in_line : (form : LineForm) (line : List ℕ) → IsUnreserved (event_in_line form line)
+unreserved_in_line Spelled line = unreserved_line line
+unreserved_in_line (Text kind) line = if_other (kind == RESERVED_KIND) kind line (eqb-false kind RESERVED_KIND)

@@ -5,10 +5,13 @@ use Rattle.std.specs.List.{flat_map}
 use Rattle.std.specs.Io.KnownBytes.{Appends, Consumes}
 use Rattle.std.proofs.lemmas.Grind.{flat_map-append}
 use Rattle.std.proofs.lemmas.List.{map-append}
+use Rattle.sha2.specs.Sha256.{sha256}
 use Rattle.audit_proof.specs.declared.commitment.Commitment.{Commitment}
+use Rattle.audit_proof.specs.Acceptance.{AcceptsMembership, AcceptsIncrement}
 use Rattle.audit_wire.specs.declared.request.Request.{Request}
 use Rattle.audit_wire.specs.declared.request.Request.TheVariants as request
 use Rattle.audit_wire.specs.declared.reply.Reply.{Reply}
+use Rattle.audit_wire.specs.declared.reply.Reply.TheVariants as reply
 use Rattle.audit_wire.specs.Frame.{frame}
 use Rattle.audit_wire.specs.Reply.{reply_in}
 use Rattle.audit_wire.specs.Stream.{request_frame}
@@ -16,7 +19,7 @@ use Rattle.audit_cli_client.specs.declared.asking.TheConstants.{NEWEST_TAG, ASKE
 use Rattle.audit_cli_client.specs.declared.fault.ClientError.{ClientError}
 use Rattle.audit_cli_client.specs.declared.fault.ClientError.TheVariants.{BadReply}
 use Rattle.audit_cli_client.specs.Conversation.{ReadsReply, Converses}
-use Rattle.audit_cli_client.specs.Failing.{IsLost, Hears, FailsToRead, Exchanges, IsNoAnswer, IsAnsweredOtherwise, IsMemberReply, IsIncrementReply, newest_reply, FailsJoining, FailsEntry, FailsWatch}
+use Rattle.audit_cli_client.specs.Failing.{IsLost, Hears, FailsToRead, Exchanges, IsNoAnswer, IsAnsweredOtherwise, IsMemberReply, IsIncrementReply, newest_reply, IsNotJoined, FailsJoining, FailsEntry, FailsMember, FailsIncrement, FailsWatch}
 use Rattle.audit_cli_client.proofs.Conversations.{appends_more, consumes_more, converses_more}
 
 -- one request, and what was said to it
@@ -94,26 +97,25 @@ pub fails_to_join : (written_old written_new read_old read_new : Option (List �
 fails_to_join written_old written_new read_old read_new older newer error (inl lost) = inl lost
 fails_to_join written_old written_new read_old read_new older newer error (inr other) = inr (inl other)
 
--- the same after the newest commitment was given
+-- the same after a conversation
+not_joined_after : (written_old written written_new read_old read read_new : Option (List ℕ)) (asked : List Request) (given : List Reply) (older newer : Commitment) (error : ClientError)
+    → Converses written_old written read_old read asked given
+    → IsNotJoined written written_new read read_new [] [] older newer error
+    → IsNotJoined written_old written_new read_old read_new asked given older newer error
+not_joined_after written_old written written_new read_old read read_new asked given older newer error h (inl other) =
+    inl (subst (λ (before : List Reply). IsAnsweredOtherwise written_old written_new read_old read_new (asked ++ request.Incremental JOIN_TAG older.count newer.count ∷ []) before JOIN_TAG (IsIncrementReply JOIN_TAG) error) (append-nil given)
+    (otherwise_after written_old written written_new read_old read read_new asked _ given [] _ _ _ h other))
+not_joined_after written_old written written_new read_old read read_new asked given older newer error h (inr refused) =
+    inr (refused.0, refused.1, converses_more written_old written written_new read_old read read_new asked _ given _ h refused.2, refused.3)
+
+-- the same of a witness, after the newest commitment was given
 pub fails_to_join_after : (written_old written written_new read_old read read_new : Option (List ℕ)) (kept newest : Commitment) (error : ClientError)
     → Converses written_old written read_old read (request.Commitment NEWEST_TAG ∷ []) (newest_reply newest ∷ [])
     → FailsJoining written written_new read read_new kept newest error
     → FailsWatch written_old written_new read_old read_new (Some kept) error
 fails_to_join_after written_old written written_new read_old read read_new kept newest error h (inl lost) = inl (inl lost)
-fails_to_join_after written_old written written_new read_old read read_new kept newest error h (inr (inl other)) =
-    inr (newest, kept, refl, inr (inr (inl (otherwise_after written_old written written_new read_old read read_new _ _ _ _ _ _ _ h other))))
-fails_to_join_after written_old written written_new read_old read read_new kept newest error h (inr (inr refused)) =
-    inr (
-      newest,
-      kept,
-      refl,
-      inr (inr (inr (
-        refused.0,
-        refused.1,
-        converses_more written_old written written_new read_old read read_new _ _ _ _ h refused.2,
-        refused.3,
-      ))),
-    )
+fails_to_join_after written_old written written_new read_old read read_new kept newest error h (inr not_joined) =
+    inr (newest, kept, refl, inr (inr (not_joined_after written_old written written_new read_old read read_new _ _ kept newest error h not_joined)))
 
 -- a membership proof was asked for after the newest commitment was given, and something else came
 pub fails_to_prove_after : (written_old written written_new read_old read read_new : Option (List ℕ)) (newest : Commitment) (index : ℕ) (error : ClientError)
@@ -123,3 +125,41 @@ pub fails_to_prove_after : (written_old written written_new read_old read read_n
 fails_to_prove_after written_old written written_new read_old read read_new newest index error h (inl lost) = inl (inl lost)
 fails_to_prove_after written_old written written_new read_old read read_new newest index error h (inr other) =
     inr (newest, inl (otherwise_after written_old written written_new read_old read read_new _ _ _ _ _ _ _ h other))
+
+-- the same of a proof under any count
+pub fails_member_after : (written_old written written_new read_old read read_new : Option (List ℕ)) (newest : Commitment) (index count : ℕ) (error : ClientError)
+    → Converses written_old written read_old read (request.Commitment NEWEST_TAG ∷ []) (newest_reply newest ∷ [])
+    → IsLost error ⊎ IsAnsweredOtherwise written written_new read read_new (request.Membership ASKED_TAG index count ∷ []) [] ASKED_TAG IsMemberReply error
+    → FailsMember written_old written_new read_old read_new index count error
+fails_member_after written_old written written_new read_old read read_new newest index count error h (inl lost) = inl (inl lost)
+fails_member_after written_old written written_new read_old read read_new newest index count error h (inr other) =
+    inr (newest, inl (otherwise_after written_old written written_new read_old read read_new _ _ _ _ _ _ _ h other))
+
+pub fails_increment_after : (written_old written written_new read_old read read_new : Option (List ℕ)) (newest : Commitment) (older newer : ℕ) (error : ClientError)
+    → Converses written_old written read_old read (request.Commitment NEWEST_TAG ∷ []) (newest_reply newest ∷ [])
+    → IsLost error ⊎ IsAnsweredOtherwise written written_new read read_new (request.Incremental ASKED_TAG older newer ∷ []) [] ASKED_TAG (IsIncrementReply ASKED_TAG) error
+    → FailsIncrement written_old written_new read_old read_new older newer error
+fails_increment_after written_old written written_new read_old read read_new newest older newer error h (inl lost) = inl (inl lost)
+fails_increment_after written_old written written_new read_old read read_new newest older newer error h (inr other) =
+    inr (newest, inl (otherwise_after written_old written written_new read_old read read_new _ _ _ _ _ _ _ h other))
+
+-- the newest commitment doesn't vouch for the one under which a proof is accepted
+pub member_unvouched : (written_old written written_new read_old read read_new : Option (List ℕ)) (newest : Commitment) (index count : ℕ) (hashes : List (List ℕ)) (entry root : List ℕ) (error : ClientError)
+    → Converses written_old written read_old read (request.Commitment NEWEST_TAG ∷ request.Membership ASKED_TAG index count ∷ []) (newest_reply newest ∷ reply.Membership ASKED_TAG hashes entry ∷ [])
+    → AcceptsMembership sha256 (record { count = count; root = root }) index entry hashes
+    → ((record { count = count; root = root } ≡ newest) → ⊥)
+    → FailsJoining written written_new read read_new (record { count = count; root = root }) newest error
+    → FailsMember written_old written_new read_old read_new index count error
+member_unvouched written_old written written_new read_old read read_new newest index count hashes entry root error h accepted other (inl lost) = inl (inl lost)
+member_unvouched written_old written written_new read_old read read_new newest index count hashes entry root error h accepted other (inr not_joined) =
+    inr (newest, inr (hashes, entry, inr (root, accepted, other, not_joined_after written_old written written_new read_old read read_new _ _ _ newest error h not_joined)))
+
+pub increment_unvouched : (written_old written written_new read_old read read_new : Option (List ℕ)) (newest : Commitment) (older newer : ℕ) (hashes : List (List ℕ)) (older_root root : List ℕ) (error : ClientError)
+    → Converses written_old written read_old read (request.Commitment NEWEST_TAG ∷ request.Incremental ASKED_TAG older newer ∷ []) (newest_reply newest ∷ reply.Incremental ASKED_TAG hashes ∷ [])
+    → AcceptsIncrement sha256 (record { count = older; root = older_root }) (record { count = newer; root = root }) hashes
+    → ((record { count = newer; root = root } ≡ newest) → ⊥)
+    → FailsJoining written written_new read read_new (record { count = newer; root = root }) newest error
+    → FailsIncrement written_old written_new read_old read_new older newer error
+increment_unvouched written_old written written_new read_old read read_new newest older newer hashes older_root root error h accepted other (inl lost) = inl (inl lost)
+increment_unvouched written_old written written_new read_old read read_new newest older newer hashes older_root root error h accepted other (inr not_joined) =
+    inr (newest, inr (hashes, inr (root, (older_root, accepted), other, not_joined_after written_old written written_new read_old read read_new _ _ _ newest error h not_joined)))

@@ -7,3 +7,5 @@ pub mod PrintedAnswers
 pub mod SentLines
 pub mod Failures
 pub mod PutFiles
+pub mod FailedExports
+pub mod LongLines

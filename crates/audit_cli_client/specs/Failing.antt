@@ -1,8 +1,10 @@
 -- When each error of a question comes, by what the server said.
-use Rattle.std.specs.Prelude.{◌≡◌, ◌⊎◌, ◌<◌, ℕ, Option, Some, None, List, [], ◌∷◌, ◌++◌, map, IfSome}
+use Rattle.std.specs.Prelude.{◌≡◌, ◌⊎◌, ◌<◌, ◌≤◌, ℕ, Option, Some, None, List, [], ◌∷◌, ◌++◌, map, length, IfSome}
 use Rattle.std.specs.List.{flat_map}
 use Rattle.std.specs.Io.KnownBytes.{Appends, Consumes}
 use Rattle.sha2.specs.Sha256.{sha256}
+use Rattle.audit_base.specs.declared.limits.TheConstants.{MAX_COUNT}
+use Rattle.audit_tree.specs.Subtree.{leaf_hash_of, root_of}
 use Rattle.audit_proof.specs.declared.commitment.Commitment.{Commitment}
 use Rattle.audit_proof.specs.Acceptance.{AcceptsMembership, AcceptsIncrement}
 use Rattle.audit_wire.specs.declared.request.Request.{Request}
@@ -15,10 +17,13 @@ use Rattle.audit_wire.specs.Stream.{request_frame}
 use Rattle.audit_cli_client.specs.declared.asking.TheConstants.{NEWEST_TAG, ASKED_TAG, JOIN_TAG}
 use Rattle.audit_cli_client.specs.declared.fault.ClientError.{ClientError}
 use Rattle.audit_cli_client.specs.declared.fault.ClientError.TheVariants as client
+use Rattle.audit_cli_client.specs.declared.putting.AskError.{AskError}
+use Rattle.audit_cli_client.specs.declared.putting.AskError.TheVariants as asking
 use Rattle.audit_cli_client.specs.declared.keeping.WatchError.{WatchError}
 use Rattle.audit_cli_client.specs.declared.keeping.WatchError.TheVariants as watching
 use Rattle.audit_cli_client.specs.Asking.{not_due}
 use Rattle.audit_cli_client.specs.Conversation.{Converses}
+use Rattle.audit_cli_client.specs.Exporting.{entry_tag, entry_requests, entry_replies}
 
 -- the connection ended or was silent, or memory ran out, which may be at any time
 abbrev pub IsLost : ClientError → Type 0
@@ -85,6 +90,9 @@ IsMemberReply given = (hashes : List (List ℕ)) × (entry : List ℕ) × (given
 abbrev pub IsIncrementReply : ℕ → Reply → Type 0
 IsIncrementReply tag given = (hashes : List (List ℕ)) × (given ≡ reply.Incremental tag hashes) × IsReply given
 
+abbrev pub IsEntryReply : ℕ → Reply → Type 0
+IsEntryReply index given = (entry : List ℕ) × (given ≡ reply.Entry (entry_tag index) entry) × IsReply given
+
 -- ---- questions
 
 -- the newest commitment was asked for, and something else came
@@ -96,16 +104,21 @@ abbrev pub FailsClosing : Option (List ℕ) → Option (List ℕ) → Option (Li
 FailsClosing written_old written_new read_old read_new error = IsLost error ⊎ IsAnsweredOtherwise
     written_old written_new read_old read_new (request.Close ASKED_TAG ∷ []) [] ASKED_TAG IsClosingReply error
 
--- The increment between two commitments was asked for, and something else came; or it came, and isn't accepted.
+-- After this conversation the increment between two commitments was asked for, and something else came; or it came, and
+-- isn't accepted.
+abbrev pub IsNotJoined : Option (List ℕ) → Option (List ℕ) → Option (List ℕ) → Option (List ℕ) → List Request
+    → List Reply → Commitment → Commitment → ClientError → Type 0
+IsNotJoined written_old written_new read_old read_new asked given older newer error =
+    IsAnsweredOtherwise written_old written_new read_old read_new
+    (asked ++ request.Incremental JOIN_TAG older.count newer.count ∷ []) given JOIN_TAG (IsIncrementReply JOIN_TAG) error
+    ⊎ ((error ≡ client.NotAccepted) × (hashes : List (List ℕ)) × Converses written_old written_new read_old read_new
+    (asked ++ request.Incremental JOIN_TAG older.count newer.count ∷ [])
+    (given ++ reply.Incremental JOIN_TAG hashes ∷ []) × (AcceptsIncrement sha256 older newer hashes → ⊥))
+
 abbrev pub FailsJoining : Option (List ℕ) → Option (List ℕ) → Option (List ℕ) → Option (List ℕ) → Commitment → Commitment
     → ClientError → Type 0
-FailsJoining written_old written_new read_old read_new older newer error = IsLost error ⊎ (
-    IsAnsweredOtherwise written_old written_new read_old read_new
-    (request.Incremental JOIN_TAG older.count newer.count ∷ []) [] JOIN_TAG (IsIncrementReply JOIN_TAG) error
-    ⊎ ((error ≡ client.NotAccepted) × (hashes : List (List ℕ))
-    × Converses written_old written_new read_old read_new
-    (request.Incremental JOIN_TAG older.count newer.count ∷ []) (reply.Incremental JOIN_TAG hashes ∷ [])
-    × (AcceptsIncrement sha256 older newer hashes → ⊥)))
+FailsJoining written_old written_new read_old read_new older newer error =
+    IsLost error ⊎ IsNotJoined written_old written_new read_old read_new [] [] older newer error
 
 -- the reply with the newest commitment
 abbrev pub newest_reply : Commitment → Reply
@@ -125,6 +138,96 @@ FailsEntry written_old written_new read_old read_new index error =
     (newest_reply newest ∷ reply.Membership ASKED_TAG hashes entry ∷ [])
     × (AcceptsMembership sha256 newest index entry hashes → ⊥))))
 
+-- In this conversation a proof came that no commitment of this count accepts; or after it, the newest commitment doesn't
+-- vouch for the one that accepts it.
+abbrev pub IsDoubted : Option (List ℕ) → Option (List ℕ) → Option (List ℕ) → Option (List ℕ) → List Request → List Reply
+    → Commitment → ℕ → (Commitment → Type 0) → ClientError → Type 0
+IsDoubted written_old written_new read_old read_new asked given newest count Accepts error =
+    ((error ≡ client.NotAccepted) × Converses written_old written_new read_old read_new asked given
+    × ((root : List ℕ) → Accepts (record { count = count; root = root }) → ⊥))
+    ⊎ ((root : List ℕ) × Accepts (record { count = count; root = root })
+    × ((record { count = count; root = root } ≡ newest) → ⊥)
+    × IsNotJoined written_old written_new read_old read_new asked given (record { count = count; root = root }) newest
+    error)
+
+-- A membership proof under a count was asked for, and something else came, before or after the newest commitment; or a
+-- proof came, and is doubted.
+abbrev pub FailsMember : Option (List ℕ) → Option (List ℕ) → Option (List ℕ) → Option (List ℕ) → ℕ → ℕ → ClientError
+    → Type 0
+FailsMember written_old written_new read_old read_new index count error =
+    FailsNewest written_old written_new read_old read_new error ⊎ ((newest : Commitment) × (
+    IsAnsweredOtherwise written_old written_new read_old read_new
+    (request.Commitment NEWEST_TAG ∷ request.Membership ASKED_TAG index count ∷ [])
+    (newest_reply newest ∷ []) ASKED_TAG IsMemberReply error
+    ⊎ ((hashes : List (List ℕ)) × (entry : List ℕ) × IsDoubted written_old written_new read_old read_new
+    (request.Commitment NEWEST_TAG ∷ request.Membership ASKED_TAG index count ∷ [])
+    (newest_reply newest ∷ reply.Membership ASKED_TAG hashes entry ∷ []) newest count
+    (λ under. AcceptsMembership sha256 under index entry hashes) error)))
+
+-- the same of an incremental proof between two counts, under the newer
+abbrev pub FailsIncrement : Option (List ℕ) → Option (List ℕ) → Option (List ℕ) → Option (List ℕ) → ℕ → ℕ → ClientError
+    → Type 0
+FailsIncrement written_old written_new read_old read_new older newer error =
+    FailsNewest written_old written_new read_old read_new error ⊎ ((newest : Commitment) × (
+    IsAnsweredOtherwise written_old written_new read_old read_new
+    (request.Commitment NEWEST_TAG ∷ request.Incremental ASKED_TAG older newer ∷ [])
+    (newest_reply newest ∷ []) ASKED_TAG (IsIncrementReply ASKED_TAG) error
+    ⊎ ((hashes : List (List ℕ)) × IsDoubted written_old written_new read_old read_new
+    (request.Commitment NEWEST_TAG ∷ request.Incremental ASKED_TAG older newer ∷ [])
+    (newest_reply newest ∷ reply.Incremental ASKED_TAG hashes ∷ []) newest newer
+    (λ under. (root : List ℕ) × AcceptsIncrement sha256 (record { count = older; root = root }) under hashes) error)))
+
+-- ---- all entries
+
+-- The entry of this index was to be read, and something else came.
+abbrev pub IsNotTheEntry : Option (List ℕ) → Option (List ℕ) → ℕ → ClientError → Type 0
+IsNotTheEntry read_old read_new index error = (said : Option Reply) × Hears read_old read_new said
+    × (error ≡ error_for (entry_tag index) said) × IfSome said (λ given. IsEntryReply index given → ⊥)
+
+-- The connection was lost, or the entry couldn't be written, or something else came.
+abbrev pub FailsReceiving : Option (List ℕ) → Option (List ℕ) → ℕ → ClientError → Type 0
+FailsReceiving read_old read_new index error =
+    IsLost error ⊎ ((error ≡ client.Output) ⊎ IsNotTheEntry read_old read_new index error)
+
+-- After this conversation entries were asked for, up to a number of them; some came, and then something else.
+pub record LacksEntry (written_old written_new read_old read_new : Option (List ℕ)) (asked : List Request)
+    (given : List Reply) (count : ℕ) (error : ClientError) : Type 0 where
+  pub entries : List (List ℕ)
+  pub ahead : ℕ
+  pub wanted : length entries < ahead
+  pub within : ahead ≤ count
+  pub otherwise : IsAnsweredOtherwise written_old written_new read_old read_new (asked ++ entry_requests ahead)
+      (given ++ entry_replies 0 entries) (entry_tag (length entries)) (IsEntryReply (length entries)) error
+
+-- The newest commitment is one of more entries than a log has; or an entry didn't come; or all came, and the newest
+-- isn't the commitment to them.
+abbrev pub IsNoExport : Option (List ℕ) → Option (List ℕ) → Option (List ℕ) → Option (List ℕ) → Commitment → ClientError
+    → Type 0
+IsNoExport written_old written_new read_old read_new newest error =
+    ((error ≡ client.BadReply) × (MAX_COUNT < newest.count) × Converses written_old written_new read_old read_new
+    (request.Commitment NEWEST_TAG ∷ []) (newest_reply newest ∷ []))
+    ⊎ (LacksEntry written_old written_new read_old read_new (request.Commitment NEWEST_TAG ∷ [])
+    (newest_reply newest ∷ []) newest.count error
+    ⊎ ((error ≡ client.NotAccepted) × (entries : List (List ℕ)) × (newest.count ≡ length entries)
+    × Converses written_old written_new read_old read_new
+    (request.Commitment NEWEST_TAG ∷ entry_requests (length entries)) (newest_reply newest ∷ entry_replies 0 entries)
+    × ((newest.root ≡ root_of sha256 (map leaf_hash_of entries)) → ⊥)))
+
+-- All entries were asked for, and the newest commitment wasn't given, or they couldn't be written, or aren't accepted.
+abbrev pub FailsExport : Option (List ℕ) → Option (List ℕ) → Option (List ℕ) → Option (List ℕ) → ClientError → Type 0
+FailsExport written_old written_new read_old read_new error =
+    FailsNewest written_old written_new read_old read_new error ⊎ ((error ≡ client.Output)
+    ⊎ ((newest : Commitment) × IsNoExport written_old written_new read_old read_new newest error))
+
+-- ---- answers that are put
+
+-- the answer failed in this way, or it couldn't be written; or the file couldn't be begun or put
+abbrev pub FailsPutting : {E : Type 0} → (ClientError → Type 0) → AskError E → Type 0
+FailsPutting Fails (asking.Client error) = Fails error ⊎ (error ≡ client.Output)
+FailsPutting Fails (asking.Out error) = Unit {0}
+
+-- ---- witnesses
+
 -- What a witness doesn't believe, after it asked for the newest commitment: a log of fewer entries than the commitment
 -- that it kept, or of as many and another root, or another answer than an increment that is accepted.
 abbrev pub Disbelieves : Option (List ℕ) → Option (List ℕ) → Option (List ℕ) → Option (List ℕ) → Commitment → Commitment
@@ -135,13 +238,8 @@ Disbelieves written_old written_new read_old read_new kept newest error =
     ⊎ (((error ≡ client.OtherRoot) × (newest.count ≡ kept.count) × (newest ≡ kept → ⊥)
     × Converses written_old written_new read_old read_new
     (request.Commitment NEWEST_TAG ∷ []) (newest_reply newest ∷ []))
-    ⊎ (IsAnsweredOtherwise written_old written_new read_old read_new
-    (request.Commitment NEWEST_TAG ∷ request.Incremental JOIN_TAG kept.count newest.count ∷ [])
-    (newest_reply newest ∷ []) JOIN_TAG (IsIncrementReply JOIN_TAG) error
-    ⊎ ((error ≡ client.NotAccepted) × (hashes : List (List ℕ)) × Converses written_old written_new read_old read_new
-    (request.Commitment NEWEST_TAG ∷ request.Incremental JOIN_TAG kept.count newest.count ∷ [])
-    (newest_reply newest ∷ reply.Incremental JOIN_TAG hashes ∷ [])
-    × (AcceptsIncrement sha256 kept newest hashes → ⊥))))
+    ⊎ IsNotJoined written_old written_new read_old read_new (request.Commitment NEWEST_TAG ∷ [])
+    (newest_reply newest ∷ []) kept newest error)
 
 abbrev pub FailsWatch : Option (List ℕ) → Option (List ℕ) → Option (List ℕ) → Option (List ℕ) → Option Commitment
     → ClientError → Type 0

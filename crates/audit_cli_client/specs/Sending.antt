@@ -1,17 +1,19 @@
 -- Events that are sent from the lines of an input, and the lines that are printed for their answers.
 use Rattle.std.specs.Prelude.{◌≡◌, ◌≢◌, ◌⊎◌, ℕ, suc, ◌+◌, ◌%◌, ◌^◌, ◌<◌, ◌≤◌, Bool, true, false, Option, Some, None}
-use Rattle.std.specs.Prelude.{Result, Ok, Err, IfSome, List, [], ◌∷◌, ◌++◌, length, map, codes, if◌then◌else◌}
+use Rattle.std.specs.Prelude.{Result, Ok, Err, IfSome, List, [], ◌∷◌, ◌++◌, length, codes, if◌then◌else◌}
 use Rattle.std.specs.List.{flat_map}
 use Rattle.std.specs.Fmt.{decimal}
 use Rattle.std.specs.Io.KnownBytes.{Appends, Keeps, IsAtEnd}
 use Rattle.hex.specs.Hex.{encode_lower}
 use Rattle.audit_chain.specs.EventData.{EventData}
 use Rattle.audit_text.specs.Lines.{lines_of}
-use Rattle.audit_text.specs.EventLine.{event_of_line}
 use Rattle.audit_text.specs.Writing.{WritesInPart}
 use Rattle.audit_text.specs.declared.fault.LineError.{LineError}
+use Rattle.audit_text.specs.declared.fault.LineError.TheVariants.{PayloadTooLong}
 use Rattle.audit_text.specs.declared.fault.LinesError.{LinesError}
 use Rattle.audit_text.specs.declared.fault.LinesError.TheVariants as lines
+use Rattle.audit_text_plain.specs.declared.line_form.LineForm.{LineForm}
+use Rattle.audit_text_plain.specs.LineEvents.{event_in_line, AreEventsOf}
 use Rattle.audit_wire.specs.declared.refusal.Refusal.{Refusal}
 use Rattle.audit_wire.specs.declared.refusal.Refusal.TheVariants as refusal
 use Rattle.audit_wire.specs.declared.request.Request.{Request}
@@ -119,56 +121,58 @@ ReadsFirst old answers = (mid : Option (List ℕ)) × ReadsReplies old mid answe
 -- ---- lines of the input
 
 -- the input began with lines of these events, and the lines after them remain
-abbrev pub TakesEvents : Option (List ℕ) → Option (List ℕ) → List EventData → Type 0
-TakesEvents None new events = Unit {0}
-TakesEvents (Some input) None events = ⊥
-TakesEvents (Some input) (Some rest) events = (taken : List (List ℕ)) × (lines_of input ≡ taken ++ lines_of rest)
-    × (map event_of_line taken ≡ map (λ event. Ok event) events)
+abbrev pub TakesEvents : LineForm → Option (List ℕ) → Option (List ℕ) → List EventData → Type 0
+TakesEvents form None new events = Unit {0}
+TakesEvents form (Some input) None events = ⊥
+TakesEvents form (Some input) (Some rest) events = (taken : List (List ℕ)) × (lines_of input ≡ taken ++ lines_of rest)
+    × AreEventsOf form taken events
 
 -- the input began with lines of these events
-abbrev pub TakesFirst : Option (List ℕ) → List EventData → Type 0
-TakesFirst old events = IfSome old (λ input. (taken later : List (List ℕ)) × (lines_of input ≡ taken ++ later)
-    × (map event_of_line taken ≡ map (λ event. Ok event) events))
+abbrev pub TakesFirst : LineForm → Option (List ℕ) → List EventData → Type 0
+TakesFirst form old events = IfSome old (λ input. (taken later : List (List ℕ)) × (lines_of input ≡ taken ++ later)
+    × AreEventsOf form taken events)
 
 -- the lines of the input are those of these events
-abbrev pub TakesAll : Option (List ℕ) → List EventData → Type 0
-TakesAll old events = IfSome old (λ input. map event_of_line (lines_of input) ≡ map (λ event. Ok event) events)
+abbrev pub TakesAll : LineForm → Option (List ℕ) → List EventData → Type 0
+TakesAll form old events = IfSome old (λ input. AreEventsOf form (lines_of input) events)
 
 -- why a line has no event: its own fault, or memory ran out
-abbrev pub IsEventFault : ℕ → List ℕ → LinesError → Type 0
-IsEventFault number line lines.InputTooLong = ⊥
-IsEventFault number line (lines.Line at cause) = (at ≡ number) × (event_of_line line ≡ Err cause)
-IsEventFault number line lines.Read = ⊥
-IsEventFault number line lines.Write = ⊥
-IsEventFault number line lines.Memory = Unit {0}
+abbrev pub IsEventFault : LineForm → ℕ → List ℕ → LinesError → Type 0
+IsEventFault form number line lines.InputTooLong = ⊥
+IsEventFault form number line (lines.Line at cause) = (at ≡ number) × (event_in_line form line ≡ Err cause)
+IsEventFault form number line lines.Read = ⊥
+IsEventFault form number line lines.Write = ⊥
+IsEventFault form number line lines.Memory = Unit {0}
 
--- The first line of an input has no event, for this cause; or it is longer than the line of any event, and that is
--- the cause.
-abbrev pub IsBadFirst : LineError → List ℕ → Type 0
-IsBadFirst cause input = (line : List ℕ) × (later : List (List ℕ)) × (lines_of input ≡ line ∷ later)
-    × ((event_of_line line ≡ Err cause) ⊎ (MAX_DIGITS < length line))
+-- The first line of an input has no event, for this cause; or it is longer than the line of any event, and its
+-- payload is too long.
+abbrev pub IsBadFirst : LineForm → LineError → List ℕ → Type 0
+IsBadFirst form cause input = (line : List ℕ) × (later : List (List ℕ)) × (lines_of input ≡ line ∷ later)
+    × ((event_in_line form line ≡ Err cause) ⊎ ((MAX_DIGITS < length line) × (cause ≡ PayloadTooLong)))
 
 -- why the next line, of this number, wasn't taken
-abbrev pub IsTakingFault : Option (List ℕ) → ℕ → LinesError → Type 0
-IsTakingFault old number lines.InputTooLong = Unit {0}
-IsTakingFault old number (lines.Line at cause) = (at ≡ number) × IfSome old (IsBadFirst cause)
-IsTakingFault old number lines.Read = Unit {0}
-IsTakingFault old number lines.Write = ⊥
-IsTakingFault old number lines.Memory = Unit {0}
+abbrev pub IsTakingFault : LineForm → Option (List ℕ) → ℕ → LinesError → Type 0
+IsTakingFault form old number lines.InputTooLong = Unit {0}
+IsTakingFault form old number (lines.Line at cause) = (at ≡ number) × IfSome old (IsBadFirst form cause)
+IsTakingFault form old number lines.Read = Unit {0}
+IsTakingFault form old number lines.Write = ⊥
+IsTakingFault form old number lines.Memory = Unit {0}
 
 -- the next line was taken and the request of its event added to the frames; or no line is left
-abbrev pub TakesNext : Option (List ℕ) → Option (List ℕ) → ℕ → List ℕ → List ℕ → Bool → Type 0
-TakesNext old new before frames_old frames_new true = (event : EventData) × TakesEvents old new (event ∷ [])
+abbrev pub TakesNext : LineForm → Option (List ℕ) → Option (List ℕ) → ℕ → List ℕ → List ℕ → Bool → Type 0
+TakesNext form old new before frames_old frames_new true = (event : EventData)
+    × TakesEvents form old new (event ∷ [])
     × (frames_new ≡ frames_old ++ request_frame (event_request (suc before) event))
-TakesNext old new before frames_old frames_new false = IsAtEnd old × (frames_new ≡ frames_old)
+TakesNext form old new before frames_old frames_new false = IsAtEnd old × (frames_new ≡ frames_old)
 
 -- the lines of a round were taken, and the frames are those of their events
-pub record TakesRound (old new : Option (List ℕ)) (before : ℕ) (frames : List ℕ) (taken : Taken) : Type 0 where
+pub record TakesRound (form : LineForm) (old new : Option (List ℕ)) (before : ℕ) (frames : List ℕ) (taken : Taken)
+    : Type 0 where
   pub events : List EventData
   pub counted : taken.count ≡ length events
-  pub first : TakesFirst old events
-  pub on : taken.more ≡ true → TakesEvents old new events
-  pub all : taken.more ≡ false → taken.error ≡ None → TakesAll old events
+  pub first : TakesFirst form old events
+  pub on : taken.more ≡ true → TakesEvents form old new events
+  pub all : taken.more ≡ false → taken.error ≡ None → TakesAll form old events
   pub framed : frames ≡ event_frames before events
 
 -- ---- one answer, and those of a round
@@ -227,31 +231,31 @@ pub record TakesAnswers (read_old read_new old new : Option (List ℕ)) (before 
 
 -- What was sent, whatever happened: the requests of the first lines' events in order, or a prefix of their bytes; and
 -- no more was answered than was sent.
-pub record Sends (before : ℕ) (input written_old written_new read_old old new : Option (List ℕ)) (end : SendEnd)
-    : Type 0 where
+pub record Sends (form : LineForm) (before : ℕ) (input written_old written_new read_old old new : Option (List ℕ))
+    (end : SendEnd) : Type 0 where
   pub events : List EventData
   pub sent_is : end.sent ≡ length events
-  pub taken : TakesFirst input events
+  pub taken : TakesFirst form input events
   pub sent : WritesInPart written_old written_new (event_frames before events)
   pub prints : Prints read_old old new before end.answered end.refused end.error
   pub few : length (prints.answers ++ prints.torn) ≤ length events
 
 -- the lines were sent, answered and printed, and the lines after them remain
-pub record SendsOn (before : ℕ) (input rest written_old written_new read_old read_new old new : Option (List ℕ))
-    (end : SendEnd) : Type 0 where
+pub record SendsOn (form : LineForm) (before : ℕ)
+    (input rest written_old written_new read_old read_new old new : Option (List ℕ)) (end : SendEnd) : Type 0 where
   pub events : List EventData
   pub sent_is : end.sent ≡ length events
   pub no_error : end.error ≡ None
-  pub taken : TakesEvents input rest events
+  pub taken : TakesEvents form input rest events
   pub sent : Appends written_old written_new (event_frames before events)
   pub prints : PrintsAll read_old read_new old new before (length events) end.answered end.refused
 
 -- all lines of the input were sent, answered and printed
-pub record SendsAll (before : ℕ) (input written_old written_new read_old read_new old new : Option (List ℕ))
-    (end : SendEnd) : Type 0 where
+pub record SendsAll (form : LineForm) (before : ℕ)
+    (input written_old written_new read_old read_new old new : Option (List ℕ)) (end : SendEnd) : Type 0 where
   pub events : List EventData
   pub sent_is : end.sent ≡ length events
-  pub taken : TakesAll input events
+  pub taken : TakesAll form input events
   pub sent : Appends written_old written_new (event_frames before events)
   pub prints : PrintsAll read_old read_new old new before (length events) end.answered end.refused
 

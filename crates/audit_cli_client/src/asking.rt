@@ -1,5 +1,5 @@
 //! Questions to a server, each answer checked under the commitment that the server gave before it.
-ghost use Rattle.std.specs.Prelude.{◌≡◌, ◌≤◌, ◌⊎◌, ◌∷◌, [], ℕ, List, IfOk, IfErr, OnOk, vec_len};
+ghost use Rattle.std.specs.Prelude.{◌≡◌, ◌≤◌, ◌⊎◌, ◌∷◌, [], ℕ, List, IfOk, IfErr, OnOk, OnErr, vec_len};
 ghost use Rattle.audit_base.specs.declared.limits.TheConstants.{MAX_ENTRY, MAX_MEMBER_HASHES, MAX_INCREMENT_HASHES};
 ghost use Rattle.sha2.specs.Sha256.{sha256};
 ghost use Rattle.audit_proof.specs.Acceptance.{AcceptsMembership, AcceptsIncrement};
@@ -12,7 +12,7 @@ ghost use Rattle.audit_cli_client.specs.Asking.{not_due, AnswersMember, AnswersI
 ghost use Rattle.audit_cli_client.specs.Conversation.{Converses};
 ghost use Rattle.audit_cli_client.specs.Failing.{IsLost, IsAnsweredOtherwise, IsNoAnswer, IsNewestReply, IsClosingReply};
 ghost use Rattle.audit_cli_client.specs.Failing.{IsMemberReply, IsIncrementReply, FailsNewest, FailsClosing};
-ghost use Rattle.audit_cli_client.specs.Failing.{FailsJoining, FailsEntry};
+ghost use Rattle.audit_cli_client.specs.Failing.{FailsJoining, FailsEntry, FailsMember, FailsIncrement};
 ghost use Rattle.audit_cli_client.specs.Joined.{IsVouchedFor};
 
 use crate::conversation::ask;
@@ -136,9 +136,11 @@ pub fn member_proof<W: Write, R: Read>(
     index: u64,
     count: u64,
 ) -> Result<Vec<u8>, ClientError>
-    ensures { IfOk result (λ bytes. (newest : Commitment) × (proof : Member) × (proof.index ≡ index)
+    ensures done { IfOk result (λ bytes. (newest : Commitment) × (proof : Member) × (proof.index ≡ index)
         × (proof.count ≡ count) × (bytes.items ≡ member_bytes proof) × AnswersMember (W.contents to.old)
         (W.contents to.new) (R.remaining from.old) (R.remaining from.new) newest proof) }
+    ensures fault { IfErr result (FailsMember (W.contents to.old) (W.contents to.new) (R.remaining from.old)
+        (R.remaining from.new) index count) }
 {
     let newest = newest_commitment(alloc, to, from)?;
     let proof = ask_member(alloc, to, from, index, count)?;
@@ -158,9 +160,11 @@ pub fn increment_proof<W: Write, R: Read>(
     older: u64,
     newer: u64,
 ) -> Result<Vec<u8>, ClientError>
-    ensures { IfOk result (λ bytes. (newest : Commitment) × (proof : Increment) × (proof.older ≡ older)
+    ensures done { IfOk result (λ bytes. (newest : Commitment) × (proof : Increment) × (proof.older ≡ older)
         × (proof.newer ≡ newer) × (bytes.items ≡ increment_bytes proof) × AnswersIncrement (W.contents to.old)
         (W.contents to.new) (R.remaining from.old) (R.remaining from.new) newest proof) }
+    ensures fault { IfErr result (FailsIncrement (W.contents to.old) (W.contents to.new) (R.remaining from.old)
+        (R.remaining from.new) older newer) }
 {
     let newest = newest_commitment(alloc, to, from)?;
     let proof = ask_increment(alloc, to, from, ASKED_TAG, older, newer)?;
@@ -181,9 +185,12 @@ fn vouch<W: Write, R: Read>(
     older: &Commitment,
     newest: &Commitment,
 ) -> Result<(), ClientError>
-    ensures { OnOk result ((asked : List Request) × (given : List Reply)
+    ensures done { OnOk result ((asked : List Request) × (given : List Reply)
         × Converses (W.contents to.old) (W.contents to.new) (R.remaining from.old) (R.remaining from.new) asked given
         × IsVouchedFor older.now newest.now) }
+    ensures other { OnErr result (older.now ≡ newest.now → ⊥) }
+    ensures fault { IfErr result (FailsJoining (W.contents to.old) (W.contents to.new) (R.remaining from.old)
+        (R.remaining from.new) older.now newest.now) }
 {
     if *older == *newest {
         return Ok(());

@@ -1,5 +1,9 @@
-//! Laws of what a witness keeps. Each function does nothing: its contract is the law.
-ghost use Rattle.std.specs.Prelude.{◌∷◌, ◌++◌, [], List};
+//! Laws of what a witness keeps, and of lines. Each function does nothing: its contract is the law.
+ghost use Rattle.std.specs.Prelude.{◌≢◌, ◌<◌, ◌∷◌, ◌++◌, [], ℕ, Ok, List, length};
+ghost use Rattle.audit_chain.specs.EventData.{EventData};
+ghost use Rattle.audit_text_plain.specs.declared.line_form.LineForm.{LineForm};
+ghost use Rattle.audit_text_plain.specs.LineEvents.{event_in_line};
+ghost use Rattle.audit_serve_sockets.specs.declared.limits.TheConstants.{MAX_DIGITS};
 ghost use Rattle.audit_proof.specs.declared.commitment.Commitment.{Commitment};
 ghost use Rattle.audit_cli_client.specs.Joined.{IsJoined, AreJoined};
 ghost use Rattle.audit_cli_client.specs.Keeping.{AreRuns, kept_after};
@@ -18,4 +22,10 @@ pub fn what_a_witness_keeps_is_joined()
 pub fn runs_of_a_witness_stay_joined()
     ensures { (start : List Commitment) (runs : List (List Commitment)) → AreJoined start → AreRuns start runs
         → AreJoined (kept_after start runs) }
+{}
+
+/// A line that is refused as too long before it is read whole has no event, in either form.
+pub fn longer_lines_have_no_event()
+    ensures { (form : LineForm) (line : List ℕ) (event : EventData) → MAX_DIGITS < length line
+        → event_in_line form line ≢ Ok event }
 {}

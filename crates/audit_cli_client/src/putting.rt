@@ -1,5 +1,7 @@
 //! Answers that are put into a file once they are accepted.
-ghost use Rattle.std.specs.Prelude.{◌≡◌, ◌⊎◌, ℕ, List, [], length, Option, Some, None, IfOk, OnOk, OnErr};
+ghost use Rattle.std.specs.Prelude.{◌≡◌, ◌⊎◌, ℕ, List, [], length, Option, Some, None, Err, IfOk, IfErr, OnOk, OnErr};
+ghost use Rattle.audit_cli_client.specs.declared.fault.ClientError.{ClientError};
+ghost use Rattle.audit_cli_client.specs.Failing.{FailsEntry, FailsMember, FailsIncrement, FailsExport, FailsPutting};
 ghost use Rattle.audit_cli_client.specs.Putting.{IsFile, PutsOnly, IsGivenEntry, IsGivenMember, IsGivenIncrement};
 ghost use Rattle.audit_cli_client.specs.Putting.{AreGivenEntries};
 
@@ -60,6 +62,10 @@ pub fn put_entry<W: Write, R: Read, O: Out>(
     ensures done { IfOk result (λ size. (bytes : List ℕ) × (size ≡ length bytes) × IsFile (O.file out.new) bytes
         × IsGivenEntry (W.contents to.old) (W.contents to.new) (R.remaining from.old) (R.remaining from.new)
         index bytes) }
+    // Why it failed, and that nothing is put unless it was the file.
+    ensures fault { IfErr result (FailsPutting (FailsEntry (W.contents to.old) (W.contents to.new) (R.remaining from.old)
+        (R.remaining from.new) index)) }
+    ensures untouched { (error : ClientError) → result ≡ Err (AskError.Client error) → O.file out.new ≡ O.file out.old }
 {
     match entry_of(alloc, to, from, index) {
         Ok(entry) => put_bytes(&entry, out),
@@ -82,6 +88,9 @@ pub fn put_member<W: Write, R: Read, O: Out>(
     ensures done { IfOk result (λ size. (bytes : List ℕ) × (size ≡ length bytes) × IsFile (O.file out.new) bytes
         × IsGivenMember (W.contents to.old) (W.contents to.new) (R.remaining from.old) (R.remaining from.new)
         index count bytes) }
+    ensures fault { IfErr result (FailsPutting (FailsMember (W.contents to.old) (W.contents to.new) (R.remaining from.old)
+        (R.remaining from.new) index count)) }
+    ensures untouched { (error : ClientError) → result ≡ Err (AskError.Client error) → O.file out.new ≡ O.file out.old }
 {
     match member_proof(alloc, to, from, index, count) {
         Ok(proof) => put_bytes(&proof, out),
@@ -104,6 +113,9 @@ pub fn put_increment<W: Write, R: Read, O: Out>(
     ensures done { IfOk result (λ size. (bytes : List ℕ) × (size ≡ length bytes) × IsFile (O.file out.new) bytes
         × IsGivenIncrement (W.contents to.old) (W.contents to.new) (R.remaining from.old) (R.remaining from.new)
         older newer bytes) }
+    ensures fault { IfErr result (FailsPutting (FailsIncrement (W.contents to.old) (W.contents to.new) (R.remaining from.old)
+        (R.remaining from.new) older newer)) }
+    ensures untouched { (error : ClientError) → result ≡ Err (AskError.Client error) → O.file out.new ≡ O.file out.old }
 {
     match increment_proof(alloc, to, from, older, newer) {
         Ok(proof) => put_bytes(&proof, out),
@@ -115,6 +127,8 @@ fn put_bytes<O: Out>(bytes: &[u8], out: &mut O) -> Result<u64, AskError<O::Error
     ensures only { (O.file out.new ≡ O.file out.old) ⊎ IsFile (O.file out.new) bytes.now }
     ensures done { OnOk result (IsFile (O.file out.new) bytes.now) }
     ensures size { IfOk result (λ size. size ≡ length bytes.now) }
+    ensures fault { IfErr result (FailsPutting (λ error. ⊥)) }
+    ensures untouched { (error : ClientError) → result ≡ Err (AskError.Client error) → O.file out.new ≡ O.file out.old }
 {
     let mut draft = match out.draft() {
         Ok(draft) => draft,
@@ -142,6 +156,9 @@ pub fn put_export<W: Write, R: Read, O: Out>(
     ensures done { IfOk result (λ export. (bytes : List ℕ) × (export.size ≡ length bytes)
         × IsFile (O.file out.new) bytes × AreGivenEntries (W.contents to.old) (W.contents to.new)
         (R.remaining from.old) (R.remaining from.new) bytes) }
+    ensures fault { IfErr result (FailsPutting (FailsExport (W.contents to.old) (W.contents to.new) (R.remaining from.old)
+        (R.remaining from.new))) }
+    ensures untouched { (error : ClientError) → result ≡ Err (AskError.Client error) → O.file out.new ≡ O.file out.old }
 {
     let mut draft = match out.draft() {
         Ok(draft) => draft,

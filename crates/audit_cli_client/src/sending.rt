@@ -9,6 +9,7 @@ use crate::fault::ClientError;
 use crate::send_error::SendError;
 use crate::taking::take_lines;
 use audit_text::LinesError;
+use audit_text_plain::LineForm;
 use std::alloc::Global;
 use std::io::{BufReader, Read, Write};
 
@@ -25,12 +26,13 @@ pub struct SendEnd {
     pub error: Option<SendError>,
 }
 
-/// Sends the events in the lines of an input, and prints a line for each answer as soon as it is read. Lines are sent
-/// as they come: those that the buffer of the input has, but at most `window` of them, and then the answers to them
-/// are read before the next read of the input. The input has no limit, and the memory that is taken doesn't grow with
-/// it.
+/// Sends the events that the lines of an input have in this form, and prints a line for each answer as soon as it is
+/// read. Lines are sent as they come: those that the buffer of the input has, but at most `window` of them, and then the
+/// answers to them are read before the next read of the input. The input has no limit, and the memory that is taken
+/// doesn't grow with it.
 pub fn send_events<I: Read, W: Write, R: Read, O: Write>(
     alloc: Global,
+    form: LineForm,
     input: &mut BufReader<I>,
     to: &mut W,
     from: &mut R,
@@ -38,11 +40,11 @@ pub fn send_events<I: Read, W: Write, R: Read, O: Write>(
     window: u64,
 ) -> SendEnd
     // What was written, read and printed, whatever happened.
-    ensures sends { Sends 0 (reader_remaining I.remaining input.old) (W.contents to.old) (W.contents to.new)
+    ensures sends { Sends form 0 (reader_remaining I.remaining input.old) (W.contents to.old) (W.contents to.new)
         (R.remaining from.old) (O.contents output.old) (O.contents output.new) result }
     // Without an error all lines were sent and answered.
-    ensures all { result.error ≡ None → SendsAll 0 (reader_remaining I.remaining input.old) (W.contents to.old)
-        (W.contents to.new) (R.remaining from.old) (R.remaining from.new) (O.contents output.old)
+    ensures all { result.error ≡ None → SendsAll form 0 (reader_remaining I.remaining input.old)
+        (W.contents to.old) (W.contents to.new) (R.remaining from.old) (R.remaining from.new) (O.contents output.old)
         (O.contents output.new) result }
 {
     let mut room = Room::new(alloc);
@@ -53,7 +55,9 @@ pub fn send_events<I: Read, W: Write, R: Read, O: Write>(
         error: None,
     };
     for _ in 0..u64::MAX {
-        let round = send_round(alloc, input, to, from, output, window, end.sent, &mut room);
+        let round = send_round(
+            alloc, form, input, to, from, output, window, end.sent, &mut room,
+        );
         end = both(&end, &round.end);
         if !round.more {
             return end;
@@ -118,6 +122,7 @@ struct Round {
 // server gave before are still read.
 fn send_round<I: Read, W: Write, R: Read, O: Write>(
     alloc: Global,
+    form: LineForm,
     input: &mut BufReader<I>,
     to: &mut W,
     from: &mut R,
@@ -127,17 +132,18 @@ fn send_round<I: Read, W: Write, R: Read, O: Write>(
     room: &mut Room,
 ) -> Round
     ensures fits { before + result.end.sent ≤ u64.MAX }
-    ensures sends { Sends before (reader_remaining I.remaining input.old) (W.contents to.old) (W.contents to.new)
+    ensures sends { Sends form before (reader_remaining I.remaining input.old) (W.contents to.old) (W.contents to.new)
         (R.remaining from.old) (O.contents output.old) (O.contents output.new) result.end }
-    ensures on { result.more ≡ true → SendsOn before (reader_remaining I.remaining input.old)
+    ensures on { result.more ≡ true → SendsOn form before (reader_remaining I.remaining input.old)
         (reader_remaining I.remaining input.new) (W.contents to.old) (W.contents to.new) (R.remaining from.old)
         (R.remaining from.new) (O.contents output.old) (O.contents output.new) result.end }
-    ensures all { result.more ≡ false → result.end.error ≡ None → SendsAll before
+    ensures all { result.more ≡ false → result.end.error ≡ None → SendsAll form before
         (reader_remaining I.remaining input.old) (W.contents to.old) (W.contents to.new) (R.remaining from.old)
         (R.remaining from.new) (O.contents output.old) (O.contents output.new) result.end }
 {
     let taken = take_lines(
         alloc,
+        form,
         input,
         window,
         before,

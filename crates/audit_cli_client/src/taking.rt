@@ -2,14 +2,15 @@
 ghost use Rattle.std.specs.Prelude.{◌≡◌, ◌+◌, ◌<◌, ◌≤◌, ◌++◌, true, IfOk, IfErr, OnOk, OnErr, Ok};
 ghost use Rattle.std.specs.Io.Buffered.{reader_remaining};
 ghost use Rattle.audit_chain.specs.EventData.{EventData};
-ghost use Rattle.audit_text.specs.EventLine.{event_of_line};
+ghost use Rattle.audit_text_plain.specs.LineEvents.{event_in_line};
 ghost use Rattle.audit_text.specs.declared.fault.LinesError.TheVariants.{InputTooLong};
 ghost use Rattle.audit_wire.specs.Stream.{request_frame};
 ghost use Rattle.audit_cli_client.specs.Sending.{line_tag, event_request, TakesRound, TakesNext, IsEventFault};
 ghost use Rattle.audit_cli_client.specs.Sending.{IsTakingFault};
 
 use audit_serve_sockets::{MAX_DIGITS, next_line};
-use audit_text::{LineError, LinesError, ParseError, event_of_line};
+use audit_text::{LineError, LinesError, ParseError};
+use audit_text_plain::{LineForm, event_in_line};
 use audit_wire::{RequestView, write_request};
 use std::alloc::Global;
 use std::io::{BufReader, Read};
@@ -32,6 +33,7 @@ pub(crate) struct Taken {
 /// the frames. The first of them has the number `before` + 1.
 pub(crate) fn take_lines<I: Read>(
     alloc: Global,
+    form: LineForm,
     input: &mut BufReader<I>,
     window: u64,
     before: u64,
@@ -39,8 +41,8 @@ pub(crate) fn take_lines<I: Read>(
     frames: &mut Vec<u8>,
 ) -> Taken
     ensures fits { before + result.count ≤ u64.MAX }
-    ensures taken { TakesRound (reader_remaining I.remaining input.old) (reader_remaining I.remaining input.new)
-        before frames.new.items result }
+    ensures taken { TakesRound form (reader_remaining I.remaining input.old)
+        (reader_remaining I.remaining input.new) before frames.new.items result }
 {
     frames.clear();
     for count in 0..window {
@@ -51,7 +53,7 @@ pub(crate) fn take_lines<I: Read>(
                 error: None,
             };
         }
-        match take_line(alloc, input, before, count, line, frames) {
+        match take_line(alloc, form, input, before, count, line, frames) {
             Ok(true) => {}
             Ok(false) => {
                 return Taken {
@@ -85,6 +87,7 @@ fn is_at_hand<I: Read>(input: &BufReader<I>, frames: &[u8]) -> bool {
 // nothing is appended.
 fn take_line<I: Read>(
     alloc: Global,
+    form: LineForm,
     input: &mut BufReader<I>,
     before: u64,
     count: u64,
@@ -92,10 +95,10 @@ fn take_line<I: Read>(
     frames: &mut Vec<u8>,
 ) -> Result<bool, LinesError>
     ensures fits { result ≡ Ok true → before + count + 1 ≤ u64.MAX }
-    ensures taken { IfOk result (TakesNext (reader_remaining I.remaining input.old)
+    ensures taken { IfOk result (TakesNext form (reader_remaining I.remaining input.old)
         (reader_remaining I.remaining input.new) (before + count) frames.old.items frames.new.items) }
     ensures kept { OnErr result (frames.new.items ≡ frames.old.items) }
-    ensures fault { IfErr result (IsTakingFault (reader_remaining I.remaining input.old) (before + count + 1)) }
+    ensures fault { IfErr result (IsTakingFault form (reader_remaining I.remaining input.old) (before + count + 1)) }
 {
     if !next_line(input, line)? {
         return Ok(false);
@@ -107,23 +110,24 @@ fn take_line<I: Read>(
             cause: LineError::PayloadTooLong,
         });
     }
-    put_event(alloc, number, line, frames)?;
+    put_event(alloc, form, number, line, frames)?;
     Ok(true)
 }
 
 // Appends the request for the event in a line to the frames.
 fn put_event(
     alloc: Global,
+    form: LineForm,
     number: u64,
     line: &[u8],
     frames: &mut Vec<u8>,
 ) -> Result<(), LinesError>
-    ensures put { OnOk result ((event : EventData) × (event_of_line line.now ≡ Ok event)
+    ensures put { OnOk result ((event : EventData) × (event_in_line form line.now ≡ Ok event)
         × (frames.new.items ≡ frames.old.items ++ request_frame (event_request number event))) }
     ensures kept { OnErr result (frames.new.items ≡ frames.old.items) }
-    ensures fault { IfErr result (IsEventFault number line.now) }
+    ensures fault { IfErr result (IsEventFault form number line.now) }
 {
-    let event = match event_of_line(alloc, line) {
+    let event = match event_in_line(alloc, form, line) {
         Ok(event) => event,
         Err(ParseError::Fault(cause)) => {
             return Err(LinesError::Line {

@@ -2,6 +2,7 @@
 use denote.Ref.{Bor}
 use Rattle.std.specs.Prelude.{◌≡◌, ◌⊎◌, ℕ, nat_le, ◌&&◌, Option, Some, None, Result, Ok, Err, List, if◌then◌else◌}
 use Rattle.audit_text.specs.Number.{number_in_text}
+use Rattle.audit_text_plain.specs.LineEvents.{form_asked}
 use Rattle.audit_cli_store.specs.declared.fault.CommandError.{CommandError}
 use Rattle.audit_cli_store.specs.declared.fault.CommandError.TheVariants.{BadArgument}
 use Rattle.audit_cli_remote.specs.declared.arguments.TheConstants.{MAX_SECONDS, MAX_WINDOW}
@@ -31,5 +32,5 @@ IsNoWindow (Some word) = window_asked word.now ≡ Err BadArgument
 -- one of the words that are checked before the socket is opened is a wrong number
 abbrev pub HasWrongNumber : Request → Type 0
 HasWrongNumber (Ask socket question timeout) = AreNoSeconds timeout
-HasWrongNumber (Send socket window timeout) = IsNoWindow window ⊎ AreNoSeconds timeout
+HasWrongNumber (Send socket text window timeout) = (form_asked text ≡ None) ⊎ (IsNoWindow window ⊎ AreNoSeconds timeout)
 HasWrongNumber (Watch socket state every timeout) = AreNoSeconds every ⊎ AreNoSeconds timeout

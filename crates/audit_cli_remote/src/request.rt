@@ -1,7 +1,8 @@
 //! The requests that ask a server, and how they are carried out.
-ghost use Rattle.std.specs.Prelude.{◌≡◌, ◌⊎◌, ℕ, List, Err, Some, IfErr};
+ghost use Rattle.std.specs.Prelude.{◌≡◌, ◌⊎◌, ℕ, List, Err, Some, None, IfErr};
 ghost use Rattle.std.specs.Io.KnownBytes.{Appends, Keeps};
 ghost use Rattle.audit_text.specs.declared.fault.LinesError.{LinesError};
+ghost use Rattle.audit_text_plain.specs.LineEvents.{form_asked};
 ghost use Rattle.audit_cli_remote.specs.declared.fault.RemoteError.{RemoteError};
 ghost use Rattle.audit_cli_remote.specs.Faults.{IsNoJudgment, judgment_of};
 ghost use Rattle.audit_cli_remote.specs.Arguments.{AreNoSeconds, IsNoWindow, HasWrongNumber};
@@ -10,10 +11,11 @@ use crate::arguments::{QuestionWords, question_asked, seconds_asked, window_aske
 use crate::asking::ask_socket;
 use crate::connection::Dial;
 use crate::fault::RemoteError;
-use crate::sending::send_to_socket;
+use crate::sending::{Task, send_to_socket};
 use crate::watching::{Post, watch_for_ever, watch_once};
 use audit_cli_store::{CommandError, Status, report_flush};
 use audit_text::write_whole;
+use audit_text_plain::{LineForm, form_asked};
 use std::alloc::Global;
 use std::fs::Files;
 use std::io::{Read, Write};
@@ -41,6 +43,8 @@ pub enum Request<'a> {
     Send {
         /// The path of the server's socket.
         socket: &'a str,
+        /// The kind of the events, if the lines are their payloads.
+        text: Option<&'a str>,
         /// How many lines are sent ahead of their answers; 64 if absent.
         window: Option<&'a str>,
         /// How many seconds an answer is waited for; 30 if absent.
@@ -125,12 +129,19 @@ fn perform<F: Files + Dial + Clock, R: Read, W: Write, M: Write>(
         }
         Request::Send {
             socket,
+            text,
             window,
             timeout,
         } => {
+            let form = form_or_fault(text)?;
             let window = window_or_default(window)?;
             let seconds = seconds_or_default(timeout)?;
-            return send_to_socket(rt, alloc, socket, window, seconds, input, output, messages);
+            let task = Task {
+                form,
+                window,
+                seconds,
+            };
+            return send_to_socket(rt, alloc, socket, task, input, output, messages);
         }
         Request::Watch {
             socket,
@@ -154,6 +165,16 @@ fn perform<F: Files + Dial + Clock, R: Read, W: Write, M: Write>(
         }
     }
     Ok(Status::Done)
+}
+
+fn form_or_fault(word: Option<&str>) -> Result<LineForm, CommandError>
+    ensures wrong { form_asked word.entry ≡ None → result ≡ Err CommandError.BadArgument }
+    ensures fault { IfErr result (λ fault. fault ≡ CommandError.BadArgument) }
+{
+    match form_asked(word) {
+        Some(form) => Ok(form),
+        None => Err(CommandError::BadArgument),
+    }
 }
 
 fn seconds_or_default(word: Option<&str>) -> Result<u64, CommandError>

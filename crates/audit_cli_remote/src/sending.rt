@@ -6,6 +6,7 @@ use crate::connection::{Dial, connect};
 use crate::fault::RemoteError;
 use audit_cli_client::{SendEnd, send_events};
 use audit_cli_store::Status;
+use audit_text_plain::LineForm;
 use std::alloc::Global;
 use std::io::{BufReader, Read, Write};
 use std::time::Clock;
@@ -13,23 +14,41 @@ use std::time::Clock;
 // The size in bytes of the buffer for the input: the most that is read at a time.
 const INPUT_ROOM: usize = 1 << 16;
 
+/// How events are sent.
+#[derive(Clone, Copy, Debug)]
+pub struct Task {
+    /// How lines have their events.
+    pub form: LineForm,
+    /// The most lines that are sent ahead of their answers.
+    pub window: u64,
+    /// How many seconds an answer is waited for.
+    pub seconds: u64,
+}
+
 /// Sends the events of the input to a server, and prints its answers. Returns the status of a command whose lines were
 /// all answered.
 pub fn send_to_socket<F: Dial + Clock, R: Read, W: Write, M: Write>(
     rt: &F,
     alloc: Global,
     socket: &str,
-    window: u64,
-    seconds: u64,
+    task: Task,
     input: &mut R,
     output: &mut W,
     messages: &mut M,
 ) -> Result<Status, RemoteError> {
     let mut lines = BufReader::with_capacity(alloc, INPUT_ROOM, input)?;
-    let stream = connect(rt, socket, seconds)?;
+    let stream = connect(rt, socket, task.seconds)?;
     let mut to = &stream;
     let mut from = BufReader::new(alloc, &stream)?;
-    let end = send_events(alloc, &mut lines, &mut to, &mut from, output, window);
+    let end = send_events(
+        alloc,
+        task.form,
+        &mut lines,
+        &mut to,
+        &mut from,
+        output,
+        task.window,
+    );
     Ok(report_sent(&end, messages))
 }
 

@@ -5,5 +5,5 @@ pub mod laws;
 mod line_form;
 mod printing;
 
-pub use line_form::{LineForm, event_in_line, kind_in_word};
+pub use line_form::{LineForm, event_in_line, form_asked, kind_in_word};
 pub use printing::push_text;

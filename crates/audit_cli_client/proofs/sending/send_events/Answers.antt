@@ -8,7 +8,7 @@ use Rattle.audit_cli_client.proofs.sending.send_events.Goals as goal
 
 pub loop-init : goal.loop-init
 loop-init g c = record {
-  on = sends_none (reader_remaining g.I.Read.remaining c.args.input.now) (g.W.Write.contents c.args.to.now) (g.R.Read.remaining c.args.from.now) (g.O.Write.contents c.args.output.now);
+  on = sends_none c.args.form (reader_remaining g.I.Read.remaining c.args.input.now) (g.W.Write.contents c.args.to.now) (g.R.Read.remaining c.args.from.now) (g.O.Write.contents c.args.output.now);
 }
 
 pub returns-then-not-round-clause-sends : goal.returns-then-not-round-clause-sends
