@@ -11,7 +11,10 @@ _audit() {
         case $command in
         format) options="$options --mode --in-place --erase" ;;
         append) options="$options --text --follow --expect" ;;
-        show | prove) options="$options --read-only" ;;
+        show) options="$options --free --read-only" ;;
+        prove) options="$options --read-only" ;;
+        check) options="$options --print" ;;
+        verify) options="$options --text" ;;
         export) options="$options --read-only --salvage" ;;
         serve) options="$options --sessions --socket-mode" ;;
         loop) options="$options --socket-mode" ;;

@@ -21,8 +21,8 @@ import check_proof
 import history
 import read_export
 
-ANSWERS = ["accepted", "not accepted", "32 BadProof", "verified open", "verified closed", "40 Short", "41 BadLength", "42 BadLink", "43 BadMac",
-           "44 WrongCommitment", "46 BadClose", "bad argument", "file fault"]
+ANSWERS = ["accepted", "not accepted", "index", "older", "32 BadProof", "verified open", "verified closed", "40 Short", "41 BadLength", "42 BadLink",
+           "43 BadMac", "44 WrongCommitment", "46 BadClose", "bad argument", "file fault"]
 
 
 class Comparison:
@@ -33,7 +33,7 @@ class Comparison:
         self.answers = collections.Counter()
 
     def ask(self, module, command, *words):
-        """Asks both the same."""
+        """Asks both the same, and returns the program's status."""
         run = subprocess.run([self.program, command, *words], stdin=subprocess.DEVNULL, capture_output=True, text=True)
         theirs = run.returncode, run.stdout, run.stderr.replace("audit: ", "", 1)
         output, messages = io.StringIO(), io.StringIO()
@@ -42,13 +42,15 @@ class Comparison:
         ours = status, output.getvalue(), messages.getvalue().replace(module.__name__ + ": ", "", 1)
         self.asked += 1
         last_line = (theirs[1] + theirs[2]).splitlines()[-1]
-        self.answers[re.sub("^verified [0-9]+", "verified", last_line.split(": ")[-1])] += 1
+        self.answers[re.sub("^(verified|index|older) [0-9].*?( open| closed|)$", r"\1\2", last_line.split(": ")[-1])] += 1
         if ours != theirs:
             self.differ += 1
             print("%s %s: the program answers %r, the other %r" % (command, " ".join(words), theirs, ours))
+        return run.returncode
 
     def check(self, proof, *commitments):
-        self.ask(check_proof, "check", proof, *commitments)
+        if self.ask(check_proof, "check", proof, *commitments) == 0:
+            self.ask(check_proof, "check", proof, *commitments, "--print")
 
     def verify(self, data, *words):
         with open("damaged", "wb") as file:
@@ -116,6 +118,8 @@ def compare_damaged_proofs(comparison, older, newer):
         comparison.check(name, *commitments[::-1])
         comparison.check(name, *[older for _ in commitments])
         comparison.check(name, *([newer] if len(commitments) == 2 else [older, newer]))
+        comparison.ask(check_proof, "check", name, *commitments[::-1], "--print")
+        comparison.ask(check_proof, "check", name, *[older for _ in commitments], "--print")
     # The numbers of hashes and the entry at their limits, and one past them.
     for kind, commitments in [(b"\1", [newer]), (b"\2", [older, newer])]:
         numbers = b"".join(int(word.split(":")[0]).to_bytes(8, "big") for word in (older, newer))

@@ -2,9 +2,10 @@ use crate::forms::{EXPLAIN, NO_PROGRESS, command_line};
 use crate::remote_command::remote_request;
 use audit_cli_daemon::{Request as Daemon, Settings};
 use audit_cli_follow::Request as Lines;
+use audit_cli_offline::{CheckForm, ReportForm};
 use audit_cli_remote::Request as Remote;
 use audit_cli_serve::Request as Serving;
-use audit_cli_store::{Access, Request, Site};
+use audit_cli_store::{Access, Request, ShowForm, Site};
 use clap::{ArgMatches, Error};
 use std::alloc::Global;
 use std::convert::AsStr;
@@ -126,11 +127,13 @@ fn plain_request<'a>(name: &str, given: &ArgMatches<'a>) -> Request<'a> {
         "show" => Request::Show {
             file: word(given, "FILE"),
             access: access(given),
+            form: show_form(given),
         },
         "check" => Request::Check {
             proof: word(given, "PROOF"),
             older: word(given, "OLDER"),
             newer: given.get_str("NEWER"),
+            form: check_form(given),
         },
         "export" => Request::Export {
             file: word(given, "FILE"),
@@ -145,6 +148,7 @@ fn plain_request<'a>(name: &str, given: &ArgMatches<'a>) -> Request<'a> {
             export: word(given, "EXPORT"),
             key_file: word(given, "KEYFILE"),
             commitment: word(given, "COMMIT"),
+            form: report_form(given),
         },
         "prove" => Request::Prove {
             file: word(given, "FILE"),
@@ -164,6 +168,33 @@ fn access(given: &ArgMatches<'_>) -> Access {
         Access::ReadOnly
     } else {
         Access::Repair
+    }
+}
+
+// What is printed of a store.
+fn show_form(given: &ArgMatches<'_>) -> ShowForm {
+    if given.get_flag("free") {
+        ShowForm::WithFree
+    } else {
+        ShowForm::State
+    }
+}
+
+// What is printed of an accepted proof.
+fn check_form(given: &ArgMatches<'_>) -> CheckForm {
+    if given.get_flag("print") {
+        CheckForm::Contents
+    } else {
+        CheckForm::Judgment
+    }
+}
+
+// How the events of an export are printed.
+fn report_form(given: &ArgMatches<'_>) -> ReportForm {
+    if given.get_flag("text") {
+        ReportForm::Text
+    } else {
+        ReportForm::Events
     }
 }
 

@@ -179,13 +179,22 @@ static FORMS: [Form; 13] = [
             help: "The file of the store",
             is_required: true,
         }],
-        options: &[Choice {
-            name: "read-only",
-            value: None,
-            help: "Opens the store without the right to write: nothing is repaired",
-            needs: None,
-            excludes: None,
-        }],
+        options: &[
+            Choice {
+                name: "read-only",
+                value: None,
+                help: "Opens the store without the right to write: nothing is repaired",
+                needs: None,
+                excludes: None,
+            },
+            Choice {
+                name: "free",
+                value: None,
+                help: "Prints a line with the number of free sectors, too",
+                needs: None,
+                excludes: None,
+            },
+        ],
     },
     Form {
         name: "prove",
@@ -247,7 +256,13 @@ static FORMS: [Form; 13] = [
                 is_required: false,
             },
         ],
-        options: &[],
+        options: &[Choice {
+            name: "print",
+            value: None,
+            help: "Prints a line with what an accepted proof is about, too",
+            needs: None,
+            excludes: None,
+        }],
     },
     Form {
         name: "export",
@@ -303,7 +318,13 @@ static FORMS: [Form; 13] = [
                 is_required: true,
             },
         ],
-        options: &[],
+        options: &[Choice {
+            name: "text",
+            value: None,
+            help: "Prints each payload as a line of text, and nothing else; the last line goes to standard error",
+            needs: None,
+            excludes: None,
+        }],
     },
     Form {
         name: "serve",

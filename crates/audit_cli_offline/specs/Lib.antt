@@ -3,3 +3,4 @@ pub mod ReportLines
 pub mod VerifiedExport
 pub mod Judgment
 pub mod TwoPasses
+pub mod ProofLines

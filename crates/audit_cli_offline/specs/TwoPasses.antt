@@ -1,6 +1,6 @@
 -- What verifying an export in two passes writes. The first pass accepts or refuses the export. The second reads it
 -- again and writes its lines.
-use Rattle.std.specs.Prelude.{◌≡◌, ◌≢◌, ◌⊎◌, ℕ, Option, List, [], ◌++◌, length}
+use Rattle.std.specs.Prelude.{◌≡◌, ◌⊎◌, ℕ, Option, List, [], ◌++◌, length}
 use Rattle.std.specs.List.{AllByRecursion}
 use Rattle.std.specs.Io.KnownBytes.{Appends, Keeps}
 use Rattle.audit_chain.specs.Event.{EventData, IsEvent}
@@ -20,7 +20,9 @@ use Rattle.audit_verify.specs.Reading.{IsEndOf, IsFaultAfter}
 use Rattle.audit_verify.specs.Links.{LinksCollide}
 use Rattle.audit_cli_offline.specs.declared.fault.OfflineError.{OfflineError}
 use Rattle.audit_cli_offline.specs.declared.fault.OfflineError.TheVariants.{Export, Lines}
-use Rattle.audit_cli_offline.specs.ReportLines.{event_lines, report_lines}
+use Rattle.audit_cli_offline.specs.declared.report_form.ReportForm.{ReportForm}
+use Rattle.audit_cli_offline.specs.declared.verified_end.VerifiedEnd.{VerifiedEnd}
+use Rattle.audit_cli_offline.specs.ReportLines.{event_lines, report_lines, end_of_events}
 use Rattle.audit_cli_offline.specs.VerifiedExport.{IsUnwrittenReport}
 
 -- the bytes begin with the valid entries of these events, followed by this rest
@@ -31,12 +33,13 @@ pub record BeginsWithEvents (first_key bytes : List ℕ) (events : List EventDat
 
 -- The second pass: these bytes are the export of events, which ends as the accepted one does, and the events' lines
 -- were written.
-pub record WritesAgain (first_key : List ℕ) (accepted : Accepted) (again : List ℕ)
-    (old new : Option (List ℕ)) : Type 0 where
+pub record WritesAgain (form : ReportForm) (first_key : List ℕ) (accepted : Accepted) (again : List ℕ)
+    (end : VerifiedEnd) (old new : Option (List ℕ)) : Type 0 where
   pub events : List EventData
   pub begins : BeginsWithEvents first_key again events []
-  pub end : IsEndOf first_key accepted events
-  pub written : Appends old new (report_lines events (is_closed events))
+  pub same_end : IsEndOf first_key accepted events
+  pub end_is : end ≡ end_of_events events
+  pub written : Appends old new (report_lines form events (is_closed events))
 
 -- all entries are valid, and the log has another end than the accepted one
 pub record IsOtherEnd (first_key : List ℕ) (accepted : Accepted) (again : List ℕ) (events : List EventData)
@@ -47,66 +50,69 @@ pub record IsOtherEnd (first_key : List ℕ) (accepted : Accepted) (again : List
   pub other : ¬ IsEndOf first_key accepted events
 
 -- these bytes have a fault after the entries of events, or another end, and the events' lines were written
-pub record StopsAgain (first_key : List ℕ) (accepted : Accepted) (again : List ℕ) (old new : Option (List ℕ))
-    (fault : VerifyFault) : Type 0 where
+pub record StopsAgain (form : ReportForm) (first_key : List ℕ) (accepted : Accepted) (again : List ℕ)
+    (old new : Option (List ℕ)) (fault : VerifyFault) : Type 0 where
   pub events : List EventData
   pub rest : List ℕ
   pub begins : BeginsWithEvents first_key again events rest
   pub wrong : IsFaultAfter first_key again events fault ⊎ IsOtherEnd first_key accepted again events fault
-  pub written : Appends old new (event_lines 0 events)
+  pub written : Appends old new (event_lines form 0 events)
 
 -- the lines of valid entries were written, the last one in part
-pub record WritesPartAgain (first_key again : List ℕ) (old new : Option (List ℕ)) : Type 0 where
+pub record WritesPartAgain (form : ReportForm) (first_key again : List ℕ) (old new : Option (List ℕ)) : Type 0 where
   pub events : List EventData
   pub rest : List ℕ
   pub begins : BeginsWithEvents first_key again events rest
-  pub part : WritesInPart old new (report_lines events (is_closed events))
+  pub part : WritesInPart old new (report_lines form events (is_closed events))
 
 -- the lines of valid entries were written, each of them whole
-pub record WritesLinesAgain (first_key again : List ℕ) (old new : Option (List ℕ)) : Type 0 where
+pub record WritesLinesAgain (form : ReportForm) (first_key again : List ℕ) (old new : Option (List ℕ)) : Type 0 where
   pub events : List EventData
   pub rest : List ℕ
   pub begins : BeginsWithEvents first_key again events rest
-  pub written : Appends old new (event_lines 0 events)
+  pub written : Appends old new (event_lines form 0 events)
 
 -- a fault of the second pass
-abbrev pub IsFaultAgain : OfflineError → List ℕ → Accepted → List ℕ → Option (List ℕ) → Option (List ℕ) → Type 0
-IsFaultAgain (Export fault) first_key accepted again old new = StopsAgain first_key accepted again old new fault
-IsFaultAgain (Lines lines.Write) first_key accepted again old new = WritesPartAgain first_key again old new
-IsFaultAgain (Lines lines.Memory) first_key accepted again old new = WritesLinesAgain first_key again old new
-IsFaultAgain (Lines lines.Read) first_key accepted again old new = ⊥
-IsFaultAgain (Lines lines.InputTooLong) first_key accepted again old new = ⊥
-IsFaultAgain (Lines (lines.Line line cause)) first_key accepted again old new = ⊥
+abbrev pub IsFaultAgain : ReportForm → OfflineError → List ℕ → Accepted → List ℕ → Option (List ℕ)
+    → Option (List ℕ) → Type 0
+IsFaultAgain form (Export fault) first_key accepted again old new =
+    StopsAgain form first_key accepted again old new fault
+IsFaultAgain form (Lines lines.Write) first_key accepted again old new = WritesPartAgain form first_key again old new
+IsFaultAgain form (Lines lines.Memory) first_key accepted again old new = WritesLinesAgain form first_key again old new
+IsFaultAgain form (Lines lines.Read) first_key accepted again old new = ⊥
+IsFaultAgain form (Lines lines.InputTooLong) first_key accepted again old new = ⊥
+IsFaultAgain form (Lines (lines.Line line cause)) first_key accepted again old new = ⊥
 
 -- Both passes. The first bytes are verified. The second ones are the same, or some link of both logs is the SHA-256 of
 -- two texts. The lines of the second bytes were written.
-pub record WritesTwice (first_key : List ℕ) (commitment : Commitment) (bytes again : List ℕ)
-    (old new : Option (List ℕ)) : Type 0 where
+pub record WritesTwice (form : ReportForm) (first_key : List ℕ) (commitment : Commitment) (bytes again : List ℕ)
+    (end : VerifiedEnd) (old new : Option (List ℕ)) : Type 0 where
   pub events : List EventData
   pub others : List EventData
   pub verified : IsVerified first_key commitment bytes events
   pub begins : BeginsWithEvents first_key again others []
   pub same : ((again ≡ bytes) × IsVerified first_key commitment again others)
       ⊎ LinksCollide first_key first_link first_link events others
-  pub written : Appends old new (report_lines others (is_closed others))
+  pub end_is : end ≡ end_of_events others
+  pub written : Appends old new (report_lines form others (is_closed others))
 
 -- the first bytes are verified, and the second pass has a fault, which the same bytes don't have
-pub record FailsAgain (error : OfflineError) (first_key : List ℕ) (commitment : Commitment) (bytes again : List ℕ)
-    (old new : Option (List ℕ)) : Type 0 where
+pub record FailsAgain (form : ReportForm) (error : OfflineError) (first_key : List ℕ) (commitment : Commitment)
+    (bytes again : List ℕ) (old new : Option (List ℕ)) : Type 0 where
   pub accepted : Accepted
   pub events : List EventData
   pub verified : IsVerified first_key commitment bytes events
   pub end : IsEndOf first_key accepted events
-  pub fault : IsFaultAgain error first_key accepted again old new
+  pub fault : IsFaultAgain form error first_key accepted again old new
 
 -- The first bytes have this fault, and nothing was written; or they are verified, and the second pass has this fault.
-abbrev pub IsTwoPassFault : OfflineError → List ℕ → Commitment → List ℕ → List ℕ → Option (List ℕ)
+abbrev pub IsTwoPassFault : ReportForm → OfflineError → List ℕ → Commitment → List ℕ → List ℕ → Option (List ℕ)
     → Option (List ℕ) → Type 0
-IsTwoPassFault (Export fault) first_key commitment bytes again old new =
+IsTwoPassFault form (Export fault) first_key commitment bytes again old new =
     (IsFault first_key commitment bytes fault × Keeps old new)
-    ⊎ FailsAgain (Export fault) first_key commitment bytes again old new
-IsTwoPassFault (Lines fault) first_key commitment bytes again old new =
-    FailsAgain (Lines fault) first_key commitment bytes again old new
+    ⊎ FailsAgain form (Export fault) first_key commitment bytes again old new
+IsTwoPassFault form (Lines fault) first_key commitment bytes again old new =
+    FailsAgain form (Lines fault) first_key commitment bytes again old new
 
 -- a line wasn't written: a write failed within it, or memory was refused before it
 abbrev pub IsLineUnwritten : LinesError → Option (List ℕ) → Option (List ℕ) → List ℕ → Type 0

@@ -1,10 +1,13 @@
 //! Proofs checked under commitments.
-ghost use Rattle.std.specs.Prelude.{◌≡◌, ◌↔◌, ◌++◌, None, codes, IfOk, IfErr, OnOk, OnErr, if◌then◌else◌};
+ghost use Rattle.std.specs.Prelude.{◌≡◌, ◌↔◌, None, Err, true, IfOk, IfErr, OnOk};
 ghost use Rattle.std.specs.Io.KnownBytes.{Appends};
 ghost use Rattle.audit_proof.specs.ProofBytes.{member_of, increment_of};
-ghost use Rattle.audit_text.specs.Writing.{WritesInPart};
 ghost use Rattle.audit_cli_offline.specs.Judgment.{SpellsProof, IsJudgment};
+ghost use Rattle.audit_cli_offline.specs.ProofLines.{judgment_lines};
+ghost use Rattle.audit_cli_offline.specs.TwoPasses.{IsLineUnwritten};
 
+use crate::check_form::CheckForm;
+use crate::proof_lines::push_proof;
 use audit_proof::{
     Commitment, IncrementProof, MemberProof, ProofError, accepts_increment, accepts_member,
     read_increment, read_member,
@@ -57,17 +60,44 @@ pub fn judge_proof(proof: &Proof, older: &Commitment, newer: Option<Commitment>)
     }
 }
 
-/// Writes a line that says whether a proof is accepted.
-pub fn write_judgment<W: Write>(accepted: bool, writer: &mut W) -> Result<(), LinesError>
+/// Writes a line that says whether a proof is accepted. In the form `Contents` a second line follows for an accepted
+/// one: of a membership proof `index`, `count`, `kind` and `bytes`, of an incremental proof `older` and `newer`, each
+/// with its number. The kind and the number of the payload's bytes are those that the proof's entry states, or dashes
+/// if its bytes aren't one entry.
+///
+/// Errors: `Memory` if memory was refused for a second line, and then nothing was written; `Write` if a write failed,
+/// and then a prefix of the lines was written.
+pub fn write_judgment<W: Write>(
+    alloc: Global,
+    form: CheckForm,
+    proof: &Proof,
+    accepted: bool,
+    writer: &mut W,
+) -> Result<(), LinesError>
     ensures written { OnOk result (Appends (W.contents writer.old) (W.contents writer.new)
-        (if accepted then codes "accepted\n" else codes "not accepted\n")) }
-    ensures part { OnErr result (WritesInPart (W.contents writer.old) (W.contents writer.new)
-        (if accepted then codes "accepted\n" else codes "not accepted\n")) }
-    ensures fault { IfErr result (λ fault. fault ≡ LinesError.Write) }
+        (judgment_lines form proof.now accepted)) }
+    ensures fault { IfErr result (λ fault. IsLineUnwritten fault (W.contents writer.old) (W.contents writer.new)
+        (judgment_lines form proof.now accepted)) }
+    ensures memory { (result ≡ Err LinesError.Memory) → (form ≡ CheckForm.Contents) × (accepted ≡ true) }
 {
-    if accepted {
-        write_whole(writer, b"accepted\n")
-    } else {
-        write_whole(writer, b"not accepted\n")
+    if !accepted {
+        return write_whole(writer, b"not accepted\n");
     }
+    match form {
+        CheckForm::Judgment => write_whole(writer, b"accepted\n"),
+        CheckForm::Contents => write_contents(alloc, proof, writer),
+    }
+}
+
+// Writes that a proof is accepted, and what it is about.
+fn write_contents<W: Write>(alloc: Global, proof: &Proof, writer: &mut W) -> Result<(), LinesError>
+    ensures written { OnOk result (Appends (W.contents writer.old) (W.contents writer.new)
+        (judgment_lines CheckForm.Contents proof.now true)) }
+    ensures fault { IfErr result (λ fault. IsLineUnwritten fault (W.contents writer.old) (W.contents writer.new)
+        (judgment_lines CheckForm.Contents proof.now true)) }
+{
+    let mut lines = Vec::new(alloc);
+    lines.extend_from_slice(b"accepted\n")?;
+    push_proof(&mut lines, proof)?;
+    write_whole(writer, &lines)
 }

@@ -2,14 +2,24 @@
 //! commitments.
 #![tactic(auto)]
 
+mod check_form;
 mod checking;
 mod commitment_word;
+mod ending;
 mod fault;
+pub mod laws;
+mod proof_lines;
+mod report_form;
 mod two_passes;
+mod verified_end;
 mod verifying;
 
+pub use check_form::CheckForm;
 pub use checking::{Proof, judge_proof, read_proof, write_judgment};
 pub use commitment_word::commitment_in_word;
+pub use ending::write_end_message;
 pub use fault::OfflineError;
+pub use report_form::ReportForm;
 pub use two_passes::verify_in_two_passes;
+pub use verified_end::VerifiedEnd;
 pub use verifying::{push_state, verify_export, write_report};

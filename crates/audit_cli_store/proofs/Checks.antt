@@ -1,6 +1,6 @@
 -- A proof read from bytes, and the judgment on it.
-use Rattle.std.proofs.Common.{inl, inr, ◌≡◌, ◌≢◌, ◌↔◌, ℕ, ◌+◌, ◌*◌, ◌<◌, ◌≤◌, Bool, true, false, ◌&&◌, ◌==◌, leb, List, length, drop, Option, Some, None, Ok, refl, sym, ◌∙◌, subst, arith, length-drop}
-use Rattle.std.specs.Prelude.{IsTrue}
+use Rattle.std.proofs.Common.{inl, inr, ◌≡◌, ◌≢◌, ◌↔◌, ℕ, ◌+◌, ◌*◌, ◌<◌, ◌≤◌, Bool, true, false, ◌&&◌, ◌==◌, leb, List, length, drop, Option, Some, None, IfSome, Ok, Err, refl, sym, ap, ◌∙◌, ◌++◌, subst, arith, length-drop}
+use Rattle.std.specs.Prelude.{IsTrue, codes}
 use Rattle.std.proofs.lemmas.Bool.{false≢true}
 use Rattle.std.proofs.lemmas.Option.{none-some}
 use Rattle.sha2.specs.Sha256.{sha256}
@@ -18,7 +18,17 @@ use Rattle.audit_proof.proofs.ReadBytes.{head_parts}
 use Rattle.audit_cli_offline.specs.declared.checking.Proof.{Proof}
 use Rattle.audit_cli_offline.specs.declared.checking.Proof.TheVariants as proofs
 use Rattle.audit_cli_offline.specs.Judgment.{SpellsProof, IsAcceptable, IsAsked}
-use Rattle.audit_cli_store.specs.Checks.{IsAcceptedMember, IsAcceptedIncrement, IsOfOtherKind, IsNoProof, IsProofJudged}
+use Rattle.audit_cli_offline.specs.declared.check_form.CheckForm.{CheckForm}
+use Rattle.audit_cli_offline.specs.declared.check_form.CheckForm.TheVariants as forms
+use Rattle.audit_cli_offline.specs.ProofLines.{judgment_lines}
+use Rattle.std.specs.Io.KnownBytes.{Appends}
+use Rattle.audit_text.specs.Writing.{WritesInPart}
+use Rattle.audit_text.specs.declared.fault.LinesError.{LinesError}
+use Rattle.audit_text.specs.declared.fault.LinesError.TheVariants as lines
+use Rattle.audit_cli_offline.specs.TwoPasses.{IsLineUnwritten}
+use Rattle.audit_cli_store.specs.declared.checking.Judged.{Judged}
+use Rattle.audit_cli_store.specs.declared.fault.CommandError.TheVariants.{Lines}
+use Rattle.audit_cli_store.specs.Checks.{IsReadAndJudged, IsChecked, WritesLinesInPart, contents_line, accepted_lines, IsAcceptedMember, IsAcceptedIncrement, IsOfOtherKind, IsNoProof, IsProofJudged}
 
 -- bytes that are too long for an input aren't a proof
 few_after : (number size : ℕ) → 65536 ≤ size → (leb number MAX_MEMBER_HASHES && leb (HASH_LEN * number) size && leb size (HASH_LEN * number + MAX_ENTRY)) ≡ false
@@ -108,3 +118,41 @@ other_kind (proofs.Increment p) bytes None spelled unasked = record {
   other = λ kind. kind (no_other_member bytes (increment_in p) (member_of bytes) spelled refl);
 }
 other_kind (proofs.Increment p) bytes (Some newer) spelled unasked = absurd (unasked tt)
+
+-- the lines for an accepted proof are those for the bytes that encode it
+pub lines_for : (form : CheckForm) (proof : Proof) (bytes : List ℕ) → SpellsProof bytes proof → judgment_lines form proof true ≡ accepted_lines form bytes
+lines_for forms.Judgment proof bytes spelled = refl
+lines_for forms.Contents (proofs.Member p) bytes spelled = ap (λ (first : Option Member). codes "accepted\n" ++ contents_line first (increment_of bytes)) (sym spelled)
+lines_for forms.Contents (proofs.Increment p) bytes spelled =
+    ap (λ (second : Option Increment). codes "accepted\n" ++ contents_line None second) (sym spelled)
+    ∙ ap (λ (first : Option Member). codes "accepted\n" ++ contents_line first (increment_of bytes)) (sym (no_other_member bytes (increment_in p) (member_of bytes) spelled refl))
+
+-- the lines for an accepted proof were written
+said_by : (form : CheckForm) (proof : Proof) (accepted : Bool) (bytes : List ℕ) (older : Commitment) (newer : Option Commitment) (old new : Option (List ℕ)) → accepted ≡ true → SpellsProof bytes proof
+    → IsProofJudged (Ok accepted) bytes older newer → Appends old new (judgment_lines form proof accepted) → IsChecked form (Ok tt) bytes older newer old new
+said_by form proof false bytes older newer old new is spelled judged written = absurd (false≢true is)
+said_by form proof true bytes older newer old new is spelled judged written = (judged, subst (Appends old new) (lines_for form proof bytes spelled) written)
+
+pub said : (form : CheckForm) (judged : Judged) (known : Option (List ℕ)) (older : Commitment) (newer : Option Commitment) (old new : Option (List ℕ)) → judged.accepted ≡ true
+    → IfSome known (λ bytes. IsReadAndJudged (Ok judged) bytes older newer) → Appends old new (judgment_lines form judged.proof judged.accepted) → IfSome known (λ bytes. IsChecked form (Ok tt) bytes older newer old new)
+said form judged None older newer old new is found written = tt
+said form judged (Some bytes) older newer old new is found written = said_by form judged.proof judged.accepted bytes older newer old new is found.0 found.1 written
+
+-- the lines weren't written completely
+part_by : (form : CheckForm) (proof : Proof) (accepted : Bool) (bytes : List ℕ) (older : Commitment) (newer : Option Commitment) (old new : Option (List ℕ)) → SpellsProof bytes proof
+    → IsProofJudged (Ok accepted) bytes older newer → WritesInPart old new (judgment_lines form proof accepted) → WritesLinesInPart form bytes older newer old new
+part_by form proof true bytes older newer old new spelled judged part = inl (judged, subst (WritesInPart old new) (lines_for form proof bytes spelled) part)
+part_by form proof false bytes older newer old new spelled judged part = inr (judged, part)
+
+unsaid_by : (form : CheckForm) (judged : Judged) (fault : LinesError) (bytes : List ℕ) (older : Commitment) (newer : Option Commitment) (old new : Option (List ℕ)) → IsReadAndJudged (Ok judged) bytes older newer
+    → IsLineUnwritten fault old new (judgment_lines form judged.proof judged.accepted) → IsChecked form (Err (Lines fault)) bytes older newer old new
+unsaid_by form judged lines.Write bytes older newer old new found unwritten = part_by form judged.proof judged.accepted bytes older newer old new found.0 found.1 unwritten
+unsaid_by form judged lines.Memory bytes older newer old new found unwritten = unwritten
+unsaid_by form judged lines.Read bytes older newer old new found unwritten = absurd unwritten
+unsaid_by form judged lines.InputTooLong bytes older newer old new found unwritten = absurd unwritten
+unsaid_by form judged (lines.Line place cause) bytes older newer old new found unwritten = absurd unwritten
+
+pub unsaid : (form : CheckForm) (judged : Judged) (fault : LinesError) (known : Option (List ℕ)) (older : Commitment) (newer : Option Commitment) (old new : Option (List ℕ)) → IfSome known (λ bytes. IsReadAndJudged (Ok judged) bytes older newer)
+    → IsLineUnwritten fault old new (judgment_lines form judged.proof judged.accepted) → IfSome known (λ bytes. IsChecked form (Err (Lines fault)) bytes older newer old new)
+unsaid form judged fault None older newer old new found unwritten = tt
+unsaid form judged fault (Some bytes) older newer old new found unwritten = unsaid_by form judged fault bytes older newer old new found unwritten

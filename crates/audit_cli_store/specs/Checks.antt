@@ -1,5 +1,6 @@
 -- The result of checking the proof in a file against one commitment or two.
-use Rattle.std.specs.Prelude.{◌≡◌, ◌≢◌, ◌⊎◌, Bool, true, false, Option, Some, None, Result, Ok, Err, List, ℕ, codes}
+use Rattle.std.specs.Prelude.{◌≡◌, ◌≢◌, ◌⊎◌, Bool, true, false, Option, Some, None, Result, Ok, Err, ℕ}
+use Rattle.std.specs.Prelude.{List, [], ◌++◌, codes}
 use Rattle.std.specs.Io.KnownBytes.{Appends, Keeps}
 use Rattle.sha2.specs.Sha256.{sha256}
 use Rattle.audit_text.specs.Writing.{WritesInPart}
@@ -7,7 +8,12 @@ use Rattle.audit_text.specs.declared.fault.LinesError.TheVariants as lines
 use Rattle.audit_proof.specs.declared.commitment.Commitment.{Commitment}
 use Rattle.audit_proof.specs.Acceptance.{AcceptsMembership, AcceptsIncrement}
 use Rattle.audit_proof.specs.ProofBytes.{Member, Increment, member_of, increment_of}
+use Rattle.audit_cli_offline.specs.declared.check_form.CheckForm.{CheckForm}
+use Rattle.audit_cli_offline.specs.declared.check_form.CheckForm.TheVariants.{Judgment, Contents}
+use Rattle.audit_cli_offline.specs.Judgment.{SpellsProof}
+use Rattle.audit_cli_offline.specs.ProofLines.{member_line, increment_line}
 use Rattle.audit_store.specs.declared.store_error.StoreError.TheVariants as store
+use Rattle.audit_cli_store.specs.declared.checking.Judged.{Judged}
 use Rattle.audit_cli_store.specs.declared.fault.CommandError.{CommandError}
 use Rattle.audit_cli_store.specs.declared.fault.CommandError.TheVariants.{BadArgument, FileExists, File, InUse}
 use Rattle.audit_cli_store.specs.declared.fault.CommandError.TheVariants.{TooSmall, Salvaged, Lines, Refused, Export}
@@ -73,32 +79,52 @@ IsProofJudged (Ok true) bytes older newer = IsAccepted bytes older newer
 IsProofJudged (Ok false) bytes older newer = IsNotAccepted bytes older newer
 IsProofJudged (Err fault) bytes older newer = IsUnread fault bytes ⊎ ((fault ≡ BadArgument) × IsOfOtherKind bytes newer)
 
--- a prefix of the line with the judgment was written
-abbrev pub WritesLineInPart : List ℕ → Commitment → Option Commitment → Option (List ℕ) → Option (List ℕ) → Type 0
-WritesLineInPart bytes older newer old new =
-    (IsAccepted bytes older newer × WritesInPart old new (codes "accepted\n"))
+-- what the judgment with the proof states about the bytes
+abbrev pub IsReadAndJudged : Result Judged CommandError → List ℕ → Commitment → Option Commitment → Type 0
+IsReadAndJudged (Ok judged) bytes older newer =
+    SpellsProof bytes judged.proof × IsProofJudged (Ok judged.accepted) bytes older newer
+IsReadAndJudged (Err fault) bytes older newer = IsProofJudged (Err fault) bytes older newer
+
+-- what a proof is about, as a line; bytes encode at most one proof
+abbrev pub contents_line : Option Member → Option Increment → List ℕ
+contents_line (Some proof) other = member_line proof
+contents_line None (Some proof) = increment_line proof
+contents_line None None = []
+
+-- the lines for the accepted proof that the bytes encode
+abbrev pub accepted_lines : CheckForm → List ℕ → List ℕ
+accepted_lines Judgment bytes = codes "accepted\n"
+accepted_lines Contents bytes = codes "accepted\n" ++ contents_line (member_of bytes) (increment_of bytes)
+
+-- a prefix of the lines with the judgment was written
+abbrev pub WritesLinesInPart : CheckForm → List ℕ → Commitment → Option Commitment → Option (List ℕ)
+    → Option (List ℕ) → Type 0
+WritesLinesInPart form bytes older newer old new =
+    (IsAccepted bytes older newer × WritesInPart old new (accepted_lines form bytes))
     ⊎ (IsNotAccepted bytes older newer × WritesInPart old new (codes "not accepted\n"))
 
 -- what the result of a check states about the bytes, and what was written
-abbrev pub IsChecked : Result Unit CommandError → List ℕ → Commitment → Option Commitment → Option (List ℕ)
-    → Option (List ℕ) → Type 0
-IsChecked (Ok _) bytes older newer old new = IsAccepted bytes older newer × Appends old new (codes "accepted\n")
-IsChecked (Err NotAccepted) bytes older newer old new = IsNotAccepted bytes older newer
+abbrev pub IsChecked : CheckForm → Result Unit CommandError → List ℕ → Commitment → Option Commitment
+    → Option (List ℕ) → Option (List ℕ) → Type 0
+IsChecked form (Ok _) bytes older newer old new = IsAccepted bytes older newer
+    × Appends old new (accepted_lines form bytes)
+IsChecked form (Err NotAccepted) bytes older newer old new = IsNotAccepted bytes older newer
     × Appends old new (codes "not accepted\n")
-IsChecked (Err BadArgument) bytes older newer old new = IsOfOtherKind bytes newer × Keeps old new
-IsChecked (Err BadProof) bytes older newer old new = IsNoProof bytes × Keeps old new
-IsChecked (Err (Lines lines.Read)) bytes older newer old new = Keeps old new
-IsChecked (Err (Lines lines.Memory)) bytes older newer old new = Keeps old new
-IsChecked (Err (Lines lines.Write)) bytes older newer old new = WritesLineInPart bytes older newer old new
-IsChecked (Err (Lines lines.InputTooLong)) bytes older newer old new = ⊥
-IsChecked (Err (Lines (lines.Line line cause))) bytes older newer old new = ⊥
-IsChecked (Err (Refused error)) bytes older newer old new = (error ≡ store.Memory) × Keeps old new
-IsChecked (Err FileExists) bytes older newer old new = ⊥
-IsChecked (Err File) bytes older newer old new = ⊥
-IsChecked (Err InUse) bytes older newer old new = ⊥
-IsChecked (Err (TooSmall sectors)) bytes older newer old new = ⊥
-IsChecked (Err Salvaged) bytes older newer old new = ⊥
-IsChecked (Err (Export fault)) bytes older newer old new = ⊥
+IsChecked form (Err BadArgument) bytes older newer old new = IsOfOtherKind bytes newer × Keeps old new
+IsChecked form (Err BadProof) bytes older newer old new = IsNoProof bytes × Keeps old new
+IsChecked form (Err (Lines lines.Read)) bytes older newer old new = Keeps old new
+IsChecked form (Err (Lines lines.Memory)) bytes older newer old new = Keeps old new
+IsChecked form (Err (Lines lines.Write)) bytes older newer old new =
+    WritesLinesInPart form bytes older newer old new
+IsChecked form (Err (Lines lines.InputTooLong)) bytes older newer old new = ⊥
+IsChecked form (Err (Lines (lines.Line line cause))) bytes older newer old new = ⊥
+IsChecked form (Err (Refused error)) bytes older newer old new = (error ≡ store.Memory) × Keeps old new
+IsChecked form (Err FileExists) bytes older newer old new = ⊥
+IsChecked form (Err File) bytes older newer old new = ⊥
+IsChecked form (Err InUse) bytes older newer old new = ⊥
+IsChecked form (Err (TooSmall sectors)) bytes older newer old new = ⊥
+IsChecked form (Err Salvaged) bytes older newer old new = ⊥
+IsChecked form (Err (Export fault)) bytes older newer old new = ⊥
 
 -- the fault isn't in the bytes: reading or writing failed, or memory was refused
 abbrev pub IsFailure : CommandError → Type 0

@@ -44,10 +44,10 @@ IsWordFault Replay fault = ⊥
 IsWordFault (Format file site sectors key_file) fault = IsFormatFault site sectors.now fault
 IsWordFault (Append file) fault = ⊥
 IsWordFault (Close file) fault = ⊥
-IsWordFault (Show file access) fault = ⊥
-IsWordFault (Check proof older newer) fault = AreNoCommitments older.now newer × (fault ≡ BadArgument)
+IsWordFault (Show file access form) fault = ⊥
+IsWordFault (Check proof older newer form) fault = AreNoCommitments older.now newer × (fault ≡ BadArgument)
 IsWordFault (Export file out access) fault = ⊥
-IsWordFault (Verify export key_file commitment) fault = ⊥
+IsWordFault (Verify export key_file commitment form) fault = ⊥
 IsWordFault (Prove file kind first second out access) fault =
     (proof_asked kind.now first.now second.now ≡ None) × (fault ≡ BadArgument)
 
@@ -80,10 +80,10 @@ IsReplayOf Replay input before after result = IsReplayed input before after resu
 IsReplayOf (Format file site sectors key_file) input before after result = Unit {0}
 IsReplayOf (Append file) input before after result = Unit {0}
 IsReplayOf (Close file) input before after result = Unit {0}
-IsReplayOf (Show file access) input before after result = Unit {0}
-IsReplayOf (Check proof older newer) input before after result = Unit {0}
+IsReplayOf (Show file access form) input before after result = Unit {0}
+IsReplayOf (Check proof older newer form) input before after result = Unit {0}
 IsReplayOf (Export file out access) input before after result = Unit {0}
-IsReplayOf (Verify export key_file commitment) input before after result = Unit {0}
+IsReplayOf (Verify export key_file commitment form) input before after result = Unit {0}
 IsReplayOf (Prove file kind first second out access) input before after result = Unit {0}
 
 -- A request was carried out with this result, and the output was then flushed. The program's status is that of the

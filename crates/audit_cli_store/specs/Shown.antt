@@ -1,9 +1,11 @@
 -- The output of `show`.
-use Rattle.std.specs.Prelude.{ℕ, List, ◌++◌, codes}
+use Rattle.std.specs.Prelude.{ℕ, ◌-◌, List, ◌++◌, codes}
 use Rattle.std.specs.Fmt.{decimal}
 use Rattle.audit_log.specs.declared.header.Header.{Header}
 use Rattle.audit_text.specs.NumberedLine.{numbered_line}
 use Rattle.audit_cli_offline.specs.ReportLines.{state_word}
+use Rattle.audit_cli_store.specs.declared.show_form.ShowForm.{ShowForm}
+use Rattle.audit_cli_store.specs.declared.show_form.ShowForm.TheVariants.{State, WithFree}
 
 -- the commitment; then the sectors of the device, the end of the log, the generation, the version of the format, and
 -- whether the log is closed
@@ -13,3 +15,11 @@ shown_lines header =
     ++ codes "sectors " ++ decimal header.sectors ++ codes " end " ++ decimal header.end
     ++ codes " generation " ++ decimal header.generation ++ codes " version " ++ decimal header.version
     ++ codes " state " ++ state_word header.closed ++ codes "\n"
+
+-- the sectors of the device after the end of the log
+abbrev pub free_line : Header → List ℕ
+free_line header = codes "free " ++ decimal (header.sectors - header.end) ++ codes "\n"
+
+abbrev pub printed_state : ShowForm → Header → List ℕ
+printed_state State header = shown_lines header
+printed_state WithFree header = shown_lines header ++ free_line header

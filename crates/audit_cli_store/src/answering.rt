@@ -7,6 +7,7 @@ use crate::output_file::OutputFile;
 use crate::proving::proof_bytes;
 use crate::request::Access;
 use crate::salvaging::{Salvaged, write_salvage_line, write_salvaged};
+use crate::show_form::ShowForm;
 use crate::showing::show;
 use crate::text::write_number;
 use audit_disk::{FileIdentity, SharedDisk, SystemFile};
@@ -31,16 +32,17 @@ pub fn show_file<F: Files, W: Write>(
     alloc: Global,
     file: &str,
     access: Access,
+    form: ShowForm,
     output: &mut W,
 ) -> Result<(), CommandError>
 where
     F::File: SystemFile,
 {
     match access {
-        Access::Repair => show(alloc, &open_store(rt, alloc, file)?.content, output),
+        Access::Repair => show(alloc, &open_store(rt, alloc, file)?.content, form, output),
         Access::ReadOnly | Access::Salvage => {
             let source = SharedDisk::new(open_device_to_read(rt, alloc, file)?.content);
-            show(alloc, &store_to_read(alloc, &source)?, output)
+            show(alloc, &store_to_read(alloc, &source)?, form, output)
         }
     }
 }

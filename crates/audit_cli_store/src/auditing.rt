@@ -1,12 +1,16 @@
 //! Commands that check files without a store.
-ghost use Rattle.std.specs.Prelude.{◌≡◌};
+ghost use Rattle.std.specs.Prelude.{◌≡◌, OnOk};
+ghost use Rattle.std.specs.Io.KnownBytes.{Appends, Keeps};
+ghost use Rattle.audit_cli_offline.specs.ReportLines.{end_message};
 ghost use Rattle.audit_cli_store.specs.Requests.{AreNoCommitments, RefusesWords};
 
 use crate::arguments::{commitment_asked, commitments_asked};
 use crate::checking::check_proof;
 use crate::fault::CommandError;
 use crate::making::key_in;
-use audit_cli_offline::{verify_export, verify_in_two_passes};
+use audit_cli_offline::{
+    CheckForm, ReportForm, VerifiedEnd, verify_export, verify_in_two_passes, write_end_message,
+};
 use std::alloc::Global;
 use std::fs::{self, Files, OpenFile};
 use std::io::Write;
@@ -18,30 +22,40 @@ pub fn check_file<F: Files, W: Write>(
     proof: &str,
     older: &str,
     newer: Option<&str>,
+    form: CheckForm,
     output: &mut W,
 ) -> Result<(), CommandError>
     ensures { RefusesWords (λ fault. AreNoCommitments older.now newer.entry × (fault ≡ CommandError.BadArgument))
         (W.contents output.old) (W.contents output.new) result }
 {
     let (older, newer) = commitments_asked(older, newer)?;
-    check_proof(alloc, &mut fs::open(rt, proof)?, &older, newer, output)
+    check_proof(
+        alloc,
+        &mut fs::open(rt, proof)?,
+        &older,
+        newer,
+        form,
+        output,
+    )
 }
 
 /// Verifies the export in a file. The arguments are checked before the export is opened. A file is read twice, so that
-/// nothing of it has to be kept. Input that can't be read twice, such as a pipe, is read once and kept.
+/// nothing of it has to be kept. Input that can't be read twice, such as a pipe, is read once and kept. Returns how the
+/// export ends.
 pub fn verify_file<F: Files, W: Write>(
     rt: &F,
     alloc: Global,
     export: &str,
     key_file: &str,
     commitment: &str,
+    form: ReportForm,
     output: &mut W,
-) -> Result<(), CommandError> {
+) -> Result<VerifiedEnd, CommandError> {
     let first_key = key_in(rt, alloc, key_file)?;
     let commitment = commitment_asked(commitment)?;
     let mut first = fs::open(rt, export)?;
     if !first.metadata()?.is_file() {
-        return Ok(verify_export(alloc, &mut first, &first_key, &commitment, output)?);
+        return Ok(verify_export(alloc, &mut first, &first_key, &commitment, form, output)?);
     }
     let mut second = fs::open(rt, export)?;
     Ok(verify_in_two_passes(
@@ -50,6 +64,26 @@ pub fn verify_file<F: Files, W: Write>(
         &mut second,
         &first_key,
         &commitment,
+        form,
         output,
     )?)
+}
+
+/// Ends a report. After one in text the output is flushed, and then the message with its number of events is written.
+pub fn end_report<W: Write, M: Write>(
+    alloc: Global,
+    form: ReportForm,
+    end: VerifiedEnd,
+    output: &mut W,
+    messages: &mut M,
+) -> Result<(), CommandError>
+    ensures output { Keeps (W.contents output.old) (W.contents output.new) }
+    ensures message { OnOk result (Appends (M.contents messages.old) (M.contents messages.new)
+        (end_message form end)) }
+{
+    match form {
+        ReportForm::Events => {}
+        ReportForm::Text => output.flush()?,
+    }
+    Ok(write_end_message(alloc, form, end, messages)?)
 }

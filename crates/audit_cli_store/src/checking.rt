@@ -2,16 +2,24 @@
 ghost use Rattle.std.specs.Prelude.{◌≡◌, ◌⊎◌, ℕ, List, IfOk, IfErr, IfSome, MatchResult};
 ghost use Rattle.audit_cli_offline.specs.Judgment.{SpellsProof};
 ghost use Rattle.audit_cli_store.specs.Checks.{IsAccepted, IsNotAccepted, IsOfOtherKind, IsNoProof, IsUnread};
-ghost use Rattle.audit_cli_store.specs.Checks.{IsProofJudged, IsChecked, IsFailure};
+ghost use Rattle.audit_cli_store.specs.Checks.{IsProofJudged, IsReadAndJudged, IsChecked, IsFailure};
 
 use crate::fault::CommandError;
-use audit_cli_offline::{Proof, judge_proof, read_proof, write_judgment};
+use audit_cli_offline::{CheckForm, Proof, judge_proof, read_proof, write_judgment};
 use audit_proof::Commitment;
 use audit_text::{LinesError, read_input};
 use std::alloc::Global;
 use std::io::{Read, Write};
 
-/// Checks a proof against one commitment or two, and writes whether it is accepted.
+// A proof, and whether it is accepted.
+#[derive(Drop)]
+struct Judged {
+    proof: Proof,
+    accepted: bool,
+}
+
+/// Checks a proof against one commitment or two, and writes whether it is accepted. In the form `Contents` a second
+/// line has what an accepted proof is about, as `write_judgment` says.
 ///
 /// | The bytes are | Result | Written |
 /// |---|---|---|
@@ -20,16 +28,17 @@ use std::io::{Read, Write};
 /// | a proof for other counts than the commitments', or one that isn't accepted | `NotAccepted` | `not accepted` |
 /// | any other proof | Ok | `accepted` |
 ///
-/// Other errors occur only if reading, writing or memory failed. If the line couldn't be written completely, a prefix
-/// of the line that was due has been written.
+/// Other errors occur only if reading, writing or memory failed. If the lines couldn't be written completely, a prefix
+/// of those that were due has been written.
 pub fn check_proof<R: Read, W: Write>(
     alloc: Global,
     reader: &mut R,
     older: &Commitment,
     newer: Option<Commitment>,
+    form: CheckForm,
     writer: &mut W,
 ) -> Result<(), CommandError>
-    ensures found { IfSome (R.remaining reader.old) (λ bytes. IsChecked result bytes older.now newer
+    ensures found { IfSome (R.remaining reader.old) (λ bytes. IsChecked form result bytes older.now newer
         (W.contents writer.old) (W.contents writer.new)) }
 
     // Conversely, the bytes determine the result, unless reading, writing or memory failed.
@@ -42,26 +51,27 @@ pub fn check_proof<R: Read, W: Write>(
     ensures no_proof { IfSome (R.remaining reader.old) (λ bytes. IsNoProof bytes
         → MatchResult result (λ _. ⊥) (λ fault. (fault ≡ CommandError.BadProof) ⊎ IsFailure fault)) }
 {
-    let accepted = judged_in(alloc, reader, older, newer)?;
-    write_judgment(accepted, writer)?;
-    if accepted {
+    let judged = judged_in(alloc, reader, older, newer)?;
+    write_judgment(alloc, form, &judged.proof, judged.accepted, writer)?;
+    if judged.accepted {
         Ok(())
     } else {
         Err(CommandError::NotAccepted)
     }
 }
 
-// Whether the proof in a file is accepted.
+// The proof in a file, and whether it is accepted.
 fn judged_in<R: Read>(
     alloc: Global,
     reader: &mut R,
     older: &Commitment,
     newer: Option<Commitment>,
-) -> Result<bool, CommandError>
-    ensures { IfSome (R.remaining reader.old) (λ bytes. IsProofJudged result bytes older.now newer) }
+) -> Result<Judged, CommandError>
+    ensures { IfSome (R.remaining reader.old) (λ bytes. IsReadAndJudged result bytes older.now newer) }
 {
     let proof = proof_in(alloc, reader)?;
-    is_accepted(&proof, older, newer)
+    let accepted = is_accepted(&proof, older, newer)?;
+    Ok(Judged { proof, accepted })
 }
 
 // Whether a proof is accepted.

@@ -3,13 +3,15 @@ ghost use Rattle.audit_cli_store.specs.Requests.{IsWordFault, RefusesWords, IsRe
 
 use crate::answering::{export_file, prove_file, show_file};
 use crate::arguments::proof_request;
-use crate::auditing::{check_file, verify_file};
+use crate::auditing::{check_file, end_report, verify_file};
 use crate::changing::{append_to, close_file};
 use crate::fault::CommandError;
 use crate::making::{format_file, format_in_place};
 use crate::replaying::replay;
 use crate::reporting::report_end;
+use crate::show_form::ShowForm;
 use crate::status::Status;
+use audit_cli_offline::{CheckForm, ReportForm};
 use audit_disk::SystemFile;
 use std::alloc::Global;
 use std::fs::Files;
@@ -73,6 +75,8 @@ pub enum Request<'a> {
         file: &'a str,
         /// How it is opened.
         access: Access,
+        /// What is written of it.
+        form: ShowForm,
     },
     /// Check a proof against one commitment or two.
     Check {
@@ -82,6 +86,8 @@ pub enum Request<'a> {
         older: &'a str,
         /// The newer commitment, for an incremental proof.
         newer: Option<&'a str>,
+        /// What is written of an accepted proof.
+        form: CheckForm,
     },
     /// Write the entries of the store in a file to another file.
     Export {
@@ -100,6 +106,8 @@ pub enum Request<'a> {
         key_file: &'a str,
         /// The commitment.
         commitment: &'a str,
+        /// How the events are written.
+        form: ReportForm,
     },
     /// Make a proof about the store in a file, and write it to another file.
     Prove {
@@ -132,16 +140,17 @@ where
     F::File: SystemFile,
     ensures { IsCarriedOut request.entry (R.remaining input.old) (W.contents output.old) (W.contents output.new) result }
 {
-    let done = perform(rt, alloc, request, input, output);
+    let done = perform(rt, alloc, request, input, output, messages);
     report_end(done, output.flush(), messages)
 }
 
-fn perform<F: Files, R: Read, W: Write>(
+fn perform<F: Files, R: Read, W: Write, M: Write>(
     rt: &F,
     alloc: Global,
     request: Request<'_>,
     input: &mut R,
     output: &mut W,
+    messages: &mut M,
 ) -> Result<(), CommandError>
 where
     F::File: SystemFile,
@@ -165,18 +174,23 @@ where
         } => format_in_place(rt, alloc, file, erase, sectors, key_file, output),
         Request::Append { file } => append_to(rt, alloc, file, input, output),
         Request::Close { file } => close_file(rt, alloc, file, output),
-        Request::Show { file, access } => show_file(rt, alloc, file, access, output),
+        Request::Show { file, access, form } => show_file(rt, alloc, file, access, form, output),
         Request::Check {
             proof,
             older,
             newer,
-        } => check_file(rt, alloc, proof, older, newer, output),
+            form,
+        } => check_file(rt, alloc, proof, older, newer, form, output),
         Request::Export { file, out, access } => export_file(rt, alloc, file, access, out, output),
         Request::Verify {
             export,
             key_file,
             commitment,
-        } => verify_file(rt, alloc, export, key_file, commitment, output),
+            form,
+        } => {
+            let end = verify_file(rt, alloc, export, key_file, commitment, form, output)?;
+            end_report(alloc, form, end, output, messages)
+        }
         Request::Prove {
             file,
             kind,

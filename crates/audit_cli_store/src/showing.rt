@@ -1,12 +1,13 @@
 //! Showing the state of a store.
-ghost use Rattle.std.specs.Prelude.{◌≡◌, IfOk, IfErr, OnOk, OnErr};
+ghost use Rattle.std.specs.Prelude.{◌≡◌, ◌++◌, IfOk, IfErr, OnOk, OnErr};
 ghost use Rattle.std.specs.Io.KnownBytes.{Appends};
 ghost use Rattle.audit_text.specs.Writing.{WritesInPart};
 ghost use Rattle.audit_store.specs.Store.{active_header};
 ghost use Rattle.audit_cli_store.specs.Faults.{IsUnwritten};
-ghost use Rattle.audit_cli_store.specs.Shown.{shown_lines};
+ghost use Rattle.audit_cli_store.specs.Shown.{shown_lines, free_line, printed_state};
 
 use crate::fault::CommandError;
+use crate::show_form::ShowForm;
 use audit_cli_offline::push_state;
 use audit_disk_model::Sectors;
 use audit_store::Store;
@@ -15,25 +16,52 @@ use std::alloc::{AllocError, Global};
 use std::io::Write;
 
 /// Writes the line of the commitment, then a line with the device's sectors, the end of the log, the generation, the
-/// version of the format, and whether the log is closed.
+/// version of the format, and whether the log is closed. In the form `WithFree` a third line has the number of sectors
+/// after the end of the log.
 pub fn show<D: Sectors, W: Write>(
     alloc: Global,
     store: &Store<D>,
+    form: ShowForm,
     writer: &mut W,
 ) -> Result<(), CommandError>
     ensures written { OnOk result (Appends (W.contents writer.old) (W.contents writer.new)
-        (shown_lines (active_header store.now))) }
+        (printed_state form (active_header store.now))) }
     ensures part { OnErr result (WritesInPart (W.contents writer.old) (W.contents writer.new)
-        (shown_lines (active_header store.now))) }
+        (printed_state form (active_header store.now))) }
     ensures fault { IfErr result (IsUnwritten (W.contents writer.old) (W.contents writer.new)) }
 {
-    let lines = lines_of(alloc, store)?;
+    let lines = lines_of(alloc, store, form)?;
     write_whole(writer, &lines)?;
     Ok(())
 }
 
+fn lines_of<D: Sectors>(
+    alloc: Global,
+    store: &Store<D>,
+    form: ShowForm,
+) -> Result<Vec<u8>, AllocError>
+    ensures { IfOk result (λ lines. lines.items ≡ printed_state form (active_header store.now)) }
+{
+    let mut lines = state_lines(alloc, store)?;
+    match form {
+        ShowForm::State => Ok(lines),
+        ShowForm::WithFree => {
+            push_free(&mut lines, store)?;
+            Ok(lines)
+        }
+    }
+}
+
+// Appends the line with the number of free sectors.
+fn push_free<D: Sectors>(lines: &mut Vec<u8>, store: &Store<D>) -> Result<(), AllocError>
+    ensures { OnOk result (lines.new.items ≡ lines.old.items ++ free_line (active_header store.now)) }
+{
+    push_number(lines, b"free ", store.sectors() - store.end())?;
+    lines.extend_from_slice(b"\n")
+}
+
 #[tactic(auto, unfolding(crate::specs::Shown::shown_lines, audit_text::specs::NumberedLine::numbered_line))]
-fn lines_of<D: Sectors>(alloc: Global, store: &Store<D>) -> Result<Vec<u8>, AllocError>
+fn state_lines<D: Sectors>(alloc: Global, store: &Store<D>) -> Result<Vec<u8>, AllocError>
     ensures { IfOk result (λ lines. lines.items ≡ shown_lines (active_header store.now)) }
 {
     let mut lines = Vec::new(alloc);

@@ -1,6 +1,9 @@
 // The expected values come from an independent model.
 use audit_chain::Key;
-use audit_cli_offline::{OfflineError, commitment_in_word, verify_export, verify_in_two_passes};
+use audit_cli_offline::{
+    OfflineError, ReportForm, VerifiedEnd, commitment_in_word, verify_export, verify_in_two_passes,
+    write_end_message,
+};
 use audit_proof::Commitment;
 use audit_verify::{Cause, VerifyFault};
 use hex::FromHex;
@@ -49,10 +52,18 @@ fn an_export_of_one_event(rt: HostRuntime) -> Result<(), Fail> {
         &mut entry.as_slice(),
         &key,
         &commitment,
+        ReportForm::Events,
         &mut written,
     )?;
     assert!(rt; written.as_slice() == b"event 0 1 6869\nverified 1 open\n".as_slice());
-    let cut = verify_export(alloc, &mut &entry[..0], &key, &commitment, &mut written);
+    let cut = verify_export(
+        alloc,
+        &mut &entry[..0],
+        &key,
+        &commitment,
+        ReportForm::Events,
+        &mut written,
+    );
     assert!(rt; cut.is_err() && written.len() == 31);
     Ok(())
 }
@@ -72,6 +83,7 @@ fn an_export_of_a_closed_log(rt: HostRuntime) -> Result<(), Fail> {
         &mut bytes.as_slice(),
         &key,
         &commitment,
+        ReportForm::Events,
         &mut written,
     )?;
     let lines = b"event 0 1 6869\nevent 1 4294967295 -\nverified 2 closed\n".as_slice();
@@ -92,7 +104,8 @@ fn outcome_of<'a>(
     mut first: &'a [u8],
     mut second: &'a [u8],
     commitment: &Commitment,
-) -> (Result<(), OfflineError>, Vec<u8>) {
+    form: ReportForm,
+) -> (Result<VerifiedEnd, OfflineError>, Vec<u8>) {
     let mut written = Vec::new(alloc);
     let key = Key::from_bytes([0; 32]);
     let done = verify_in_two_passes(
@@ -101,18 +114,19 @@ fn outcome_of<'a>(
         &mut second,
         &key,
         commitment,
+        form,
         &mut written,
     );
     (done, written)
 }
 
 // Whether bytes get the same verdict in two passes as in one, with the same lines.
-fn is_one_verdict(alloc: Global, bytes: &[u8], commitment: &Commitment) -> bool {
+fn is_one_verdict(alloc: Global, bytes: &[u8], commitment: &Commitment, form: ReportForm) -> bool {
     let mut held = Vec::new(alloc);
     let key = Key::from_bytes([0; 32]);
     let mut reader = bytes;
-    let once = verify_export(alloc, &mut reader, &key, commitment, &mut held);
-    let (twice, written) = outcome_of(alloc, bytes, bytes, commitment);
+    let once = verify_export(alloc, &mut reader, &key, commitment, form, &mut held);
+    let (twice, written) = outcome_of(alloc, bytes, bytes, commitment, form);
     once == twice && held.as_slice() == written.as_slice()
 }
 
@@ -123,12 +137,12 @@ fn exports_in_two_passes(rt: HostRuntime) -> Result<(), Fail> {
     let Some(commitment) = commitment_in_word(COMMIT_OF_CLOSED) else {
         return Ok(assert!(rt; false));
     };
-    let (done, written) = outcome_of(alloc, &bytes, &bytes, &commitment);
+    let (done, written) = outcome_of(alloc, &bytes, &bytes, &commitment, ReportForm::Events);
     let lines = b"event 0 1 6869\nevent 1 4294967295 -\nverified 2 closed\n".as_slice();
     assert!(rt; done.is_ok() && written.as_slice() == lines);
     for place in 0..bytes.len() {
         assert!(rt;
-            is_one_verdict(alloc, &bytes[..place], &commitment),
+            is_one_verdict(alloc, &bytes[..place], &commitment, ReportForm::Events),
             "cut at {place}"
         );
         let mut turned = bytes.clone()?;
@@ -136,7 +150,7 @@ fn exports_in_two_passes(rt: HostRuntime) -> Result<(), Fail> {
             *byte ^= 1;
         }
         assert!(rt;
-            is_one_verdict(alloc, &turned, &commitment),
+            is_one_verdict(alloc, &turned, &commitment, ReportForm::Text),
             "turned at {place}"
         );
     }
@@ -144,7 +158,7 @@ fn exports_in_two_passes(rt: HostRuntime) -> Result<(), Fail> {
 }
 
 // The fault of two passes, if there is one.
-fn fault_of(done: &Result<(), OfflineError>) -> Option<VerifyFault> {
+fn fault_of(done: &Result<VerifiedEnd, OfflineError>) -> Option<VerifyFault> {
     match done {
         Err(OfflineError::Export(fault)) => Some(*fault),
         _ => None,
@@ -160,7 +174,7 @@ fn an_export_that_changes_between_the_passes(rt: HostRuntime) -> Result<(), Fail
         return Ok(assert!(rt; false));
     };
     let line = b"event 0 1 6869\n".as_slice();
-    let (shorter, written) = outcome_of(alloc, &bytes, &entry, &commitment);
+    let (shorter, written) = outcome_of(alloc, &bytes, &entry, &commitment, ReportForm::Events);
     let other_end = VerifyFault {
         index: 1,
         cause: Cause::WrongCommitment,
@@ -170,13 +184,33 @@ fn an_export_that_changes_between_the_passes(rt: HostRuntime) -> Result<(), Fail
     if let Some(byte) = turned.last_mut() {
         *byte ^= 1;
     }
-    let (wrong, written) = outcome_of(alloc, &bytes, &turned, &commitment);
+    let (wrong, written) = outcome_of(alloc, &bytes, &turned, &commitment, ReportForm::Events);
     let bad_mac = VerifyFault {
         index: 1,
         cause: Cause::BadMac,
     };
     assert!(rt; fault_of(&wrong) == Some(bad_mac) && written.as_slice() == line);
-    let (refused, written) = outcome_of(alloc, &turned, &bytes, &commitment);
+    let (refused, written) = outcome_of(alloc, &turned, &bytes, &commitment, ReportForm::Events);
     assert!(rt; fault_of(&refused) == Some(bad_mac) && written.is_empty());
+    Ok(())
+}
+
+// The payloads as lines of text, in one pass and in two, and then the message.
+#[test]
+fn a_report_in_text(rt: HostRuntime) -> Result<(), Fail> {
+    let alloc = rt.alloc();
+    let bytes = closed_export(alloc)?;
+    let Some(commitment) = commitment_in_word(COMMIT_OF_CLOSED) else {
+        return Ok(assert!(rt; false));
+    };
+    assert!(rt; is_one_verdict(alloc, &bytes, &commitment, ReportForm::Text));
+    let (done, written) = outcome_of(alloc, &bytes, &bytes, &commitment, ReportForm::Text);
+    let end = done?;
+    assert!(rt; written.as_slice() == b"hi\n\n".as_slice() && end.count == 2 && end.closed);
+    let mut message = Vec::new(alloc);
+    write_end_message(alloc, ReportForm::Events, end, &mut message)?;
+    assert!(rt; message.is_empty());
+    write_end_message(alloc, ReportForm::Text, end, &mut message)?;
+    assert!(rt; message.as_slice() == b"audit: verified 2 closed\n".as_slice());
     Ok(())
 }

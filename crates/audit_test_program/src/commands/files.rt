@@ -1,5 +1,7 @@
 // Whole command lines over files. The expected output was computed by an independent model.
-use audit_cli_store::{Access, CommandError, Request, Site, Status, mode_asked, report_end, run};
+use audit_cli_store::{
+    Access, CommandError, Request, ShowForm, Site, Status, mode_asked, report_end, run,
+};
 use std::fs::{self, OpenOptions};
 use std::io::{self, ErrorKind};
 use std::path::PathBuf;
@@ -101,7 +103,11 @@ fn a_store_in_a_file(rt: HostRuntime) -> Result<(), Fail> {
         assert!(rt;
             prints(
                 &rt,
-                Request::Show { file, access },
+                Request::Show {
+                    file,
+                    access,
+                    form: ShowForm::State
+                },
                 b"",
                 SHOWN,
                 Status::Done

@@ -1,7 +1,7 @@
 // The expected output was computed by an independent model, which shares no code with the program.
 use audit_chain::Key;
 use audit_cli_store::{
-    CommandError, ProofRequest, append_lines, close_log, format_device, proof_bytes, show,
+    CommandError, ProofRequest, ShowForm, append_lines, close_log, format_device, proof_bytes, show,
 };
 use audit_disk::{FailOnce, MemDisk};
 use audit_store::{Store, StoreError};
@@ -104,7 +104,7 @@ fn a_device_that_gets_full(rt: HostRuntime) -> Result<(), Fail> {
     let mut output = Vec::new(rt.alloc());
     let fault = append_lines(rt.alloc(), &mut store, &mut lines.as_slice(), &mut output).err();
     assert!(rt; fault == Some(CommandError::Refused(StoreError::Full)));
-    show(rt.alloc(), &store, &mut output)?;
+    show(rt.alloc(), &store, ShowForm::State, &mut output)?;
     assert!(rt; output.as_slice() == FULL);
     Ok(())
 }
@@ -117,7 +117,8 @@ sectors 66 end 66 generation 4 version 2 state open\n";
 const CLOSED: &[u8] = b"\
 closed 1 2d575e5b39c1814e3d248ecf4d9cde1d3c9577c0c4900494c66ebaca6f5809f2\n\
 commit 1 2d575e5b39c1814e3d248ecf4d9cde1d3c9577c0c4900494c66ebaca6f5809f2\n\
-sectors 3 end 3 generation 4 version 2 state closed\n";
+sectors 3 end 3 generation 4 version 2 state closed\n\
+free 0\n";
 
 // A closed log stays unchanged.
 #[test]
@@ -127,7 +128,7 @@ fn a_log_of_no_event_is_closed(rt: HostRuntime) -> Result<(), Fail> {
     close_log(rt.alloc(), &mut store, &mut output)?;
     let fault = close_log(rt.alloc(), &mut store, &mut output).err();
     assert!(rt; fault == Some(CommandError::Refused(StoreError::Closed)));
-    show(rt.alloc(), &store, &mut output)?;
+    show(rt.alloc(), &store, ShowForm::WithFree, &mut output)?;
     assert!(rt; output.as_slice() == CLOSED);
     Ok(())
 }

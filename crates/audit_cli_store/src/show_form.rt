@@ -1,0 +1,8 @@
+/// What `show` writes of a store.
+#[derive(Clone, Copy, Debug, PartialEq, Eq)]
+pub enum ShowForm {
+    /// Its commitment, and the state of its log.
+    State,
+    /// The same, and how many of its sectors are free.
+    WithFree,
+}
