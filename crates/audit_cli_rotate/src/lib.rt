@@ -6,6 +6,7 @@ mod lines;
 mod linking;
 mod request;
 mod rotating;
+mod stores;
 
 pub use linking::{link_event, starts_with_link};
 pub use request::{Request, run};

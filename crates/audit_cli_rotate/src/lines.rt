@@ -1,49 +1,75 @@
 //! The lines of a rotation.
+ghost use Rattle.std.specs.Prelude.{◌≡◌, ◌++◌, codes, IfOk, IfErr, OnOk, OnErr};
+ghost use Rattle.std.specs.Fmt.{decimal};
+ghost use Rattle.std.specs.Io.KnownBytes.{Appends};
+ghost use Rattle.audit_text.specs.Writing.{WritesInPart};
+ghost use Rattle.audit_store.specs.Store.{active_header};
+ghost use Rattle.audit_cli_store.specs.Acks.{ack_line};
+ghost use Rattle.audit_cli_store.specs.Faults.{IsUnwritten};
+ghost use Rattle.audit_cli_rotate.specs.Lines.{rotated_lines, formatted_line};
+
 use audit_cli_store::CommandError;
-use audit_proof::Commitment;
-use audit_text::{push_hex, push_number, write_whole};
+use audit_disk_model::Sectors;
+use audit_store::{Receipt, Store};
+use audit_text::{push_hex, push_number, put_line, write_whole};
 use std::alloc::{AllocError, Global};
 use std::io::Write;
 
-/// What a rotation left: the last commitment of the closed log, and the new store.
-#[derive(Clone, Copy)]
-pub(crate) struct Rotated {
-    /// The last commitment of the closed log.
-    pub closed: Commitment,
-    /// The number of sectors of the new store.
-    pub sectors: u64,
-    /// The commitment of the new store, to its first event.
-    pub linked: Commitment,
-}
-
-/// Writes the lines that closing, formatting and appending the first event print.
-pub(crate) fn write_rotated<W: Write>(
+/// Writes the lines that closing the old log, formatting the new store and appending its first event print.
+pub(crate) fn write_rotated<O: Sectors, N: Sectors, W: Write>(
     alloc: Global,
-    rotated: &Rotated,
+    old: &Store<O>,
+    new: &Store<N>,
     writer: &mut W,
-) -> Result<(), CommandError> {
-    let lines = lines_of(alloc, rotated)?;
+) -> Result<(), CommandError>
+    ensures written { OnOk result (Appends (W.contents writer.old) (W.contents writer.new)
+        (rotated_lines (active_header old.now) (active_header new.now))) }
+    ensures part { OnErr result (WritesInPart (W.contents writer.old) (W.contents writer.new)
+        (rotated_lines (active_header old.now) (active_header new.now))) }
+    ensures fault { IfErr result (IsUnwritten (W.contents writer.old) (W.contents writer.new)) }
+{
+    let lines = lines_of(alloc, old, new)?;
     write_whole(writer, &lines)?;
     Ok(())
 }
 
-fn lines_of(alloc: Global, rotated: &Rotated) -> Result<Vec<u8>, AllocError> {
+fn lines_of<O: Sectors, N: Sectors>(
+    alloc: Global,
+    old: &Store<O>,
+    new: &Store<N>,
+) -> Result<Vec<u8>, AllocError>
+    ensures { IfOk result (λ lines. lines.items ≡ rotated_lines (active_header old.now) (active_header new.now)) }
+{
+    let (closed, linked) = (old.commitment(), new.commitment());
     let mut lines = Vec::new(alloc);
-    push_commitment(&mut lines, b"closed ", &rotated.closed)?;
-    push_number(&mut lines, b"formatted ", rotated.sectors)?;
-    lines.extend_from_slice(b"\n")?;
-    push_commitment(&mut lines, b"ack 0 ", &rotated.linked)?;
+    put_line(&mut lines, b"closed ", closed.count, &closed.root)?;
+    push_formatted(&mut lines, new.sectors())?;
+    let receipt = Receipt {
+        first: 0,
+        count: linked.count,
+        root: linked.root,
+    };
+    push_ack(&mut lines, &receipt)?;
     Ok(lines)
 }
 
-// Appends a line with a word, a count and a root.
-fn push_commitment(
-    lines: &mut Vec<u8>,
-    word: &[u8],
-    commitment: &Commitment,
-) -> Result<(), AllocError> {
-    push_number(lines, word, commitment.count)?;
+// Appends the line of a formatted device.
+fn push_formatted(lines: &mut Vec<u8>, sectors: u64) -> Result<(), AllocError>
+    ensures { OnOk result (lines.new.items ≡ lines.old.items ++ formatted_line sectors) }
+{
+    push_number(lines, b"formatted ", sectors)?;
+    lines.extend_from_slice(b"\n")?;
+    Ok(())
+}
+
+// Appends the line of a receipt.
+fn push_ack(lines: &mut Vec<u8>, receipt: &Receipt) -> Result<(), AllocError>
+    ensures { OnOk result (lines.new.items ≡ lines.old.items ++ ack_line receipt.now) }
+{
+    push_number(lines, b"ack ", receipt.first)?;
+    push_number(lines, b" ", receipt.count)?;
     lines.extend_from_slice(b" ")?;
-    push_hex(lines, &commitment.root)?;
-    lines.extend_from_slice(b"\n")
+    push_hex(lines, &receipt.root)?;
+    lines.extend_from_slice(b"\n")?;
+    Ok(())
 }
