@@ -10,7 +10,7 @@ abbrev pub formatted_line : ℕ → List ℕ
 formatted_line sectors = codes "formatted " ++ decimal sectors ++ codes "\n"
 
 -- The lines that closing a log, formatting a new store and appending its first event print, with the two headers.
-abbrev pub rotated_lines : Header → Header → List ℕ
+unfoldable pub rotated_lines : Header → Header → List ℕ
 rotated_lines old new =
     numbered_line (codes "closed ") old.count old.root ++ formatted_line new.sectors
     ++ ack_line (record { first = 0; count = new.count; root = new.root })

@@ -33,6 +33,7 @@ pub(crate) fn write_rotated<O: Sectors, N: Sectors, W: Write>(
     Ok(())
 }
 
+#[tactic(auto, unfolding(crate::specs::Lines::rotated_lines))]
 fn lines_of<O: Sectors, N: Sectors>(
     alloc: Global,
     old: &Store<O>,
@@ -44,10 +45,11 @@ fn lines_of<O: Sectors, N: Sectors>(
     let mut lines = Vec::new(alloc);
     put_line(&mut lines, b"closed ", closed.count, &closed.root)?;
     push_formatted(&mut lines, new.sectors())?;
+    let (count, root) = (linked.count, linked.root);
     let receipt = Receipt {
         first: 0,
-        count: linked.count,
-        root: linked.root,
+        count,
+        root,
     };
     push_ack(&mut lines, &receipt)?;
     Ok(lines)

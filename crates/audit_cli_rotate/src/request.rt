@@ -1,4 +1,11 @@
 //! The request to rotate a log, and how it is carried out.
+ghost use Rattle.std.specs.Prelude.{◌≡◌, ◌⊎◌, Err};
+ghost use Rattle.std.specs.Io.KnownBytes.{Keeps};
+ghost use Rattle.audit_cli_store.specs.declared.fault.CommandError.{CommandError};
+ghost use Rattle.audit_cli_store.specs.Arguments.{sectors_asked};
+ghost use Rattle.audit_cli_store.specs.Faults.{status_of};
+ghost use Rattle.audit_cli_store.specs.Requests.{RefusesWords};
+
 use crate::files::rotate_file;
 use audit_cli_store::{CommandError, Status, read_key, report_end, sectors_asked};
 use audit_disk::SystemFile;
@@ -33,6 +40,12 @@ pub fn run<F: Files, W: Write, M: Write>(
 ) -> Status
 where
     F::File: SystemFile,
+    // A wrong number of sectors ends the program before anything is written. An output that can't be flushed is another
+    // fault.
+    ensures words { (fault : CommandError) → sectors_asked request.entry.sectors.now ≡ Err fault
+        → (result ≡ status_of fault) ⊎ (result ≡ Status.Device) }
+    ensures unwritten { (fault : CommandError) → sectors_asked request.entry.sectors.now ≡ Err fault
+        → Keeps (W.contents output.old) (W.contents output.new) }
 {
     let done = perform(rt, alloc, request, output);
     report_end(done, output.flush(), messages)
@@ -47,6 +60,8 @@ fn perform<F: Files, W: Write>(
 ) -> Result<(), CommandError>
 where
     F::File: SystemFile,
+    ensures { RefusesWords (λ fault. sectors_asked request.entry.sectors.now ≡ Err fault) (W.contents output.old)
+        (W.contents output.new) result }
 {
     let sectors = sectors_asked(request.sectors)?;
     let first_key = read_key(alloc, &mut fs::open(rt, request.key_file)?)?;
