@@ -8,7 +8,7 @@ use Rattle.audit_cli_rotate.proofs.lines.write_rotated.Goals as goal
 pub returns-in_err-lines-clause-part : goal.returns-in_err-lines-clause-part
 returns-in_err-lines-clause-part g c =
     let p = err_from_is_err_and c.from_residual.result c.from_residual.ensures.1 in
-    rw (p.1, p.2) (record {
+    rw p.1 (record {
       written = [];
       rest = rotated_lines (active_header c.args.old.now) (active_header c.args.new.now);
       split = refl;
