@@ -1,2 +1,3 @@
 pub mod Leaf
 pub mod Sizes
+pub mod Held

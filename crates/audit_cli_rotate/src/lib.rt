@@ -2,6 +2,7 @@
 #![tactic(auto)]
 
 mod files;
+pub mod laws;
 mod lines;
 mod linking;
 mod request;
