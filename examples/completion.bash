@@ -1,16 +1,16 @@
 # Bash completion for `audit`: `source examples/completion.bash`.
 _audit() {
     local word=${COMP_WORDS[COMP_CWORD]} command=${COMP_WORDS[1]}
-    local commands="replay format append close show prove check export verify serve loop daemon stop send ask watch"
+    local commands="replay format append close rotate show prove check export verify serve loop daemon stop send ask watch"
     if [ "$COMP_CWORD" -eq 1 ]; then
         mapfile -t COMPREPLY < <(compgen -W "$commands --help --version" -- "$word")
         return
     fi
     if [[ $word == -* ]]; then
-        local options="--explain --help"
+        local options="--explain --no-progress --help"
         case $command in
         format) options="$options --mode --in-place --erase" ;;
-        append) options="$options --text --follow --expect" ;;
+        append) options="$options --text --follow --expect --reserve" ;;
         show) options="$options --free --read-only" ;;
         prove) options="$options --read-only" ;;
         check) options="$options --print" ;;
@@ -34,7 +34,7 @@ _audit() {
     serve:[5-9]) mapfile -t COMPREPLY < <(compgen -W "--sessions --socket-mode" -- "$word") ;;
     ask:3) mapfile -t COMPREPLY < <(compgen -W "commitment entry member increment export close" -- "$word") ;;
     prove:3) mapfile -t COMPREPLY < <(compgen -W "member increment" -- "$word") ;;
-    format:2 | append:2 | close:2 | show:2 | prove:2 | prove:6 | check:2 | export:[23] | verify:2 | serve:[23] | loop:[23] | daemon:[23] | stop:2 | format:4 | verify:3 | send:2 | ask:[24567] | watch:[23])
+    format:2 | append:2 | close:2 | rotate:[235] | show:2 | prove:2 | prove:6 | check:2 | export:[23] | verify:2 | serve:[23] | loop:[23] | daemon:[23] | stop:2 | format:4 | verify:3 | send:2 | ask:[24567] | watch:[23])
         mapfile -t COMPREPLY < <(compgen -f -- "$word")
         ;;
     *) COMPREPLY=() ;;

@@ -4,6 +4,7 @@ use audit_cli_daemon::{Request as Daemon, Settings};
 use audit_cli_follow::Request as Lines;
 use audit_cli_offline::{CheckForm, ReportForm};
 use audit_cli_remote::Request as Remote;
+use audit_cli_rotate::Request as Rotation;
 use audit_cli_serve::Request as Serving;
 use audit_cli_store::{Access, Request, ShowForm, Site};
 use clap::{ArgMatches, Error};
@@ -26,8 +27,10 @@ pub struct CommandLine<'a> {
 pub enum Asked<'a> {
     /// A command that serves no sessions.
     Plain(Request<'a>),
-    /// An append of lines of text, or of lines as they come, or to a store of a certain count.
+    /// An append of lines of text, or of lines as they come, or to a store of a certain count, or that leaves a reserve.
     Lines(Lines<'a>),
+    /// Closing a log, and beginning a new store with its last commitment.
+    Rotation(Rotation<'a>),
     /// A command that asks a server.
     Remote(Remote<'a>),
     /// A command that serves sessions.
@@ -76,6 +79,12 @@ fn asked_by<'a>(name: &str, given: &ArgMatches<'a>) -> Asked<'a> {
             socket_mode: given.get_str("socket-mode"),
         }),
         "daemon" => Asked::Daemon(Daemon::Run(settings(given))),
+        "rotate" => Asked::Rotation(Rotation {
+            old: word(given, "OLD"),
+            new: word(given, "NEW"),
+            sectors: word(given, "SECTORS"),
+            key_file: word(given, "KEYFILE"),
+        }),
         "stop" => Asked::Daemon(Daemon::Stop {
             socket: word(given, "SOCKET"),
         }),
@@ -93,8 +102,12 @@ fn lines_request<'a>(name: &str, given: &ArgMatches<'a>) -> Option<Lines<'a>> {
         text: given.get_str("text"),
         expect: given.get_str("expect"),
         follows: given.get_flag("follow"),
+        reserve: given.get_str("reserve"),
     };
-    let has_options = lines.follows || lines.text.is_some() || lines.expect.is_some();
+    let has_options = lines.follows
+        || lines.text.is_some()
+        || lines.expect.is_some()
+        || lines.reserve.is_some();
     has_options.then_some(lines)
 }
 

@@ -83,6 +83,7 @@ fn key_places(asked: Asked<'_>) -> KeyPlaces<'_> {
     let (store, key_file) = match asked {
         Asked::Plain(request) => places_of(request),
         Asked::Lines(lines) => (Some(lines.file), None),
+        Asked::Rotation(rotation) => (Some(rotation.old), Some(rotation.key_file)),
         Asked::Remote(_) => (None, None),
         Asked::Serving(Serving::Serve { file, .. } | Serving::Loop { file, .. }) => {
             (Some(file), None)

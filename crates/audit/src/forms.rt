@@ -73,7 +73,7 @@ pub(crate) struct Choice {
     pub(crate) excludes: Option<&'static str>,
 }
 
-static FORMS: [Form; 13] = [
+static FORMS: [Form; 14] = [
     Form {
         name: "replay",
         about: "Seals events from standard input, and prints their entries and the commitment",
@@ -157,7 +157,42 @@ static FORMS: [Form; 13] = [
                 needs: None,
                 excludes: None,
             },
+            Choice {
+                name: "reserve",
+                value: Some("N"),
+                help: "Leaves N sectors free after the log [default: 0, with --follow 1]",
+                needs: None,
+                excludes: None,
+            },
         ],
+    },
+    Form {
+        name: "rotate",
+        about: "Closes the log of a store, and begins a new store with its last commitment",
+        after: Some("If it is interrupted, run it again with the same words."),
+        words: &[
+            Word {
+                name: "OLD",
+                help: "The file of the store whose log is closed",
+                is_required: true,
+            },
+            Word {
+                name: "NEW",
+                help: "The file to be made for the new store",
+                is_required: true,
+            },
+            Word {
+                name: "SECTORS",
+                help: "Its size in sectors of 512 bytes, 3 to 16777216",
+                is_required: true,
+            },
+            Word {
+                name: "KEYFILE",
+                help: "The file with its first key, in 64 hex digits",
+                is_required: true,
+            },
+        ],
+        options: &[],
     },
     Form {
         name: "close",

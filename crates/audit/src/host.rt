@@ -68,6 +68,10 @@ impl<'n, 'w, R: Files> Files for Host<'n, 'w, R> {
         self.noted(to, self.rt.rename(from, to))
     }
 
+    fn hard_link(&self, original: &str, link: &str) -> io::Result<()> {
+        self.noted(link, self.rt.hard_link(original, link))
+    }
+
     fn remove_file(&self, path: &str) -> io::Result<()> {
         self.noted(path, self.rt.remove_file(path))
     }

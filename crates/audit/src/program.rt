@@ -42,6 +42,7 @@ where
         Asked::Lines(request) => {
             audit_cli_follow::run(rt, alloc, request, input, output, messages)
         }
+        Asked::Rotation(request) => audit_cli_rotate::run(rt, alloc, request, output, messages),
         Asked::Remote(request) => audit_cli_remote::run(
             rt, alloc, request, input, output, messages,
         ),

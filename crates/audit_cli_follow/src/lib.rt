@@ -7,6 +7,7 @@ mod fault;
 mod following;
 mod input;
 mod request;
+mod reserving;
 mod taking;
 
 pub use asking::append_asked;

@@ -1,5 +1,6 @@
 //! Commands over words, readers, writers, devices and files.
 mod files;
+mod followed;
 mod replays;
 mod salvages;
 mod stores;

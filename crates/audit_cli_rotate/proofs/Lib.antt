@@ -1,0 +1,3 @@
+pub mod Leaf
+pub mod Sizes
+pub mod Held

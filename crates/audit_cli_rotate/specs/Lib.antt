@@ -1,0 +1,4 @@
+pub mod Links
+pub mod Linked
+pub mod Lines
+pub mod Rotated

@@ -1,0 +1,77 @@
+//! The request to rotate a log, and how it is carried out.
+ghost use Rattle.std.specs.Prelude.{◌≡◌, ◌⊎◌, Err};
+ghost use Rattle.std.specs.Io.KnownBytes.{Keeps};
+ghost use Rattle.audit_cli_store.specs.declared.fault.CommandError.{CommandError};
+ghost use Rattle.audit_cli_store.specs.Arguments.{sectors_asked};
+ghost use Rattle.audit_cli_store.specs.Faults.{status_of};
+ghost use Rattle.audit_cli_store.specs.Requests.{RefusesWords};
+
+use crate::files::rotate_file;
+use audit_cli_store::{CommandError, Status, read_key, report_end, sectors_asked};
+use audit_disk::SystemFile;
+use std::alloc::Global;
+use std::fs::{self, Files};
+use std::io::Write;
+
+/// A request to rotate the log of a store, with the words of the command line as given.
+#[derive(Clone, Copy, Debug)]
+pub struct Request<'a> {
+    /// The file of the store whose log is closed.
+    pub old: &'a str,
+    /// The file of the store that continues it.
+    pub new: &'a str,
+    /// The number of sectors of the new store.
+    pub sectors: &'a str,
+    /// The file with the first key of the new store.
+    pub key_file: &'a str,
+}
+
+/// Carries out a request. Lines that begin with `audit: ` are written to `messages`, all others to `output`, which is
+/// flushed at the end. Returns the status with which the program exits.
+///
+/// A run that was interrupted is continued by another one with the same words: what is done is found, and not done
+/// twice.
+pub fn run<F: Files, W: Write, M: Write>(
+    rt: &F,
+    alloc: Global,
+    request: Request<'_>,
+    output: &mut W,
+    messages: &mut M,
+) -> Status
+where
+    F::File: SystemFile,
+    // A wrong number of sectors ends the program before anything is written. An output that can't be flushed is another
+    // fault.
+    ensures words { (fault : CommandError) → sectors_asked request.entry.sectors.now ≡ Err fault
+        → (result ≡ status_of fault) ⊎ (result ≡ Status.Device) }
+    ensures unwritten { (fault : CommandError) → sectors_asked request.entry.sectors.now ≡ Err fault
+        → Keeps (W.contents output.old) (W.contents output.new) }
+{
+    let done = perform(rt, alloc, request, output);
+    report_end(done, output.flush(), messages)
+}
+
+// The words and the key are judged before any store is opened.
+fn perform<F: Files, W: Write>(
+    rt: &F,
+    alloc: Global,
+    request: Request<'_>,
+    output: &mut W,
+) -> Result<(), CommandError>
+where
+    F::File: SystemFile,
+    ensures { RefusesWords (λ fault. sectors_asked request.entry.sectors.now ≡ Err fault) (W.contents output.old)
+        (W.contents output.new) result }
+{
+    let sectors = sectors_asked(request.sectors)?;
+    let first_key = read_key(alloc, &mut fs::open(rt, request.key_file)?)?;
+    rotate_file(
+        rt,
+        alloc,
+        request.old,
+        request.new,
+        sectors,
+        first_key,
+        output,
+    )
+}
