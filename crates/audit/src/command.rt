@@ -27,7 +27,7 @@ pub struct CommandLine<'a> {
 pub enum Asked<'a> {
     /// A command that serves no sessions.
     Plain(Request<'a>),
-    /// An append of lines of text, or of lines as they come, or to a store of a certain count, or that leaves a reserve.
+    /// An append of lines of text, or of lines as they come, or with a certain count, or a reserve.
     Lines(Lines<'a>),
     /// Closing a log, and beginning a new store with its last commitment.
     Rotation(Rotation<'a>),
