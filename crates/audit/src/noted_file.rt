@@ -14,7 +14,7 @@ pub struct NotedFile<'n, 'w, F> {
     inner: F,
     subject: Subject,
     notes: &'n Notes<'w>,
-    // How many bytes were read and written in a row.
+    // The bytes that were read or written so far.
     place: u64,
     // Where it ends, if that is known.
     total: Cell<Option<u64>>,
@@ -32,7 +32,7 @@ impl<'n, 'w, F> NotedFile<'n, 'w, F> {
         }
     }
 
-    /// The same file, of which it is known where it ends.
+    /// Sets the length of the file, if it is known.
     pub fn with_total(self, total: Option<u64>) -> NotedFile<'n, 'w, F> {
         self.total.set(total);
         self
@@ -43,7 +43,7 @@ impl<'n, 'w, F> NotedFile<'n, 'w, F> {
             .moved(motion, self.subject, place, self.total.get());
     }
 
-    // Notes that so many bytes more were read or written.
+    // Adds the bytes that a call read or wrote to the place, and notes it.
     fn went_on(&mut self, motion: Motion, moved: &io::Result<usize>) {
         if let Ok(count) = moved {
             self.place = self.place.saturating_add(*count as u64);
@@ -51,7 +51,7 @@ impl<'n, 'w, F> NotedFile<'n, 'w, F> {
         }
     }
 
-    // Notes that a row of sectors was read or written, but for the headers.
+    // Notes where a row of sectors was read or written. The header sectors are left out.
     fn was_at(&self, motion: Motion, sectors: usize, offset: u64) {
         if offset >= HEADERS {
             let bytes = (sectors as u64).saturating_mul(SECTOR_SIZE as u64);
