@@ -33,7 +33,8 @@ const LONE_LEN: usize = 33;
 const PAIR_LEN: usize = 65;
 
 /// Times flushes of `size` appends. Before each one it times the SHA-256 messages, and the writes and syncs of the
-/// same sectors through a second handle of the file. The file already has its sectors.
+/// same sectors through a second handle of the file. The file already has its sectors. It prints the tenth percentile
+/// of both times, and the mean of the flushes'.
 pub fn time_flushes<R: AllocGlobal + Clock + Eprint, D: Sectors + Drop, F: FileExt + OpenFile>(
     rt: &R,
     store: Store<D>,
@@ -44,9 +45,11 @@ pub fn time_flushes<R: AllocGlobal + Clock + Eprint, D: Sectors + Drop, F: FileE
     let sectors = u64::from(size).saturating_mul(u64::from(ROUNDS));
     bare.write_batch(LOG_START.saturating_add(count), sectors)?;
     let mut core = started(rt.alloc(), store)?;
-    let times = time_rounds(rt, &mut core, bare, count, size)?;
+    let rounds = time_rounds(rt, &mut core, bare, count, size)?;
+    let mean = rounds.mean();
+    let times = rounds.low()?;
     eprintln!(rt;
-        "flushes {size} nanoseconds {} bare {} seen {}",
+        "flushes {size} nanoseconds {} bare {} mean {mean} seen {}",
         times.whole, times.bare, times.seen
     )?;
     Ok(core.into_store())
@@ -59,7 +62,7 @@ fn time_rounds<R: AllocGlobal + Clock, D: Sectors, F: FileExt + OpenFile>(
     bare: &BareFile<F>,
     before: u64,
     size: u32,
-) -> anyhow::Result<Times> {
+) -> anyhow::Result<Rounds> {
     let frames = append_frames(rt.alloc(), size)?;
     let mut rounds = Rounds::new(rt.alloc());
     let mut count = before;
@@ -67,7 +70,7 @@ fn time_rounds<R: AllocGlobal + Clock, D: Sectors, F: FileExt + OpenFile>(
         rounds.push(time_flush(rt, core, bare, count, &frames)?)?;
         count = count.saturating_add(u64::from(size));
     }
-    rounds.low()
+    Ok(rounds)
 }
 
 fn time_flush<R: AllocGlobal + Clock, D: Sectors, F: FileExt + OpenFile>(

@@ -69,6 +69,15 @@ impl Rounds {
         Ok(())
     }
 
+    /// The mean of the rounds' whole times.
+    pub fn mean(&self) -> u128 {
+        let mut sum = 0u128;
+        for time in &self.whole {
+            sum = sum.saturating_add(*time);
+        }
+        sum.checked_div(self.whole.len() as u128).unwrap_or(0)
+    }
+
     /// The tenth percentile of the rounds' times.
     pub fn low(mut self) -> anyhow::Result<Times> {
         Ok(Times {
