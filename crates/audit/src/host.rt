@@ -101,7 +101,9 @@ impl<'n, 'w, R: Files> Files for Host<'n, 'w, R> {
         self.noted(path, self.rt.set_permissions(path, permissions))
     }
 
+    // A server opens its store before it makes its sockets.
     fn bind_unix(&self, socket: BorrowedFd<'_>, address: &unix::SocketAddr) -> io::Result<()> {
+        self.notes.end_opening();
         self.noted(path_of(address), self.rt.bind_unix(socket, address))
     }
 }

@@ -62,6 +62,9 @@ impl<'n, 'w, F> NotedFile<'n, 'w, F> {
 
 impl<F: Read> Read for NotedFile<'_, '_, F> {
     fn read(&mut self, into: &mut [u8]) -> io::Result<usize> {
+        if self.subject == Subject::Input {
+            self.notes.end_opening();
+        }
         let read = self.inner.read(into);
         self.notes.watch(self.subject, &read);
         self.went_on(Motion::Reading, &read);

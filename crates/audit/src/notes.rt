@@ -15,6 +15,17 @@ pub enum Subject {
     Other,
 }
 
+/// How far the main file of a command is shown.
+#[derive(Clone, Copy, PartialEq, Eq)]
+pub enum Extent {
+    /// Until it is open as a store.
+    Opening,
+    /// Always, as a store. Its length doesn't say what is left, since its log ends somewhere in it.
+    Store,
+    /// Always, as a file that is read whole. Its length says what is left.
+    Whole,
+}
+
 /// A failed call of the operating system: its subject and its error.
 #[derive(Clone, Copy)]
 struct Note {
@@ -29,7 +40,7 @@ pub struct Notes<'a> {
     words: &'a [String],
     last: Cell<Option<Note>>,
     main: Cell<Option<Subject>>,
-    is_read_whole: Cell<bool>,
+    extent: Cell<Extent>,
     progress: &'a Progress<'a>,
 }
 
@@ -40,17 +51,25 @@ impl<'a> Notes<'a> {
             words,
             last: Cell::new(None),
             main: Cell::new(None),
-            is_read_whole: Cell::new(false),
+            extent: Cell::new(Extent::Store),
             progress,
         }
     }
 
-    /// Shows from now on how far this file is read or written. If it is read whole, its length says what is left; the
-    /// length of a store's file doesn't, since its log ends somewhere in it.
-    pub fn show_progress(&self, main: Subject, is_read_whole: bool) {
+    /// Shows from now on how far this file is read or written.
+    pub fn show_progress(&self, main: Subject, extent: Extent) {
         self.main.set(Some(main));
-        self.is_read_whole.set(is_read_whole);
+        self.extent.set(extent);
         self.progress.show();
+    }
+
+    /// Notes that a store is open, since it is served or input for it is read. If only its opening is shown, that is
+    /// erased, and nothing is shown from now on.
+    pub fn end_opening(&self) {
+        if self.extent.get() == Extent::Opening {
+            self.main.set(None);
+            self.progress.erase();
+        }
     }
 
     /// Whether it is shown how far this file is.
@@ -60,7 +79,7 @@ impl<'a> Notes<'a> {
 
     /// Whether the length of this file is shown.
     pub fn is_length_shown(&self, subject: Subject) -> bool {
-        self.is_shown(subject) && self.is_read_whole.get()
+        self.is_shown(subject) && self.extent.get() == Extent::Whole
     }
 
     /// Notes that a file is read or written up to a place. `total` is where it ends, if that is known.

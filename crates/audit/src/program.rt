@@ -1,7 +1,9 @@
 use crate::command::{Asked, request_of};
 use crate::explaining::explain;
-use crate::notes::{Notes, Subject};
+use crate::notes::{Extent, Notes, Subject};
+use audit_cli_daemon::{Request as Daemon, Settings};
 use audit_cli_remote::{Dial, Request as Remote};
+use audit_cli_serve::Request as Serving;
 use audit_cli_store::{CommandError, Request, Status, report};
 use audit_disk::SystemFile;
 use audit_store::StoreError;
@@ -63,7 +65,7 @@ where
 fn show_progress(asked: Asked<'_>, notes: &Notes<'_>) {
     match asked {
         Asked::Plain(Request::Verify { export, .. }) => {
-            notes.show_progress(notes.subject_of(export), true)
+            notes.show_progress(notes.subject_of(export), Extent::Whole)
         }
         Asked::Plain(
             Request::Format { file, .. }
@@ -72,17 +74,29 @@ fn show_progress(asked: Asked<'_>, notes: &Notes<'_>) {
             | Request::Show { file, .. }
             | Request::Prove { file, .. }
             | Request::Export { file, .. },
-        ) => notes.show_progress(notes.subject_of(file), false),
-        Asked::Lines(lines) if !lines.follows => {
-            notes.show_progress(notes.subject_of(lines.file), false)
+        ) => notes.show_progress(notes.subject_of(file), Extent::Store),
+        Asked::Lines(lines) => {
+            let extent = if lines.follows {
+                Extent::Opening
+            } else {
+                Extent::Store
+            };
+            notes.show_progress(notes.subject_of(lines.file), extent)
         }
-        Asked::Remote(Remote::Send { .. }) => notes.show_progress(Subject::Input, false),
+        Asked::Rotation(rotation) => {
+            notes.show_progress(notes.subject_of(rotation.old), Extent::Store)
+        }
+        Asked::Serving(Serving::Serve { file, .. } | Serving::Loop { file, .. })
+        | Asked::Daemon(Daemon::Run(Settings { file, .. })) => {
+            notes.show_progress(notes.subject_of(file), Extent::Opening)
+        }
+        Asked::Remote(Remote::Send { .. }) => notes.show_progress(Subject::Input, Extent::Store),
         Asked::Remote(
             Remote::Ask {
                 question: ("export", Some(out), _, _),
                 ..
             },
-        ) => notes.show_progress(notes.subject_of(out), false),
+        ) => notes.show_progress(notes.subject_of(out), Extent::Store),
         _ => {}
     }
 }
