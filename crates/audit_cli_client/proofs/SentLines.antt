@@ -1,9 +1,9 @@
 -- Rounds of sending, one after another.
-use Rattle.std.specs.Prelude.{true, false, Result, Ok, Err, IsOk, OnOk, OnErr}
+use Rattle.std.specs.Prelude.{◌⊎◌, Bool, true, false, Result, Ok, Err, IsOk, OnOk, OnErr}
 use Rattle.std.specs.Io.KnownBytes.{Appends}
-use Rattle.std.proofs.Common.{◌≡◌, ℕ, ◌+◌, ◌≤◌, Option, Some, None, List, [], ◌++◌, length, length-append, append-nil, sym, ap, subst, refl, arith}
+use Rattle.std.proofs.Common.{◌≡◌, ℕ, ◌+◌, ◌≤◌, Option, Some, None, List, [], ◌++◌, length, length-append, append-nil, sym, ap, subst, refl, inl, inr, ◌∙◌, arith}
 use Rattle.std.proofs.lemmas.Option.{none-some}
-use Rattle.std.proofs.lemmas.Bool.{false≢true}
+use Rattle.std.proofs.lemmas.Bool.{true≢false, false≢true}
 use Rattle.audit_chain.specs.EventData.{EventData}
 use Rattle.audit_text.specs.Writing.{WritesInPart}
 use Rattle.audit_text.specs.declared.fault.LinesError.{LinesError}
@@ -14,12 +14,12 @@ use Rattle.audit_cli_client.specs.declared.send_error.SendError.TheVariants.{Inp
 use Rattle.audit_cli_client.specs.declared.sending.SendEnd.{SendEnd}
 use Rattle.audit_cli_client.specs.declared.taking.Taken.{Taken}
 use Rattle.audit_cli_client.specs.declared.answering.Answers.{Answers}
-use Rattle.audit_cli_client.specs.Sending.{event_frames, PrintsAll, TakesRound, TakesAnswers, Sends, SendsOn, SendsAll, end_of_both, first_error}
+use Rattle.audit_cli_client.specs.Sending.{event_frames, PrintsAll, TakesRound, TakesAnswers, Sends, SendsOn, SendsAll, end_after, first_error}
 use Rattle.audit_cli_client.proofs.Conversations.{appends_none, appends_more}
 use Rattle.audit_cli_client.proofs.TakenLines.{event_frames-append, takes_none, takes_more, takes_first, takes_first_more, takes_all_more}
 use Rattle.audit_cli_client.proofs.PrintedAnswers.{refusals_few, part_whole, part_after, prints_none, prints_all, prints_further, prints_all_further, prints_error}
 
--- ---- one round
+-- ---- what a round wrote
 
 pub first_none : (sent : Result (Unit {0}) ClientError) (answered : Option SendError) (taken : Option LinesError) → first_error sent answered taken ≡ None → IsOk sent × (answered ≡ None) × (taken ≡ None)
 first_none sent (Some error) taken is = absurd (none-some error (sym is))
@@ -40,133 +40,107 @@ wrote_all : (w0 w1 : Option (List ℕ)) (frames : List ℕ) (sent : Result (Unit
 wrote_all w0 w1 frames (Ok done) h is = h
 wrote_all w0 w1 frames (Err error) h is = absurd (false≢true is)
 
--- the requests of a round's events were written, if nothing failed
-all_sent : {form : LineForm} (w0 w1 : Option (List ℕ)) {i0 i1 : Option (List ℕ)} {before : ℕ} {frames : List ℕ} {taken : Taken} (sent : Result (Unit {0}) ClientError) (answered : Option SendError) (takes : TakesRound form i0 i1 before frames taken) → OnOk sent (Appends w0 w1 frames)
-    → first_error sent answered taken.error ≡ None → Appends w0 w1 (event_frames before takes.events)
-all_sent w0 w1 {frames = frames} {taken = taken} sent answered takes whole none =
-    subst (Appends w0 w1) takes.framed (wrote_all w0 w1 frames sent whole (first_none sent answered taken.error none).0)
-
-all_printed : {form : LineForm} {r0 r1 o0 o1 i0 i1 : Option (List ℕ)} {before : ℕ} {frames : List ℕ} {taken : Taken} {answers : Answers} (sent : Result (Unit {0}) ClientError) (takes : TakesRound form i0 i1 before frames taken) → TakesAnswers r0 r1 o0 o1 before taken.count answers
-    → first_error sent answers.error taken.error ≡ None → PrintsAll r0 r1 o0 o1 before (length takes.events) answers.count answers.refused
-all_printed {r0 = r0} {r1 = r1} {o0 = o0} {o1 = o1} {before = before} {taken = taken} {answers = answers} sent takes answered none =
-    subst (λ (n : ℕ). PrintsAll r0 r1 o0 o1 before n answers.count answers.refused) takes.counted (answered.all (first_none sent answers.error taken.error none).1)
-
-pub round_sends : {form : LineForm} {i0 i1 w0 w1 r0 r1 o0 o1 : Option (List ℕ)} {before : ℕ} {frames : List ℕ} {taken : Taken} {answers : Answers} (sent : Result (Unit {0}) ClientError) → TakesRound form i0 i1 before frames taken → OnOk sent (Appends w0 w1 frames)
-    → OnErr sent (WritesInPart w0 w1 frames) → TakesAnswers r0 r1 o0 o1 before taken.count answers
-    → Sends form before i0 w0 w1 r0 o0 o1 (record { sent = taken.count; answered = answers.count; refused = answers.refused; error = first_error sent answers.error taken.error })
-round_sends {w0 = w0} {w1 = w1} {frames = frames} {taken = taken} {answers = answers} sent takes whole part answered =
-    let few : length (answered.prints.answers ++ answered.prints.torn) ≤ length takes.events = omega (arith, answered.few, takes.counted) in
-    record {
-      events = takes.events;
-      sent_is = takes.counted;
-      taken = takes.first;
-      sent = subst (WritesInPart w0 w1) takes.framed (wrote w0 w1 frames sent whole part);
-      prints = prints_error (first_error sent answers.error taken.error) (output_first sent answers.error taken.error) answered.prints;
-      few = few;
-    }
-
-pub round_on : {form : LineForm} {i0 i1 w0 w1 r0 r1 o0 o1 : Option (List ℕ)} {before : ℕ} {frames : List ℕ} {taken : Taken} {answers : Answers} (sent : Result (Unit {0}) ClientError) → TakesRound form i0 i1 before frames taken → OnOk sent (Appends w0 w1 frames)
-    → TakesAnswers r0 r1 o0 o1 before taken.count answers → taken.more ≡ true → first_error sent answers.error taken.error ≡ None
-    → SendsOn form before i0 i1 w0 w1 r0 r1 o0 o1 (record { sent = taken.count; answered = answers.count; refused = answers.refused; error = first_error sent answers.error taken.error })
-round_on {w0 = w0} {w1 = w1} {answers = answers} sent takes whole answered more none = record {
-  events = takes.events;
-  sent_is = takes.counted;
-  no_error = none;
-  taken = takes.on more;
-  sent = all_sent w0 w1 sent answers.error takes whole none;
-  prints = all_printed sent takes answered none;
-}
-
-pub round_all : {form : LineForm} {i0 i1 w0 w1 r0 r1 o0 o1 : Option (List ℕ)} {before : ℕ} {frames : List ℕ} {taken : Taken} {answers : Answers} (sent : Result (Unit {0}) ClientError) → TakesRound form i0 i1 before frames taken → OnOk sent (Appends w0 w1 frames)
-    → TakesAnswers r0 r1 o0 o1 before taken.count answers → taken.more ≡ false → first_error sent answers.error taken.error ≡ None
-    → SendsAll form before i0 w0 w1 r0 r1 o0 o1 (record { sent = taken.count; answered = answers.count; refused = answers.refused; error = first_error sent answers.error taken.error })
-round_all {w0 = w0} {w1 = w1} {taken = taken} {answers = answers} sent takes whole answered over none = record {
-  events = takes.events;
-  sent_is = takes.counted;
-  taken = takes.all over (first_none sent answers.error taken.error none).2;
-  sent = all_sent w0 w1 sent answers.error takes whole none;
-  prints = all_printed sent takes answered none;
-}
-
--- ---- several rounds
-
-pub sends_none : (form : LineForm) (input written read known : Option (List ℕ)) → SendsOn form 0 input input written written read read known known (record { sent = 0; answered = 0; refused = 0; error = None })
+-- no line is sent yet
+pub sends_none : (form : LineForm) (input written read known : Option (List ℕ)) → SendsOn form input input written written read read known known (record { sent = 0; answered = 0; refused = 0; error = None })
 sends_none form input written read known = record {
   events = [];
   sent_is = refl;
+  answered = omega arith;
   no_error = refl;
   taken = takes_none form input;
   sent = appends_none written;
   prints = prints_none read known 0;
 }
 
--- no more is answered, and no more refused, than is sent
-pub few_answers : {form : LineForm} {i0 w0 w1 r0 o0 o1 : Option (List ℕ)} {before : ℕ} {end : SendEnd} → Sends form before i0 w0 w1 r0 o0 o1 end → (end.answered ≤ end.sent) × (end.refused ≤ end.sent)
-few_answers {end = end} h =
+-- ---- a round after others
+
+-- no more is answered, and no more refused, than is read
+pub few_answers : {r0 r1 o0 o1 : Option (List ℕ)} {before count : ℕ} {answers : Answers} → TakesAnswers r0 r1 o0 o1 before count answers → (answers.count ≤ count) × (answers.refused ≤ answers.count)
+few_answers {count = count} {answers = answers} h =
     let p = h.prints in
-    let all = length-append p.answers p.torn in
-    let answered : end.answered ≤ end.sent = omega (arith, p.answered_is, all, h.few, h.sent_is) in
-    let refused : end.refused ≤ end.sent = omega (arith, p.refused_is, refusals_few p.answers, all, h.few, h.sent_is) in
+    let answered : answers.count ≤ count = omega (arith, p.answered_is, length-append p.answers p.torn, h.few) in
+    let refused : answers.refused ≤ answers.count = omega (arith, p.answered_is, p.refused_is, refusals_few p.answers) in
     (answered, refused)
 
-pub few_answers_on : {form : LineForm} {i0 i1 w0 w1 r0 r1 o0 o1 : Option (List ℕ)} {before : ℕ} {end : SendEnd} → SendsOn form before i0 i1 w0 w1 r0 r1 o0 o1 end → (end.answered ≤ end.sent) × (end.refused ≤ end.sent)
-few_answers_on {end = end} h =
-    let p = h.prints in
-    let answered : end.answered ≤ end.sent = omega (arith, p.answered_is, h.sent_is) in
-    let refused : end.refused ≤ end.sent = omega (arith, p.refused_is, refusals_few p.answers, p.counted, h.sent_is) in
-    (answered, refused)
+-- the answers that were read are those to all lines that were sent, or those that were due before the last lines
+pub read_within : (count due taken : ℕ) (more : Bool) → ((count ≡ due + taken) ⊎ ((count ≡ due) × (more ≡ true))) → count ≤ due + taken
+read_within count due taken more (inl h) = omega (arith, h)
+read_within count due taken more (inr h) = omega (arith, h.0)
 
-pub on_sends : {form : LineForm} {i0 i1 w0 w1 w2 r0 r1 o0 o1 o2 : Option (List ℕ)} {end round : SendEnd} → SendsOn form 0 i0 i1 w0 w1 r0 r1 o0 o1 end → Sends form end.sent i1 w1 w2 r1 o1 o2 round → Sends form 0 i0 w0 w2 r0 o0 o2 (end_of_both end round)
-on_sends {form = form} {i0 = i0} {i1 = i1} {w0 = w0} {w1 = w1} {w2 = w2} {end = end} on more =
+pub read_all : (count due taken : ℕ) (more : Bool) → ((count ≡ due + taken) ⊎ ((count ≡ due) × (more ≡ true))) → more ≡ false → count ≡ due + taken
+read_all count due taken more (inl h) over = h
+read_all count due taken more (inr h) over = absurd (true≢false (sym h.1 ∙ over))
+
+pub round_sends : {form : LineForm} {i0 i1 i2 w0 w1 w2 r0 r1 r2 o0 o1 o2 : Option (List ℕ)} {end : SendEnd} {frames : List ℕ} {taken : Taken} {answers : Answers} {count : ℕ} (sent : Result (Unit {0}) ClientError) → SendsOn form i0 i1 w0 w1 r0 r1 o0 o1 end
+    → TakesRound form i1 i2 end.sent frames taken → OnOk sent (Appends w1 w2 frames) → OnErr sent (WritesInPart w1 w2 frames) → TakesAnswers r1 r2 o1 o2 end.answered count answers → end.answered + count ≤ end.sent + taken.count
+    → Sends form 0 i0 w0 w2 r0 o0 o2 (end_after end taken answers (first_error sent answers.error taken.error))
+round_sends {form = form} {i0 = i0} {i1 = i1} {w0 = w0} {w1 = w1} {w2 = w2} {end = end} {frames = frames} {taken = taken} {answers = answers} {count = count} sent on takes whole part answered within =
     let place : end.sent ≡ 0 + length on.events = omega (arith, on.sent_is) in
-    let few : length ((on.prints.answers ++ more.prints.answers) ++ more.prints.torn) ≤ length (on.events ++ more.events) =
-    omega (arith, on.prints.counted, more.few, length-append on.prints.answers more.prints.answers, length-append more.prints.answers more.prints.torn, length-append (on.prints.answers ++ more.prints.answers) more.prints.torn, length-append on.events more.events) in
+    let begun : end.answered ≡ 0 + end.answered = omega arith in
+    let p = answered.prints in
+    let few : length ((on.prints.answers ++ p.answers) ++ p.torn) ≤ length (on.events ++ takes.events) =
+    omega (arith, on.prints.counted, answered.few, within, on.sent_is, takes.counted, length-append on.prints.answers p.answers, length-append p.answers p.torn, length-append (on.prints.answers ++ p.answers) p.torn, length-append on.events takes.events) in
     record {
-      events = on.events ++ more.events;
-      sent_is = omega (arith, on.sent_is, more.sent_is, length-append on.events more.events);
-      taken = takes_first_more form i0 i1 on.events more.events on.taken more.taken;
-      sent = subst (WritesInPart w0 w2) (sym (event_frames-append 0 on.events more.events))
-          (part_after w0 w1 w2 (event_frames 0 on.events) (event_frames (0 + length on.events) more.events) on.sent (subst (λ (n : ℕ). WritesInPart w1 w2 (event_frames n more.events)) place more.sent));
-      prints = prints_further place on.prints more.prints;
+      events = on.events ++ takes.events;
+      sent_is = omega (arith, on.sent_is, takes.counted, length-append on.events takes.events);
+      taken = takes_first_more form i0 i1 on.events takes.events on.taken takes.first;
+      sent = subst (WritesInPart w0 w2) (sym (event_frames-append 0 on.events takes.events))
+          (part_after w0 w1 w2 (event_frames 0 on.events) (event_frames (0 + length on.events) takes.events) on.sent
+          (subst (λ (n : ℕ). WritesInPart w1 w2 (event_frames n takes.events)) place (subst (WritesInPart w1 w2) takes.framed (wrote w1 w2 frames sent whole part))));
+      prints = prints_further begun on.prints (prints_error (first_error sent answers.error taken.error) (output_first sent answers.error taken.error) p);
       few = few;
     }
 
-sent_both : {form : LineForm} {i0 i1 w0 w1 r0 r1 o0 o1 : Option (List ℕ)} {end : SendEnd} (on : SendsOn form 0 i0 i1 w0 w1 r0 r1 o0 o1 end) (w2 : Option (List ℕ)) (events : List EventData) → Appends w1 w2 (event_frames end.sent events) → Appends w0 w2 (event_frames 0 (on.events ++ events))
-sent_both {w0 = w0} {w1 = w1} {end = end} on w2 events more =
+-- if nothing failed, the requests of all these events are written
+all_sent : {form : LineForm} {i0 i1 i2 w0 w1 r0 r1 o0 o1 : Option (List ℕ)} {end : SendEnd} {frames : List ℕ} {taken : Taken} (w2 : Option (List ℕ)) (sent : Result (Unit {0}) ClientError) (answered : Option SendError) (on : SendsOn form i0 i1 w0 w1 r0 r1 o0 o1 end)
+    (takes : TakesRound form i1 i2 end.sent frames taken) → OnOk sent (Appends w1 w2 frames) → first_error sent answered taken.error ≡ None → Appends w0 w2 (event_frames 0 (on.events ++ takes.events))
+all_sent {w0 = w0} {w1 = w1} {end = end} {frames = frames} {taken = taken} w2 sent answered on takes whole none =
     let place : end.sent ≡ 0 + length on.events = omega (arith, on.sent_is) in
-    subst (Appends w0 w2) (sym (event_frames-append 0 on.events events))
-    (appends_more w0 w1 w2 (event_frames 0 on.events) (event_frames (0 + length on.events) events) on.sent (subst (λ (n : ℕ). Appends w1 w2 (event_frames n events)) place more))
+    let more = subst (Appends w1 w2) takes.framed (wrote_all w1 w2 frames sent whole (first_none sent answered taken.error none).0) in
+    subst (Appends w0 w2) (sym (event_frames-append 0 on.events takes.events))
+    (appends_more w0 w1 w2 (event_frames 0 on.events) (event_frames (0 + length on.events) takes.events) on.sent (subst (λ (n : ℕ). Appends w1 w2 (event_frames n takes.events)) place more))
 
-printed_both : {form : LineForm} {i0 i1 w0 w1 r0 r1 r2 o0 o1 o2 : Option (List ℕ)} {end : SendEnd} {answered refused : ℕ} (on : SendsOn form 0 i0 i1 w0 w1 r0 r1 o0 o1 end) (events : List EventData) → PrintsAll r1 r2 o1 o2 end.sent (length events) answered refused
-    → PrintsAll r0 r2 o0 o2 0 (length (on.events ++ events)) (end.answered + answered) (end.refused + refused)
-printed_both {r0 = r0} {r2 = r2} {o0 = o0} {o2 = o2} {end = end} {answered = answered} {refused = refused} on events more =
-    let place : end.sent ≡ 0 + length on.events = omega (arith, on.sent_is) in
-    let all : length on.events + length events ≡ length (on.events ++ events) = sym (length-append on.events events) in
-    subst (λ (m : ℕ). PrintsAll r0 r2 o0 o2 0 m (end.answered + answered) (end.refused + refused)) all (prints_all_further place on.prints more)
+-- and these answers are printed
+all_printed : {form : LineForm} {i0 i1 w0 w1 r0 r1 r2 o0 o1 o2 : Option (List ℕ)} {end : SendEnd} {count : ℕ} (answers : Answers) → SendsOn form i0 i1 w0 w1 r0 r1 o0 o1 end → PrintsAll r1 r2 o1 o2 end.answered count answers.count answers.refused → (all : ℕ)
+    → end.answered + count ≡ all → PrintsAll r0 r2 o0 o2 0 all (end.answered + answers.count) (end.refused + answers.refused)
+all_printed {r0 = r0} {r2 = r2} {o0 = o0} {o2 = o2} {end = end} answers on printed all is =
+    let begun : end.answered ≡ 0 + end.answered = omega arith in
+    subst (λ (n : ℕ). PrintsAll r0 r2 o0 o2 0 n (end.answered + answers.count) (end.refused + answers.refused)) is (prints_all_further begun on.prints printed)
 
-pub on_on : {form : LineForm} {i0 i1 i2 w0 w1 w2 r0 r1 r2 o0 o1 o2 : Option (List ℕ)} {end round : SendEnd} → SendsOn form 0 i0 i1 w0 w1 r0 r1 o0 o1 end → SendsOn form end.sent i1 i2 w1 w2 r1 r2 o1 o2 round → SendsOn form 0 i0 i2 w0 w2 r0 r2 o0 o2 (end_of_both end round)
-on_on {form = form} {i0 = i0} {i1 = i1} {i2 = i2} {w2 = w2} on more = record {
-  events = on.events ++ more.events;
-  sent_is = omega (arith, on.sent_is, more.sent_is, length-append on.events more.events);
-  no_error = more.no_error;
-  taken = takes_more form i0 i1 i2 on.events more.events on.taken more.taken;
-  sent = sent_both on w2 more.events more.sent;
-  prints = printed_both on more.events more.prints;
-}
+pub round_on : {form : LineForm} {i0 i1 i2 w0 w1 w2 r0 r1 r2 o0 o1 o2 : Option (List ℕ)} {end : SendEnd} {frames : List ℕ} {taken : Taken} {answers : Answers} {count : ℕ} (sent : Result (Unit {0}) ClientError) → SendsOn form i0 i1 w0 w1 r0 r1 o0 o1 end
+    → TakesRound form i1 i2 end.sent frames taken → OnOk sent (Appends w1 w2 frames) → TakesAnswers r1 r2 o1 o2 end.answered count answers → end.answered + count ≤ end.sent + taken.count → taken.more ≡ true → first_error sent answers.error taken.error ≡ None
+    → SendsOn form i0 i2 w0 w2 r0 r2 o0 o2 (end_after end taken answers (first_error sent answers.error taken.error))
+round_on {form = form} {i0 = i0} {i1 = i1} {i2 = i2} {w2 = w2} {end = end} {taken = taken} {answers = answers} {count = count} sent on takes whole answered within more none =
+    let printed = answered.all (first_none sent answers.error taken.error none).1 in
+    let all : end.answered + count ≡ end.answered + answers.count = omega (arith, printed.answered_is) in
+    record {
+      events = on.events ++ takes.events;
+      sent_is = omega (arith, on.sent_is, takes.counted, length-append on.events takes.events);
+      answered = omega (arith, within, printed.answered_is);
+      no_error = none;
+      taken = takes_more form i0 i1 i2 on.events takes.events on.taken (takes.on more);
+      sent = all_sent w2 sent answers.error on takes whole none;
+      prints = all_printed answers on printed (end.answered + answers.count) all;
+    }
 
-pub on_all : {form : LineForm} {i0 i1 w0 w1 w2 r0 r1 r2 o0 o1 o2 : Option (List ℕ)} {end round : SendEnd} → SendsOn form 0 i0 i1 w0 w1 r0 r1 o0 o1 end → SendsAll form end.sent i1 w1 w2 r1 r2 o1 o2 round → SendsAll form 0 i0 w0 w2 r0 r2 o0 o2 (end_of_both end round)
-on_all {form = form} {i0 = i0} {i1 = i1} {w2 = w2} on more = record {
-  events = on.events ++ more.events;
-  sent_is = omega (arith, on.sent_is, more.sent_is, length-append on.events more.events);
-  taken = takes_all_more form i0 i1 on.events more.events on.taken more.taken;
-  sent = sent_both on w2 more.events more.sent;
-  prints = printed_both on more.events more.prints;
-}
+pub round_all : {form : LineForm} {i0 i1 i2 w0 w1 w2 r0 r1 r2 o0 o1 o2 : Option (List ℕ)} {end : SendEnd} {frames : List ℕ} {taken : Taken} {answers : Answers} {count : ℕ} (sent : Result (Unit {0}) ClientError) → SendsOn form i0 i1 w0 w1 r0 r1 o0 o1 end
+    → TakesRound form i1 i2 end.sent frames taken → OnOk sent (Appends w1 w2 frames) → TakesAnswers r1 r2 o1 o2 end.answered count answers → end.answered + count ≡ end.sent + taken.count → taken.more ≡ false → first_error sent answers.error taken.error ≡ None
+    → SendsAll form 0 i0 w0 w2 r0 r2 o0 o2 (end_after end taken answers (first_error sent answers.error taken.error))
+round_all {form = form} {i0 = i0} {i1 = i1} {w2 = w2} {end = end} {taken = taken} {answers = answers} {count = count} sent on takes whole answered whole_count over none =
+    let right = first_none sent answers.error taken.error none in
+    let all : end.answered + count ≡ length (on.events ++ takes.events) = omega (arith, whole_count, on.sent_is, takes.counted, length-append on.events takes.events) in
+    record {
+      events = on.events ++ takes.events;
+      sent_is = omega (arith, on.sent_is, takes.counted, length-append on.events takes.events);
+      taken = takes_all_more form i0 i1 on.events takes.events on.taken (takes.all over right.2);
+      sent = all_sent w2 sent answers.error on takes whole none;
+      prints = all_printed answers on (answered.all right.1) (length (on.events ++ takes.events)) all;
+    }
 
 -- no other round is begun
-pub on_stopped : {form : LineForm} {i0 i1 w0 w1 r0 r1 o0 o1 : Option (List ℕ)} {end : SendEnd} (error : SendError) → SendsOn form 0 i0 i1 w0 w1 r0 r1 o0 o1 end → Sends form 0 i0 w0 w1 r0 o0 o1 (record { sent = end.sent; answered = end.answered; refused = end.refused; error = Some error })
+pub on_stopped : {form : LineForm} {i0 i1 w0 w1 r0 r1 o0 o1 : Option (List ℕ)} {end : SendEnd} (error : SendError) → SendsOn form i0 i1 w0 w1 r0 r1 o0 o1 end → Sends form 0 i0 w0 w1 r0 o0 o1 (record { sent = end.sent; answered = end.answered; refused = end.refused; error = Some error })
 on_stopped {form = form} {i0 = i0} {i1 = i1} {w0 = w0} {w1 = w1} error on =
-    let few : length (on.prints.answers ++ []) ≤ length on.events = omega (arith, on.prints.counted, ap length (append-nil on.prints.answers)) in
+    let few : length (on.prints.answers ++ []) ≤ length on.events = omega (arith, on.prints.counted, on.answered, on.sent_is, ap length (append-nil on.prints.answers)) in
     record {
       events = on.events;
       sent_is = on.sent_is;

@@ -110,13 +110,14 @@ abbrev pub IsNotJoined : Option (List ℕ) → Option (List ℕ) → Option (Lis
     → List Reply → Commitment → Commitment → ClientError → Type 0
 IsNotJoined written_old written_new read_old read_new asked given older newer error =
     IsAnsweredOtherwise written_old written_new read_old read_new
-    (asked ++ request.Incremental JOIN_TAG older.count newer.count ∷ []) given JOIN_TAG (IsIncrementReply JOIN_TAG) error
+    (asked ++ request.Incremental JOIN_TAG older.count newer.count ∷ []) given JOIN_TAG (IsIncrementReply JOIN_TAG)
+    error
     ⊎ ((error ≡ client.NotAccepted) × (hashes : List (List ℕ)) × Converses written_old written_new read_old read_new
     (asked ++ request.Incremental JOIN_TAG older.count newer.count ∷ [])
     (given ++ reply.Incremental JOIN_TAG hashes ∷ []) × (AcceptsIncrement sha256 older newer hashes → ⊥))
 
-abbrev pub FailsJoining : Option (List ℕ) → Option (List ℕ) → Option (List ℕ) → Option (List ℕ) → Commitment → Commitment
-    → ClientError → Type 0
+abbrev pub FailsJoining : Option (List ℕ) → Option (List ℕ) → Option (List ℕ) → Option (List ℕ) → Commitment
+    → Commitment → ClientError → Type 0
 FailsJoining written_old written_new read_old read_new older newer error =
     IsLost error ⊎ IsNotJoined written_old written_new read_old read_new [] [] older newer error
 
@@ -138,8 +139,8 @@ FailsEntry written_old written_new read_old read_new index error =
     (newest_reply newest ∷ reply.Membership ASKED_TAG hashes entry ∷ [])
     × (AcceptsMembership sha256 newest index entry hashes → ⊥))))
 
--- In this conversation a proof came that no commitment of this count accepts; or after it, the newest commitment doesn't
--- vouch for the one that accepts it.
+-- In this conversation a proof came that no commitment of this count accepts; or after it, the newest commitment
+-- doesn't vouch for the one that accepts it.
 abbrev pub IsDoubted : Option (List ℕ) → Option (List ℕ) → Option (List ℕ) → Option (List ℕ) → List Request → List Reply
     → Commitment → ℕ → (Commitment → Type 0) → ClientError → Type 0
 IsDoubted written_old written_new read_old read_new asked given newest count Accepts error =

@@ -213,7 +213,8 @@ pub record Prints (read_old old new : Option (List ℕ)) (before : ℕ) (answere
   pub whole : error ≢ Some Output → (torn ≡ []) × Appends old new (answer_lines before answers)
 
 -- as many answers were read as there are lines, and each printed
-pub record PrintsAll (read_old read_new old new : Option (List ℕ)) (before count : ℕ) (answered refused : ℕ) : Type 0 where
+pub record PrintsAll (read_old read_new old new : Option (List ℕ)) (before count : ℕ) (answered refused : ℕ)
+    : Type 0 where
   pub answers : List Reply
   pub counted : length answers ≡ count
   pub answered_is : answered ≡ count
@@ -222,7 +223,8 @@ pub record PrintsAll (read_old read_new old new : Option (List ℕ)) (before cou
   pub read : ReadsReplies read_old read_new answers
   pub printed : Appends old new (answer_lines before answers)
 
-pub record TakesAnswers (read_old read_new old new : Option (List ℕ)) (before count : ℕ) (taken : Answers) : Type 0 where
+pub record TakesAnswers (read_old read_new old new : Option (List ℕ)) (before count : ℕ) (taken : Answers)
+    : Type 0 where
   pub prints : Prints read_old old new before taken.count taken.refused taken.error
   pub few : length (prints.answers ++ prints.torn) ≤ count
   pub all : taken.error ≡ None → PrintsAll read_old read_new old new before count taken.count taken.refused
@@ -240,15 +242,16 @@ pub record Sends (form : LineForm) (before : ℕ) (input written_old written_new
   pub prints : Prints read_old old new before end.answered end.refused end.error
   pub few : length (prints.answers ++ prints.torn) ≤ length events
 
--- the lines were sent, answered and printed, and the lines after them remain
-pub record SendsOn (form : LineForm) (before : ℕ)
-    (input rest written_old written_new read_old read_new old new : Option (List ℕ)) (end : SendEnd) : Type 0 where
+-- the lines were sent, the first of them answered and printed, and the lines after them remain
+pub record SendsOn (form : LineForm) (input rest written_old written_new read_old read_new old new : Option (List ℕ))
+    (end : SendEnd) : Type 0 where
   pub events : List EventData
   pub sent_is : end.sent ≡ length events
+  pub answered : end.answered ≤ end.sent
   pub no_error : end.error ≡ None
   pub taken : TakesEvents form input rest events
-  pub sent : Appends written_old written_new (event_frames before events)
-  pub prints : PrintsAll read_old read_new old new before (length events) end.answered end.refused
+  pub sent : Appends written_old written_new (event_frames 0 events)
+  pub prints : PrintsAll read_old read_new old new 0 end.answered end.answered end.refused
 
 -- all lines of the input were sent, answered and printed
 pub record SendsAll (form : LineForm) (before : ℕ)
@@ -259,13 +262,19 @@ pub record SendsAll (form : LineForm) (before : ℕ)
   pub sent : Appends written_old written_new (event_frames before events)
   pub prints : PrintsAll read_old read_new old new before (length events) end.answered end.refused
 
--- the end of what was sent first and of what was sent after it
-abbrev pub end_of_both : SendEnd → SendEnd → SendEnd
-end_of_both first later = record {
-  sent = first.sent + later.sent;
-  answered = first.answered + later.answered;
-  refused = first.refused + later.refused;
-  error = later.error;
+-- at most so many lines are sent ahead of their answers
+pub record IsWithin (window : ℕ) (end : SendEnd) : Type 0 where
+  pub refused : end.refused ≤ end.answered
+  pub answered : end.answered ≤ end.sent
+  pub ahead : end.sent ≤ end.answered + window
+
+-- the end after further lines were taken and further answers printed
+abbrev pub end_after : SendEnd → Taken → Answers → Option SendError → SendEnd
+end_after end taken answers error = record {
+  sent = end.sent + taken.count;
+  answered = end.answered + answers.count;
+  refused = end.refused + answers.refused;
+  error = error;
 }
 
 -- the error of an answer, or else of a write, or else of the input

@@ -63,8 +63,8 @@ pub fn put_entry<W: Write, R: Read, O: Out>(
         × IsGivenEntry (W.contents to.old) (W.contents to.new) (R.remaining from.old) (R.remaining from.new)
         index bytes) }
     // Why it failed, and that nothing is put unless it was the file.
-    ensures fault { IfErr result (FailsPutting (FailsEntry (W.contents to.old) (W.contents to.new) (R.remaining from.old)
-        (R.remaining from.new) index)) }
+    ensures fault { IfErr result (FailsPutting (FailsEntry (W.contents to.old) (W.contents to.new)
+        (R.remaining from.old) (R.remaining from.new) index)) }
     ensures untouched { (error : ClientError) → result ≡ Err (AskError.Client error) → O.file out.new ≡ O.file out.old }
 {
     match entry_of(alloc, to, from, index) {
@@ -88,8 +88,8 @@ pub fn put_member<W: Write, R: Read, O: Out>(
     ensures done { IfOk result (λ size. (bytes : List ℕ) × (size ≡ length bytes) × IsFile (O.file out.new) bytes
         × IsGivenMember (W.contents to.old) (W.contents to.new) (R.remaining from.old) (R.remaining from.new)
         index count bytes) }
-    ensures fault { IfErr result (FailsPutting (FailsMember (W.contents to.old) (W.contents to.new) (R.remaining from.old)
-        (R.remaining from.new) index count)) }
+    ensures fault { IfErr result (FailsPutting (FailsMember (W.contents to.old) (W.contents to.new)
+        (R.remaining from.old) (R.remaining from.new) index count)) }
     ensures untouched { (error : ClientError) → result ≡ Err (AskError.Client error) → O.file out.new ≡ O.file out.old }
 {
     match member_proof(alloc, to, from, index, count) {
@@ -113,8 +113,8 @@ pub fn put_increment<W: Write, R: Read, O: Out>(
     ensures done { IfOk result (λ size. (bytes : List ℕ) × (size ≡ length bytes) × IsFile (O.file out.new) bytes
         × IsGivenIncrement (W.contents to.old) (W.contents to.new) (R.remaining from.old) (R.remaining from.new)
         older newer bytes) }
-    ensures fault { IfErr result (FailsPutting (FailsIncrement (W.contents to.old) (W.contents to.new) (R.remaining from.old)
-        (R.remaining from.new) older newer)) }
+    ensures fault { IfErr result (FailsPutting (FailsIncrement (W.contents to.old) (W.contents to.new)
+        (R.remaining from.old) (R.remaining from.new) older newer)) }
     ensures untouched { (error : ClientError) → result ≡ Err (AskError.Client error) → O.file out.new ≡ O.file out.old }
 {
     match increment_proof(alloc, to, from, older, newer) {
@@ -156,8 +156,8 @@ pub fn put_export<W: Write, R: Read, O: Out>(
     ensures done { IfOk result (λ export. (bytes : List ℕ) × (export.size ≡ length bytes)
         × IsFile (O.file out.new) bytes × AreGivenEntries (W.contents to.old) (W.contents to.new)
         (R.remaining from.old) (R.remaining from.new) bytes) }
-    ensures fault { IfErr result (FailsPutting (FailsExport (W.contents to.old) (W.contents to.new) (R.remaining from.old)
-        (R.remaining from.new))) }
+    ensures fault { IfErr result (FailsPutting (FailsExport (W.contents to.old) (W.contents to.new)
+        (R.remaining from.old) (R.remaining from.new))) }
     ensures untouched { (error : ClientError) → result ≡ Err (AskError.Client error) → O.file out.new ≡ O.file out.old }
 {
     let mut draft = match out.draft() {

@@ -15,8 +15,9 @@ use audit_wire::{RequestView, write_request};
 use std::alloc::Global;
 use std::io::{BufReader, Read};
 
-// A round whose requests have this many bytes takes no further lines.
-const FRAMES_ROOM: usize = 1 << 16;
+// A round whose requests have this many bytes takes no further lines. A socket's buffer holds them, the longest event's
+// besides: so a client that writes requests and a server that writes answers to earlier ones don't wait for each other.
+const FRAMES_ROOM: usize = 1 << 15;
 
 /// The lines that were taken for a round.
 #[derive(Clone, Copy, Debug, PartialEq, Eq)]
@@ -40,6 +41,7 @@ pub(crate) fn take_lines<I: Read>(
     line: &mut Vec<u8>,
     frames: &mut Vec<u8>,
 ) -> Taken
+    ensures few { result.count ≤ window }
     ensures fits { before + result.count ≤ u64.MAX }
     ensures taken { TakesRound form (reader_remaining I.remaining input.old)
         (reader_remaining I.remaining input.new) before frames.new.items result }
@@ -80,7 +82,12 @@ pub(crate) fn take_lines<I: Read>(
 
 // Whether another line can be taken without a read of the input, and the frames have room for it.
 fn is_at_hand<I: Read>(input: &BufReader<I>, frames: &[u8]) -> bool {
-    frames.len() < FRAMES_ROOM && input.buffer().iter().any(|byte| *byte == b'\n')
+    frames.len() < FRAMES_ROOM && has_line(input)
+}
+
+/// Whether another line can be taken without a read of the input.
+pub(crate) fn has_line<I: Read>(input: &BufReader<I>) -> bool {
+    input.buffer().iter().any(|byte| *byte == b'\n')
 }
 
 // Takes a line, and appends the request of its event to the frames. Returns whether there was one. After an error
