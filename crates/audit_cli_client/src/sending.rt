@@ -13,6 +13,9 @@ use audit_text_plain::LineForm;
 use std::alloc::Global;
 use std::io::{BufReader, Read, Write};
 
+// A round has as many lines, if the window has: a server commits its lines together, and fewer take about as long.
+const MIN_ROUND: u64 = 64;
+
 /// How sending ended.
 #[derive(Clone, Copy, Debug, PartialEq, Eq)]
 pub struct SendEnd {
@@ -174,13 +177,14 @@ fn end_after(end: &SendEnd, taken: &Taken, answers: &Answers, error: Option<Send
     }
 }
 
-// How many lines a round takes at most, while `due` are unanswered: half of the window, so that two rounds fit in it.
+// How many lines a round takes at most, while `due` are unanswered: half of the window, so that two rounds fit in it,
+// unless that is too few.
 fn lines_of_round(window: u64, due: u64) -> u64
     requires { due ≤ window }
     ensures within { due + result ≤ window }
     ensures some { due < window → 0 < result }
 {
-    (window - window / 2).min(window - due)
+    (window - window / 2).max(MIN_ROUND).min(window - due)
 }
 
 // How many answers are read after these lines were taken, while `due` others were unanswered. While more lines are at
