@@ -18,7 +18,7 @@ _audit() {
         export) options="$options --read-only --salvage" ;;
         serve) options="$options --sessions --socket-mode" ;;
         loop) options="$options --socket-mode" ;;
-        daemon) options="$options --reader --allow-close --idle --backlog --socket-mode" ;;
+        daemon) options="$options --reader --allow-close --idle --backlog --reserve --socket-mode" ;;
         send) options="$options --text --window --timeout" ;;
         ask) options="$options --timeout" ;;
         watch) options="$options --every --timeout" ;;

@@ -119,6 +119,7 @@ fn settings<'a>(given: &ArgMatches<'a>) -> Settings<'a> {
         may_close: given.get_flag("allow-close"),
         idle: given.get_str("idle"),
         backlog: given.get_str("backlog"),
+        reserve: given.get_str("reserve"),
         socket_mode: given.get_str("socket-mode"),
     }
 }

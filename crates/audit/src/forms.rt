@@ -1,7 +1,7 @@
 //! The commands, as the command line and its help show them.
 use crate::remote_forms::REMOTE_FORMS;
 use audit_base::{MAX_PAYLOAD, SESSIONS};
-use audit_cli_daemon::DEFAULT_IDLE;
+use audit_cli_daemon::{DEFAULT_IDLE, DEFAULT_RESERVE};
 use audit_log::{MAX_SECTORS, MIN_SECTORS, VERSION as FORMAT_VERSION};
 use audit_serve_ready::{DEFAULT_BACKLOG, MAX_BACKLOG};
 use audit_text::INPUT_LIMIT;
@@ -39,7 +39,10 @@ const _: () = prove!(FORMAT_VERSION == 2);
 const _: () = prove!(MAX_PAYLOAD == 32_696 && INPUT_LIMIT == 16_777_216);
 
 const _: () = prove!(
-    DEFAULT_BACKLOG == 1_048_576 && MAX_BACKLOG == 67_108_864 && DEFAULT_IDLE == 60
+    DEFAULT_BACKLOG == 1_048_576
+        && MAX_BACKLOG == 67_108_864
+        && DEFAULT_IDLE == 60
+        && DEFAULT_RESERVE == 1
 );
 
 const _: () = prove!(MIN_SECTORS == 3 && MAX_SECTORS == 16_777_216 && SESSIONS == 16);
@@ -465,6 +468,13 @@ static FORMS: [Form; 14] = [
                 name: "backlog",
                 value: Some("BYTES"),
                 help: "How many bytes of replies are kept for a client, at most 67108864 [default: 1048576]",
+                needs: None,
+                excludes: None,
+            },
+            Choice {
+                name: "reserve",
+                value: Some("N"),
+                help: "Leaves N sectors free after the log, which a close may use [default: 1]",
                 needs: None,
                 excludes: None,
             },

@@ -55,9 +55,9 @@ module _ {D : Type 0} {g : sectors.Ghosts D} {S : Type 0} (N : CallModel S) wher
   kept_when_stopped : (old new : Store D g) (core last : Core D g) (after : List (SlotData S)) (fault : CommandError) → store_in core ≡ old → new ≡ store_in last → EndsByRefusal N core last no_clients after fault → StoreKeepsOn old new
   kept_when_stopped old new core last after fault made left stopped = kept_by_core old new core last made left (kept_stopped N core last no_clients after stopped.2)
 
-  store_stopped : (old new : Store D g) (written later : Option (List ℕ)) (core last : Core D g) (after : List (SlotData S)) (fault : CommandError) → IsNewCore old core → new ≡ store_in last
-      → Appends written later (ready_line (active_header old)) → EndsByRefusal N core last no_clients after fault → StopsDaemon N old new written later fault
-  store_stopped old new written later core last after fault made left line stopped = inr (
+  store_stopped : (reserve : ℕ) (old new : Store D g) (written later : Option (List ℕ)) (core last : Core D g) (after : List (SlotData S)) (fault : CommandError) → IsNewCore reserve old core → new ≡ store_in last
+      → Appends written later (ready_line (active_header old)) → EndsByRefusal N core last no_clients after fault → StopsDaemon N reserve old new written later fault
+  store_stopped reserve old new written later core last after fault made left line stopped = inr (
     stopped.0,
     stopped.1,
     record {
@@ -73,7 +73,7 @@ module _ {D : Type 0} {g : sectors.Ghosts D} {S : Type 0} (N : CallModel S) wher
   )
 
   -- What a daemon came to, whose core was new and whose places had no clients.
-  module _ (old new : Store D g) (core last : Core D g) (before after : List (SlotData S)) (vacant : before ≡ no_clients) (made : IsNewCore old core) (left : new ≡ store_in last) where
+  module _ (reserve : ℕ) (old new : Store D g) (core last : Core D g) (before after : List (SlotData S)) (vacant : before ≡ no_clients) (made : IsNewCore reserve old core) (left : new ≡ store_in last) where
     served_by : IsServedBy N core last before after → IsServedBy N core last no_clients after
     served_by served = subst (λ (slots : List (SlotData S)). IsServedBy N core last slots after) vacant served
 
@@ -84,14 +84,14 @@ module _ {D : Type 0} {g : sectors.Ghosts D} {S : Type 0} (N : CallModel S) wher
     kept_either (Ok done) served stopped = kept_when_served old new core last after made.store_is left (served_by served)
     kept_either (Err fault) served stopped = kept_when_stopped old new core last after fault made.store_is left (stopped_by fault stopped)
 
-    pub store_served : (result : Result (Unit {0}) CommandError) → OnOk result (IsServedBy N core last before after) → OnOk result (ServesStore N old new)
+    pub store_served : (result : Result (Unit {0}) CommandError) → OnOk result (IsServedBy N core last before after) → OnOk result (ServesStore N reserve old new)
     store_served (Ok done) served = record { core = core; made = made; last = last; left = left; after = after; served = served_by served }
     store_served (Err fault) served = tt
 
     pub daemon_stopped : (written later : Option (List ℕ)) (result : Result (Unit {0}) CommandError) → Appends written later (ready_line (active_header old)) → IfErr result (EndsByRefusal N core last before after)
-        → IfErr result (StopsDaemon N old new written later)
+        → IfErr result (StopsDaemon N reserve old new written later)
     daemon_stopped written later (Ok done) line stopped = tt
-    daemon_stopped written later (Err fault) line stopped = store_stopped old new written later core last after fault made left line (stopped_by fault stopped)
+    daemon_stopped written later (Err fault) line stopped = store_stopped reserve old new written later core last after fault made left line (stopped_by fault stopped)
 
 pub whatever_came : {E P : Type 0} (result : Result (Unit {0}) E) → P → OnOk result P
 whatever_came (Ok done) holds = holds

@@ -37,19 +37,19 @@ module _ {D : Type 0} {g : sectors.Ghosts D} {S : Type 0} (N : CallModel S) wher
   EndsByRefusal old new before after fault = (error : StoreError) × (fault ≡ Refused error)
       × StopsServing core_model N (λ first later. Refuses first later error) old new before after
 
-  -- the same by a new core over the store
-  pub record ServesStore (old new : Store D g) : Type 0 where
+  -- the same by a new core over the store, with this reserve
+  pub record ServesStore (reserve : ℕ) (old new : Store D g) : Type 0 where
     pub core : Core D g
-    pub made : IsNewCore old core
+    pub made : IsNewCore reserve old core
     pub last : Core D g
     pub left : new ≡ store_of (committer_of last)
     pub after : List (SlotData S)
     pub served : IsServedBy core last no_clients after
 
   -- the same up to the pass in which the core refused a step
-  pub record StopsStore (error : StoreError) (old new : Store D g) : Type 0 where
+  pub record StopsStore (reserve : ℕ) (error : StoreError) (old new : Store D g) : Type 0 where
     pub core : Core D g
-    pub made : IsNewCore old core
+    pub made : IsNewCore reserve old core
     pub last : Core D g
     pub left : new ≡ store_of (committer_of last)
     pub after : List (SlotData S)
@@ -58,8 +58,8 @@ module _ {D : Type 0} {g : sectors.Ghosts D} {S : Type 0} (N : CallModel S) wher
 
   -- Why the clients weren't served to the end: the first line wasn't written, or memory was refused before it; or the
   -- core refused a step.
-  abbrev pub StopsDaemon : Store D g → Store D g → Option (List ℕ) → Option (List ℕ) → CommandError → Type 0
-  StopsDaemon old new before after fault =
+  abbrev pub StopsDaemon : ℕ → Store D g → Store D g → Option (List ℕ) → Option (List ℕ) → CommandError → Type 0
+  StopsDaemon reserve old new before after fault =
       ((new ≡ old) × IsUnwritten before after fault)
-      ⊎ ((error : StoreError) × (fault ≡ Refused error) × StopsStore error old new
+      ⊎ ((error : StoreError) × (fault ≡ Refused error) × StopsStore reserve error old new
       × Appends before after (ready_line (active_header old)))

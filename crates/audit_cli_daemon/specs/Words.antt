@@ -6,19 +6,23 @@ use Rattle.audit_serve_ready.specs.declared.limits.TheConstants.{DEFAULT_BACKLOG
 use Rattle.audit_cli_store.specs.Mode.{IsMode}
 use Rattle.audit_cli_store.specs.declared.fault.CommandError.{CommandError}
 use Rattle.audit_cli_store.specs.declared.fault.CommandError.TheVariants.{BadArgument}
-use Rattle.audit_cli_daemon.specs.declared.arguments.TheConstants.{DEFAULT_IDLE}
+use Rattle.audit_cli_daemon.specs.declared.arguments.TheConstants.{DEFAULT_IDLE, DEFAULT_RESERVE}
 use Rattle.audit_cli_daemon.specs.declared.request.Settings.{Settings}
 use Rattle.audit_cli_daemon.specs.declared.request.Request.{Request}
 use Rattle.audit_cli_daemon.specs.declared.request.Request.TheVariants.{Run, Stop}
 
--- any number of seconds
-abbrev pub seconds_judged : Option ℕ → Result ℕ CommandError
-seconds_judged None = Err BadArgument
-seconds_judged (Some seconds) = Ok seconds
+-- any number
+abbrev pub number_judged : Option ℕ → Result ℕ CommandError
+number_judged None = Err BadArgument
+number_judged (Some number) = Ok number
 
 abbrev pub idle_asked : Option (Bor (List ℕ)) → Result ℕ CommandError
 idle_asked None = Ok DEFAULT_IDLE
-idle_asked (Some word) = seconds_judged (number_in_text word.now)
+idle_asked (Some word) = number_judged (number_in_text word.now)
+
+abbrev pub free_asked : Option (Bor (List ℕ)) → Result ℕ CommandError
+free_asked None = Ok DEFAULT_RESERVE
+free_asked (Some word) = number_judged (number_in_text word.now)
 
 -- a number of bytes up to the limit
 abbrev pub bytes_judged : Option ℕ → Result ℕ CommandError
@@ -38,7 +42,8 @@ IsNoMode (Some word) = (mode : ℕ) → IsMode word.now mode → ⊥
 abbrev pub HasBadSetting : Settings → Type 0
 HasBadSetting settings =
     (idle_asked settings.idle ≡ Err BadArgument)
-    ⊎ ((backlog_asked settings.backlog ≡ Err BadArgument) ⊎ IsNoMode settings.socket_mode)
+    ⊎ ((free_asked settings.reserve ≡ Err BadArgument)
+    ⊎ ((backlog_asked settings.backlog ≡ Err BadArgument) ⊎ IsNoMode settings.socket_mode))
 
 abbrev pub HasBadWord : Request → Type 0
 HasBadWord (Run settings) = HasBadSetting settings

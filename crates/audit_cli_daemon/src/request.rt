@@ -4,7 +4,7 @@ ghost use Rattle.std.specs.Io.KnownBytes.{Keeps};
 ghost use Rattle.audit_serve_ready.specs.declared.limits.TheConstants.{MAX_BACKLOG};
 ghost use Rattle.audit_cli_daemon.specs.Words.{HasBadSetting, HasBadWord};
 
-use crate::arguments::{backlog_asked, idle_asked, socket_mode_asked};
+use crate::arguments::{backlog_asked, free_asked, idle_asked, socket_mode_asked};
 use crate::client_journal::ClientJournal;
 use crate::running::serve_until_stopped;
 use crate::sockets::Sockets;
@@ -48,6 +48,8 @@ pub struct Settings<'a> {
     pub idle: Option<&'a str>,
     /// How many bytes of replies are kept for a client.
     pub backlog: Option<&'a str>,
+    /// How many sectors stay free after the log, so that it can still be closed.
+    pub reserve: Option<&'a str>,
     /// The permissions of the sockets' files, in three octal digits. Without this word only their owner has access.
     pub socket_mode: Option<&'a str>,
 }
@@ -56,6 +58,7 @@ pub struct Settings<'a> {
 #[derive(Clone, Copy)]
 struct Judged {
     idle: Option<Duration>,
+    reserve: u64,
     most: usize,
     mode: u32,
     rights: Rights,
@@ -143,6 +146,7 @@ fn judge(settings: Settings<'_>) -> Result<Judged, CommandError>
         } else {
             None
         },
+        reserve: free_asked(settings.reserve)?,
         most: backlog_asked(settings.backlog)?,
         mode: socket_mode_asked(settings.socket_mode)?,
         rights: if settings.may_close {
@@ -193,7 +197,14 @@ where
             return Err(fault_of(error.kind()));
         }
     };
-    let (store, served) = serve_until_stopped(alloc, store, judged.most, &mut door, output);
+    let (store, served) = serve_until_stopped(
+        alloc,
+        store,
+        judged.reserve,
+        judged.most,
+        &mut door,
+        output,
+    );
     let has_failed = door.has_failed();
     let (given, mut journal) = door.close();
     *orders = Some(given);

@@ -62,12 +62,12 @@ module _ {D : Type 0} {g : sectors.Ghosts D} where
   kept_by old new core last made left durably =
       subst (StoreKeepsOn old) (sym left) (subst (λ (store : Store D g). StoreKeepsOn store (store_of (committer_of last))) made (durably_keeps (data_of core) (data_of last) durably))
 
-  pub looped : (old new : Store D g) (core last : Core D g) {before after : Option (List ℕ)} {Shape : List StepData → Type 0} → IsNewCore old core → new ≡ store_of (committer_of last) → LoopTransition core_model core last before after Shape
+  pub looped : (old new : Store D g) (core last : Core D g) {before after : Option (List ℕ)} {Shape : List StepData → Type 0} → IsNewCore 0 old core → new ≡ store_of (committer_of last) → LoopTransition core_model core last before after Shape
       → LoopsOver old new before after Shape
   looped old new core last made left run = record { core = core; made = made; last = last; left = left; run = run }
 
   -- whatever stopped the session
-  pub loop_reached : (old new : Store D g) (core last : Core D g) {known : Option (List ℕ)} → IsNewCore old core → new ≡ store_of (committer_of last) → LoopReached core_model core last (BringsLines known) → LoopReachesOver old new known
+  pub loop_reached : (old new : Store D g) (core last : Core D g) {known : Option (List ℕ)} → IsNewCore 0 old core → new ≡ store_of (committer_of last) → LoopReached core_model core last (BringsLines known) → LoopReachesOver old new known
   loop_reached old new core last made left run = record { core = core; made = made; last = last; left = left; run = run }
 
   -- ---- why it stopped
@@ -77,11 +77,11 @@ module _ {D : Type 0} {g : sectors.Ghosts D} where
   no_memory_for old new fault is same = (Memory, is, inr (inr (refl, ap is_broken same)))
 
   -- the core refused a step
-  pub core_refused : (old new : Store D g) (core last : Core D g) (error : StoreError) → IsNewCore old core → new ≡ store_of (committer_of last) → Refuses core last error → IsRefusedAs error old new
+  pub core_refused : (old new : Store D g) (core last : Core D g) (error : StoreError) → IsNewCore 0 old core → new ≡ store_of (committer_of last) → Refuses core last error → IsRefusedAs error old new
   core_refused old new core last error made left refused =
       subst (λ (store : Store D g). IsRefusedAs error old store) (sym left) (subst (λ (store : Store D g). IsRefusedAs error store (store_of (committer_of last))) made.store_is refused)
 
-  pub loop_stopped : (old new : Store D g) (core last : Core D g) (fault : LoopError StoreError) → IsNewCore old core → new ≡ store_of (committer_of last)
+  pub loop_stopped : (old new : Store D g) (core last : Core D g) (fault : LoopError StoreError) → IsNewCore 0 old core → new ≡ store_of (committer_of last)
       → ((error : StoreError) → fault ≡ looping.Core error → Refuses core last error) → StopsLoop old new (of_loop fault)
   loop_stopped old new core last looping.Connection made left refused = inr (inl refl)
   loop_stopped old new core last (looping.Lines cause) made left refused = inr (inr (inl (cause, refl)))
@@ -102,7 +102,7 @@ module _ {D : Type 0} {g : sectors.Ghosts D} {T : Type 0} (M : CallModel T) (Arr
   rounds_more sessions turns [] old mid new same round = (new, subst (λ (store : Store D g). ServesRound M Arrived sessions turns store new) same round, refl)
   rounds_more sessions turns (first ∷ before) old mid new h round = (h.0, h.1, rounds_more sessions turns before h.0 mid new h.2 round)
 
-  pub round_served : (old new : Store D g) (core last : Core D g) (sessions turns : ℕ) (streams later : List (DuplexStream T)) → IsNewCore old core → new ≡ store_of (committer_of last) → length streams ≡ sessions
+  pub round_served : (old new : Store D g) (core last : Core D g) (sessions turns : ℕ) (streams later : List (DuplexStream T)) → IsNewCore 0 old core → new ≡ store_of (committer_of last) → length streams ≡ sessions
       → AllByRecursion (HasArrived Arrived) streams → Transition core_model (duplex_model M) core last streams later (IsServed core_model (length streams) turns core last) → ServesRound M Arrived sessions turns old new
   round_served old new core last sessions turns streams later made left each accepted run = record {
     core = core;
@@ -116,7 +116,7 @@ module _ {D : Type 0} {g : sectors.Ghosts D} {T : Type 0} (M : CallModel T) (Arr
     run = subst (λ (count : ℕ). Transition core_model (duplex_model M) core last streams later (IsServed core_model count turns core last)) each run;
   }
 
-  pub round_reached : (old new : Store D g) (core last : Core D g) (sessions : ℕ) (streams later : List (DuplexStream T)) → IsNewCore old core → new ≡ store_of (committer_of last) → length streams ≡ sessions
+  pub round_reached : (old new : Store D g) (core last : Core D g) (sessions : ℕ) (streams later : List (DuplexStream T)) → IsNewCore 0 old core → new ≡ store_of (committer_of last) → length streams ≡ sessions
       → AllByRecursion (HasArrived Arrived) streams → Reached core_model (duplex_model M) core last streams later AnySteps → ReachesByRound M Arrived sessions old new
   round_reached old new core last sessions streams later made left each accepted run = record {
     core = core;
@@ -135,7 +135,7 @@ module _ {D : Type 0} {g : sectors.Ghosts D} {T : Type 0} (M : CallModel T) (Arr
   streams_refused sessions store fault (inl memory) = inl (no_memory_for store store fault memory refl)
   streams_refused sessions store fault (inr file) = inr (inl (file, refl))
 
-  pub round_stopped : (old new : Store D g) (core last : Core D g) (sessions : ℕ) (streams later : List (DuplexStream T)) (fault : ServeFault StoreError) → IsNewCore old core → new ≡ store_of (committer_of last)
+  pub round_stopped : (old new : Store D g) (core last : Core D g) (sessions : ℕ) (streams later : List (DuplexStream T)) (fault : ServeFault StoreError) → IsNewCore 0 old core → new ≡ store_of (committer_of last)
       → length streams ≡ sessions → AllByRecursion (HasArrived Arrived) streams
       → ((error : StoreError) → Some fault ≡ Some (serving.Core error) → Refuses core last error)
       → (Some fault ≡ Some serving.ReadFault → EndsAs core_model (duplex_model M) core last streams later (IsCut core_model (length streams) core last))

@@ -31,7 +31,7 @@ module _ {D : Type 0} {g : sectors.Ghosts D} where
   pub record LoopsOver (old new : Store D g) (before after : Option (List ℕ))
       (Shape : List StepData → Type 0) : Type 0 where
     pub core : Core D g
-    pub made : IsNewCore old core
+    pub made : IsNewCore 0 old core
     pub last : Core D g
     pub left : new ≡ store_of (committer_of last)
     pub run : LoopTransition core_model core last before after Shape
@@ -39,7 +39,7 @@ module _ {D : Type 0} {g : sectors.Ghosts D} where
   -- a session over these lines of a reader did some steps
   pub record LoopReachesOver (old new : Store D g) (known : Option (List ℕ)) : Type 0 where
     pub core : Core D g
-    pub made : IsNewCore old core
+    pub made : IsNewCore 0 old core
     pub last : Core D g
     pub left : new ≡ store_of (committer_of last)
     pub run : LoopReached core_model core last (BringsLines known)
@@ -66,7 +66,7 @@ module _ {D : Type 0} {g : sectors.Ghosts D} {T : Type 0} (M : CallModel T) (Arr
   -- many passes.
   pub record ServesRound (sessions turns : ℕ) (old new : Store D g) : Type 0 where
     pub core : Core D g
-    pub made : IsNewCore old core
+    pub made : IsNewCore 0 old core
     pub last : Core D g
     pub left : new ≡ store_of (committer_of last)
     pub streams : List (DuplexStream T)
@@ -87,7 +87,7 @@ module _ {D : Type 0} {g : sectors.Ghosts D} {T : Type 0} (M : CallModel T) (Arr
   -- a new core over the store did some steps for such streams
   pub record ReachesByRound (sessions : ℕ) (old new : Store D g) : Type 0 where
     pub core : Core D g
-    pub made : IsNewCore old core
+    pub made : IsNewCore 0 old core
     pub last : Core D g
     pub left : new ≡ store_of (committer_of last)
     pub streams : List (DuplexStream T)
@@ -107,7 +107,7 @@ module _ {D : Type 0} {g : sectors.Ghosts D} {T : Type 0} (M : CallModel T) (Arr
   -- a round had as many passes as the limit allows, and the sessions that were still live were ended
   pub record CutsRound (sessions : ℕ) (old new : Store D g) : Type 0 where
     pub core : Core D g
-    pub made : IsNewCore old core
+    pub made : IsNewCore 0 old core
     pub last : Core D g
     pub left : new ≡ store_of (committer_of last)
     pub streams : List (DuplexStream T)

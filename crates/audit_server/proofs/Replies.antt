@@ -12,7 +12,7 @@ use Rattle.audit_store.specs.declared.store_error.StoreError.{StoreError}
 use Rattle.audit_store.specs.declared.store_error.StoreError.TheVariants.{Device, Memory}
 use Rattle.audit_server_commit.specs.declared.committer.Committer.{Committer}
 use Rattle.audit_server_commit.specs.Flush.{IsDropped, IsFlushed, FlushOutcome}
-use Rattle.audit_server_commit.specs.Committer.{store_of, waiting_of, outputs_of, free_of, closed_of}
+use Rattle.audit_server_commit.specs.Committer.{store_of, waiting_of, outputs_of, reserve_of, free_of, closed_of}
 use Rattle.audit_server_commit.specs.Entering.{IsReady, HasEntered, IsArrivalEnd}
 use Rattle.audit_server.specs.declared.feed_fault.FeedFault.{FeedFault}
 use Rattle.audit_server.specs.declared.server_core.Core.{Core}
@@ -31,7 +31,7 @@ module _ {D : Type 0} {g : sectors.Ghosts D} where
 
   pub flush_adds : (old new : Committer D g) (rest : List Question) → IsFlushed old new rest → AddsReplies old new
   flush_adds old new rest flushed =
-      let replies = append_replies flushed.appends.outcome (active_header (store_of old)).count (append_verdicts (closed_of old) (free_of old) (waiting_of old).appends) (waiting_of old).appends in (
+      let replies = append_replies flushed.appends.outcome (active_header (store_of old)).count (append_verdicts (reserve_of old) (closed_of old) (free_of old) (waiting_of old).appends) (waiting_of old).appends in (
         replies ++ flushed.questions.sent,
         flushed.questions.outputs_are
             ∙ ap (λ outputs. all_delivered outputs flushed.questions.sent) flushed.appends.outputs_are

@@ -32,7 +32,7 @@ module _ {D : Type 0} {g : sectors.Ghosts D} where
   advances_none old = λ origin events holds. (
     events,
     record {
-      durable = durable_queued [] holds holds (held_now holds) refl refl (sym (append-nil (waiting_of old).appends));
+      durable = durable_queued [] holds holds (held_now holds) refl refl refl (sym (append-nil (waiting_of old).appends));
       unbroken = holds.sound;
       done = λ calm. refl;
     },
@@ -109,7 +109,7 @@ module _ {D : Type 0} {g : sectors.Ghosts D} where
     entered = λ origin events holds. (
       events,
       record {
-        durable = durable_queued [] holds holds (held_now holds) refl refl (sym (append-nil (waiting_of old).appends));
+        durable = durable_queued [] holds holds (held_now holds) refl refl refl (sym (append-nil (waiting_of old).appends));
         unbroken = tt;
         done = λ calm. tt;
         refused = λ calm is. inl refl;

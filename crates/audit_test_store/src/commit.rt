@@ -84,18 +84,45 @@ fn a_commitment_beside_an_append_counts_it(rt: HostRuntime) -> Result<(), Fail> 
     Ok(())
 }
 
+// The replies to three appends if three sectors are left for them: the second one needs two, and doesn't fit.
+const TWO_OF_THREE: &str =
+    "00358100000001000000000000000000000000000000025130bd5ac59f2c5cb0d225c79ff5f96bd12035a8dd7dd988fd51402eabb71a6c0006ff000000020700358100000003000000000000000100000000000000025130bd5ac59f2c5cb0d225c79ff5f96bd12035a8dd7dd988fd51402eabb71a6c";
+
+fn append_three<D: Sectors>(alloc: Global, committer: &mut Committer<D>) -> Result<(), Fail> {
+    append(alloc, committer, 1, &[0; 441])?;
+    append(alloc, committer, 2, &[0; 441])?;
+    append(alloc, committer, 3, &[])?;
+    committer.flush()?;
+    Ok(())
+}
+
 #[test]
 fn an_append_after_one_that_does_not_fit(rt: HostRuntime) -> Result<(), Fail> {
     let alloc = rt.alloc();
     let mut committer = committer_on(alloc, MemDisk::new(alloc, 5)?)?;
-    append(alloc, &mut committer, 1, &[0; 441])?;
-    append(alloc, &mut committer, 2, &[0; 441])?;
-    append(alloc, &mut committer, 3, &[])?;
+    append_three(alloc, &mut committer)?;
+    assert!(rt; says(alloc, &mut committer, 2, TWO_OF_THREE)?);
+    assert!(rt; committer.into_store().end() == 5);
+    Ok(())
+}
+
+// A reserve is for the events as if the device were so much smaller. A close may use it.
+#[test]
+fn a_close_uses_the_reserve(rt: HostRuntime) -> Result<(), Fail> {
+    let alloc = rt.alloc();
+    let store = formatted(alloc, MemDisk::new(alloc, 6)?)?;
+    let Ok(mut committer) = Committer::with_reserve(alloc, store, 1) else {
+        return Err(Fail::new("no memory"));
+    };
+    append_three(alloc, &mut committer)?;
+    assert!(rt; says(alloc, &mut committer, 2, TWO_OF_THREE)?);
+    committer.append(2, 4, Event::closing(alloc))?;
+    append(alloc, &mut committer, 5, &[])?;
     committer.flush()?;
     let replies =
-        "00358100000001000000000000000000000000000000025130bd5ac59f2c5cb0d225c79ff5f96bd12035a8dd7dd988fd51402eabb71a6c0006ff000000020700358100000003000000000000000100000000000000025130bd5ac59f2c5cb0d225c79ff5f96bd12035a8dd7dd988fd51402eabb71a6c";
+        "0035810000000400000000000000020000000000000003056b7cbdebe1527c089a6d04f89eeaf40728ca97b2c3bed08684cba7aec18e3a0006ff000000050d";
     assert!(rt; says(alloc, &mut committer, 2, replies)?);
-    assert!(rt; committer.into_store().end() == 5);
+    assert!(rt; committer.into_store().end() == 6);
     Ok(())
 }
 

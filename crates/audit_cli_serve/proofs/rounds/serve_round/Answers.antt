@@ -13,7 +13,7 @@ returns-clause-kept g c = kept_by c.args.store c.into_store.result c.in-Ok-new.c
 
 pub returns-clause-served : goal.returns-clause-served
 returns-clause-served g c =
-    let made : IsNewCore c.args.store c.in-Ok-new.core = record { store_is = c.in-Ok-new.ensures.store; waiting = c.in-Ok-new.ensures.waiting; outputs = c.in-Ok-new.ensures.outputs; sessions = c.in-Ok-new.ensures.sessions } in
+    let made : IsNewCore 0 c.args.store c.in-Ok-new.core = record { store_is = c.in-Ok-new.ensures.store; reserve_is = c.in-Ok-new.ensures.reserve; waiting = c.in-Ok-new.ensures.waiting; outputs = c.in-Ok-new.ensures.outputs; sessions = c.in-Ok-new.ensures.sessions } in
     let each : length c.deref_mut.result.now ≡ c.args.sessions = search rules in
     let accepted : AllByRecursion (HasArrived (g.L.Listener.arrived c.args.socket.now)) c.deref_mut.result.now = search rules in
     elim c.match-end.branch [
@@ -25,14 +25,14 @@ returns-clause-served g c =
 
 pub returns-clause-reached : goal.returns-clause-reached
 returns-clause-reached g c =
-    let made : IsNewCore c.args.store c.in-Ok-new.core = record { store_is = c.in-Ok-new.ensures.store; waiting = c.in-Ok-new.ensures.waiting; outputs = c.in-Ok-new.ensures.outputs; sessions = c.in-Ok-new.ensures.sessions } in
+    let made : IsNewCore 0 c.args.store c.in-Ok-new.core = record { store_is = c.in-Ok-new.ensures.store; reserve_is = c.in-Ok-new.ensures.reserve; waiting = c.in-Ok-new.ensures.waiting; outputs = c.in-Ok-new.ensures.outputs; sessions = c.in-Ok-new.ensures.sessions } in
     let each : length c.deref_mut.result.now ≡ c.args.sessions = search rules in
     let accepted : AllByRecursion (HasArrived (g.L.Listener.arrived c.args.socket.now)) c.deref_mut.result.now = search rules in
     inr (round_reached g.T.Duplex.calls (g.L.Listener.arrived c.args.socket.now) c.args.store c.into_store.result c.in-Ok-new.core c.serve-end.new.core c.args.sessions _ _ made c.into_store.ensures each accepted c.serve-end.ensures.reaches)
 
 pub returns-clause-fault : goal.returns-clause-fault
 returns-clause-fault g c =
-    let made : IsNewCore c.args.store c.in-Ok-new.core = record { store_is = c.in-Ok-new.ensures.store; waiting = c.in-Ok-new.ensures.waiting; outputs = c.in-Ok-new.ensures.outputs; sessions = c.in-Ok-new.ensures.sessions } in
+    let made : IsNewCore 0 c.args.store c.in-Ok-new.core = record { store_is = c.in-Ok-new.ensures.store; reserve_is = c.in-Ok-new.ensures.reserve; waiting = c.in-Ok-new.ensures.waiting; outputs = c.in-Ok-new.ensures.outputs; sessions = c.in-Ok-new.ensures.sessions } in
     let each : length c.deref_mut.result.now ≡ c.args.sessions = search rules in
     let accepted : AllByRecursion (HasArrived (g.L.Listener.arrived c.args.socket.now)) c.deref_mut.result.now = search rules in
     elim c.match-end.branch [
