@@ -34,8 +34,8 @@ struct Span {
     drawn: Duration,
 }
 
-/// A line on standard error that shows how far a file is read or written. It is there only on a terminal, after a second,
-/// and is drawn at most ten times a second. Whatever else is printed erases it.
+/// A line on standard error that shows how far a file is read or written. It is there only on a terminal, after a
+/// second, and is drawn at most ten times a second. Whatever else is printed erases it.
 #[derive(Drop)]
 pub struct Progress<'r> {
     rt: &'r HostRuntime,

@@ -2,7 +2,8 @@
 ghost use Rattle.std.specs.Prelude.{◌≡◌, ◌+◌, ◌<◌, ◌≤◌, if◌then◌else◌, OnOk, OnErr, IfOk, IfErr};
 ghost use Rattle.std.specs.Io.KnownBytes.{Appends};
 ghost use Rattle.audit_text.specs.Writing.{WritesInPart};
-ghost use Rattle.audit_cli_client.specs.Sending.{is_refusal, answer_line, acknowledgement_line, refusal_line, AnswersLine};
+ghost use Rattle.audit_cli_client.specs.Sending.{is_refusal, answer_line, acknowledgement_line, refusal_line};
+ghost use Rattle.audit_cli_client.specs.Sending.{AnswersLine};
 ghost use Rattle.audit_cli_client.specs.Sending.{TakesAnswer, FailsAnswer, TakesAnswers};
 
 use crate::asking::not_due;

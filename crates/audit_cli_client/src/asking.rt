@@ -10,7 +10,8 @@ ghost use Rattle.audit_wire.specs.declared.request.Request.TheVariants as reques
 ghost use Rattle.audit_wire.specs.declared.reply.Reply.TheVariants as reply;
 ghost use Rattle.audit_cli_client.specs.Asking.{not_due, AnswersMember, AnswersIncrement, AnswersEntry};
 ghost use Rattle.audit_cli_client.specs.Conversation.{Converses};
-ghost use Rattle.audit_cli_client.specs.Failing.{IsLost, IsAnsweredOtherwise, IsNoAnswer, IsNewestReply, IsClosingReply};
+ghost use Rattle.audit_cli_client.specs.Failing.{IsLost, IsAnsweredOtherwise, IsNoAnswer, IsNewestReply};
+ghost use Rattle.audit_cli_client.specs.Failing.{IsClosingReply};
 ghost use Rattle.audit_cli_client.specs.Failing.{IsMemberReply, IsIncrementReply, FailsNewest, FailsClosing};
 ghost use Rattle.audit_cli_client.specs.Failing.{FailsJoining, FailsEntry, FailsMember, FailsIncrement};
 ghost use Rattle.audit_cli_client.specs.Joined.{IsVouchedFor};

@@ -20,8 +20,8 @@ const SECTORS: u64 = 60;
 // The first byte of an append's acknowledgement.
 const ACKNOWLEDGED: u8 = 0x81;
 
-/// Plays a run over devices whose first call fails, or the second, and so on for this number of calls. It is an error if
-/// an event that a client knows to be acknowledged isn't in the store when it is opened again.
+/// Plays a run over devices whose first call fails, or the second, and so on for this number of calls. It is an error
+/// if an event that a client knows to be acknowledged isn't in the store when it is opened again.
 pub fn play_failures<R: AllocGlobal + Print>(rt: &R, rest: &str) -> anyhow::Result<()> {
     let (number, count) = two_numbers(rest)?;
     for calls in 0..count {
