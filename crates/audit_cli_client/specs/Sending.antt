@@ -262,7 +262,7 @@ pub record SendsAll (form : LineForm) (before : ℕ)
   pub sent : Appends written_old written_new (event_frames before events)
   pub prints : PrintsAll read_old read_new old new before (length events) end.answered end.refused
 
--- at most so many lines are sent ahead of their answers
+-- At most `window` lines are sent ahead of their answers, and each refusal is an answer.
 pub record IsWithin (window : ℕ) (end : SendEnd) : Type 0 where
   pub refused : end.refused ≤ end.answered
   pub answered : end.answered ≤ end.sent
