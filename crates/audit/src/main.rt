@@ -14,7 +14,7 @@ mod remote_forms;
 mod streams;
 mod words;
 
-use audit_cli_store::{CommandError, Status, report};
+use audit_cli_base::{CommandError, Status, report};
 use audit_store::StoreError;
 use host::Host;
 use noted_file::NotedFile;

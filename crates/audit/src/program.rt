@@ -1,10 +1,11 @@
 use crate::command::{Asked, request_of};
 use crate::explaining::explain;
 use crate::notes::{Extent, Notes, Subject};
+use audit_cli_base::{CommandError, Status, report};
 use audit_cli_daemon::{Request as Daemon, Settings};
 use audit_cli_remote::{Dial, Request as Remote};
 use audit_cli_serve::Request as Serving;
-use audit_cli_store::{CommandError, Request, Status, report};
+use audit_cli_store::Request;
 use audit_disk::SystemFile;
 use audit_store::StoreError;
 use clap::Error;

@@ -17,7 +17,7 @@ use Rattle.audit_serve_ready.specs.Slot.{SlotData}
 use Rattle.audit_serve_ready.specs.Clients.{ClientChange, a_pass, a_coming, a_going, AreChanges, StopsServing}
 use Rattle.audit_server_clients.specs.NewCore.{IsNewCore}
 use Rattle.audit_server_clients.proofs.Keeping.{kept_served, kept_stopped}
-use Rattle.audit_cli_store.specs.declared.fault.CommandError.{CommandError}
+use Rattle.audit_cli_base.specs.declared.fault.CommandError.{CommandError}
 use Rattle.audit_cli_daemon.specs.State.{ready_line}
 use Rattle.audit_cli_daemon.specs.Running.{no_clients, IsServedBy, EndsByRefusal, ServesStore, StopsStore, StopsDaemon}
 

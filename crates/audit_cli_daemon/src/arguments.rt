@@ -3,7 +3,7 @@ ghost use Rattle.std.specs.Prelude.{◌≡◌, ◌≤◌, Err, IfOk, IfErr};
 ghost use Rattle.audit_serve_ready.specs.declared.limits.TheConstants.{MAX_BACKLOG};
 ghost use Rattle.audit_cli_daemon.specs.Words.{idle_asked, free_asked, backlog_asked, IsNoMode};
 
-use audit_cli_store::{CommandError, OWNER_ONLY, mode_asked};
+use audit_cli_base::{CommandError, OWNER_ONLY, mode_asked};
 use audit_serve_ready::{DEFAULT_BACKLOG, MAX_BACKLOG};
 use audit_text::number_in_text;
 

@@ -10,7 +10,7 @@ use crate::running::serve_until_stopped;
 use crate::sockets::Sockets;
 use crate::state_line::write_state;
 use crate::stopping::stop;
-use audit_cli_store::{CommandError, FileStore, Status, open_store, report, report_end};
+use audit_cli_base::{CommandError, FileStore, Status, open_store, report, report_end};
 use audit_disk::SystemFile;
 use audit_serve_door::{SocketDoor, StopOrders};
 use audit_serve_rights::Rights;

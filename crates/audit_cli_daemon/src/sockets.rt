@@ -1,4 +1,4 @@
-use audit_cli_store::{CommandError, OWNER_ONLY};
+use audit_cli_base::{CommandError, OWNER_ONLY};
 use audit_serve_door::{Entrance, StopOrders};
 use audit_serve_rights::Rights;
 use audit_serve_sockets::SocketFile;

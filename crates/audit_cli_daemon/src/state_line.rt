@@ -3,9 +3,9 @@ ghost use Rattle.std.specs.Prelude.{OnOk, OnErr, IfErr};
 ghost use Rattle.std.specs.Io.KnownBytes.{Appends};
 ghost use Rattle.audit_text.specs.NumberedLine.{numbered_line};
 ghost use Rattle.audit_text.specs.Writing.{WritesInPart};
-ghost use Rattle.audit_cli_store.specs.Faults.{IsUnwritten};
+ghost use Rattle.audit_cli_base.specs.Faults.{IsUnwritten};
 
-use audit_cli_store::CommandError;
+use audit_cli_base::CommandError;
 use audit_proof::Commitment;
 use audit_text::{LinesError, put_line, write_whole};
 use std::alloc::Global;

@@ -1,10 +1,10 @@
 //! Stopping a daemon.
 ghost use Rattle.std.specs.Prelude.{◌≡◌, ◌↔◌, Some};
-ghost use Rattle.audit_cli_store.specs.Faults.{exit_status_of};
-ghost use Rattle.audit_cli_store.specs.declared.status.Status.{Status};
+ghost use Rattle.audit_cli_base.specs.Faults.{exit_status_of};
+ghost use Rattle.audit_cli_base.specs.declared.status.Status.{Status};
 
 use crate::sockets::stop_path;
-use audit_cli_store::{CommandError, Status};
+use audit_cli_base::{CommandError, Status};
 use std::alloc::Global;
 use std::io::Read;
 use std::net::Net;

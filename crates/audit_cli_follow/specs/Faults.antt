@@ -1,8 +1,8 @@
 -- The errors of appending lines, and the status with which the program exits after each.
 use Rattle.std.specs.Prelude.{Result, Ok, Err}
-use Rattle.audit_cli_store.specs.declared.status.Status.{Status}
-use Rattle.audit_cli_store.specs.declared.status.Status.TheVariants as ends
-use Rattle.audit_cli_store.specs.Faults as commands
+use Rattle.audit_cli_base.specs.declared.status.Status.{Status}
+use Rattle.audit_cli_base.specs.declared.status.Status.TheVariants as ends
+use Rattle.audit_cli_base.specs.Faults as commands
 use Rattle.audit_cli_follow.specs.declared.fault.FollowError.{FollowError}
 use Rattle.audit_cli_follow.specs.declared.fault.FollowError.TheVariants.{Command, OtherCount}
 

@@ -1,7 +1,7 @@
 ghost use Rattle.std.specs.Prelude.{◌≡◌};
 ghost use Rattle.audit_cli_follow.specs.Faults.{follow_status};
 
-use audit_cli_store::{CommandError, Status, report};
+use audit_cli_base::{CommandError, Status, report};
 use std::io::Write;
 
 /// Why lines weren't appended.

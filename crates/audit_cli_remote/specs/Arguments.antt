@@ -3,8 +3,8 @@ use denote.Ref.{Bor}
 use Rattle.std.specs.Prelude.{◌≡◌, ◌⊎◌, ℕ, nat_le, ◌&&◌, Option, Some, None, Result, Ok, Err, List, if◌then◌else◌}
 use Rattle.audit_text.specs.Number.{number_in_text}
 use Rattle.audit_text_plain.specs.LineEvents.{form_asked}
-use Rattle.audit_cli_store.specs.declared.fault.CommandError.{CommandError}
-use Rattle.audit_cli_store.specs.declared.fault.CommandError.TheVariants.{BadArgument}
+use Rattle.audit_cli_base.specs.declared.fault.CommandError.{CommandError}
+use Rattle.audit_cli_base.specs.declared.fault.CommandError.TheVariants.{BadArgument}
 use Rattle.audit_cli_remote.specs.declared.arguments.TheConstants.{MAX_SECONDS, MAX_WINDOW}
 use Rattle.audit_cli_remote.specs.declared.request.Request.{Request}
 use Rattle.audit_cli_remote.specs.declared.request.Request.TheVariants.{Ask, Send, Watch}

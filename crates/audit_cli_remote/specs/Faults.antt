@@ -3,10 +3,10 @@ use Rattle.std.specs.Prelude.{◌≡◌, ℕ, Option, Some, None, List, codes, R
 use Rattle.audit_wire.specs.declared.refusal.Refusal.{Refusal}
 use Rattle.audit_wire.specs.declared.refusal.Refusal.TheVariants as refusal
 use Rattle.audit_store.specs.declared.store_error.StoreError.TheVariants as store
-use Rattle.audit_cli_store.specs.declared.status.Status.{Status}
-use Rattle.audit_cli_store.specs.declared.status.Status.TheVariants as ends
-use Rattle.audit_cli_store.specs.declared.fault.CommandError.TheVariants.{Refused, File, Lines}
-use Rattle.audit_cli_store.specs.Faults as commands
+use Rattle.audit_cli_base.specs.declared.status.Status.{Status}
+use Rattle.audit_cli_base.specs.declared.status.Status.TheVariants as ends
+use Rattle.audit_cli_base.specs.declared.fault.CommandError.TheVariants.{Refused, File, Lines}
+use Rattle.audit_cli_base.specs.Faults as commands
 use Rattle.audit_cli_client.specs.declared.fault.ClientError.{ClientError}
 use Rattle.audit_cli_client.specs.declared.fault.ClientError.TheVariants as client
 use Rattle.audit_cli_client.specs.declared.putting.AskError.{AskError}

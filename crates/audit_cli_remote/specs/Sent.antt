@@ -1,7 +1,7 @@
 -- The status with which the program exits after it sent events.
 use Rattle.std.specs.Prelude.{ℕ, Option, Some, None, nat_lt, if◌then◌else◌}
-use Rattle.audit_cli_store.specs.declared.status.Status.{Status}
-use Rattle.audit_cli_store.specs.declared.status.Status.TheVariants as ends
+use Rattle.audit_cli_base.specs.declared.status.Status.{Status}
+use Rattle.audit_cli_base.specs.declared.status.Status.TheVariants as ends
 use Rattle.audit_cli_client.specs.declared.send_error.SendError.{SendError}
 use Rattle.audit_cli_client.specs.declared.sending.SendEnd.{SendEnd}
 use Rattle.audit_cli_remote.specs.Faults.{remote_status, of_sending}

@@ -3,7 +3,7 @@ ghost use Rattle.std.specs.Prelude.{◌≡◌, IfErr};
 ghost use Rattle.audit_cli_remote.specs.Arguments.{judged_number, seconds_asked, window_asked};
 ghost use Rattle.audit_text.specs.Number.{number_in_text};
 
-use audit_cli_store::CommandError;
+use audit_cli_base::CommandError;
 use audit_text::number_in_text;
 
 /// The most seconds of a timeout or a pause: a day.

@@ -3,10 +3,10 @@ use crate::arguments::Question;
 use crate::connection::{Dial, connect, socket_identity};
 use crate::fault::RemoteError;
 use crate::out::OutFile;
+use audit_cli_base::{CommandError, write_exported};
 use audit_cli_client::{
     close_log, newest_commitment, put_entry, put_export, put_increment, put_member,
 };
-use audit_cli_store::{CommandError, write_exported};
 use audit_disk::FileIdentity;
 use audit_proof::Commitment;
 use audit_text::{push_number, put_line, write_whole};

@@ -1,4 +1,4 @@
-use audit_cli_store::OutputFile;
+use audit_cli_base::OutputFile;
 use std::io::{self, BufWriter, Write};
 
 /// A file that is written, or bytes that are held for standard output.

@@ -1,8 +1,8 @@
 ghost use Rattle.std.specs.Prelude.{◌≡◌, option_map};
 ghost use Rattle.audit_cli_remote.specs.Faults.{no_memory, remote_status, status_of_server, of_sending, judgment_of};
 
+use audit_cli_base::{CommandError, Status, report};
 use audit_cli_client::{AskError, ClientError, SendError, word_of_refusal};
-use audit_cli_store::{CommandError, Status, report};
 use audit_store::StoreError;
 use audit_text::LinesError;
 use audit_wire::Refusal;
@@ -148,7 +148,7 @@ impl From<ClientError> for RemoteError {
 impl From<LinesError> for RemoteError {
     ghost use Rattle.std.specs.Prelude.{◌≡◌};
     ghost use Rattle.audit_cli_remote.specs.declared.fault.RemoteError.TheVariants.{Command};
-    ghost use Rattle.audit_cli_store.specs.declared.fault.CommandError.TheVariants.{Lines};
+    ghost use Rattle.audit_cli_base.specs.declared.fault.CommandError.TheVariants.{Lines};
 
     ghost from_gives = { λ cause fault. fault ≡ Command (Lines cause) };
 
@@ -160,7 +160,7 @@ impl From<LinesError> for RemoteError {
 impl From<io::Error> for RemoteError {
     ghost use Rattle.std.specs.Prelude.{◌≡◌};
     ghost use Rattle.audit_cli_remote.specs.declared.fault.RemoteError.TheVariants.{Command};
-    ghost use Rattle.audit_cli_store.specs.declared.fault.CommandError.TheVariants.{File};
+    ghost use Rattle.audit_cli_base.specs.declared.fault.CommandError.TheVariants.{File};
 
     ghost from_gives = { λ _ fault. fault ≡ Command File };
 

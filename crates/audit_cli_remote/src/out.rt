@@ -3,8 +3,8 @@ ghost use Rattle.std.specs.Prelude.{◌≡◌, ◌⊎◌, [], Some, None, IfOk, 
 
 use crate::draft::Draft;
 use crate::fault::RemoteError;
+use audit_cli_base::OutputFile;
 use audit_cli_client::Out;
-use audit_cli_store::OutputFile;
 use audit_disk::FileIdentity;
 use std::alloc::Global;
 use std::fs::Files;

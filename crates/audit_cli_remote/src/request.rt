@@ -13,7 +13,7 @@ use crate::connection::Dial;
 use crate::fault::RemoteError;
 use crate::sending::{Task, send_to_socket};
 use crate::watching::{Post, watch_for_ever, watch_once};
-use audit_cli_store::{CommandError, Status, report_flush};
+use audit_cli_base::{CommandError, Status, report_flush};
 use audit_text::write_whole;
 use audit_text_plain::{LineForm, form_asked};
 use std::alloc::Global;

@@ -4,9 +4,9 @@ ghost use Rattle.audit_text.specs.Lines.{lines_of};
 ghost use Rattle.audit_cli_offline.specs.CommitmentWord.{commitment_in_word};
 
 use crate::fault::RemoteError;
+use audit_cli_base::{CommandError, OutputFile};
 use audit_cli_client::Kept;
 use audit_cli_offline::commitment_in_word;
-use audit_cli_store::{CommandError, OutputFile};
 use audit_disk::FileIdentity;
 use audit_proof::Commitment;
 use audit_text::{push_hex, push_number, read_input, split_at_first};

@@ -3,7 +3,7 @@ use Rattle.std.specs.Prelude.{ℕ, List, ◌++◌, codes}
 use Rattle.std.specs.Fmt.{decimal}
 use Rattle.audit_log.specs.declared.header.Header.{Header}
 use Rattle.audit_text.specs.NumberedLine.{numbered_line}
-use Rattle.audit_cli_store.specs.Acks.{ack_line}
+use Rattle.audit_cli_base.specs.Acks.{ack_line}
 
 -- what formatting a device prints
 abbrev pub formatted_line : ℕ → List ℕ

@@ -4,11 +4,11 @@ ghost use Rattle.std.specs.Fmt.{decimal};
 ghost use Rattle.std.specs.Io.KnownBytes.{Appends};
 ghost use Rattle.audit_text.specs.Writing.{WritesInPart};
 ghost use Rattle.audit_store.specs.Store.{active_header};
-ghost use Rattle.audit_cli_store.specs.Acks.{ack_line};
-ghost use Rattle.audit_cli_store.specs.Faults.{IsUnwritten};
+ghost use Rattle.audit_cli_base.specs.Acks.{ack_line};
+ghost use Rattle.audit_cli_base.specs.Faults.{IsUnwritten};
 ghost use Rattle.audit_cli_rotate.specs.Lines.{rotated_lines, formatted_line};
 
-use audit_cli_store::CommandError;
+use audit_cli_base::CommandError;
 use audit_disk_model::Sectors;
 use audit_store::{Receipt, Store};
 use audit_text::{push_hex, push_number, put_line, write_whole};

@@ -1,13 +1,12 @@
 //! The request to rotate a log, and how it is carried out.
 ghost use Rattle.std.specs.Prelude.{◌≡◌, ◌⊎◌, Err};
 ghost use Rattle.std.specs.Io.KnownBytes.{Keeps};
-ghost use Rattle.audit_cli_store.specs.declared.fault.CommandError.{CommandError};
-ghost use Rattle.audit_cli_store.specs.Arguments.{sectors_asked};
-ghost use Rattle.audit_cli_store.specs.Faults.{status_of};
-ghost use Rattle.audit_cli_store.specs.Requests.{RefusesWords};
+ghost use Rattle.audit_cli_base.specs.declared.fault.CommandError.{CommandError};
+ghost use Rattle.audit_cli_base.specs.Arguments.{sectors_asked, RefusesWords};
+ghost use Rattle.audit_cli_base.specs.Faults.{status_of};
 
 use crate::files::rotate_file;
-use audit_cli_store::{CommandError, Status, read_key, report_end, sectors_asked};
+use audit_cli_base::{CommandError, Status, read_key, report_end, sectors_asked};
 use audit_disk::SystemFile;
 use std::alloc::Global;
 use std::fs::{self, Files};

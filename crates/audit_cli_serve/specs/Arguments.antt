@@ -2,8 +2,8 @@
 use Rattle.std.specs.Prelude.{ℕ, nat_le, ◌&&◌, Option, Some, None, Result, Ok, Err, List, if◌then◌else◌}
 use Rattle.audit_text.specs.Number.{number_in_text}
 use Rattle.audit_base.specs.declared.limits.TheConstants.{SESSIONS}
-use Rattle.audit_cli_store.specs.declared.fault.CommandError.{CommandError}
-use Rattle.audit_cli_store.specs.declared.fault.CommandError.TheVariants.{BadArgument}
+use Rattle.audit_cli_base.specs.declared.fault.CommandError.{CommandError}
+use Rattle.audit_cli_base.specs.declared.fault.CommandError.TheVariants.{BadArgument}
 
 -- any number
 abbrev pub or_bad : Option ℕ → Result ℕ CommandError

@@ -4,10 +4,10 @@ use Rattle.audit_serve_passes.specs.declared.serve_end.ServeFault.{ServeFault}
 use Rattle.audit_serve_passes.specs.declared.serve_end.ServeFault.TheVariants as serving
 use Rattle.audit_serve_sockets.specs.declared.loop_fault.LoopError.{LoopError}
 use Rattle.audit_serve_sockets.specs.declared.loop_fault.LoopError.TheVariants as looping
-use Rattle.audit_cli_store.specs.declared.status.Status.{Status}
-use Rattle.audit_cli_store.specs.declared.status.Status.TheVariants as ends
-use Rattle.audit_cli_store.specs.declared.fault.CommandError.TheVariants.{Refused, Lines, File}
-use Rattle.audit_cli_store.specs.Faults as commands
+use Rattle.audit_cli_base.specs.declared.status.Status.{Status}
+use Rattle.audit_cli_base.specs.declared.status.Status.TheVariants as ends
+use Rattle.audit_cli_base.specs.declared.fault.CommandError.TheVariants.{Refused, Lines, File}
+use Rattle.audit_cli_base.specs.Faults as commands
 use Rattle.audit_cli_serve.specs.declared.fault.ServingError.{ServingError}
 use Rattle.audit_cli_serve.specs.declared.fault.ServingError.TheVariants.{Command, BadFrameLine, TooManyPasses}
 

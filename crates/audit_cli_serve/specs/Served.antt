@@ -18,7 +18,7 @@ use Rattle.audit_server_clients.specs.NewCore.{IsNewCore}
 use Rattle.audit_text.specs.declared.fault.LinesError.{LinesError}
 use Rattle.audit_text.specs.declared.fault.LinesError.TheVariants.{Write, Memory}
 use Rattle.audit_serve_sockets.specs.Looping.{BringsLines, LoopTransition, LoopReached}
-use Rattle.audit_cli_store.specs.declared.fault.CommandError.TheVariants.{File, Lines, Refused}
+use Rattle.audit_cli_base.specs.declared.fault.CommandError.TheVariants.{File, Lines, Refused}
 use Rattle.audit_cli_serve.specs.declared.fault.ServingError.{ServingError}
 use Rattle.audit_cli_serve.specs.declared.fault.ServingError.TheVariants.{Command, BadFrameLine, TooManyPasses}
 

@@ -1,8 +1,8 @@
 -- The words of a request to serve sessions.
 use denote.Ref.{Bor}
 use Rattle.std.specs.Prelude.{◌≡◌, ◌⊎◌, ℕ, Option, Some, None, Err, List}
-use Rattle.audit_cli_store.specs.Mode.{IsMode}
-use Rattle.audit_cli_store.specs.declared.fault.CommandError.TheVariants.{BadArgument}
+use Rattle.audit_cli_base.specs.Mode.{IsMode}
+use Rattle.audit_cli_base.specs.declared.fault.CommandError.TheVariants.{BadArgument}
 use Rattle.audit_cli_serve.specs.Arguments.{rounds_asked, sessions_asked}
 use Rattle.audit_cli_serve.specs.declared.request.Request.{Request}
 use Rattle.audit_cli_serve.specs.declared.request.Request.TheVariants.{Serve, Loop}

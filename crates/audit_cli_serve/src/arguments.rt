@@ -4,7 +4,7 @@ ghost use Rattle.audit_base.specs.declared.limits.TheConstants.{SESSIONS};
 ghost use Rattle.audit_cli_serve.specs.Arguments.{rounds_asked, sessions_asked};
 
 use audit_base::SESSIONS;
-use audit_cli_store::CommandError;
+use audit_cli_base::CommandError;
 use audit_text::number_in_text;
 
 /// Parses a number of rounds: below 2^64, in 1 to 20 decimal digits. The only error is `BadArgument`.

@@ -1,10 +1,10 @@
 ghost use Rattle.std.specs.Prelude.{◌≡◌};
 ghost use Rattle.audit_store.specs.declared.store_error.StoreError.TheVariants.{Memory};
-ghost use Rattle.audit_cli_store.specs.declared.fault.CommandError.TheVariants.{Refused};
+ghost use Rattle.audit_cli_base.specs.declared.fault.CommandError.TheVariants.{Refused};
 ghost use Rattle.audit_cli_serve.specs.declared.fault.ServingError.TheVariants.{Command};
 ghost use Rattle.audit_cli_serve.specs.Faults.{serving_status, of_serving, of_loop};
 
-use audit_cli_store::{CommandError, Status, report};
+use audit_cli_base::{CommandError, Status, report};
 use audit_serve_passes::ServeFault;
 use audit_serve_sockets::LoopError;
 use audit_store::StoreError;
@@ -67,7 +67,7 @@ impl From<CommandError> for ServingError {
 impl From<LinesError> for ServingError {
     ghost use Rattle.std.specs.Prelude.{◌≡◌};
     ghost use Rattle.audit_cli_serve.specs.declared.fault.ServingError.TheVariants.{Command};
-    ghost use Rattle.audit_cli_store.specs.declared.fault.CommandError.TheVariants.{Lines};
+    ghost use Rattle.audit_cli_base.specs.declared.fault.CommandError.TheVariants.{Lines};
 
     ghost from_gives = { λ cause fault. fault ≡ Command (Lines cause) };
 
@@ -79,7 +79,7 @@ impl From<LinesError> for ServingError {
 impl From<io::Error> for ServingError {
     ghost use Rattle.std.specs.Prelude.{◌≡◌};
     ghost use Rattle.audit_cli_serve.specs.declared.fault.ServingError.TheVariants.{Command};
-    ghost use Rattle.audit_cli_store.specs.declared.fault.CommandError.TheVariants.{File};
+    ghost use Rattle.audit_cli_base.specs.declared.fault.CommandError.TheVariants.{File};
 
     ghost from_gives = { λ _ fault. fault ≡ Command File };
 

@@ -8,7 +8,7 @@ use crate::arguments::{rounds_asked, sessions_asked};
 use crate::fault::ServingError;
 use crate::looping::loop_over;
 use crate::rounds::serve_rounds;
-use audit_cli_store::{CommandError, OWNER_ONLY, Status, mode_asked, open_store, report_flush};
+use audit_cli_base::{CommandError, OWNER_ONLY, Status, mode_asked, open_store, report_flush};
 use audit_disk::SystemFile;
 use audit_serve_sockets::{Link, SocketFile};
 use audit_text::LinesError;

@@ -6,7 +6,7 @@ ghost use Rattle.audit_base.specs.declared.limits.TheConstants.{SESSIONS};
 ghost use Rattle.audit_server_model.specs.Serving.{StoreKeepsOn};
 ghost use Rattle.audit_cli_serve.specs.Rounds.{round_lines};
 ghost use Rattle.audit_store.specs.declared.store_error.StoreError.TheVariants.{Memory};
-ghost use Rattle.audit_cli_store.specs.declared.fault.CommandError.TheVariants.{File, Refused};
+ghost use Rattle.audit_cli_base.specs.declared.fault.CommandError.TheVariants.{File, Refused};
 ghost use Rattle.audit_cli_serve.specs.declared.fault.ServingError.TheVariants.{Command};
 ghost use Rattle.audit_cli_serve.specs.Served.{ServesRound, ServesRounds, ReachesByRound, ReachesByRounds, StopsRound};
 ghost use Rattle.audit_cli_serve.specs.Served.{StopsRounds, HasArrived};

@@ -26,8 +26,8 @@ use Rattle.audit_text.specs.Writing.{WritesInPart}
 use Rattle.audit_text.specs.declared.fault.LinesError.{LinesError}
 use Rattle.audit_text.specs.declared.fault.LinesError.TheVariants as lines
 use Rattle.audit_cli_offline.specs.TwoPasses.{IsLineUnwritten}
+use Rattle.audit_cli_base.specs.declared.fault.CommandError.TheVariants.{Lines}
 use Rattle.audit_cli_store.specs.declared.checking.Judged.{Judged}
-use Rattle.audit_cli_store.specs.declared.fault.CommandError.TheVariants.{Lines}
 use Rattle.audit_cli_store.specs.Checks.{IsReadAndJudged, IsChecked, WritesLinesInPart, contents_line, accepted_lines, IsAcceptedMember, IsAcceptedIncrement, IsOfOtherKind, IsNoProof, IsProofJudged}
 
 -- bytes that are too long for an input aren't a proof

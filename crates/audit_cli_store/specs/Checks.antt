@@ -13,11 +13,11 @@ use Rattle.audit_cli_offline.specs.declared.check_form.CheckForm.TheVariants.{Ju
 use Rattle.audit_cli_offline.specs.Judgment.{SpellsProof}
 use Rattle.audit_cli_offline.specs.ProofLines.{member_line, increment_line}
 use Rattle.audit_store.specs.declared.store_error.StoreError.TheVariants as store
+use Rattle.audit_cli_base.specs.declared.fault.CommandError.{CommandError}
+use Rattle.audit_cli_base.specs.declared.fault.CommandError.TheVariants.{BadArgument, FileExists, File, InUse}
+use Rattle.audit_cli_base.specs.declared.fault.CommandError.TheVariants.{TooSmall, Salvaged, Lines, Refused, Export}
+use Rattle.audit_cli_base.specs.declared.fault.CommandError.TheVariants.{BadProof, NotAccepted}
 use Rattle.audit_cli_store.specs.declared.checking.Judged.{Judged}
-use Rattle.audit_cli_store.specs.declared.fault.CommandError.{CommandError}
-use Rattle.audit_cli_store.specs.declared.fault.CommandError.TheVariants.{BadArgument, FileExists, File, InUse}
-use Rattle.audit_cli_store.specs.declared.fault.CommandError.TheVariants.{TooSmall, Salvaged, Lines, Refused, Export}
-use Rattle.audit_cli_store.specs.declared.fault.CommandError.TheVariants.{BadProof, NotAccepted}
 
 -- the bytes are a membership proof of the commitment's count, and it is accepted
 pub record IsAcceptedMember (bytes : List ℕ) (commitment : Commitment) : Type 0 where

@@ -1,10 +1,5 @@
 pub mod Replay
-pub mod Faults
-pub mod Mode
-pub mod Arguments
-pub mod KeyFile
 pub mod Batches
-pub mod Acks
 pub mod Shown
 pub mod Gathering
 pub mod Proofs

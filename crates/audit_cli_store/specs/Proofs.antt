@@ -7,12 +7,12 @@ use Rattle.audit_tree.specs.Paths.{membership_path, increment_path}
 use Rattle.audit_store_images.specs.Headers.{log_leaves}
 use Rattle.audit_proof.specs.ProofBytes.{Member, Increment as Incremental, member_bytes, increment_bytes}
 use Rattle.audit_store.specs.Recovered.{IsOfDeviceOrMemory}
-use Rattle.audit_cli_store.specs.declared.arguments.ProofRequest.{ProofRequest}
-use Rattle.audit_cli_store.specs.declared.arguments.ProofRequest.TheVariants as asked
-use Rattle.audit_cli_store.specs.declared.fault.CommandError.{CommandError}
-use Rattle.audit_cli_store.specs.declared.fault.CommandError.TheVariants.{BadArgument, FileExists, File, InUse}
-use Rattle.audit_cli_store.specs.declared.fault.CommandError.TheVariants.{TooSmall, Salvaged, Lines, Refused, Export}
-use Rattle.audit_cli_store.specs.declared.fault.CommandError.TheVariants.{BadProof, NotAccepted}
+use Rattle.audit_cli_base.specs.declared.arguments.ProofRequest.{ProofRequest}
+use Rattle.audit_cli_base.specs.declared.arguments.ProofRequest.TheVariants as asked
+use Rattle.audit_cli_base.specs.declared.fault.CommandError.{CommandError}
+use Rattle.audit_cli_base.specs.declared.fault.CommandError.TheVariants.{BadArgument, FileExists, File, InUse}
+use Rattle.audit_cli_base.specs.declared.fault.CommandError.TheVariants.{TooSmall, Salvaged, Lines, Refused, Export}
+use Rattle.audit_cli_base.specs.declared.fault.CommandError.TheVariants.{BadProof, NotAccepted}
 
 -- that an event is one of the first `count`: the siblings on its path to their root, and its entry
 abbrev pub member_of_log : List ℕ → List EventData → ℕ → ℕ → Member

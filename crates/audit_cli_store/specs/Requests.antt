@@ -1,42 +1,27 @@
 -- The effect of carrying out a request, apart from its files.
-use denote.Ref.{Bor}
 use Rattle.std.specs.Prelude.{◌≡◌, ◌⊎◌, ℕ, Option, Some, None, Result, Ok, Err, List, IfSome, IfOk, IsOkAnd}
 use Rattle.std.specs.Io.KnownBytes.{Keeps, Appends}
 use Rattle.audit_text.specs.declared.fault.LinesError.{LinesError}
 use Rattle.audit_text.specs.Answers.{IsFaultOf, IsBeforeWriting}
 use Rattle.audit_text.specs.Writing.{WritesInPart}
-use Rattle.audit_cli_offline.specs.CommitmentWord.{commitment_in_word}
-use Rattle.audit_cli_store.specs.Arguments.{sectors_asked, proof_asked}
-use Rattle.audit_cli_store.specs.Faults.{status_of_end}
-use Rattle.audit_cli_store.specs.Mode.{IsMode}
+use Rattle.audit_cli_base.specs.Arguments.{sectors_asked, proof_asked, IsNewFileFault, AreNoCommitments, RefusesWords}
+use Rattle.audit_cli_base.specs.Faults.{status_of_end}
+use Rattle.audit_cli_base.specs.declared.status.Status.{Status}
+use Rattle.audit_cli_base.specs.declared.status.Status.TheVariants as ends
+use Rattle.audit_cli_base.specs.declared.fault.CommandError.{CommandError}
+use Rattle.audit_cli_base.specs.declared.fault.CommandError.TheVariants.{BadArgument, Lines}
 use Rattle.audit_cli_store.specs.Replay.{replay_output}
-use Rattle.audit_cli_store.specs.declared.status.Status.{Status}
-use Rattle.audit_cli_store.specs.declared.status.Status.TheVariants as ends
 use Rattle.audit_cli_store.specs.declared.request.Site.{Site}
 use Rattle.audit_cli_store.specs.declared.request.Site.TheVariants.{NewFile, InPlace}
 use Rattle.audit_cli_store.specs.declared.request.Request.{Request}
 use Rattle.audit_cli_store.specs.declared.request.Request.TheVariants.{Replay, Format, Append, Close, Show, Check}
 use Rattle.audit_cli_store.specs.declared.request.Request.TheVariants.{Export, Verify, Prove}
-use Rattle.audit_cli_store.specs.declared.fault.CommandError.{CommandError}
-use Rattle.audit_cli_store.specs.declared.fault.CommandError.TheVariants.{BadArgument, Lines}
 
 -- ---- words
-
--- The words for a new file have this fault. The permissions are checked before the number of sectors.
-abbrev pub IsNewFileFault : Option (Bor (List ℕ)) → List ℕ → CommandError → Type 0
-IsNewFileFault None sectors fault = sectors_asked sectors ≡ Err fault
-IsNewFileFault (Some word) sectors fault =
-    (((mode : ℕ) → IsMode word.now mode → ⊥) × (fault ≡ BadArgument))
-    ⊎ (((mode : ℕ) × IsMode word.now mode) × (sectors_asked sectors ≡ Err fault))
 
 abbrev pub IsFormatFault : Site → List ℕ → CommandError → Type 0
 IsFormatFault (NewFile mode) sectors fault = IsNewFileFault mode sectors fault
 IsFormatFault (InPlace erase) sectors fault = sectors_asked sectors ≡ Err fault
-
--- one of the words for commitments isn't a commitment
-abbrev pub AreNoCommitments : List ℕ → Option (Bor (List ℕ)) → Type 0
-AreNoCommitments older None = commitment_in_word older ≡ None
-AreNoCommitments older (Some newer) = (commitment_in_word older ≡ None) ⊎ (commitment_in_word newer.now ≡ None)
 
 -- the first fault of the words that are checked before any file is opened
 abbrev pub IsWordFault : Request → CommandError → Type 0
@@ -50,12 +35,6 @@ IsWordFault (Export file out access) fault = ⊥
 IsWordFault (Verify export key_file commitment form) fault = ⊥
 IsWordFault (Prove file kind first second out access) fault =
     (proof_asked kind.now first.now second.now ≡ None) × (fault ≡ BadArgument)
-
--- a fault of the words is returned, and nothing is written
-abbrev pub RefusesWords : (CommandError → Type 0) → Option (List ℕ) → Option (List ℕ) → Result Unit CommandError
-    → Type 0
-RefusesWords IsFault before after result = (fault : CommandError) → IsFault fault
-    → (result ≡ Err fault) × Keeps before after
 
 -- ---- a replay
 

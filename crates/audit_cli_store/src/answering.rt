@@ -1,15 +1,14 @@
 //! Commands that only answer about the store in a file.
-use crate::arguments::ProofRequest;
-use crate::exporting::{write_entries, write_exported};
-use crate::fault::CommandError;
-use crate::files::{open_device_to_read, open_store, store_to_read};
-use crate::output_file::OutputFile;
+use crate::exporting::write_entries;
 use crate::proving::proof_bytes;
 use crate::request::Access;
 use crate::salvaging::{Salvaged, write_salvage_line, write_salvaged};
 use crate::show_form::ShowForm;
 use crate::showing::show;
-use crate::text::write_number;
+use audit_cli_base::{
+    CommandError, OutputFile, ProofRequest, open_device_to_read, open_store, store_to_read,
+    write_exported, write_number,
+};
 use audit_disk::{FileIdentity, SharedDisk, SystemFile};
 use audit_disk_model::Sectors;
 use audit_store::{Store, StoreError};

@@ -2,12 +2,11 @@
 ghost use Rattle.std.specs.Prelude.{◌≡◌, OnOk};
 ghost use Rattle.std.specs.Io.KnownBytes.{Appends, Keeps};
 ghost use Rattle.audit_cli_offline.specs.ReportLines.{end_message};
-ghost use Rattle.audit_cli_store.specs.Requests.{AreNoCommitments, RefusesWords};
+ghost use Rattle.audit_cli_base.specs.Arguments.{AreNoCommitments, RefusesWords};
 
-use crate::arguments::{commitment_asked, commitments_asked};
 use crate::checking::check_proof;
-use crate::fault::CommandError;
 use crate::making::key_in;
+use audit_cli_base::{CommandError, commitment_asked, commitments_asked};
 use audit_cli_offline::{
     CheckForm, ReportForm, VerifiedEnd, verify_export, verify_in_two_passes, write_end_message,
 };

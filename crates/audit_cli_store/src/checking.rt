@@ -4,7 +4,7 @@ ghost use Rattle.audit_cli_offline.specs.Judgment.{SpellsProof};
 ghost use Rattle.audit_cli_store.specs.Checks.{IsAccepted, IsNotAccepted, IsOfOtherKind, IsNoProof, IsUnread};
 ghost use Rattle.audit_cli_store.specs.Checks.{IsProofJudged, IsReadAndJudged, IsChecked, IsFailure};
 
-use crate::fault::CommandError;
+use audit_cli_base::CommandError;
 use audit_cli_offline::{CheckForm, Proof, judge_proof, read_proof, write_judgment};
 use audit_proof::Commitment;
 use audit_text::{LinesError, read_input};

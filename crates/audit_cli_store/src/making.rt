@@ -1,14 +1,12 @@
 //! Making stores in files and on block devices.
 ghost use Rattle.std.specs.Prelude.{◌≡◌, Err};
-ghost use Rattle.audit_cli_store.specs.Requests.{IsNewFileFault, RefusesWords};
-ghost use Rattle.audit_cli_store.specs.Arguments.{sectors_asked};
+ghost use Rattle.audit_cli_base.specs.Arguments.{IsNewFileFault, RefusesWords, sectors_asked};
 
-use crate::arguments::{new_file_asked, sectors_asked};
-use crate::fault::CommandError;
-use crate::files::{device_in_place, make_device};
 use crate::formatting::format_device;
-use crate::key_file::read_key;
 use audit_chain::Key;
+use audit_cli_base::{
+    CommandError, device_in_place, make_device, new_file_asked, read_key, sectors_asked,
+};
 use audit_disk::SystemFile;
 use std::alloc::Global;
 use std::fs::{self, Files};

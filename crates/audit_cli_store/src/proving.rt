@@ -11,8 +11,7 @@ ghost use Rattle.audit_cli_store.specs.Proofs.{member_of_log, increment_of_log, 
 ghost use Rattle.audit_cli_store.specs.Proofs.{IsDeviceOrMemory};
 ghost use Rattle.audit_base.specs.declared.limits.TheConstants.{MAX_ENTRY, MAX_MEMBER_HASHES, MAX_INCREMENT_HASHES};
 
-use crate::arguments::ProofRequest;
-use crate::fault::CommandError;
+use audit_cli_base::{CommandError, ProofRequest};
 use audit_disk_model::Sectors;
 use audit_proof::{IncrementProof, MemberProof, write_increment, write_member};
 use audit_store::{Store, StoreError};

@@ -1,16 +1,14 @@
 //! The program's requests, and how they are carried out.
-ghost use Rattle.audit_cli_store.specs.Requests.{IsWordFault, RefusesWords, IsReplayOf, IsCarriedOut};
+ghost use Rattle.audit_cli_base.specs.Arguments.{RefusesWords};
+ghost use Rattle.audit_cli_store.specs.Requests.{IsWordFault, IsReplayOf, IsCarriedOut};
 
 use crate::answering::{export_file, prove_file, show_file};
-use crate::arguments::proof_request;
 use crate::auditing::{check_file, end_report, verify_file};
 use crate::changing::{append_to, close_file};
-use crate::fault::CommandError;
 use crate::making::{format_file, format_in_place};
 use crate::replaying::replay;
-use crate::reporting::report_end;
 use crate::show_form::ShowForm;
-use crate::status::Status;
+use audit_cli_base::{CommandError, Status, proof_request, report_end};
 use audit_cli_offline::{CheckForm, ReportForm};
 use audit_disk::SystemFile;
 use std::alloc::Global;

@@ -3,11 +3,11 @@ ghost use Rattle.std.specs.Prelude.{◌≡◌, ◌++◌, IfOk, IfErr, OnOk, OnEr
 ghost use Rattle.std.specs.Io.KnownBytes.{Appends};
 ghost use Rattle.audit_text.specs.Writing.{WritesInPart};
 ghost use Rattle.audit_store.specs.Store.{active_header};
-ghost use Rattle.audit_cli_store.specs.Faults.{IsUnwritten};
+ghost use Rattle.audit_cli_base.specs.Faults.{IsUnwritten};
 ghost use Rattle.audit_cli_store.specs.Shown.{shown_lines, free_line, printed_state};
 
-use crate::fault::CommandError;
 use crate::show_form::ShowForm;
+use audit_cli_base::CommandError;
 use audit_cli_offline::push_state;
 use audit_disk_model::Sectors;
 use audit_store::Store;

@@ -1,7 +1,6 @@
 // Whole command lines over files. The expected output was computed by an independent model.
-use audit_cli_store::{
-    Access, CommandError, Request, ShowForm, Site, Status, mode_asked, report_end, run,
-};
+use audit_cli_base::{CommandError, Status, mode_asked, report_end};
+use audit_cli_store::{Access, Request, ShowForm, Site, run};
 use std::fs::{self, OpenOptions};
 use std::io::{self, ErrorKind};
 use std::path::PathBuf;

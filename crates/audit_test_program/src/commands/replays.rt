@@ -1,5 +1,6 @@
 // The expected output was computed by an independent model, which shares no code with the program.
-use audit_cli_store::{Request, Status, run};
+use audit_cli_base::Status;
+use audit_cli_store::{Request, run};
 use std::alloc::{AllocError, Global};
 use std::io::{self, ErrorKind, Read, Write};
 use std::str;

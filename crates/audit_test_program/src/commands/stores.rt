@@ -1,8 +1,7 @@
 // The expected output was computed by an independent model, which shares no code with the program.
 use audit_chain::Key;
-use audit_cli_store::{
-    CommandError, ProofRequest, ShowForm, append_lines, close_log, format_device, proof_bytes, show,
-};
+use audit_cli_base::{CommandError, ProofRequest};
+use audit_cli_store::{ShowForm, append_lines, close_log, format_device, proof_bytes, show};
 use audit_disk::{FailOnce, MemDisk};
 use audit_store::{Store, StoreError};
 use audit_text::{LineError, LinesError};

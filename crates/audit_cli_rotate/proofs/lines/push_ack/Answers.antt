@@ -2,7 +2,7 @@ use Rattle.std.proofs.Common.{◌≡◌, ◌++◌, ℕ, List, ap, ◌∙◌, cod
 use Rattle.std.specs.Fmt.{decimal}
 use Rattle.hex.specs.Hex.{encode_lower}
 use Rattle.std.proofs.lemmas.List.{append_assoc}
-use Rattle.audit_cli_store.specs.Acks.{ack_line}
+use Rattle.audit_cli_base.specs.Acks.{ack_line}
 use Rattle.audit_cli_rotate.proofs.lines.push_ack.Goals as goal
 
 -- pieces that were appended one after another

@@ -1,9 +1,9 @@
 use Rattle.std.specs.Prelude.{IsOk, IsErr}
 use Rattle.std.proofs.Common.{◌≡◌, ◌⊎◌, Result, Ok, Err, inl, inr, refl}
-use Rattle.audit_cli_store.specs.Faults.{status_of_end}
-use Rattle.audit_cli_store.specs.declared.fault.CommandError.{CommandError}
-use Rattle.audit_cli_store.specs.declared.status.Status.{Status}
-use Rattle.audit_cli_store.specs.declared.status.Status.TheVariants as ends
+use Rattle.audit_cli_base.specs.Faults.{status_of_end}
+use Rattle.audit_cli_base.specs.declared.fault.CommandError.{CommandError}
+use Rattle.audit_cli_base.specs.declared.status.Status.{Status}
+use Rattle.audit_cli_base.specs.declared.status.Status.TheVariants as ends
 use Rattle.audit_cli_store.proofs.request.run.Goals as goal
 
 -- the output was flushed, or it couldn't be

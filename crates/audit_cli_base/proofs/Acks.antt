@@ -2,7 +2,7 @@
 use Rattle.std.proofs.Common.{◌≡◌, ℕ, ◌+◌, ◌<◌, List, ◌∷◌, ◌++◌, length, drop, get_or, sym, ap, ◌∙◌, add-one}
 use Rattle.std.proofs.Math.Seq.{drop-cons}
 use Rattle.audit_store.specs.declared.receipt.Receipt.{Receipt}
-use Rattle.audit_cli_store.specs.Acks.{ack_line, ack_lines}
+use Rattle.audit_cli_base.specs.Acks.{ack_line, ack_lines}
 
 -- the line of a receipt, followed by those of the other receipts
 pub first_ack : (i : ℕ) (receipts : List Receipt) (receipt : Receipt) (line : List ℕ) → i < length receipts → line ≡ ack_line (get_or receipts i receipt)

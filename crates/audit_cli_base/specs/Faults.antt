@@ -13,12 +13,12 @@ use Rattle.audit_verify.specs.declared.fault.Cause.{Cause}
 use Rattle.audit_verify.specs.declared.fault.Cause.TheVariants as cause
 use Rattle.audit_cli_offline.specs.declared.fault.OfflineError.{OfflineError}
 use Rattle.audit_cli_offline.specs.declared.fault.OfflineError.TheVariants as auditor
-use Rattle.audit_cli_store.specs.declared.status.Status.{Status}
-use Rattle.audit_cli_store.specs.declared.status.Status.TheVariants as ends
-use Rattle.audit_cli_store.specs.declared.fault.CommandError.{CommandError}
-use Rattle.audit_cli_store.specs.declared.fault.CommandError.TheVariants.{BadArgument, FileExists, File, InUse}
-use Rattle.audit_cli_store.specs.declared.fault.CommandError.TheVariants.{TooSmall, Salvaged, Lines, Refused, Export}
-use Rattle.audit_cli_store.specs.declared.fault.CommandError.TheVariants.{BadProof, NotAccepted}
+use Rattle.audit_cli_base.specs.declared.status.Status.{Status}
+use Rattle.audit_cli_base.specs.declared.status.Status.TheVariants as ends
+use Rattle.audit_cli_base.specs.declared.fault.CommandError.{CommandError}
+use Rattle.audit_cli_base.specs.declared.fault.CommandError.TheVariants.{BadArgument, FileExists, File, InUse}
+use Rattle.audit_cli_base.specs.declared.fault.CommandError.TheVariants.{TooSmall, Salvaged, Lines, Refused, Export}
+use Rattle.audit_cli_base.specs.declared.fault.CommandError.TheVariants.{BadProof, NotAccepted}
 
 -- the status as a number
 abbrev pub exit_status_of : Status → ℕ

@@ -1,8 +1,8 @@
 use Rattle.std.proofs.Common.{◌∙◌}
 use Rattle.std.proofs.lemmas.Result.{err_from_is_err_and}
 use Rattle.audit_text.proofs.Writing.{written_more, written_further}
-use Rattle.audit_cli_store.proofs.Acks.{first_ack}
-use Rattle.audit_cli_store.proofs.acknowledging.write_acks.Goals as goal
+use Rattle.audit_cli_base.proofs.Acks.{first_ack}
+use Rattle.audit_cli_base.proofs.acknowledging.write_acks.Goals as goal
 
 pub returns-in_err-write_whole-clause-part : goal.returns-in_err-write_whole-clause-part
 returns-in_err-write_whole-clause-part g c =

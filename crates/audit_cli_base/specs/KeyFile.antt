@@ -4,10 +4,10 @@ use Rattle.std.specs.List.{ends_with}
 use Rattle.std.specs.Result.{result_ok}
 use Rattle.hex.specs.Hex.{decode_sized}
 use Rattle.audit_text.specs.declared.fault.LinesError.TheVariants.{Read, Memory}
-use Rattle.audit_cli_store.specs.declared.fault.CommandError.{CommandError}
-use Rattle.audit_cli_store.specs.declared.fault.CommandError.TheVariants.{BadArgument, FileExists, File, InUse}
-use Rattle.audit_cli_store.specs.declared.fault.CommandError.TheVariants.{TooSmall, Salvaged, Lines, Refused, Export}
-use Rattle.audit_cli_store.specs.declared.fault.CommandError.TheVariants.{BadProof, NotAccepted}
+use Rattle.audit_cli_base.specs.declared.fault.CommandError.{CommandError}
+use Rattle.audit_cli_base.specs.declared.fault.CommandError.TheVariants.{BadArgument, FileExists, File, InUse}
+use Rattle.audit_cli_base.specs.declared.fault.CommandError.TheVariants.{TooSmall, Salvaged, Lines, Refused, Export}
+use Rattle.audit_cli_base.specs.declared.fault.CommandError.TheVariants.{BadProof, NotAccepted}
 
 -- the text without a line feed at its end
 abbrev pub without_line_feed : List ℕ → List ℕ

@@ -1,6 +1,6 @@
 use Rattle.std.proofs.Common.{◌∙◌, ap, sym, Some}
-use Rattle.audit_cli_store.proofs.KeyFiles.{key_of_digits}
-use Rattle.audit_cli_store.proofs.key_file.key_of_file.Goals as goal
+use Rattle.audit_cli_base.proofs.KeyFiles.{key_of_digits}
+use Rattle.audit_cli_base.proofs.key_file.key_of_file.Goals as goal
 
 pub returns-in-Ok : goal.returns-in-Ok
 returns-in-Ok c =

@@ -1,15 +1,19 @@
 -- Arguments that are checked here, not by the command line's parser.
-use Rattle.std.specs.Prelude.{ℕ, nat_lt, ◌||◌, Option, Some, None, Result, Ok, Err, List, codes, if◌then◌else◌}
+use denote.Ref.{Bor}
+use Rattle.std.specs.Prelude.{◌≡◌, ◌⊎◌, ℕ, nat_lt, ◌||◌, Option, Some, None, Result, Ok, Err, List, codes}
+use Rattle.std.specs.Prelude.{if◌then◌else◌}
 use Rattle.std.specs.Str.{bytes_eq}
+use Rattle.std.specs.Io.KnownBytes.{Keeps}
 use Rattle.audit_text.specs.Number.{number_in_text}
 use Rattle.audit_log.specs.declared.header.TheConstants.{MIN_SECTORS, MAX_SECTORS}
 use Rattle.audit_cli_offline.specs.CommitmentWord.{commitment_in_word}
 use Rattle.audit_proof.specs.declared.commitment.Commitment.{Commitment}
 use Rattle.audit_store.specs.declared.store_error.StoreError.TheVariants.{BadSize}
-use Rattle.audit_cli_store.specs.declared.fault.CommandError.{CommandError}
-use Rattle.audit_cli_store.specs.declared.fault.CommandError.TheVariants.{BadArgument, Refused}
-use Rattle.audit_cli_store.specs.declared.arguments.ProofRequest.{ProofRequest}
-use Rattle.audit_cli_store.specs.declared.arguments.ProofRequest.TheVariants.{Member, Increment}
+use Rattle.audit_cli_base.specs.Mode.{IsMode}
+use Rattle.audit_cli_base.specs.declared.fault.CommandError.{CommandError}
+use Rattle.audit_cli_base.specs.declared.fault.CommandError.TheVariants.{BadArgument, Refused}
+use Rattle.audit_cli_base.specs.declared.arguments.ProofRequest.{ProofRequest}
+use Rattle.audit_cli_base.specs.declared.arguments.ProofRequest.TheVariants.{Member, Increment}
 
 -- a number of sectors that a store can have
 abbrev pub judged_sectors : Option ℕ → Result ℕ CommandError
@@ -40,3 +44,21 @@ asked_or_bad (Some commitment) = Ok commitment
 
 abbrev pub commitment_asked : List ℕ → Result Commitment CommandError
 commitment_asked word = asked_or_bad (commitment_in_word word)
+
+-- The words for a new file have this fault. The permissions are checked before the number of sectors.
+abbrev pub IsNewFileFault : Option (Bor (List ℕ)) → List ℕ → CommandError → Type 0
+IsNewFileFault None sectors fault = sectors_asked sectors ≡ Err fault
+IsNewFileFault (Some word) sectors fault =
+    (((mode : ℕ) → IsMode word.now mode → ⊥) × (fault ≡ BadArgument))
+    ⊎ (((mode : ℕ) × IsMode word.now mode) × (sectors_asked sectors ≡ Err fault))
+
+-- one of the words for commitments isn't a commitment
+abbrev pub AreNoCommitments : List ℕ → Option (Bor (List ℕ)) → Type 0
+AreNoCommitments older None = commitment_in_word older ≡ None
+AreNoCommitments older (Some newer) = (commitment_in_word older ≡ None) ⊎ (commitment_in_word newer.now ≡ None)
+
+-- a fault of the words is returned, and nothing is written
+abbrev pub RefusesWords : (CommandError → Type 0) → Option (List ℕ) → Option (List ℕ) → Result Unit CommandError
+    → Type 0
+RefusesWords IsFault before after result = (fault : CommandError) → IsFault fault
+    → (result ≡ Err fault) × Keeps before after

@@ -1,5 +1,5 @@
 ghost use Rattle.std.specs.Prelude.{◌≡◌, IsOk, IsErr};
-ghost use Rattle.audit_cli_store.specs.Faults.{status_of, status_of_end};
+ghost use Rattle.audit_cli_base.specs.Faults.{status_of, status_of_end};
 
 use crate::fault::CommandError;
 use crate::status::Status;

@@ -15,7 +15,7 @@ pub enum Status {
 
 impl Status {
     ghost use Rattle.std.specs.Prelude.{◌≡◌};
-    ghost use Rattle.audit_cli_store.specs.Faults.{exit_status_of};
+    ghost use Rattle.audit_cli_base.specs.Faults.{exit_status_of};
 
     /// The exit status as a number.
     pub fn code(self) -> u8

@@ -1,7 +1,7 @@
 use Rattle.std.proofs.Common.{drop}
 use Rattle.audit_text.proofs.Writing.{IsWrittenUpTo}
-use Rattle.audit_cli_store.specs.Acks.{ack_lines}
-use Rattle.audit_cli_store.proofs.acknowledging.write_acks.Given as goal
+use Rattle.audit_cli_base.specs.Acks.{ack_lines}
+use Rattle.audit_cli_base.proofs.acknowledging.write_acks.Given as goal
 
 -- the lines of the remaining receipts are still to be written
 abbrev pub invariant-loop-receipt : goal.invariant-loop-receipt

@@ -1,5 +1,5 @@
 ghost use Rattle.std.specs.Prelude.{◌≡◌};
-ghost use Rattle.audit_cli_store.specs.Faults.{status_of_cause};
+ghost use Rattle.audit_cli_base.specs.Faults.{status_of_cause};
 
 use crate::status::Status;
 use audit_cli_offline::OfflineError;
@@ -56,7 +56,7 @@ pub enum CommandError {
 
 impl CommandError {
     ghost use Rattle.std.specs.Prelude.{◌≡◌};
-    ghost use Rattle.audit_cli_store.specs.Faults.{status_of};
+    ghost use Rattle.audit_cli_base.specs.Faults.{status_of};
 
     /// The status with which the program exits.
     pub fn status(self) -> Status
@@ -83,7 +83,7 @@ impl CommandError {
 
 impl From<LinesError> for CommandError {
     ghost use Rattle.std.specs.Prelude.{◌≡◌};
-    ghost use Rattle.audit_cli_store.specs.declared.fault.CommandError.TheVariants.{Lines};
+    ghost use Rattle.audit_cli_base.specs.declared.fault.CommandError.TheVariants.{Lines};
 
     ghost from_gives = { λ cause fault. fault ≡ Lines cause };
 
@@ -94,7 +94,7 @@ impl From<LinesError> for CommandError {
 
 impl From<StoreError> for CommandError {
     ghost use Rattle.std.specs.Prelude.{◌≡◌};
-    ghost use Rattle.audit_cli_store.specs.declared.fault.CommandError.TheVariants.{Refused};
+    ghost use Rattle.audit_cli_base.specs.declared.fault.CommandError.TheVariants.{Refused};
 
     ghost from_gives = { λ error fault. fault ≡ Refused error };
 
@@ -106,7 +106,7 @@ impl From<StoreError> for CommandError {
 impl From<DeviceFault> for CommandError {
     ghost use Rattle.std.specs.Prelude.{◌≡◌};
     ghost use Rattle.audit_store.specs.declared.store_error.StoreError.TheVariants.{Device};
-    ghost use Rattle.audit_cli_store.specs.declared.fault.CommandError.TheVariants.{Refused};
+    ghost use Rattle.audit_cli_base.specs.declared.fault.CommandError.TheVariants.{Refused};
 
     ghost from_gives = { λ _ fault. fault ≡ Refused Device };
 
@@ -118,7 +118,7 @@ impl From<DeviceFault> for CommandError {
 impl From<AllocError> for CommandError {
     ghost use Rattle.std.specs.Prelude.{◌≡◌};
     ghost use Rattle.audit_store.specs.declared.store_error.StoreError.TheVariants.{Memory};
-    ghost use Rattle.audit_cli_store.specs.declared.fault.CommandError.TheVariants.{Refused};
+    ghost use Rattle.audit_cli_base.specs.declared.fault.CommandError.TheVariants.{Refused};
 
     ghost from_gives = { λ _ fault. fault ≡ Refused Memory };
 
@@ -129,7 +129,7 @@ impl From<AllocError> for CommandError {
 
 impl From<FileFault> for CommandError {
     ghost use Rattle.std.specs.Prelude.{◌≡◌};
-    ghost use Rattle.audit_cli_store.specs.Faults.{of_file};
+    ghost use Rattle.audit_cli_base.specs.Faults.{of_file};
 
     ghost from_gives = { λ given fault. fault ≡ of_file given };
 
@@ -145,7 +145,7 @@ impl From<FileFault> for CommandError {
 
 impl From<io::Error> for CommandError {
     ghost use Rattle.std.specs.Prelude.{◌≡◌};
-    ghost use Rattle.audit_cli_store.specs.declared.fault.CommandError.TheVariants.{File};
+    ghost use Rattle.audit_cli_base.specs.declared.fault.CommandError.TheVariants.{File};
 
     ghost from_gives = { λ _ fault. fault ≡ File };
 
@@ -172,7 +172,7 @@ fn status_of_cause(cause: Cause) -> Status
 
 impl From<OfflineError> for CommandError {
     ghost use Rattle.std.specs.Prelude.{◌≡◌};
-    ghost use Rattle.audit_cli_store.specs.Faults.{of_auditor};
+    ghost use Rattle.audit_cli_base.specs.Faults.{of_auditor};
 
     ghost from_gives = { λ given fault. fault ≡ of_auditor given };
 
@@ -186,7 +186,7 @@ impl From<OfflineError> for CommandError {
 
 impl From<ProofError> for CommandError {
     ghost use Rattle.std.specs.Prelude.{◌≡◌};
-    ghost use Rattle.audit_cli_store.specs.Faults.{of_reading};
+    ghost use Rattle.audit_cli_base.specs.Faults.{of_reading};
 
     ghost from_gives = { λ given fault. fault ≡ of_reading given };
 

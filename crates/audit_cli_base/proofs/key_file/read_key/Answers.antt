@@ -1,5 +1,5 @@
-use Rattle.audit_cli_store.proofs.KeyFiles.{no_key_if_too_long}
-use Rattle.audit_cli_store.proofs.key_file.read_key.Goals as goal
+use Rattle.audit_cli_base.proofs.KeyFiles.{no_key_if_too_long}
+use Rattle.audit_cli_base.proofs.key_file.read_key.Goals as goal
 
 pub returns-in-Err-InputTooLong-clause-fault : goal.returns-in-Err-InputTooLong-clause-fault
 returns-in-Err-InputTooLong-clause-fault g c =

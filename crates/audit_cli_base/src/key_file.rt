@@ -1,7 +1,7 @@
 //! Key files.
 ghost use Rattle.std.specs.Prelude.{◌≡◌, Some, None, IfOk, IfErr, IfSome};
 ghost use Rattle.audit_text.specs.Reading.{TakesAtMost};
-ghost use Rattle.audit_cli_store.specs.KeyFile.{key_of_file, without_line_feed, IsKeyFault};
+ghost use Rattle.audit_cli_base.specs.KeyFile.{key_of_file, without_line_feed, IsKeyFault};
 
 use crate::fault::CommandError;
 use audit_chain::{KEY_LEN, Key};

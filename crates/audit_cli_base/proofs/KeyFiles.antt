@@ -8,7 +8,7 @@ use Rattle.std.specs.Result.{result_ok}
 use Rattle.hex.specs.Hex.{decode_sized}
 use Rattle.hex.specs.declared.error.FromHexError.{FromHexError}
 use Rattle.audit_text.specs.declared.input.TheConstants.{INPUT_LIMIT}
-use Rattle.audit_cli_store.specs.KeyFile.{key_of_file, without_line_feed}
+use Rattle.audit_cli_base.specs.KeyFile.{key_of_file, without_line_feed}
 
 pub key_of_digits : (text digits : List ℕ) (said : Result (List ℕ) FromHexError) → digits ≡ without_line_feed text
     → said ≡ decode_sized digits 32 → key_of_file text ≡ result_ok said

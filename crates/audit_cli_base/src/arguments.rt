@@ -1,7 +1,7 @@
 //! Arguments that are checked here, not by the command line's parser.
 ghost use Rattle.std.specs.Prelude.{◌≡◌, Err, IfErr};
-ghost use Rattle.audit_cli_store.specs.Arguments.{sectors_asked, proof_asked, commitment_asked};
-ghost use Rattle.audit_cli_store.specs.Requests.{IsNewFileFault, AreNoCommitments};
+ghost use Rattle.audit_cli_base.specs.Arguments.{sectors_asked, proof_asked, commitment_asked};
+ghost use Rattle.audit_cli_base.specs.Arguments.{IsNewFileFault, AreNoCommitments};
 
 use crate::fault::CommandError;
 use crate::mode::{OWNER_ONLY, mode_asked};

@@ -1,9 +1,9 @@
-//! Lines with one number.
+//! Lines with numbers.
 ghost use Rattle.std.specs.Prelude.{◌≡◌, ◌++◌, codes, OnOk, OnErr, IfErr};
 ghost use Rattle.std.specs.Fmt.{decimal};
 ghost use Rattle.std.specs.Io.KnownBytes.{Appends};
 ghost use Rattle.audit_text.specs.Writing.{WritesInPart};
-ghost use Rattle.audit_cli_store.specs.Faults.{IsUnwritten};
+ghost use Rattle.audit_cli_base.specs.Faults.{IsUnwritten};
 
 use crate::fault::CommandError;
 use audit_text::{push_number, write_whole};
@@ -25,6 +25,27 @@ pub fn write_number<W: Write>(
 {
     let mut line = Vec::new(alloc);
     push_number(&mut line, word, number)?;
+    line.extend_from_slice(b"\n")?;
+    write_whole(writer, &line)?;
+    Ok(())
+}
+
+/// Writes the line of an export: how many entries and bytes it has.
+pub fn write_exported<W: Write>(
+    alloc: Global,
+    count: u64,
+    size: u64,
+    writer: &mut W,
+) -> Result<(), CommandError>
+    ensures written { OnOk result (Appends (W.contents writer.old) (W.contents writer.new)
+        (codes "exported " ++ decimal count ++ codes " " ++ decimal size ++ codes "\n")) }
+    ensures part { OnErr result (WritesInPart (W.contents writer.old) (W.contents writer.new)
+        (codes "exported " ++ decimal count ++ codes " " ++ decimal size ++ codes "\n")) }
+    ensures fault { IfErr result (IsUnwritten (W.contents writer.old) (W.contents writer.new)) }
+{
+    let mut line = Vec::new(alloc);
+    push_number(&mut line, b"exported ", count)?;
+    push_number(&mut line, b" ", size)?;
     line.extend_from_slice(b"\n")?;
     write_whole(writer, &line)?;
     Ok(())

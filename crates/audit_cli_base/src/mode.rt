@@ -1,6 +1,6 @@
 //! The permissions of a new file.
 ghost use Rattle.std.specs.Prelude.{◌≡◌, ℕ, IfOk, IfErr, Ok};
-ghost use Rattle.audit_cli_store.specs.Mode.{IsMode};
+ghost use Rattle.audit_cli_base.specs.Mode.{IsMode};
 
 use crate::fault::CommandError;
 

@@ -1,0 +1,3 @@
+pub mod KeyFiles
+pub mod Acks
+pub mod Sectors

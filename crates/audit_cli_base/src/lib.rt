@@ -1,0 +1,29 @@
+//! What the commands share: words, errors, statuses, files and lines.
+#![tactic(auto)]
+
+mod acknowledging;
+mod arguments;
+mod fault;
+mod files;
+mod key_file;
+mod mode;
+mod output_file;
+mod reporting;
+mod status;
+mod text;
+
+pub use acknowledging::{ACK_ROOM, write_acks};
+pub use arguments::{
+    ProofRequest, commitment_asked, commitments_asked, new_file_asked, proof_request, sectors_asked,
+};
+pub use fault::CommandError;
+pub use files::{
+    FileDevice, FileStore, Opened, device_in_place, make_device, open_device_to_read, open_store,
+    store_to_read,
+};
+pub use key_file::{key_of_file, read_key};
+pub use mode::{OWNER_ONLY, mode_asked};
+pub use output_file::OutputFile;
+pub use reporting::{report, report_end, report_flush};
+pub use status::Status;
+pub use text::{write_exported, write_number};
