@@ -2,6 +2,7 @@
 //! can't avoid.
 use crate::bare::{BareFile, open_bare};
 use crate::stores::{BATCH_LENS, hash_messages, new_store};
+use crate::streams::keystream_of;
 use crate::times::{Times, since};
 use anyhow::bail;
 use audit_base::{MAX_ENTRY, MAX_ENTRY_SECTORS, MAX_PAYLOAD};
@@ -10,9 +11,6 @@ use audit_disk::{Sectors, SystemFile};
 use audit_proof::Commitment;
 use audit_store::Store;
 use audit_verify::verify;
-use rand_chacha::ChaCha20Rng;
-use rand_core::SeedableRng;
-use rand_core::utils::NextWord;
 use sha2::{Digest, Sha256};
 use std::alloc::{AllocError, Global};
 use std::fs::{Files, OpenFile};
@@ -104,7 +102,7 @@ fn large_event(alloc: Global, number: u64) -> anyhow::Result<Vec<Event>> {
 // Does the hashing of an event with the longest payload, and computes its keystream.
 fn work_of_event(text: &mut [u8], number: u64) -> u8 {
     let long = hash_long(text, number);
-    long ^ hash_messages(&SHORT_LENS, number) ^ stream_of(number)
+    long ^ hash_messages(&SHORT_LENS, number) ^ keystream_of(number, MAX_PAYLOAD / 4)
 }
 
 // Hashes the long messages. They begin with the number, so that no result can be reused.
@@ -117,18 +115,6 @@ fn hash_long(text: &mut [u8], number: u64) -> u8 {
         seen ^= Sha256::digest(text.get(..len).unwrap_or(&[]))[0];
     }
     seen
-}
-
-// Computes the words of a keystream for the longest payload, under a key made of the number.
-fn stream_of(number: u64) -> u8 {
-    let mut key = [0; 32];
-    key[..8].copy_from_slice(&number.to_be_bytes());
-    let mut words = ChaCha20Rng::from_seed(key);
-    let mut seen = 0;
-    for _ in 0..MAX_PAYLOAD / 4 {
-        seen ^= words.next_word();
-    }
-    (seen & 0xff) as u8
 }
 
 // The shortest times of verifying all entries, and of the work that this can't avoid.

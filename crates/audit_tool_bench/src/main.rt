@@ -20,6 +20,7 @@ mod leaves;
 mod questions;
 mod sessions;
 mod stores;
+mod streams;
 mod times;
 
 use anyhow::{Context, bail};

@@ -1,5 +1,6 @@
-//! The cost of a store in a file, compared with the file calls and the SHA-256 blocks that it can't avoid.
+//! The cost of a store in a file, compared with the file calls, the SHA-256 blocks and the ChaCha20 that it can't avoid.
 use crate::bare::{BareFile, open_bare};
+use crate::streams::keystream_of;
 use crate::times::{Times, since};
 use anyhow::{Context, bail};
 use audit_chain::{Event, Key};
@@ -119,6 +120,24 @@ pub fn small_events(alloc: Global, count: u32) -> anyhow::Result<Vec<Event>> {
     Ok(events)
 }
 
+// The times of a batch: its append, the work that it can't avoid if each sector is written by itself, and the same work
+// with one write for all sectors and the entries' keystreams.
+#[derive(Clone, Copy)]
+struct BatchTimes {
+    times: Times,
+    in_a_row: u128,
+}
+
+impl BatchTimes {
+    // The shorter of each time.
+    fn least(self, other: BatchTimes) -> BatchTimes {
+        BatchTimes {
+            times: self.times.least(other.times),
+            in_a_row: self.in_a_row.min(other.in_a_row),
+        }
+    }
+}
+
 // Times the appends of batches of this many events, compared with the work that they can't avoid.
 fn time_batches<R: AllocGlobal + Clock + Eprint, D: Sectors, F: FileExt + OpenFile>(
     rt: &R,
@@ -127,39 +146,58 @@ fn time_batches<R: AllocGlobal + Clock + Eprint, D: Sectors, F: FileExt + OpenFi
     size: u32,
 ) -> anyhow::Result<()> {
     let batch = small_events(rt.alloc(), size)?;
-    let mut least = time_batch(rt, store, bare, &batch, 0)?;
+    let row = vec![in rt.alloc(); 0x5a; SECTOR_SIZE.saturating_mul(batch.len())]?;
+    let mut least = time_batch(rt, store, bare, &batch, &row, 0)?;
     for round in 1..ROUNDS {
-        least = least.least(time_batch(rt, store, bare, &batch, round)?);
+        least = least.least(time_batch(rt, store, bare, &batch, &row, round)?);
     }
+    let BatchTimes { times, in_a_row } = least;
     let Times {
         whole,
         bare: alone,
         seen,
-    } = least;
-    eprintln!(rt; "batches {size} nanoseconds {whole} bare {alone} seen {seen}")?;
+    } = times;
+    eprintln!(rt; "batches {size} nanoseconds {whole} bare {alone} row {in_a_row} seen {seen}")?;
     Ok(())
 }
 
 // Times the work that the append of a batch can't avoid: the SHA-256 blocks, and the writes and syncs of the same
-// sectors through a second handle of the file. Then it times the append.
+// sectors through a second handle of the file. It times this once with a write for each sector, and once with one for
+// all and the keystreams. Then it times the append. The sectors are written before, since a first write allocates them.
 fn time_batch<R: Clock, D: Sectors, F: FileExt + OpenFile>(
     rt: &R,
     store: &mut Store<D>,
     bare: &BareFile<F>,
     batch: &[Event],
+    row: &[u8],
     round: u32,
-) -> anyhow::Result<Times> {
+) -> anyhow::Result<BatchTimes> {
+    bare.write_row(store.end(), row)?;
     let start = Instant::now(rt)?;
-    let seen = hash_batch(batch.len() as u64, round);
+    let hashed = hash_batch(batch.len() as u64, round);
     bare.write_batch(store.end(), batch.len() as u64)?;
     let alone = since(rt, start)?;
     let start = Instant::now(rt)?;
+    let encrypted = hash_batch(batch.len() as u64, round) ^ small_streams(batch.len() as u64);
+    bare.write_row(store.end(), row)?;
+    let in_a_row = since(rt, start)?;
+    let start = Instant::now(rt)?;
     store.append(batch)?;
-    Ok(Times {
+    let times = Times {
         whole: since(rt, start)?,
         bare: alone,
-        seen,
-    })
+        seen: hashed ^ encrypted,
+    };
+    Ok(BatchTimes { times, in_a_row })
+}
+
+// Computes the first word of the keystreams of `events` events, which is as long as their payloads need.
+fn small_streams(events: u64) -> u8 {
+    let mut seen = 0;
+    for event in 0..events {
+        seen ^= keystream_of(event, 1);
+    }
+    seen
 }
 
 // Hashes the messages of a batch of `size` events.
