@@ -66,29 +66,41 @@ fn asked_by<'a>(name: &str, given: &ArgMatches<'a>) -> Asked<'a> {
         return Asked::Lines(lines);
     }
     match name {
-        "serve" => Asked::Serving(Serving::Serve {
-            file: word(given, "FILE"),
-            socket: word(given, "SOCKET"),
-            rounds: word(given, "ROUNDS"),
-            sessions: given.get_str("sessions"),
-            socket_mode: given.get_str("socket-mode"),
-        }),
-        "loop" => Asked::Serving(Serving::Loop {
-            file: word(given, "FILE"),
-            socket: word(given, "SOCKET"),
-            socket_mode: given.get_str("socket-mode"),
-        }),
+        "serve" => Asked::Serving(serve_request(given)),
+        "loop" => Asked::Serving(loop_request(given)),
         "daemon" => Asked::Daemon(Daemon::Run(settings(given))),
-        "rotate" => Asked::Rotation(Rotation {
-            old: word(given, "OLD"),
-            new: word(given, "NEW"),
-            sectors: word(given, "SECTORS"),
-            key_file: word(given, "KEYFILE"),
-        }),
+        "rotate" => Asked::Rotation(rotation(given)),
         "stop" => Asked::Daemon(Daemon::Stop {
             socket: word(given, "SOCKET"),
         }),
         _ => Asked::Plain(plain_request(name, given)),
+    }
+}
+
+fn serve_request<'a>(given: &ArgMatches<'a>) -> Serving<'a> {
+    Serving::Serve {
+        file: word(given, "FILE"),
+        socket: word(given, "SOCKET"),
+        rounds: word(given, "ROUNDS"),
+        sessions: given.get_str("sessions"),
+        socket_mode: given.get_str("socket-mode"),
+    }
+}
+
+fn loop_request<'a>(given: &ArgMatches<'a>) -> Serving<'a> {
+    Serving::Loop {
+        file: word(given, "FILE"),
+        socket: word(given, "SOCKET"),
+        socket_mode: given.get_str("socket-mode"),
+    }
+}
+
+fn rotation<'a>(given: &ArgMatches<'a>) -> Rotation<'a> {
+    Rotation {
+        old: word(given, "OLD"),
+        new: word(given, "NEW"),
+        sectors: word(given, "SECTORS"),
+        key_file: word(given, "KEYFILE"),
     }
 }
 
@@ -126,53 +138,77 @@ fn settings<'a>(given: &ArgMatches<'a>) -> Settings<'a> {
 
 fn plain_request<'a>(name: &str, given: &ArgMatches<'a>) -> Request<'a> {
     match name {
-        "format" => Request::Format {
-            file: word(given, "FILE"),
-            site: site(given),
-            sectors: word(given, "SECTORS"),
-            key_file: word(given, "KEYFILE"),
-        },
+        "format" => format_request(given),
         "append" => Request::Append {
             file: word(given, "FILE"),
         },
         "close" => Request::Close {
             file: word(given, "FILE"),
         },
-        "show" => Request::Show {
-            file: word(given, "FILE"),
-            access: access(given),
-            form: show_form(given),
-        },
-        "check" => Request::Check {
-            proof: word(given, "PROOF"),
-            older: word(given, "OLDER"),
-            newer: given.get_str("NEWER"),
-            form: check_form(given),
-        },
-        "export" => Request::Export {
-            file: word(given, "FILE"),
-            out: word(given, "OUT"),
-            access: if given.get_flag("salvage") {
-                Access::Salvage
-            } else {
-                access(given)
-            },
-        },
-        "verify" => Request::Verify {
-            export: word(given, "EXPORT"),
-            key_file: word(given, "KEYFILE"),
-            commitment: word(given, "COMMIT"),
-            form: report_form(given),
-        },
-        "prove" => Request::Prove {
-            file: word(given, "FILE"),
-            kind: word(given, "KIND"),
-            first: word(given, "A"),
-            second: word(given, "B"),
-            out: word(given, "OUT"),
-            access: access(given),
-        },
+        "show" => show_request(given),
+        "check" => check_request(given),
+        "export" => export_request(given),
+        "verify" => verify_request(given),
+        "prove" => prove_request(given),
         _ => Request::Replay,
+    }
+}
+
+fn format_request<'a>(given: &ArgMatches<'a>) -> Request<'a> {
+    Request::Format {
+        file: word(given, "FILE"),
+        site: site(given),
+        sectors: word(given, "SECTORS"),
+        key_file: word(given, "KEYFILE"),
+    }
+}
+
+fn show_request<'a>(given: &ArgMatches<'a>) -> Request<'a> {
+    Request::Show {
+        file: word(given, "FILE"),
+        access: access(given),
+        form: show_form(given),
+    }
+}
+
+fn check_request<'a>(given: &ArgMatches<'a>) -> Request<'a> {
+    Request::Check {
+        proof: word(given, "PROOF"),
+        older: word(given, "OLDER"),
+        newer: given.get_str("NEWER"),
+        form: check_form(given),
+    }
+}
+
+fn export_request<'a>(given: &ArgMatches<'a>) -> Request<'a> {
+    Request::Export {
+        file: word(given, "FILE"),
+        out: word(given, "OUT"),
+        access: if given.get_flag("salvage") {
+            Access::Salvage
+        } else {
+            access(given)
+        },
+    }
+}
+
+fn verify_request<'a>(given: &ArgMatches<'a>) -> Request<'a> {
+    Request::Verify {
+        export: word(given, "EXPORT"),
+        key_file: word(given, "KEYFILE"),
+        commitment: word(given, "COMMIT"),
+        form: report_form(given),
+    }
+}
+
+fn prove_request<'a>(given: &ArgMatches<'a>) -> Request<'a> {
+    Request::Prove {
+        file: word(given, "FILE"),
+        kind: word(given, "KIND"),
+        first: word(given, "A"),
+        second: word(given, "B"),
+        out: word(given, "OUT"),
+        access: access(given),
     }
 }
 

@@ -1,5 +1,5 @@
 //! The commands, as the command line and its help show them.
-use crate::remote_forms::REMOTE_FORMS;
+use crate::remote_forms::remote_forms;
 use audit_base::{MAX_PAYLOAD, SESSIONS};
 use audit_cli_daemon::{DEFAULT_IDLE, DEFAULT_RESERVE};
 use audit_log::{MAX_SECTORS, MIN_SECTORS, VERSION as FORMAT_VERSION};
@@ -76,454 +76,492 @@ pub(crate) struct Choice {
     pub(crate) excludes: Option<&'static str>,
 }
 
-static FORMS: [Form; 14] = [
-    Form {
-        name: "replay",
-        about: "Seals events from standard input, and prints their entries and the commitment",
-        after: Some(LIMITS),
-        words: &[],
-        options: &[],
-    },
-    Form {
-        name: "format",
-        about: "Makes a file, and formats it for a store of no events",
-        after: None,
-        words: &[
-            Word {
-                name: "FILE",
-                help: "The file to be made",
-                is_required: true,
-            },
-            Word {
-                name: "SECTORS",
-                help: "Its size in sectors of 512 bytes, 3 to 16777216",
-                is_required: true,
-            },
-            Word {
-                name: "KEYFILE",
-                help: "The file with the first key, in 64 hex digits",
-                is_required: true,
-            },
-        ],
-        options: &[
-            Choice {
-                name: "mode",
-                value: Some("MODE"),
-                help: "The permissions of the file, 600 to 677 in octal digits [default: 600]",
-                needs: None,
-                excludes: Some("in-place"),
-            },
-            Choice {
-                name: "in-place",
-                value: None,
-                help: "Formats a file or a block device that is there, of SECTORS or more",
-                needs: None,
-                excludes: None,
-            },
-            Choice {
-                name: "erase",
-                value: None,
-                help: "With --in-place: even if FILE holds a store",
-                needs: Some("in-place"),
-                excludes: None,
-            },
-        ],
-    },
-    Form {
-        name: "append",
-        about: "Appends events from standard input, and prints a line for each batch",
-        after: Some(APPEND_LIMITS),
-        words: &[Word {
+static REPLAY: Form = Form {
+    name: "replay",
+    about: "Seals events from standard input, and prints their entries and the commitment",
+    after: Some(LIMITS),
+    words: &[],
+    options: &[],
+};
+
+static FORMAT: Form = Form {
+    name: "format",
+    about: "Makes a file, and formats it for a store of no events",
+    after: None,
+    words: &[
+        Word {
             name: "FILE",
-            help: "The file of the store",
+            help: "The file to be made",
             is_required: true,
-        }],
-        options: &[
-            Choice {
-                name: "text",
-                value: Some("KIND"),
-                help: "Each line is the payload of an event of KIND, 0 to 4294967294",
-                needs: None,
-                excludes: None,
-            },
-            Choice {
-                name: "follow",
-                value: None,
-                help: "Appends lines as they come, and prints the line of each batch at once",
-                needs: None,
-                excludes: None,
-            },
-            Choice {
-                name: "expect",
-                value: Some("COUNT"),
-                help: "Appends nothing if the store has another count",
-                needs: None,
-                excludes: None,
-            },
-            Choice {
-                name: "reserve",
-                value: Some("N"),
-                help: "Leaves N sectors free after the log [default: 0, with --follow 1]",
-                needs: None,
-                excludes: None,
-            },
-        ],
-    },
-    Form {
-        name: "rotate",
-        about: "Closes the log of a store, and begins a new store with its last commitment",
-        after: Some("If it is interrupted, run it again with the same words."),
-        words: &[
-            Word {
-                name: "OLD",
-                help: "The file of the store whose log is closed",
-                is_required: true,
-            },
-            Word {
-                name: "NEW",
-                help: "The file to be made for the new store",
-                is_required: true,
-            },
-            Word {
-                name: "SECTORS",
-                help: "Its size in sectors of 512 bytes, 3 to 16777216",
-                is_required: true,
-            },
-            Word {
-                name: "KEYFILE",
-                help: "The file with its first key, in 64 hex digits",
-                is_required: true,
-            },
-        ],
-        options: &[],
-    },
-    Form {
-        name: "close",
-        about: "Closes the log of a store: its last entry says so, and no key is kept",
-        after: Some("Nothing can be appended to a closed log."),
-        words: &[Word {
-            name: "FILE",
-            help: "The file of the store",
+        },
+        Word {
+            name: "SECTORS",
+            help: "Its size in sectors of 512 bytes, 3 to 16777216",
             is_required: true,
-        }],
-        options: &[],
-    },
-    Form {
-        name: "show",
-        about: "Prints the commitment of a store, and where it stands",
-        after: None,
-        words: &[Word {
-            name: "FILE",
-            help: "The file of the store",
+        },
+        Word {
+            name: "KEYFILE",
+            help: "The file with the first key, in 64 hex digits",
             is_required: true,
-        }],
-        options: &[
-            Choice {
-                name: "read-only",
-                value: None,
-                help: "Opens the store without the right to write: nothing is repaired",
-                needs: None,
-                excludes: None,
-            },
-            Choice {
-                name: "free",
-                value: None,
-                help: "Prints a line with the number of free sectors, too",
-                needs: None,
-                excludes: None,
-            },
-        ],
-    },
-    Form {
-        name: "prove",
-        about: "Writes a proof of a store's history to a file",
-        after: None,
-        words: &[
-            Word {
-                name: "FILE",
-                help: "The file of the store",
-                is_required: true,
-            },
-            Word {
-                name: "KIND",
-                help: "member or increment",
-                is_required: true,
-            },
-            Word {
-                name: "A",
-                help: "The number of the event, or the older count",
-                is_required: true,
-            },
-            Word {
-                name: "B",
-                help: "The count, or the newer one",
-                is_required: true,
-            },
-            Word {
-                name: "OUT",
-                help: "The file for the proof, which is replaced; - for standard output",
-                is_required: true,
-            },
-        ],
-        options: &[Choice {
+        },
+    ],
+    options: &[
+        Choice {
+            name: "mode",
+            value: Some("MODE"),
+            help: "The permissions of the file, 600 to 677 in octal digits [default: 600]",
+            needs: None,
+            excludes: Some("in-place"),
+        },
+        Choice {
+            name: "in-place",
+            value: None,
+            help: "Formats a file or a block device that is there, of SECTORS or more",
+            needs: None,
+            excludes: None,
+        },
+        Choice {
+            name: "erase",
+            value: None,
+            help: "With --in-place: even if FILE holds a store",
+            needs: Some("in-place"),
+            excludes: None,
+        },
+    ],
+};
+
+static APPEND: Form = Form {
+    name: "append",
+    about: "Appends events from standard input, and prints a line for each batch",
+    after: Some(APPEND_LIMITS),
+    words: &[Word {
+        name: "FILE",
+        help: "The file of the store",
+        is_required: true,
+    }],
+    options: &[
+        Choice {
+            name: "text",
+            value: Some("KIND"),
+            help: "Each line is the payload of an event of KIND, 0 to 4294967294",
+            needs: None,
+            excludes: None,
+        },
+        Choice {
+            name: "follow",
+            value: None,
+            help: "Appends lines as they come, and prints the line of each batch at once",
+            needs: None,
+            excludes: None,
+        },
+        Choice {
+            name: "expect",
+            value: Some("COUNT"),
+            help: "Appends nothing if the store has another count",
+            needs: None,
+            excludes: None,
+        },
+        Choice {
+            name: "reserve",
+            value: Some("N"),
+            help: "Leaves N sectors free after the log [default: 0, with --follow 1]",
+            needs: None,
+            excludes: None,
+        },
+    ],
+};
+
+static ROTATE: Form = Form {
+    name: "rotate",
+    about: "Closes the log of a store, and begins a new store with its last commitment",
+    after: Some("If it is interrupted, run it again with the same words."),
+    words: &[
+        Word {
+            name: "OLD",
+            help: "The file of the store whose log is closed",
+            is_required: true,
+        },
+        Word {
+            name: "NEW",
+            help: "The file to be made for the new store",
+            is_required: true,
+        },
+        Word {
+            name: "SECTORS",
+            help: "Its size in sectors of 512 bytes, 3 to 16777216",
+            is_required: true,
+        },
+        Word {
+            name: "KEYFILE",
+            help: "The file with its first key, in 64 hex digits",
+            is_required: true,
+        },
+    ],
+    options: &[],
+};
+
+static CLOSE: Form = Form {
+    name: "close",
+    about: "Closes the log of a store: its last entry says so, and no key is kept",
+    after: Some("Nothing can be appended to a closed log."),
+    words: &[Word {
+        name: "FILE",
+        help: "The file of the store",
+        is_required: true,
+    }],
+    options: &[],
+};
+
+static SHOW: Form = Form {
+    name: "show",
+    about: "Prints the commitment of a store, and where it stands",
+    after: None,
+    words: &[Word {
+        name: "FILE",
+        help: "The file of the store",
+        is_required: true,
+    }],
+    options: &[
+        Choice {
             name: "read-only",
             value: None,
             help: "Opens the store without the right to write: nothing is repaired",
             needs: None,
             excludes: None,
-        }],
-    },
-    Form {
-        name: "check",
-        about: "Checks a proof under a commitment, or under an older and a newer one",
-        after: None,
-        words: &[
-            Word {
-                name: "PROOF",
-                help: "The file with the proof",
-                is_required: true,
-            },
-            Word {
-                name: "OLDER",
-                help: "The commitment, as COUNT:ROOT",
-                is_required: true,
-            },
-            Word {
-                name: "NEWER",
-                help: "The newer commitment, for an incremental proof",
-                is_required: false,
-            },
-        ],
-        options: &[Choice {
-            name: "print",
+        },
+        Choice {
+            name: "free",
             value: None,
-            help: "Prints a line with what an accepted proof is about, too",
+            help: "Prints a line with the number of free sectors, too",
             needs: None,
             excludes: None,
-        }],
-    },
-    Form {
-        name: "export",
-        about: "Writes the entries of a store to a file",
-        after: None,
-        words: &[
-            Word {
-                name: "FILE",
-                help: "The file of the store",
-                is_required: true,
-            },
-            Word {
-                name: "OUT",
-                help: "The file for the entries, which is replaced; - for standard output",
-                is_required: true,
-            },
-        ],
-        options: &[
-            Choice {
-                name: "read-only",
-                value: None,
-                help: "Opens the store without the right to write: nothing is repaired",
-                needs: None,
-                excludes: None,
-            },
-            Choice {
-                name: "salvage",
-                value: None,
-                help: "Opens the store as --read-only does; of a damaged one, the entries that can still be read",
-                needs: None,
-                excludes: None,
-            },
-        ],
-    },
-    Form {
-        name: "verify",
-        about: "Verifies an export of a store, and prints its events",
-        after: None,
-        words: &[
-            Word {
-                name: "EXPORT",
-                help: "The file with the export",
-                is_required: true,
-            },
-            Word {
-                name: "KEYFILE",
-                help: "The file with the first key, in 64 hex digits",
-                is_required: true,
-            },
-            Word {
-                name: "COMMIT",
-                help: "The commitment, as COUNT:ROOT",
-                is_required: true,
-            },
-        ],
-        options: &[Choice {
-            name: "text",
+        },
+    ],
+};
+
+static PROVE: Form = Form {
+    name: "prove",
+    about: "Writes a proof of a store's history to a file",
+    after: None,
+    words: &[
+        Word {
+            name: "FILE",
+            help: "The file of the store",
+            is_required: true,
+        },
+        Word {
+            name: "KIND",
+            help: "member or increment",
+            is_required: true,
+        },
+        Word {
+            name: "A",
+            help: "The number of the event, or the older count",
+            is_required: true,
+        },
+        Word {
+            name: "B",
+            help: "The count, or the newer one",
+            is_required: true,
+        },
+        Word {
+            name: "OUT",
+            help: "The file for the proof, which is replaced; - for standard output",
+            is_required: true,
+        },
+    ],
+    options: &[Choice {
+        name: "read-only",
+        value: None,
+        help: "Opens the store without the right to write: nothing is repaired",
+        needs: None,
+        excludes: None,
+    }],
+};
+
+static CHECK: Form = Form {
+    name: "check",
+    about: "Checks a proof under a commitment, or under an older and a newer one",
+    after: None,
+    words: &[
+        Word {
+            name: "PROOF",
+            help: "The file with the proof",
+            is_required: true,
+        },
+        Word {
+            name: "OLDER",
+            help: "The commitment, as COUNT:ROOT",
+            is_required: true,
+        },
+        Word {
+            name: "NEWER",
+            help: "The newer commitment, for an incremental proof",
+            is_required: false,
+        },
+    ],
+    options: &[Choice {
+        name: "print",
+        value: None,
+        help: "Prints a line with what an accepted proof is about, too",
+        needs: None,
+        excludes: None,
+    }],
+};
+
+static EXPORT: Form = Form {
+    name: "export",
+    about: "Writes the entries of a store to a file",
+    after: None,
+    words: &[
+        Word {
+            name: "FILE",
+            help: "The file of the store",
+            is_required: true,
+        },
+        Word {
+            name: "OUT",
+            help: "The file for the entries, which is replaced; - for standard output",
+            is_required: true,
+        },
+    ],
+    options: &[
+        Choice {
+            name: "read-only",
             value: None,
-            help: "Prints each payload as a line of text, and nothing else; the last line goes to standard error",
+            help: "Opens the store without the right to write: nothing is repaired",
             needs: None,
             excludes: None,
-        }],
-    },
-    Form {
-        name: "serve",
-        about: "Serves sessions of a store over a socket, in rounds",
-        after: None,
-        words: &[
-            Word {
-                name: "FILE",
-                help: "The file of the store",
-                is_required: true,
-            },
-            Word {
-                name: "SOCKET",
-                help: "The path of the socket, which is made",
-                is_required: true,
-            },
-            Word {
-                name: "ROUNDS",
-                help: "How many rounds",
-                is_required: true,
-            },
-        ],
-        options: &[
-            Choice {
-                name: "sessions",
-                value: Some("N"),
-                help: "How many sessions each round has, 1 to 16 [default: 1]",
-                needs: None,
-                excludes: None,
-            },
-            Choice {
-                name: "socket-mode",
-                value: Some("MODE"),
-                help: "The permissions of the socket, 600 to 677 in octal digits [default: 600]",
-                needs: None,
-                excludes: None,
-            },
-        ],
-    },
-    Form {
-        name: "loop",
-        about: "Serves one session over a socket, whose frames come as lines of hex digits from standard input",
-        after: None,
-        words: &[
-            Word {
-                name: "FILE",
-                help: "The file of the store",
-                is_required: true,
-            },
-            Word {
-                name: "SOCKET",
-                help: "The path of the socket, which is made",
-                is_required: true,
-            },
-        ],
-        options: &[Choice {
+        },
+        Choice {
+            name: "salvage",
+            value: None,
+            help: "Opens the store as --read-only does; of a damaged one, the entries that can still be read",
+            needs: None,
+            excludes: None,
+        },
+    ],
+};
+
+static VERIFY: Form = Form {
+    name: "verify",
+    about: "Verifies an export of a store, and prints its events",
+    after: None,
+    words: &[
+        Word {
+            name: "EXPORT",
+            help: "The file with the export",
+            is_required: true,
+        },
+        Word {
+            name: "KEYFILE",
+            help: "The file with the first key, in 64 hex digits",
+            is_required: true,
+        },
+        Word {
+            name: "COMMIT",
+            help: "The commitment, as COUNT:ROOT",
+            is_required: true,
+        },
+    ],
+    options: &[Choice {
+        name: "text",
+        value: None,
+        help: "Prints each payload as a line of text, and nothing else; the last line goes to standard error",
+        needs: None,
+        excludes: None,
+    }],
+};
+
+static SERVE: Form = Form {
+    name: "serve",
+    about: "Serves sessions of a store over a socket, in rounds",
+    after: None,
+    words: &[
+        Word {
+            name: "FILE",
+            help: "The file of the store",
+            is_required: true,
+        },
+        Word {
+            name: "SOCKET",
+            help: "The path of the socket, which is made",
+            is_required: true,
+        },
+        Word {
+            name: "ROUNDS",
+            help: "How many rounds",
+            is_required: true,
+        },
+    ],
+    options: &[
+        Choice {
+            name: "sessions",
+            value: Some("N"),
+            help: "How many sessions each round has, 1 to 16 [default: 1]",
+            needs: None,
+            excludes: None,
+        },
+        Choice {
             name: "socket-mode",
             value: Some("MODE"),
             help: "The permissions of the socket, 600 to 677 in octal digits [default: 600]",
             needs: None,
             excludes: None,
-        }],
-    },
-    Form {
-        name: "daemon",
-        about: "Serves a store over a socket to clients that come and go, until it is stopped",
-        after: None,
-        words: &[
-            Word {
-                name: "FILE",
-                help: "The file of the store",
-                is_required: true,
-            },
-            Word {
-                name: "SOCKET",
-                help: "The path of the socket, which is made",
-                is_required: true,
-            },
-        ],
-        options: &[
-            Choice {
-                name: "reader",
-                value: Some("PATH"),
-                help: "The path of a further socket, whose clients may only read",
-                needs: None,
-                excludes: None,
-            },
-            Choice {
-                name: "allow-close",
-                value: None,
-                help: "Clients of SOCKET may close the log",
-                needs: None,
-                excludes: None,
-            },
-            Choice {
-                name: "idle",
-                value: Some("SECONDS"),
-                help: "How long a client may move no byte while another one waits; 0 for ever [default: 60]",
-                needs: None,
-                excludes: None,
-            },
-            Choice {
-                name: "backlog",
-                value: Some("BYTES"),
-                help: "How many bytes of replies are kept for a client, at most 67108864 [default: 1048576]",
-                needs: None,
-                excludes: None,
-            },
-            Choice {
-                name: "reserve",
-                value: Some("N"),
-                help: "Leaves N sectors free after the log, which a close may use [default: 1]",
-                needs: None,
-                excludes: None,
-            },
-            Choice {
-                name: "socket-mode",
-                value: Some("MODE"),
-                help: "The permissions of the sockets, 600 to 677 in octal digits [default: 600]",
-                needs: None,
-                excludes: None,
-            },
-        ],
-    },
-    Form {
-        name: "stop",
-        about: "Stops the daemon at a socket, waits for its end, and exits with its status",
-        after: None,
-        words: &[Word {
-            name: "SOCKET",
-            help: "The path of the daemon's socket",
+        },
+    ],
+};
+
+static LOOP: Form = Form {
+    name: "loop",
+    about: "Serves one session over a socket, whose frames come as lines of hex digits from standard input",
+    after: None,
+    words: &[
+        Word {
+            name: "FILE",
+            help: "The file of the store",
             is_required: true,
-        }],
-        options: &[],
-    },
-];
+        },
+        Word {
+            name: "SOCKET",
+            help: "The path of the socket, which is made",
+            is_required: true,
+        },
+    ],
+    options: &[Choice {
+        name: "socket-mode",
+        value: Some("MODE"),
+        help: "The permissions of the socket, 600 to 677 in octal digits [default: 600]",
+        needs: None,
+        excludes: None,
+    }],
+};
+
+static DAEMON: Form = Form {
+    name: "daemon",
+    about: "Serves a store over a socket to clients that come and go, until it is stopped",
+    after: None,
+    words: &[
+        Word {
+            name: "FILE",
+            help: "The file of the store",
+            is_required: true,
+        },
+        Word {
+            name: "SOCKET",
+            help: "The path of the socket, which is made",
+            is_required: true,
+        },
+    ],
+    options: &[
+        Choice {
+            name: "reader",
+            value: Some("PATH"),
+            help: "The path of a further socket, whose clients may only read",
+            needs: None,
+            excludes: None,
+        },
+        Choice {
+            name: "allow-close",
+            value: None,
+            help: "Clients of SOCKET may close the log",
+            needs: None,
+            excludes: None,
+        },
+        Choice {
+            name: "idle",
+            value: Some("SECONDS"),
+            help: "How long a client may move no byte while another one waits; 0 for ever [default: 60]",
+            needs: None,
+            excludes: None,
+        },
+        Choice {
+            name: "backlog",
+            value: Some("BYTES"),
+            help: "How many bytes of replies are kept for a client, at most 67108864 [default: 1048576]",
+            needs: None,
+            excludes: None,
+        },
+        Choice {
+            name: "reserve",
+            value: Some("N"),
+            help: "Leaves N sectors free after the log, which a close may use [default: 1]",
+            needs: None,
+            excludes: None,
+        },
+        Choice {
+            name: "socket-mode",
+            value: Some("MODE"),
+            help: "The permissions of the sockets, 600 to 677 in octal digits [default: 600]",
+            needs: None,
+            excludes: None,
+        },
+    ],
+};
+
+static STOP: Form = Form {
+    name: "stop",
+    about: "Stops the daemon at a socket, waits for its end, and exits with its status",
+    after: None,
+    words: &[Word {
+        name: "SOCKET",
+        help: "The path of the daemon's socket",
+        is_required: true,
+    }],
+    options: &[],
+};
 
 /// The program's command line.
 pub fn command_line<'a>(alloc: Global) -> Result<Command<'a>, AllocError> {
-    let mut command = Command::new(alloc, "audit")
+    let command = Command::new(alloc, "audit")
         .about("A tamper-evident audit store")
         .version(VERSION);
-    for form in FORMS.iter() {
-        command = command.subcommand(subcommand(alloc, form)?)?;
-    }
-    for form in REMOTE_FORMS.iter() {
-        command = command.subcommand(subcommand(alloc, form)?)?;
+    let command = with_commands(alloc, command, &local_forms())?;
+    with_commands(alloc, command, &remote_forms())
+}
+
+// The commands that work on files, or serve.
+fn local_forms() -> [&'static Form; 14] {
+    [
+        &REPLAY, &FORMAT, &APPEND, &ROTATE, &CLOSE, &SHOW, &PROVE, &CHECK, &EXPORT, &VERIFY,
+        &SERVE, &LOOP, &DAEMON, &STOP,
+    ]
+}
+
+fn with_commands<'a>(
+    alloc: Global,
+    mut command: Command<'a>,
+    forms: &[&'static Form],
+) -> Result<Command<'a>, AllocError> {
+    for form in forms {
+        command = with_command(alloc, command, form)?;
     }
     Ok(command)
 }
 
+// Adds one command. This isn't part of the loop, like `with_option` below, because a proof carries both commands
+// through each way out of a function that holds them.
+fn with_command<'a>(
+    alloc: Global,
+    command: Command<'a>,
+    form: &'static Form,
+) -> Result<Command<'a>, AllocError> {
+    command.subcommand(subcommand(alloc, form)?)
+}
+
 fn subcommand<'a>(alloc: Global, form: &'static Form) -> Result<Command<'a>, AllocError> {
+    let command = with_words(alloc, described(alloc, form), form.words)?;
+    let command = with_options(alloc, command, form.options)?;
+    with_flags(alloc, command)
+}
+
+// The command with its help alone.
+fn described<'a>(alloc: Global, form: &'static Form) -> Command<'a> {
     let command = Command::new(alloc, form.name).about(form.about);
-    let command = match form.after {
+    match form.after {
         Some(text) => command.after_help(text),
         None => command,
-    };
-    let command = with_words(alloc, command, form.words)?;
-    with_options(alloc, command, form.options)?
-        .arg(flag(alloc, EXPLAIN, EXPLAINS))?
-        .arg(flag(alloc, NO_PROGRESS, NO_PROGRESSES))
+    }
 }
 
 fn with_words<'a>(
@@ -532,13 +570,16 @@ fn with_words<'a>(
     words: &'static [Word],
 ) -> Result<Command<'a>, AllocError> {
     for word in words {
-        let arg = Arg::new(alloc, word.name)
-            .required(word.is_required)
-            .action(ArgAction::Set)
-            .help(word.help);
-        command = command.arg(arg)?;
+        command = command.arg(word_of(alloc, word))?;
     }
     Ok(command)
+}
+
+fn word_of<'a>(alloc: Global, word: &'static Word) -> Arg<'a> {
+    Arg::new(alloc, word.name)
+        .required(word.is_required)
+        .action(ArgAction::Set)
+        .help(word.help)
 }
 
 fn with_options<'a>(
@@ -547,20 +588,27 @@ fn with_options<'a>(
     options: &'static [Choice],
 ) -> Result<Command<'a>, AllocError> {
     for option in options {
-        command = command.arg(option_of(alloc, option)?)?;
+        command = with_option(alloc, command, option)?;
     }
     Ok(command)
 }
 
+fn with_option<'a>(
+    alloc: Global,
+    command: Command<'a>,
+    option: &'static Choice,
+) -> Result<Command<'a>, AllocError> {
+    command.arg(option_of(alloc, option)?)
+}
+
+// The options of every command.
+fn with_flags<'a>(alloc: Global, command: Command<'a>) -> Result<Command<'a>, AllocError> {
+    let command = command.arg(flag(alloc, EXPLAIN, EXPLAINS))?;
+    command.arg(flag(alloc, NO_PROGRESS, NO_PROGRESSES))
+}
+
 fn option_of<'a>(alloc: Global, option: &'static Choice) -> Result<Arg<'a>, AllocError> {
-    let arg = match option.value {
-        Some(value) => Arg::new(alloc, option.name)
-            .long(option.name)
-            .value_name(value)
-            .action(ArgAction::Set)
-            .help(option.help),
-        None => flag(alloc, option.name, option.help),
-    };
+    let arg = with_value(alloc, option);
     let arg = match option.needs {
         Some(other) => arg.requires_arg(other)?,
         None => arg,
@@ -568,6 +616,18 @@ fn option_of<'a>(alloc: Global, option: &'static Choice) -> Result<Arg<'a>, Allo
     match option.excludes {
         Some(other) => arg.conflicts_with(other),
         None => Ok(arg),
+    }
+}
+
+// The option with its value, if it has one, but not what it needs and excludes.
+fn with_value<'a>(alloc: Global, option: &'static Choice) -> Arg<'a> {
+    match option.value {
+        Some(value) => Arg::new(alloc, option.name)
+            .long(option.name)
+            .value_name(value)
+            .action(ArgAction::Set)
+            .help(option.help),
+        None => flag(alloc, option.name, option.help),
     }
 }
 

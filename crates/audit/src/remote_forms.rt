@@ -1,113 +1,117 @@
 //! The commands that ask a server, as the command line and its help show them.
 use crate::forms::{Choice, Form, Word};
 
-/// These commands.
-pub static REMOTE_FORMS: [Form; 3] = [
-    Form {
-        name: "send",
-        about: "Sends events from standard input to a server, and prints a line for each answer",
-        after: Some("An event has a payload of at most 32696 bytes. The input has no limit."),
-        words: &[Word {
-            name: "SOCKET",
-            help: "The path of the server's socket",
-            is_required: true,
-        }],
-        options: &[
-            Choice {
-                name: "text",
-                value: Some("KIND"),
-                help: "Each line is the payload of an event of KIND, 0 to 4294967294",
-                needs: None,
-                excludes: None,
-            },
-            Choice {
-                name: "window",
-                value: Some("N"),
-                help: "How many events are sent ahead of their answers, 1 to 1024 [default: 64]",
-                needs: None,
-                excludes: None,
-            },
-            Choice {
-                name: "timeout",
-                value: Some("SECONDS"),
-                help: "How long the server may stay silent, 1 to 86400 [default: 30]",
-                needs: None,
-                excludes: None,
-            },
-        ],
-    },
-    Form {
-        name: "ask",
-        about: "Asks a server for its commitment, an entry, a proof or an export, or to close the log",
-        after: Some(
-            "Questions: commitment | entry INDEX OUT | member INDEX COUNT OUT | increment OLDER NEWER OUT | export OUT | close",
-        ),
-        words: &[
-            Word {
-                name: "SOCKET",
-                help: "The path of the server's socket",
-                is_required: true,
-            },
-            Word {
-                name: "QUESTION",
-                help: "commitment, entry, member, increment, export or close",
-                is_required: true,
-            },
-            Word {
-                name: "A",
-                help: "The first word of the question: a number, or OUT",
-                is_required: false,
-            },
-            Word {
-                name: "B",
-                help: "The second word of the question: a number, or OUT",
-                is_required: false,
-            },
-            Word {
-                name: "C",
-                help: "The third word of the question: OUT",
-                is_required: false,
-            },
-        ],
-        options: &[Choice {
+static SEND: Form = Form {
+    name: "send",
+    about: "Sends events from standard input to a server, and prints a line for each answer",
+    after: Some("An event has a payload of at most 32696 bytes. The input has no limit."),
+    words: &[Word {
+        name: "SOCKET",
+        help: "The path of the server's socket",
+        is_required: true,
+    }],
+    options: &[
+        Choice {
+            name: "text",
+            value: Some("KIND"),
+            help: "Each line is the payload of an event of KIND, 0 to 4294967294",
+            needs: None,
+            excludes: None,
+        },
+        Choice {
+            name: "window",
+            value: Some("N"),
+            help: "How many events are sent ahead of their answers, 1 to 1024 [default: 64]",
+            needs: None,
+            excludes: None,
+        },
+        Choice {
             name: "timeout",
             value: Some("SECONDS"),
             help: "How long the server may stay silent, 1 to 86400 [default: 30]",
             needs: None,
             excludes: None,
-        }],
-    },
-    Form {
-        name: "watch",
-        about: "Asks a server for its commitment, and keeps it in a file if the log has only grown",
-        after: None,
-        words: &[
-            Word {
-                name: "SOCKET",
-                help: "The path of the server's socket",
-                is_required: true,
-            },
-            Word {
-                name: "STATE",
-                help: "The file with a COUNT:ROOT a line, the newest last",
-                is_required: true,
-            },
-        ],
-        options: &[
-            Choice {
-                name: "every",
-                value: Some("SECONDS"),
-                help: "Looks again every SECONDS, 1 to 86400, and prints only changes",
-                needs: None,
-                excludes: None,
-            },
-            Choice {
-                name: "timeout",
-                value: Some("SECONDS"),
-                help: "How long the server may stay silent, 1 to 86400 [default: 30]",
-                needs: None,
-                excludes: None,
-            },
-        ],
-    },
-];
+        },
+    ],
+};
+
+static ASK: Form = Form {
+    name: "ask",
+    about: "Asks a server for its commitment, an entry, a proof or an export, or to close the log",
+    after: Some(
+        "Questions: commitment | entry INDEX OUT | member INDEX COUNT OUT | increment OLDER NEWER OUT | export OUT | close",
+    ),
+    words: &[
+        Word {
+            name: "SOCKET",
+            help: "The path of the server's socket",
+            is_required: true,
+        },
+        Word {
+            name: "QUESTION",
+            help: "commitment, entry, member, increment, export or close",
+            is_required: true,
+        },
+        Word {
+            name: "A",
+            help: "The first word of the question: a number, or OUT",
+            is_required: false,
+        },
+        Word {
+            name: "B",
+            help: "The second word of the question: a number, or OUT",
+            is_required: false,
+        },
+        Word {
+            name: "C",
+            help: "The third word of the question: OUT",
+            is_required: false,
+        },
+    ],
+    options: &[Choice {
+        name: "timeout",
+        value: Some("SECONDS"),
+        help: "How long the server may stay silent, 1 to 86400 [default: 30]",
+        needs: None,
+        excludes: None,
+    }],
+};
+
+static WATCH: Form = Form {
+    name: "watch",
+    about: "Asks a server for its commitment, and keeps it in a file if the log has only grown",
+    after: None,
+    words: &[
+        Word {
+            name: "SOCKET",
+            help: "The path of the server's socket",
+            is_required: true,
+        },
+        Word {
+            name: "STATE",
+            help: "The file with a COUNT:ROOT a line, the newest last",
+            is_required: true,
+        },
+    ],
+    options: &[
+        Choice {
+            name: "every",
+            value: Some("SECONDS"),
+            help: "Looks again every SECONDS, 1 to 86400, and prints only changes",
+            needs: None,
+            excludes: None,
+        },
+        Choice {
+            name: "timeout",
+            value: Some("SECONDS"),
+            help: "How long the server may stay silent, 1 to 86400 [default: 30]",
+            needs: None,
+            excludes: None,
+        },
+    ],
+};
+
+/// The commands that ask a server.
+pub fn remote_forms() -> [&'static Form; 3] {
+    [&SEND, &ASK, &WATCH]
+}
