@@ -15,6 +15,16 @@ use Rattle.audit_cli_base.specs.declared.fault.CommandError.TheVariants.{BadArgu
 use Rattle.audit_cli_base.specs.declared.arguments.ProofRequest.{ProofRequest}
 use Rattle.audit_cli_base.specs.declared.arguments.ProofRequest.TheVariants.{Member, Increment}
 
+-- any number
+abbrev pub number_or_fault : Option ℕ → Result ℕ CommandError
+number_or_fault None = Err BadArgument
+number_or_fault (Some number) = Ok number
+
+-- the number in a word; without a word, the given one
+abbrev pub number_asked : Option (Bor (List ℕ)) → ℕ → Result ℕ CommandError
+number_asked None fallback = Ok fallback
+number_asked (Some word) fallback = number_or_fault (number_in_text word.now)
+
 -- a number of sectors that a store can have
 abbrev pub judged_sectors : Option ℕ → Result ℕ CommandError
 judged_sectors None = Err BadArgument

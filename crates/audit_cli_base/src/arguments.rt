@@ -1,6 +1,6 @@
 //! Arguments that are checked here, not by the command line's parser.
 ghost use Rattle.std.specs.Prelude.{◌≡◌, Err, IfErr};
-ghost use Rattle.audit_cli_base.specs.Arguments.{sectors_asked, proof_asked, commitment_asked};
+ghost use Rattle.audit_cli_base.specs.Arguments.{number_asked, sectors_asked, proof_asked, commitment_asked};
 ghost use Rattle.audit_cli_base.specs.Arguments.{IsNewFileFault, AreNoCommitments};
 
 use crate::fault::CommandError;
@@ -28,6 +28,21 @@ pub enum ProofRequest {
         /// The count of the newer commitment.
         newer: u64,
     },
+}
+
+/// The number in a word, or `fallback` if there is no word. The word must be a number below 2^64, in 1 to 20 decimal
+/// digits. The only error is `BadArgument`.
+pub fn number_asked(word: Option<&str>, fallback: u64) -> Result<u64, CommandError>
+    ensures asked { result ≡ number_asked word.entry fallback }
+    ensures fault { IfErr result (λ fault. fault ≡ CommandError.BadArgument) }
+{
+    let Some(word) = word else {
+        return Ok(fallback);
+    };
+    match number_in_text(word.as_bytes()) {
+        Some(number) => Ok(number),
+        None => Err(CommandError::BadArgument),
+    }
 }
 
 /// The number of sectors that a word requests: 1 to 20 decimal digits, and a number that a store can have. Errors:

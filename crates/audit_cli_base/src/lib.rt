@@ -14,7 +14,8 @@ mod text;
 
 pub use acknowledging::{ACK_ROOM, write_acks};
 pub use arguments::{
-    ProofRequest, commitment_asked, commitments_asked, new_file_asked, proof_request, sectors_asked,
+    ProofRequest, commitment_asked, commitments_asked, new_file_asked, number_asked, proof_request,
+    sectors_asked,
 };
 pub use fault::CommandError;
 pub use files::{

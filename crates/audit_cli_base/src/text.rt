@@ -7,7 +7,7 @@ ghost use Rattle.audit_cli_base.specs.Faults.{IsUnwritten};
 
 use crate::fault::CommandError;
 use audit_text::{push_number, write_whole};
-use std::alloc::Global;
+use std::alloc::{AllocError, Global};
 use std::io::Write;
 
 /// Writes a line with a word (which ends in a space) and a number.
@@ -30,6 +30,17 @@ pub fn write_number<W: Write>(
     Ok(())
 }
 
+// Replaces the contents of the buffer with the line of an export.
+fn put_exported(line: &mut Vec<u8>, count: u64, size: u64) -> Result<(), AllocError>
+    ensures { OnOk result (line.new.items
+        ≡ codes "exported " ++ decimal count ++ codes " " ++ decimal size ++ codes "\n") }
+{
+    line.clear();
+    push_number(line, b"exported ", count)?;
+    push_number(line, b" ", size)?;
+    line.extend_from_slice(b"\n")
+}
+
 /// Writes the line of an export: how many entries and bytes it has.
 pub fn write_exported<W: Write>(
     alloc: Global,
@@ -44,9 +55,7 @@ pub fn write_exported<W: Write>(
     ensures fault { IfErr result (IsUnwritten (W.contents writer.old) (W.contents writer.new)) }
 {
     let mut line = Vec::new(alloc);
-    push_number(&mut line, b"exported ", count)?;
-    push_number(&mut line, b" ", size)?;
-    line.extend_from_slice(b"\n")?;
+    put_exported(&mut line, count, size)?;
     write_whole(writer, &line)?;
     Ok(())
 }

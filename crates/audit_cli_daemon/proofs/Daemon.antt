@@ -1,5 +1,5 @@
 -- Serving a store to clients that come and go, by a new core.
-use Rattle.std.proofs.Common.{◌≡◌, ◌⊎◌, ◌∙◌, inl, inr, ℕ, Option, Some, None, Result, Ok, Err, List, [], ◌∷◌, refl, sym, ap, subst}
+use Rattle.std.proofs.Common.{◌≡◌, inr, ℕ, Option, Some, None, Result, Ok, Err, List, [], ◌∷◌, refl, sym, ap, subst}
 use Rattle.std.specs.Prelude.{OnOk, IfErr}
 use Rattle.std.specs.Io.KnownBytes.{Appends, Keeps}
 use Rattle.audit_disk_model.specs.declared.sectors.Sectors as sectors
@@ -19,7 +19,7 @@ use Rattle.audit_server_clients.specs.NewCore.{IsNewCore}
 use Rattle.audit_server_clients.proofs.Keeping.{kept_served, kept_stopped}
 use Rattle.audit_cli_base.specs.declared.fault.CommandError.{CommandError}
 use Rattle.audit_cli_daemon.specs.State.{ready_line}
-use Rattle.audit_cli_daemon.specs.Running.{no_clients, IsServedBy, EndsByRefusal, ServesStore, StopsStore, StopsDaemon}
+use Rattle.audit_cli_daemon.specs.Running.{no_clients, IsServedBy, EndsByRefusal, ServesStore, StopsDaemon}
 
 module _ {D : Type 0} {g : sectors.Ghosts D} {S : Type 0} (N : CallModel S) where
   abbrev store_in : Core D g → Store D g

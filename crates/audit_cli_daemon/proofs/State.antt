@@ -1,5 +1,5 @@
 -- Lines that are written, and flushed.
-use Rattle.std.proofs.Common.{◌≡◌, ◌⊎◌, ◌∙◌, inl, inr, ℕ, Option, Some, None, List, [], ◌∷◌, ◌++◌, refl, sym, append-nil}
+use Rattle.std.proofs.Common.{◌∙◌, ℕ, Option, Some, None, List, [], sym, append-nil}
 use Rattle.std.specs.Io.KnownBytes.{Appends, Keeps}
 use Rattle.audit_text.specs.Writing.{WritesInPart}
 

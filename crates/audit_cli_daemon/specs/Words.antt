@@ -3,6 +3,7 @@ use denote.Ref.{Bor}
 use Rattle.std.specs.Prelude.{◌≡◌, ◌⊎◌, ℕ, nat_le, Option, Some, None, Result, Ok, Err, List, if◌then◌else◌}
 use Rattle.audit_text.specs.Number.{number_in_text}
 use Rattle.audit_serve_ready.specs.declared.limits.TheConstants.{DEFAULT_BACKLOG, MAX_BACKLOG}
+use Rattle.audit_cli_base.specs.Arguments.{number_asked}
 use Rattle.audit_cli_base.specs.Mode.{IsMode}
 use Rattle.audit_cli_base.specs.declared.fault.CommandError.{CommandError}
 use Rattle.audit_cli_base.specs.declared.fault.CommandError.TheVariants.{BadArgument}
@@ -10,19 +11,6 @@ use Rattle.audit_cli_daemon.specs.declared.arguments.TheConstants.{DEFAULT_IDLE,
 use Rattle.audit_cli_daemon.specs.declared.request.Settings.{Settings}
 use Rattle.audit_cli_daemon.specs.declared.request.Request.{Request}
 use Rattle.audit_cli_daemon.specs.declared.request.Request.TheVariants.{Run, Stop}
-
--- any number
-abbrev pub number_judged : Option ℕ → Result ℕ CommandError
-number_judged None = Err BadArgument
-number_judged (Some number) = Ok number
-
-abbrev pub idle_asked : Option (Bor (List ℕ)) → Result ℕ CommandError
-idle_asked None = Ok DEFAULT_IDLE
-idle_asked (Some word) = number_judged (number_in_text word.now)
-
-abbrev pub free_asked : Option (Bor (List ℕ)) → Result ℕ CommandError
-free_asked None = Ok DEFAULT_RESERVE
-free_asked (Some word) = number_judged (number_in_text word.now)
 
 -- a number of bytes up to the limit
 abbrev pub bytes_judged : Option ℕ → Result ℕ CommandError
@@ -41,8 +29,8 @@ IsNoMode (Some word) = (mode : ℕ) → IsMode word.now mode → ⊥
 -- one of the words that are judged before the store is opened is wrong
 abbrev pub HasBadSetting : Settings → Type 0
 HasBadSetting settings =
-    (idle_asked settings.idle ≡ Err BadArgument)
-    ⊎ ((free_asked settings.reserve ≡ Err BadArgument)
+    (number_asked settings.idle DEFAULT_IDLE ≡ Err BadArgument)
+    ⊎ ((number_asked settings.reserve DEFAULT_RESERVE ≡ Err BadArgument)
     ⊎ ((backlog_asked settings.backlog ≡ Err BadArgument) ⊎ IsNoMode settings.socket_mode))
 
 abbrev pub HasBadWord : Request → Type 0

@@ -1,7 +1,7 @@
 //! Arguments that are judged here rather than by the parser of the command line.
 ghost use Rattle.std.specs.Prelude.{◌≡◌, ◌≤◌, Err, IfOk, IfErr};
 ghost use Rattle.audit_serve_ready.specs.declared.limits.TheConstants.{MAX_BACKLOG};
-ghost use Rattle.audit_cli_daemon.specs.Words.{idle_asked, free_asked, backlog_asked, IsNoMode};
+ghost use Rattle.audit_cli_daemon.specs.Words.{backlog_asked, IsNoMode};
 
 use audit_cli_base::{CommandError, OWNER_ONLY, mode_asked};
 use audit_serve_ready::{DEFAULT_BACKLOG, MAX_BACKLOG};
@@ -12,36 +12,6 @@ pub const DEFAULT_IDLE: u64 = 60;
 
 /// How many sectors stay free after the log, if the command line doesn't say: closing the log takes one.
 pub const DEFAULT_RESERVE: u64 = 1;
-
-/// Returns the number of seconds that a word asks for, or [`DEFAULT_IDLE`] without a word; 0 means without end. The
-/// word must be a number below 2^64, in 1 to 20 decimal digits. The only error is `BadArgument`.
-pub fn idle_asked(word: Option<&str>) -> Result<u64, CommandError>
-    ensures asked { result ≡ idle_asked word.entry }
-    ensures fault { IfErr result (λ fault. fault ≡ CommandError.BadArgument) }
-{
-    let Some(word) = word else {
-        return Ok(DEFAULT_IDLE);
-    };
-    match number_in_text(word.as_bytes()) {
-        Some(seconds) => Ok(seconds),
-        None => Err(CommandError::BadArgument),
-    }
-}
-
-/// Returns the number of sectors that a word asks to stay free, or [`DEFAULT_RESERVE`] without a word. The word must be
-/// a number below 2^64, in 1 to 20 decimal digits. The only error is `BadArgument`.
-pub fn free_asked(word: Option<&str>) -> Result<u64, CommandError>
-    ensures asked { result ≡ free_asked word.entry }
-    ensures fault { IfErr result (λ fault. fault ≡ CommandError.BadArgument) }
-{
-    let Some(word) = word else {
-        return Ok(DEFAULT_RESERVE);
-    };
-    match number_in_text(word.as_bytes()) {
-        Some(sectors) => Ok(sectors),
-        None => Err(CommandError::BadArgument),
-    }
-}
 
 /// Returns the number of bytes that a word asks to be kept for a client, or [`DEFAULT_BACKLOG`] without a word. The
 /// word must be a number up to [`MAX_BACKLOG`], in at most 20 decimal digits. The only error is `BadArgument`.

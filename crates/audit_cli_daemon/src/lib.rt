@@ -9,7 +9,7 @@ mod sockets;
 mod state_line;
 mod stopping;
 
-pub use arguments::{DEFAULT_IDLE, DEFAULT_RESERVE, backlog_asked, free_asked, idle_asked};
+pub use arguments::{DEFAULT_IDLE, DEFAULT_RESERVE, backlog_asked};
 pub use request::{Request, Settings, run};
 pub use running::serve_until_stopped;
 pub use state_line::write_state;

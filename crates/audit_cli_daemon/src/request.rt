@@ -1,16 +1,20 @@
 //! The requests to run a daemon and to stop it, and how they are carried out.
-ghost use Rattle.std.specs.Prelude.{◌≡◌, ◌⊎◌, ◌≤◌, Err, IfOk};
+ghost use Rattle.std.specs.Prelude.{◌≡◌, ◌⊎◌, ◌≤◌, Ok, Err, IfOk};
 ghost use Rattle.std.specs.Io.KnownBytes.{Keeps};
 ghost use Rattle.audit_serve_ready.specs.declared.limits.TheConstants.{MAX_BACKLOG};
-ghost use Rattle.audit_cli_daemon.specs.Words.{HasBadSetting, HasBadWord};
+ghost use Rattle.audit_cli_base.specs.Arguments.{number_asked};
+ghost use Rattle.audit_cli_daemon.specs.declared.arguments.TheConstants.{DEFAULT_IDLE, DEFAULT_RESERVE};
+ghost use Rattle.audit_cli_daemon.specs.Words.{HasBadSetting, HasBadWord, backlog_asked};
 
-use crate::arguments::{backlog_asked, free_asked, idle_asked, socket_mode_asked};
+use crate::arguments::{DEFAULT_IDLE, DEFAULT_RESERVE, backlog_asked, socket_mode_asked};
 use crate::client_journal::ClientJournal;
 use crate::running::serve_until_stopped;
 use crate::sockets::Sockets;
 use crate::state_line::write_state;
 use crate::stopping::stop;
-use audit_cli_base::{CommandError, FileStore, Status, open_store, report, report_end};
+use audit_cli_base::{
+    CommandError, FileStore, Status, number_asked, open_store, report, report_end,
+};
 use audit_disk::SystemFile;
 use audit_serve_door::{SocketDoor, StopOrders};
 use audit_serve_rights::Rights;
@@ -44,7 +48,7 @@ pub struct Settings<'a> {
     pub reader: Option<&'a str>,
     /// Whether clients may close the log.
     pub may_close: bool,
-    /// How many seconds a client may be idle while another one waits.
+    /// How many seconds a client may be idle while another one waits; 0 for ever.
     pub idle: Option<&'a str>,
     /// How many bytes of replies are kept for a client.
     pub backlog: Option<&'a str>,
@@ -57,7 +61,8 @@ pub struct Settings<'a> {
 // The words that were judged.
 #[derive(Clone, Copy)]
 struct Judged {
-    idle: Option<Duration>,
+    // In seconds; 0 is for ever.
+    idle: u64,
     reserve: u64,
     most: usize,
     mode: u32,
@@ -137,16 +142,14 @@ where
 
 fn judge(settings: Settings<'_>) -> Result<Judged, CommandError>
     ensures wrong { HasBadSetting settings.entry → result ≡ Err CommandError.BadArgument }
+    ensures idle { IfOk result (λ judged. number_asked settings.entry.idle DEFAULT_IDLE ≡ Ok judged.idle) }
+    ensures reserve { IfOk result (λ judged. number_asked settings.entry.reserve DEFAULT_RESERVE ≡ Ok judged.reserve) }
+    ensures backlog { IfOk result (λ judged. backlog_asked settings.entry.backlog ≡ Ok judged.most) }
     ensures most { IfOk result (λ judged. judged.most ≤ MAX_BACKLOG) }
 {
-    let seconds = idle_asked(settings.idle)?;
     Ok(Judged {
-        idle: if seconds > 0 {
-            Some(Duration::from_secs(seconds))
-        } else {
-            None
-        },
-        reserve: free_asked(settings.reserve)?,
+        idle: number_asked(settings.idle, DEFAULT_IDLE)?,
+        reserve: number_asked(settings.reserve, DEFAULT_RESERVE)?,
         most: backlog_asked(settings.backlog)?,
         mode: socket_mode_asked(settings.socket_mode)?,
         rights: if settings.may_close {
@@ -155,6 +158,11 @@ fn judge(settings: Settings<'_>) -> Result<Judged, CommandError>
             Rights::Append
         },
     })
+}
+
+// How long a client may be idle, if there is an end.
+fn time_of(seconds: u64) -> Option<Duration> {
+    (seconds > 0).then_some(Duration::from_secs(seconds))
 }
 
 fn fault_of(kind: ErrorKind) -> CommandError {
@@ -187,7 +195,7 @@ where
         alloc,
         listening.entrances,
         listening.orders,
-        judged.idle,
+        time_of(judged.idle),
         journal,
     );
     let mut door = match opened {
