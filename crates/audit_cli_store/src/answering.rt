@@ -6,7 +6,7 @@ use crate::salvaging::{Salvaged, write_salvage_line, write_salvaged};
 use crate::show_form::ShowForm;
 use crate::showing::show;
 use audit_cli_base::{
-    CommandError, OutputFile, ProofRequest, open_device_to_read, open_store, store_to_read,
+    CommandError, Opened, OutputFile, ProofRequest, open_device_to_read, open_store, store_to_read,
     write_exported, write_number,
 };
 use audit_disk::{FileIdentity, SharedDisk, SystemFile};
@@ -25,52 +25,98 @@ const STANDARD_OUTPUT: &str = "-";
 // Standard output as a path. It may be a regular file, which must not be replaced by another.
 const OUTPUT_DEVICE: &str = "/dev/stdout";
 
-/// Writes the commitment of the store in a file, and the state of its log.
-pub fn show_file<F: Files, W: Write>(
+/// What is asked about a store.
+#[derive(Clone, Copy)]
+pub enum StoreQuestion<'a> {
+    /// Its commitment, and the state of its log.
+    State { form: ShowForm },
+    /// Its entries, which are written to the file `out`. With `Access::Salvage` those of a damaged store that can still
+    /// be read are written.
+    Entries { out: &'a str },
+}
+
+/// Answers a question about the store in a file. The file that is written can't be the store's. The store is opened
+/// before that file is made, and stays open until the answer is written.
+pub fn answer_file<F: Files, W: Write>(
     rt: &F,
     alloc: Global,
     file: &str,
     access: Access,
-    form: ShowForm,
+    question: StoreQuestion<'_>,
     output: &mut W,
 ) -> Result<(), CommandError>
 where
     F::File: SystemFile,
 {
     match access {
-        Access::Repair => show(alloc, &open_store(rt, alloc, file)?.content, form, output),
+        Access::Repair => {
+            let mut opened = open_store(rt, alloc, file)?;
+            let identity = opened.identity;
+            answer(rt, alloc, &mut opened.content, identity, question, output)
+        }
         Access::ReadOnly | Access::Salvage => {
-            let source = SharedDisk::new(open_device_to_read(rt, alloc, file)?.content);
-            show(alloc, &store_to_read(alloc, &source)?, form, output)
+            let opened = open_device_to_read(rt, alloc, file)?;
+            answer_device(rt, alloc, opened, access, question, output)
         }
     }
 }
 
-/// Writes the entries of the store in a file to another file, which can't be the store's. The store is opened before
-/// that file is made.
-pub fn export_file<F: Files, W: Write>(
+// Answers a question about the store on a device that is only read. It is generic over the device, like the functions
+// below: a proof about a file's device would release its parts one by one at each way out.
+fn answer_device<F: Files, D: Sectors + Drop, W: Write>(
     rt: &F,
     alloc: Global,
-    file: &str,
+    opened: Opened<D>,
     access: Access,
-    out: &str,
+    question: StoreQuestion<'_>,
     output: &mut W,
-) -> Result<(), CommandError>
-where
-    F::File: SystemFile,
-{
-    if access == Access::Repair {
-        let mut opened = open_store(rt, alloc, file)?;
-        return export_store(rt, alloc, &mut opened.content, opened.identity, out, output);
-    }
-    let opened = open_device_to_read(rt, alloc, file)?;
+) -> Result<(), CommandError> {
+    let identity = opened.identity;
     let mut source = SharedDisk::new(opened.content);
     match store_to_read(alloc, &source) {
-        Ok(mut store) => export_store(rt, alloc, &mut store, opened.identity, out, output),
+        Ok(mut store) => answer(rt, alloc, &mut store, identity, question, output),
         Err(CommandError::Refused(error)) if access == Access::Salvage && is_damage(error) => {
-            salvage_device(rt, alloc, source.get_mut(), opened.identity, out, output)
+            answer_damaged(
+                rt,
+                alloc,
+                source.get_mut(),
+                identity,
+                error,
+                question,
+                output,
+            )
         }
         Err(fault) => Err(fault),
+    }
+}
+
+fn answer<F: Files, D: Sectors, W: Write>(
+    rt: &F,
+    alloc: Global,
+    store: &mut Store<D>,
+    identity: FileIdentity,
+    question: StoreQuestion<'_>,
+    output: &mut W,
+) -> Result<(), CommandError> {
+    match question {
+        StoreQuestion::State { form } => show(alloc, store, form, output),
+        StoreQuestion::Entries { out } => export_store(rt, alloc, store, identity, out, output),
+    }
+}
+
+// Answers a question about a store whose opening was refused because of damage.
+fn answer_damaged<F: Files, D: Sectors, W: Write>(
+    rt: &F,
+    alloc: Global,
+    disk: &mut D,
+    identity: FileIdentity,
+    damage: StoreError,
+    question: StoreQuestion<'_>,
+    output: &mut W,
+) -> Result<(), CommandError> {
+    match question {
+        StoreQuestion::State { .. } => Err(CommandError::Refused(damage)),
+        StoreQuestion::Entries { out } => salvage_device(rt, alloc, disk, identity, out, output),
     }
 }
 
@@ -94,24 +140,51 @@ fn export_store<F: Files, D: Sectors, W: Write>(
     out: &str,
     output: &mut W,
 ) -> Result<(), CommandError> {
+    let size = output_entries(rt, alloc, store, identity, out, output)?;
     if out == STANDARD_OUTPUT {
-        let _ = write_entries(store, output)?;
         return Ok(());
     }
-    if out == OUTPUT_DEVICE {
-        let size = write_entries(store, output)?;
-        return write_exported(alloc, store.commitment().count, size, output);
+    write_exported(alloc, store.commitment().count, size, output)
+}
+
+// Writes the entries of a store to `out`, and returns their size in bytes.
+fn output_entries<F: Files, D: Sectors, W: Write>(
+    rt: &F,
+    alloc: Global,
+    store: &mut Store<D>,
+    identity: FileIdentity,
+    out: &str,
+    output: &mut W,
+) -> Result<u64, CommandError> {
+    if is_written_directly(out) {
+        return write_entries(store, output);
     }
     let mut made = OutputFile::create(rt, alloc, identity, out)?;
-    let size = match write_export(alloc, store, &mut made) {
-        Ok(size) => size,
+    let written = write_export(alloc, store, &mut made);
+    end_file(rt, made, written)
+}
+
+// Whether the output of the command is written, and no other file.
+fn is_written_directly(out: &str) -> bool {
+    out == STANDARD_OUTPUT || out == OUTPUT_DEVICE
+}
+
+// Publishes a file if all of it was written, or else discards it.
+fn end_file<F: Files, T: Copy>(
+    rt: &F,
+    made: OutputFile<F::File>,
+    written: Result<T, CommandError>,
+) -> Result<T, CommandError> {
+    match written {
+        Ok(extent) => {
+            made.publish(rt)?;
+            Ok(extent)
+        }
         Err(fault) => {
             made.discard(rt);
-            return Err(fault);
+            Err(fault)
         }
-    };
-    made.publish(rt)?;
-    write_exported(alloc, store.commitment().count, size, output)
+    }
 }
 
 // Writes the entries of a store to a file, and returns their size in bytes.
@@ -137,24 +210,28 @@ fn salvage_device<F: Files, D: Sectors, W: Write>(
     out: &str,
     output: &mut W,
 ) -> Result<(), CommandError> {
-    if out == STANDARD_OUTPUT || out == OUTPUT_DEVICE {
-        let salvaged = write_salvaged(alloc, disk, output)?;
-        if out == OUTPUT_DEVICE {
-            write_salvage_line(alloc, &salvaged, output)?;
-        }
-        return Err(CommandError::Salvaged);
+    let salvaged = output_salvage(rt, alloc, disk, identity, out, output)?;
+    if out != STANDARD_OUTPUT {
+        write_salvage_line(alloc, &salvaged, output)?;
+    }
+    Err(CommandError::Salvaged)
+}
+
+// Writes what can be salvaged from a device to `out`.
+fn output_salvage<F: Files, D: Sectors, W: Write>(
+    rt: &F,
+    alloc: Global,
+    disk: &mut D,
+    identity: FileIdentity,
+    out: &str,
+    output: &mut W,
+) -> Result<Salvaged, CommandError> {
+    if is_written_directly(out) {
+        return write_salvaged(alloc, disk, output);
     }
     let mut made = OutputFile::create(rt, alloc, identity, out)?;
-    let salvaged = match salvage_to(alloc, disk, &mut made) {
-        Ok(salvaged) => salvaged,
-        Err(fault) => {
-            made.discard(rt);
-            return Err(fault);
-        }
-    };
-    made.publish(rt)?;
-    write_salvage_line(alloc, &salvaged, output)?;
-    Err(CommandError::Salvaged)
+    let written = salvage_to(alloc, disk, &mut made);
+    end_file(rt, made, written)
 }
 
 // Writes what can be salvaged from a device to a file.
@@ -171,8 +248,8 @@ fn salvage_to<D: Sectors, W: Write>(
     Ok(salvaged)
 }
 
-/// Writes a proof about the store in a file to another file, which can't be the store's. The store is opened and the
-/// proof made before that file is.
+/// Writes a proof about the store in a file to the file `out`, which can't be the store's. The proof is made and the
+/// store closed before that file is made.
 pub fn prove_file<F: Files, W: Write>(
     rt: &F,
     alloc: Global,
@@ -185,25 +262,16 @@ pub fn prove_file<F: Files, W: Write>(
 where
     F::File: SystemFile,
 {
-    let (proof, identity) = proof_of(rt, alloc, file, access, asked)?;
+    let (proof, identity) = proof_about(rt, alloc, file, access, asked)?;
+    output_bytes(rt, alloc, &proof, identity, out, output)?;
     if out == STANDARD_OUTPUT {
-        return Ok(output.write_all(&proof)?);
+        return Ok(());
     }
-    if out == OUTPUT_DEVICE {
-        output.write_all(&proof)?;
-        return write_number(alloc, b"proof ", proof.len() as u64, output);
-    }
-    let mut made = OutputFile::create(rt, alloc, identity, out)?;
-    if let Err(error) = made.write_all(&proof) {
-        made.discard(rt);
-        return Err(error.into());
-    }
-    made.publish(rt)?;
     write_number(alloc, b"proof ", proof.len() as u64, output)
 }
 
 // The bytes of a proof about the store in a file, and the identity of that file.
-fn proof_of<F: Files>(
+fn proof_about<F: Files>(
     rt: &F,
     alloc: Global,
     file: &str,
@@ -213,15 +281,49 @@ fn proof_of<F: Files>(
 where
     F::File: SystemFile,
 {
-    if access == Access::Repair {
-        let mut opened = open_store(rt, alloc, file)?;
-        return Ok((
-            proof_bytes(alloc, &mut opened.content, asked)?,
-            opened.identity,
-        ));
+    match access {
+        Access::Repair => {
+            let mut opened = open_store(rt, alloc, file)?;
+            proof_in(alloc, &mut opened, asked)
+        }
+        Access::ReadOnly | Access::Salvage => {
+            proof_on(alloc, open_device_to_read(rt, alloc, file)?, asked)
+        }
     }
-    let opened = open_device_to_read(rt, alloc, file)?;
+}
+
+fn proof_in<D: Sectors>(
+    alloc: Global,
+    opened: &mut Opened<Store<D>>,
+    asked: ProofRequest,
+) -> Result<(Vec<u8>, FileIdentity), CommandError> {
+    let proof = proof_bytes(alloc, &mut opened.content, asked)?;
+    Ok((proof, opened.identity))
+}
+
+// The same for the store on a device that is only read.
+fn proof_on<D: Sectors + Drop>(
+    alloc: Global,
+    opened: Opened<D>,
+    asked: ProofRequest,
+) -> Result<(Vec<u8>, FileIdentity), CommandError> {
     let source = SharedDisk::new(opened.content);
     let mut store = store_to_read(alloc, &source)?;
     Ok((proof_bytes(alloc, &mut store, asked)?, opened.identity))
+}
+
+fn output_bytes<F: Files, W: Write>(
+    rt: &F,
+    alloc: Global,
+    bytes: &[u8],
+    identity: FileIdentity,
+    out: &str,
+    output: &mut W,
+) -> Result<(), CommandError> {
+    if is_written_directly(out) {
+        return Ok(output.write_all(bytes)?);
+    }
+    let mut made = OutputFile::create(rt, alloc, identity, out)?;
+    let written = made.write_all(bytes).map_err(CommandError::from);
+    end_file(rt, made, written)
 }

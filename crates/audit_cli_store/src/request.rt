@@ -2,7 +2,7 @@
 ghost use Rattle.audit_cli_base.specs.Arguments.{RefusesWords};
 ghost use Rattle.audit_cli_store.specs.Requests.{IsWordFault, IsReplayOf, IsCarriedOut};
 
-use crate::answering::{export_file, prove_file, show_file};
+use crate::answering::{StoreQuestion, answer_file, prove_file};
 use crate::auditing::{check_file, end_report, verify_file};
 use crate::changing::{append_to, close_file};
 use crate::making::{format_file, format_in_place};
@@ -172,14 +172,32 @@ where
         } => format_in_place(rt, alloc, file, erase, sectors, key_file, output),
         Request::Append { file } => append_to(rt, alloc, file, input, output),
         Request::Close { file } => close_file(rt, alloc, file, output),
-        Request::Show { file, access, form } => show_file(rt, alloc, file, access, form, output),
+        Request::Show { file, access, form } => {
+            answer_file(
+                rt,
+                alloc,
+                file,
+                access,
+                StoreQuestion::State { form },
+                output,
+            )
+        }
         Request::Check {
             proof,
             older,
             newer,
             form,
         } => check_file(rt, alloc, proof, older, newer, form, output),
-        Request::Export { file, out, access } => export_file(rt, alloc, file, access, out, output),
+        Request::Export { file, out, access } => {
+            answer_file(
+                rt,
+                alloc,
+                file,
+                access,
+                StoreQuestion::Entries { out },
+                output,
+            )
+        }
         Request::Verify {
             export,
             key_file,
