@@ -7,7 +7,11 @@ use audit_store_opening::{HeaderRefusal, find_header, scan};
 use audit_tree::leaf_hash;
 use std::alloc::Global;
 use std::process::Abort;
-use std::test::Fail;
+
+// A device of this many sectors of zeros.
+fn device(rt: &impl Abort, alloc: Global, sectors: u64) -> MemDisk {
+    MemDisk::new(alloc, sectors).expect(rt, "a device")
+}
 
 // A header with this generation on a device of `sectors` sectors, over one entry if `some` is set.
 fn header(generation: u64, sectors: u64, some: bool) -> Header {
@@ -30,13 +34,13 @@ fn with_headers(
     alloc: Global,
     size: u64,
     headers: &[Header],
-) -> Result<MemDisk, Fail> {
-    let mut disk = MemDisk::new(alloc, size)?;
+) -> MemDisk {
+    let mut disk = device(rt, alloc, size);
     for header in headers {
         assert!(rt; disk.size() >= 2 && header.meets_rules(header.generation % 2));
-        write_header(&mut disk, header)?;
+        write_header(&mut disk, header).expect(rt, "write header");
     }
-    Ok(disk)
+    disk
 }
 
 // Whether the header with this generation was found, and was found to differ from the other one as expected.
@@ -57,13 +61,13 @@ fn with_two(
     older: u64,
     newer: u64,
     some: bool,
-) -> Result<MemDisk, Fail> {
+) -> MemDisk {
     let headers = [header(older, 16, false), header(newer, 16, some)];
     with_headers(rt, alloc, size, &headers)
 }
 
 #[test]
-fn headers_found(rt: HostRuntime) -> Result<(), Fail> {
+fn headers_found(rt: HostRuntime) {
     for (generation, some, differ) in [
         (2, false, false),
         (2, true, true),
@@ -71,17 +75,15 @@ fn headers_found(rt: HostRuntime) -> Result<(), Fail> {
         (LAST - 1, true, true),
         (LAST, false, false),
     ] {
-        let mut disk = with_two(&rt, rt.alloc(), 16, generation - 1, generation, some)?;
+        let mut disk = with_two(&rt, rt.alloc(), 16, generation - 1, generation, some);
         assert!(rt; is_found(find_header(&mut disk), generation, differ) && disk.calls() == 3);
     }
-    Ok(())
 }
 
 #[test]
-fn the_only_header_found(rt: HostRuntime) -> Result<(), Fail> {
-    let mut disk = with_headers(&rt, rt.alloc(), 3, &[header(1, 3, false)])?;
+fn the_only_header_found(rt: HostRuntime) {
+    let mut disk = with_headers(&rt, rt.alloc(), 3, &[header(1, 3, false)]);
     assert!(rt; is_found(find_header(&mut disk), 1, true));
-    Ok(())
 }
 
 fn refusal_of<D: Sectors>(disk: &mut D) -> Option<HeaderRefusal> {
@@ -89,51 +91,47 @@ fn refusal_of<D: Sectors>(disk: &mut D) -> Option<HeaderRefusal> {
 }
 
 #[test]
-fn devices_of_no_store(rt: HostRuntime) -> Result<(), Fail> {
-    let mut small = MemDisk::new(rt.alloc(), 1)?;
+fn devices_of_no_store(rt: HostRuntime) {
+    let mut small = device(&rt, rt.alloc(), 1);
     assert!(rt; refusal_of(&mut small) == Some(HeaderRefusal::NotAStore) && small.calls() == 1);
-    let mut zeros = MemDisk::new(rt.alloc(), 16)?;
+    let mut zeros = device(&rt, rt.alloc(), 16);
     assert!(rt; refusal_of(&mut zeros) == Some(HeaderRefusal::NotAStore));
-    Ok(())
 }
 
 #[test]
-fn a_header_refused_beside_a_damaged_one(rt: HostRuntime) -> Result<(), Fail> {
-    let mut damaged = with_headers(&rt, rt.alloc(), 16, &[header(9, 16, true)])?;
+fn a_header_refused_beside_a_damaged_one(rt: HostRuntime) {
+    let mut damaged = with_headers(&rt, rt.alloc(), 16, &[header(9, 16, true)]);
     assert!(rt; damaged.size() == 16);
-    damaged.write(0, &[1; 512])?;
+    damaged.write(0, &[1; 512]).expect(&rt, "a write");
     assert!(rt; refusal_of(&mut damaged) == Some(HeaderRefusal::DamagedHeader));
-    Ok(())
 }
 
 #[test]
-fn headers_refused(rt: HostRuntime) -> Result<(), Fail> {
+fn headers_refused(rt: HostRuntime) {
     for (older, newer, size, refusal) in [
         (4, 7, 16, HeaderRefusal::HeadersDisagree),
         (4, 5, 20, HeaderRefusal::HeadersDisagree),
         (LAST - 1, LAST, 20, HeaderRefusal::HeadersDisagree),
         (LAST - 1, LAST, 16, HeaderRefusal::Worn),
     ] {
-        let mut disk = with_two(&rt, rt.alloc(), size, older, newer, true)?;
+        let mut disk = with_two(&rt, rt.alloc(), size, older, newer, true);
         assert!(rt; refusal_of(&mut disk) == Some(refusal));
     }
-    Ok(())
 }
 
 // The first sync fails.
 #[test]
-fn a_header_refused_by_a_failing_device(rt: HostRuntime) -> Result<(), Fail> {
-    let disk = with_headers(&rt, rt.alloc(), 16, &[header(1, 16, false)])?;
+fn a_header_refused_by_a_failing_device(rt: HostRuntime) {
+    let disk = with_headers(&rt, rt.alloc(), 16, &[header(1, 16, false)]);
     let mut failing = FailOnce::new(disk, 0);
     assert!(rt; refusal_of(&mut failing) == Some(HeaderRefusal::Device));
     assert!(rt; is_found(find_header(&mut failing), 1, true));
-    Ok(())
 }
 
 // The entry of kind 1 with the payload `hi`, under a key of zeros.
-fn seal_hi(alloc: Global) -> Result<Sealed, Fail> {
-    let event = Event::new(alloc, 1, b"hi")?;
-    Ok(seal(alloc, &Key::from_bytes([0; 32]), &FIRST_LINK, &event)?)
+fn seal_hi(rt: &impl Abort, alloc: Global) -> Sealed {
+    let event = Event::new(alloc, 1, b"hi").expect(rt, "an event");
+    seal(alloc, &Key::from_bytes([0; 32]), &FIRST_LINK, &event).expect(rt, "seal")
 }
 
 // The sector that begins with these bytes.
@@ -146,11 +144,11 @@ fn sector_of(bytes: &[u8]) -> [u8; 512] {
 }
 
 // A device with this entry in its first log sector.
-fn with_entry(rt: &impl Abort, alloc: Global, bytes: &[u8]) -> Result<MemDisk, Fail> {
-    let mut disk = MemDisk::new(alloc, 16)?;
+fn with_entry(rt: &impl Abort, alloc: Global, bytes: &[u8]) -> MemDisk {
+    let mut disk = device(rt, alloc, 16);
     assert!(rt; disk.size() == 16);
-    disk.write(2, &sector_of(bytes))?;
-    Ok(disk)
+    disk.write(2, &sector_of(bytes)).expect(rt, "a write");
+    disk
 }
 
 // The header of a log of one entry.
@@ -183,24 +181,22 @@ fn is_damaged(found: Result<LogIndex, LogError>) -> bool {
 }
 
 #[test]
-fn log_scanned(rt: HostRuntime) -> Result<(), Fail> {
-    let sealed = seal_hi(rt.alloc())?;
-    let mut disk = with_entry(&rt, rt.alloc(), &sealed.bytes)?;
-    let index = scanned(&rt, rt.alloc(), &mut disk, &header_after(&sealed))?;
+fn log_scanned(rt: HostRuntime) {
+    let sealed = seal_hi(&rt, rt.alloc());
+    let mut disk = with_entry(&rt, rt.alloc(), &sealed.bytes);
+    let index = scanned(&rt, rt.alloc(), &mut disk, &header_after(&sealed)).expect(&rt, "scanned");
     assert!(rt; index.count() == 1 && index.first_sector(0) == Some(2));
-    Ok(())
 }
 
 // First the header states another last link, then also one more entry.
 #[test]
-fn log_refused(rt: HostRuntime) -> Result<(), Fail> {
-    let sealed = seal_hi(rt.alloc())?;
-    let mut disk = with_entry(&rt, rt.alloc(), &sealed.bytes)?;
+fn log_refused(rt: HostRuntime) {
+    let sealed = seal_hi(&rt, rt.alloc());
+    let mut disk = with_entry(&rt, rt.alloc(), &sealed.bytes);
     let mut header = header_after(&sealed);
     header.last_link = [1; 32];
     assert!(rt; is_damaged(scanned(&rt, rt.alloc(), &mut disk, &header)));
     header.count = 2;
     header.end = 4;
     assert!(rt; is_damaged(scanned(&rt, rt.alloc(), &mut disk, &header)));
-    Ok(())
 }

@@ -7,22 +7,21 @@ const COUNT: u64 = (1 << 20) + 3;
 const SECTORS: u64 = COUNT + 2;
 
 // Events without a payload, starting with this number.
-fn empty_events(alloc: Global, first: u64, count: u64) -> Result<Vec<Event>, Fail> {
+fn empty_events(rt: &impl Abort, alloc: Global, first: u64, count: u64) -> Vec<Event> {
     let mut events = Vec::new(alloc);
     for place in 0..count {
-        events.push(event(alloc, first.wrapping_add(place), 0)?)?;
+        events.push(event(rt, alloc, first.wrapping_add(place), 0)).expect(rt, "memory");
     }
-    Ok(events)
+    events
 }
 
 // Appends this many events, in batches of 64 and a last one of the rest.
-fn fill<D: Sectors>(alloc: Global, store: &mut Store<D>, count: u64) -> Result<(), Fail> {
+fn fill<D: Sectors>(rt: &impl Abort, alloc: Global, store: &mut Store<D>, count: u64) {
     for _ in 0..count.div_ceil(64) {
         let first = store.commitment().count;
         let size = count.saturating_sub(first).min(64);
-        store.append(&empty_events(alloc, first, size)?)?;
+        store.append(&empty_events(rt, alloc, first, size)).expect(rt, "an append");
     }
-    Ok(())
 }
 
 // Indices and counts of events, around powers of 2 and at the ends.
@@ -48,31 +47,30 @@ const INCREMENTS: [(u64, u64); 6] = [
 ];
 
 // The SHA-256 of the commitment and the end, and of the proofs and entries at these places.
-fn asked_at_places<D: Sectors>(store: &mut Store<D>) -> Result<[u8; 32], Fail> {
+fn asked_at_places<D: Sectors>(rt: &impl Abort, store: &mut Store<D>) -> [u8; 32] {
     let mut text = Sha256::new();
     let Commitment { count, root } = store.commitment();
     text.update(&count.to_be_bytes());
     text.update(&root);
     text.update(&store.end().to_be_bytes());
     for (index, count) in MEMBERS {
-        put_hashes(&mut text, &store.membership(index, count)?);
-        text.update(&store.entry(index)?);
+        put_hashes(&mut text, &store.membership(index, count).expect(rt, "a path"));
+        text.update(&store.entry(index).expect(rt, "an entry"));
     }
     for (older, newer) in INCREMENTS {
-        put_hashes(&mut text, &store.incremental(older, newer)?);
+        put_hashes(&mut text, &store.incremental(older, newer).expect(rt, "a path"));
     }
-    Ok(text.finalize())
+    text.finalize()
 }
 
 #[test]
-fn a_store_of_more_than_2_to_the_20_events(rt: HostRuntime) -> Result<(), Fail> {
+fn a_store_of_more_than_2_to_the_20_events(rt: HostRuntime) {
     let alloc = rt.alloc();
-    let answers = hash("37114df4af7128a0849a7868e853d77d4ed7c0bd0d45977c00740541f0a7e9f5")?;
-    let mut store = formatted(alloc, MemDisk::new(alloc, SECTORS)?)?;
-    fill(alloc, &mut store, COUNT)?;
-    assert!(rt; store.append(&empty_events(alloc, COUNT, 1)?).err() == Some(StoreError::Full));
-    assert!(rt; asked_at_places(&mut store)? == answers);
-    let mut again = opened(alloc, store.into_disk())?;
-    assert!(rt; asked_at_places(&mut again)? == answers);
-    Ok(())
+    let answers = hash(&rt, "37114df4af7128a0849a7868e853d77d4ed7c0bd0d45977c00740541f0a7e9f5");
+    let mut store = formatted(&rt, alloc, device(&rt, alloc, SECTORS));
+    fill(&rt, alloc, &mut store, COUNT);
+    assert!(rt; store.append(&empty_events(&rt, alloc, COUNT, 1)).err() == Some(StoreError::Full));
+    assert!(rt; asked_at_places(&rt, &mut store) == answers);
+    let mut again = opened(&rt, alloc, store.into_disk());
+    assert!(rt; asked_at_places(&rt, &mut again) == answers);
 }

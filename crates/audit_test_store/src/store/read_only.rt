@@ -5,26 +5,35 @@ use super::stops::{batches_in, passed, run_to};
 use super::*;
 use audit_disk::{DeviceFault, ReadOnly, SectorSource};
 
-fn opened_read_only<S: SectorSource>(
+fn opened_read_only<'a, S: SectorSource>(
+    rt: &impl Abort,
     alloc: Global,
-    source: &S,
-) -> Result<Store<ReadOnly<'_, S>>, StoreError> {
+    source: &'a S,
+) -> Store<ReadOnly<'a, S>> {
     match Store::open_read_only(alloc, source) {
-        Ok(store) => Ok(store),
-        Err(failed) => Err(failed.error),
+        Ok(store) => store,
+        Err(failed) => panic!(rt; "{}", failed.error),
+    }
+}
+
+// The error of an opening, if there is one.
+fn refusal<S: SectorSource>(alloc: Global, source: &S) -> Option<StoreError> {
+    match Store::open_read_only(alloc, source) {
+        Ok(_) => None,
+        Err(failed) => Some(failed.error),
     }
 }
 
 // After a stop at any call, even between the two headers, the store has the same answers and sectors as if the device
 // had been opened. The device itself receives no call.
 #[test]
-fn a_run_stopped_after_each_call_read_only(rt: HostRuntime) -> Result<(), Fail> {
+fn a_run_stopped_after_each_call_read_only(rt: HostRuntime) {
     let alloc = rt.alloc();
     for round in 0..24 * 8 {
         let (calls, mask) = (round / 8, round % 8);
-        let (disk, _) = run_to(alloc, calls)?;
-        let left = crashed(alloc, &disk, mask)?;
-        let batches = batches_in(&rt, opened_read_only(alloc, &left)?)?;
+        let (disk, _) = run_to(&rt, alloc, calls);
+        let left = crashed(&rt, alloc, &disk, mask);
+        let batches = batches_in(&rt, opened_read_only(&rt, alloc, &left));
         assert_eq!(rt;
             batches,
             passed(calls + mask / 2 % 2, [6, 13, 21]),
@@ -32,19 +41,17 @@ fn a_run_stopped_after_each_call_read_only(rt: HostRuntime) -> Result<(), Fail> 
         );
         assert!(rt; left.calls() == 0);
     }
-    Ok(())
 }
 
 // An append to a read-only store is kept beside its sectors, and is lost with it.
 #[test]
-fn an_append_that_is_not_kept(rt: HostRuntime) -> Result<(), Fail> {
+fn an_append_that_is_not_kept(rt: HostRuntime) {
     let alloc = rt.alloc();
-    let disk = store_of(alloc, 16, &[0, 5])?.into_disk();
-    let mut store = opened_read_only(alloc, &disk)?;
-    assert!(rt; store.append(&batch(alloc, 2, &[441])?)?.count == 3);
-    assert!(rt; answers(&mut store)? == answers(&mut store_of(alloc, 16, &[0, 5, 441])?)?);
-    assert!(rt; opened_read_only(alloc, &disk)?.commitment().count == 2);
-    Ok(())
+    let disk = store_of(&rt, alloc, 16, &[0, 5]).into_disk();
+    let mut store = opened_read_only(&rt, alloc, &disk);
+    assert!(rt; store.append(&batch(&rt, alloc, 2, &[441])).expect(&rt, "an append").count == 3);
+    assert!(rt; answers(&rt, &mut store) == answers(&rt, &mut store_of(&rt, alloc, 16, &[0, 5, 441])));
+    assert!(rt; opened_read_only(&rt, alloc, &disk).commitment().count == 2);
 }
 
 // Sectors of which one can't be read. They are never honest.
@@ -75,28 +82,25 @@ impl SectorSource for Unreadable {
 
 // Opening reads the headers and the log, which has three sectors, and nothing after it.
 #[test]
-fn a_sector_that_cannot_be_read(rt: HostRuntime) -> Result<(), Fail> {
+fn a_sector_that_cannot_be_read(rt: HostRuntime) {
     let alloc = rt.alloc();
     for at in 0..8 {
-        let disk = store_of(alloc, 8, &[0, 5, 400])?.into_disk();
-        let refusal = opened_read_only(alloc, &Unreadable { disk, at }).err();
+        let disk = store_of(&rt, alloc, 8, &[0, 5, 400]).into_disk();
         let expected = if at < 5 {
             Some(StoreError::Device)
         } else {
             None
         };
-        assert!(rt; refusal == expected, "{at}");
+        assert!(rt; refusal(alloc, &Unreadable { disk, at }) == expected, "{at}");
     }
-    Ok(())
 }
 
 // Run with each allocation refused in turn: an opening allocates nothing for the writes that it keeps after its first
 // sync, so it is never refused with a device fault.
 #[test]
-fn a_growth_that_is_refused_read_only(rt: HostRuntime) -> Result<(), Fail> {
+fn a_growth_that_is_refused_read_only(rt: HostRuntime) {
     let alloc = rt.alloc();
-    let (disk, _) = run_to(alloc, 6)?;
-    let error = opened_read_only(alloc, &disk).err();
+    let (disk, _) = run_to(&rt, alloc, 6);
+    let error = refusal(alloc, &disk);
     assert!(rt; matches!(error, None | Some(StoreError::Memory)));
-    Ok(())
 }

@@ -119,21 +119,21 @@ fn disk_over(alloc: Global, disk: MemDisk, left: u64, torn: u64) -> Result<Disk,
 }
 
 // Opens the store in what a crash left of a file in memory.
-fn opened_in_rows(alloc: Global, disk: MemDisk) -> Result<Store<Disk>, Fail> {
-    Ok(opened(alloc, disk_over(alloc, disk, u64::MAX, NONE)?)?)
+fn opened_in_rows(rt: &impl Abort, alloc: Global, disk: MemDisk) -> Store<Disk> {
+    opened(rt, alloc, disk_over(alloc, disk, u64::MAX, NONE).expect(rt, "disk over"))
 }
 
 // The calls that formatting makes.
 const FORMATTED: u64 = 8;
 
 // The file after a run that was stopped after `calls` calls, and how many batches were acknowledged.
-fn run_in_rows(alloc: Global, calls: u64, torn: u64) -> Result<(Tape, u64), Fail> {
+fn run_in_rows(rt: &impl Abort, alloc: Global, calls: u64, torn: u64) -> (Tape, u64) {
     let left = calls.saturating_add(FORMATTED);
-    let disk = disk_over(alloc, MemDisk::new(alloc, 16)?, left, torn)?;
-    let mut store = formatted(alloc, disk)?;
-    let end = store.run(&batches(alloc)?);
+    let disk = disk_over(alloc, device(rt, alloc, 16), left, torn).expect(rt, "disk over");
+    let mut store = formatted(rt, alloc, disk);
+    let end = store.run(&batches(rt, alloc));
     let acknowledged = end.receipts.len() as u64;
-    Ok((store.into_disk().into_file().tape, acknowledged))
+    (store.into_disk().into_file().tape, acknowledged)
 }
 
 // What a run makes of three batches.
@@ -159,11 +159,10 @@ const RUN: [Call; 18] = [
 ];
 
 #[test]
-fn a_batch_is_a_row_and_two_headers(rt: HostRuntime) -> Result<(), Fail> {
-    let (file, acknowledged) = run_in_rows(rt.alloc(), u64::MAX, NONE)?;
+fn a_batch_is_a_row_and_two_headers(rt: HostRuntime) {
+    let (file, acknowledged) = run_in_rows(&rt, rt.alloc(), u64::MAX, NONE);
     assert!(rt; acknowledged == 3);
     assert!(rt; file.made.get(FORMATTED as usize..) == Some(&RUN));
-    Ok(())
 }
 
 // Rows that are torn, none and that of each batch. Then the calls after which each batch is held, since its first
@@ -177,12 +176,12 @@ const RUNS: [(u64, [u64; 3], [u64; 3]); 4] = [
 ];
 
 // The commitment to the events of the first batches.
-fn commitment_to(batches: u64) -> Result<Commitment, Fail> {
+fn commitment_to(rt: &impl Abort, batches: u64) -> Commitment {
     let place = (batches % 4) as usize;
-    Ok(Commitment {
+    Commitment {
         count: [0, 3, 5, 6][place],
-        root: hash(ROOTS[place])?,
-    })
+        root: hash(rt, ROOTS[place]),
+    }
 }
 
 // The roots of the events of no batch, of the first, of the first two and of all.
@@ -201,19 +200,18 @@ fn expect_held(
     disk: &MemDisk,
     calls: u64,
     held: [u64; 3],
-) -> Result<(), Fail> {
+) {
     for mask in 0..8 {
-        let store = opened_in_rows(alloc, crashed(alloc, disk, mask)?)?;
+        let store = opened_in_rows(rt, alloc, crashed(rt, alloc, disk, mask));
         let batches = passed(calls.saturating_add(mask / 2 % 2), held);
         assert!(rt;
-            store.commitment() == commitment_to(batches)?,
+            store.commitment() == commitment_to(rt, batches),
             "{calls}, {mask}"
         );
         if mask == calls % 8 {
-            assert_eq!(rt; batches_in(rt, store)?, batches, "{calls}, {mask}");
+            assert_eq!(rt; batches_in(rt, store), batches, "{calls}, {mask}");
         }
     }
-    Ok(())
 }
 
 fn expect_stopped(
@@ -222,21 +220,19 @@ fn expect_stopped(
     torn: u64,
     held: [u64; 3],
     ends: [u64; 3],
-) -> Result<(), Fail> {
+) {
     for calls in 0..=ends[2] {
-        let (file, acknowledged) = run_in_rows(alloc, calls, torn)?;
+        let (file, acknowledged) = run_in_rows(rt, alloc, calls, torn);
         assert_eq!(rt; acknowledged, passed(calls, ends), "{calls} of {torn}");
-        expect_held(rt, alloc, &file.disk, calls, held)?;
+        expect_held(rt, alloc, &file.disk, calls, held);
     }
-    Ok(())
 }
 
 #[test]
-fn a_run_in_rows_stopped_after_each_call(rt: HostRuntime) -> Result<(), Fail> {
+fn a_run_in_rows_stopped_after_each_call(rt: HostRuntime) {
     for (torn, held, ends) in &RUNS {
-        expect_stopped(&rt, rt.alloc(), *torn, *held, *ends)?;
+        expect_stopped(&rt, rt.alloc(), *torn, *held, *ends);
     }
-    Ok(())
 }
 
 // Opens what each pick of the sectors leaves, and expects this commitment.
@@ -245,12 +241,11 @@ fn expect_left(
     alloc: Global,
     disk: &MemDisk,
     wanted: &Commitment,
-) -> Result<(), Fail> {
+) {
     for mask in 0..8 {
-        let store = opened_in_rows(alloc, crashed(alloc, disk, mask)?)?;
+        let store = opened_in_rows(rt, alloc, crashed(rt, alloc, disk, mask));
         assert!(rt; store.commitment() == *wanted, "{mask}");
     }
-    Ok(())
 }
 
 // Opens what a crash left, stopped after each call of the file, and expects the same commitment of what is left then.
@@ -261,16 +256,16 @@ fn expect_repaired(
     left: &MemDisk,
     torn: u64,
     wanted: &Commitment,
-) -> Result<u64, Fail> {
+) -> u64 {
     for calls in 0..=20 {
-        let again = disk_over(alloc, left.crash(alloc, &[])?, calls, torn)?;
+        let again = disk_over(alloc, left.crash(alloc, &[]).expect(rt, "a device"), calls, torn).expect(rt, "disk over");
         let (disk, error) = after_opening(alloc, again);
-        expect_left(rt, alloc, &disk.into_file().tape.disk, wanted)?;
+        expect_left(rt, alloc, &disk.into_file().tape.disk, wanted);
         if error.is_none() {
-            return Ok(calls);
+            return calls;
         }
     }
-    Err(Fail::new("it isn't opened"))
+    panic!(rt; "it isn't opened")
 }
 
 // A run in rows is stopped after some calls, and crashes with the picks of a mask. Then how many batches are left, and
@@ -292,57 +287,55 @@ const CRASHES: [(u64, u64, u64, u64, u64); 12] = [
 ];
 
 #[test]
-fn an_opening_in_rows_stopped_after_each_call(rt: HostRuntime) -> Result<(), Fail> {
+fn an_opening_in_rows_stopped_after_each_call(rt: HostRuntime) {
     let alloc = rt.alloc();
     for (calls, mask, batches, whole, torn) in &CRASHES {
-        let (file, _) = run_in_rows(alloc, *calls, NONE)?;
-        let left = crashed(alloc, &file.disk, *mask)?;
-        let wanted = commitment_to(*batches)?;
-        let made = expect_repaired(&rt, alloc, &left, NONE, &wanted)?;
-        let again = expect_repaired(&rt, alloc, &left, 0, &wanted)?;
+        let (file, _) = run_in_rows(&rt, alloc, *calls, NONE);
+        let left = crashed(&rt, alloc, &file.disk, *mask);
+        let wanted = commitment_to(&rt, *batches);
+        let made = expect_repaired(&rt, alloc, &left, NONE, &wanted);
+        let again = expect_repaired(&rt, alloc, &left, 0, &wanted);
         assert_eq!(rt; (made, again), (*whole, *torn), "{calls}, {mask}");
     }
-    Ok(())
 }
 
 // The root of 64 events without payload.
 const ROOT_OF_64: &str = "2f6a3ac508b3abd803f988ea7431f393dbc3ec1bf7cc2ac8d2170d4ef7c3aa6a";
 
 // Whether a store takes the 64 events, as its first.
-fn takes_all(alloc: Global, store: Store<Disk>) -> Result<bool, Fail> {
+fn takes_all(rt: &impl Abort, alloc: Global, store: Store<Disk>) -> bool {
     let mut store = store;
-    let receipt = store.append(&batch(alloc, 0, &[0; 64])?)?;
-    Ok(receipt.first == 0 && receipt.root == hash(ROOT_OF_64)?)
+    let receipt = store.append(&batch(rt, alloc, 0, &[0; 64])).expect(rt, "an append");
+    receipt.first == 0 && receipt.root == hash(rt, ROOT_OF_64)
 }
 
 // Picks the sectors of the log that are left out of a row, or no other, and both old headers.
-fn picks_of(alloc: Global, at: u64, others: bool) -> Result<Vec<u64>, Fail> {
+fn picks_of(rt: &impl Abort, alloc: Global, at: u64, others: bool) -> Vec<u64> {
     let mut picks = Vec::new(alloc);
     for sector in 0..70 {
         let chosen = (sector == at) != others;
-        picks.push(if chosen && sector > 1 { 1 } else { 0 })?;
+        picks.push(if chosen && sector > 1 { 1 } else { 0 }).expect(rt, "memory");
     }
-    Ok(picks)
+    picks
 }
 
 // A row of 64 sectors is written and not synced. A crash leaves one of them alone, or all but one, or all: none of the
 // events is there, and what is left of them is no hindrance.
 #[test]
-fn each_sector_of_a_long_row(rt: HostRuntime) -> Result<(), Fail> {
+fn each_sector_of_a_long_row(rt: HostRuntime) {
     let alloc = rt.alloc();
-    let disk = disk_over(alloc, MemDisk::new(alloc, 70)?, FORMATTED + 1, NONE)?;
-    let mut store = formatted(alloc, disk)?;
-    let batch = batch(alloc, 0, &[0; 64])?;
+    let disk = disk_over(alloc, device(&rt, alloc, 70), FORMATTED + 1, NONE).expect(&rt, "disk over");
+    let mut store = formatted(&rt, alloc, disk);
+    let batch = batch(&rt, alloc, 0, &[0; 64]);
     assert!(rt; store.append(&batch).err() == Some(StoreError::Device));
     let file = store.into_disk().into_file().tape;
     assert!(rt; file.made.get(FORMATTED as usize..) == Some(&[Call::Row(2, 64)]));
     for round in 0..2 * 65 {
-        let picks = picks_of(alloc, round / 2 + 2, round % 2 == 1)?;
-        let left = opened_in_rows(alloc, file.disk.crash(alloc, &picks)?)?;
+        let picks = picks_of(&rt, alloc, round / 2 + 2, round % 2 == 1);
+        let left = opened_in_rows(&rt, alloc, file.disk.crash(alloc, &picks).expect(&rt, "a device"));
         assert!(rt;
-            left.commitment().count == 0 && takes_all(alloc, left)?,
+            left.commitment().count == 0 && takes_all(&rt, alloc, left),
             "{round}"
         );
     }
-    Ok(())
 }
