@@ -29,7 +29,8 @@ fn committer_on<D: Sectors + Drop>(rt: &impl Abort, alloc: Global, disk: D) -> C
     }
 }
 
-fn append<D: Sectors>(rt: &impl Abort, 
+fn append<D: Sectors>(
+    rt: &impl Abort,
     alloc: Global,
     committer: &mut Committer<D>,
     tag: u32,
@@ -40,11 +41,14 @@ fn append<D: Sectors>(rt: &impl Abort,
 }
 
 fn ask<D: Sectors>(rt: &impl Abort, committer: &mut Committer<D>, query: Query) {
-    committer.ask(Question { session: 1, query }).expect(rt, "ask");
+    committer
+        .ask(Question { session: 1, query })
+        .expect(rt, "a question");
 }
 
 // Takes the output of a session, and returns whether it is these bytes, given in hex digits.
-fn says<D: Sectors>(rt: &impl Abort, 
+fn says<D: Sectors>(
+    rt: &impl Abort,
     alloc: Global,
     committer: &mut Committer<D>,
     session: usize,
@@ -63,11 +67,12 @@ fn a_commitment_beside_an_append_counts_it(rt: HostRuntime) {
     let mut committer = committer_on(&rt, alloc, device(&rt, alloc, 16));
     ask(&rt, &mut committer, Query::Commitment { tag: 9 });
     append(&rt, alloc, &mut committer, 7, b"hi");
-    committer.flush().expect(&rt, "flush");
+    committer.flush().expect(&rt, "a flush");
     let asked = "002d82000000090000000000000001";
     let acked = "0035810000000700000000000000000000000000000001";
     assert!(rt;
-        says(&rt, 
+        says(
+            &rt,
             alloc,
             &mut committer,
             1,
@@ -75,7 +80,8 @@ fn a_commitment_beside_an_append_counts_it(rt: HostRuntime) {
         )
     );
     assert!(rt;
-        says(&rt, 
+        says(
+            &rt,
             alloc,
             &mut committer,
             2,
@@ -93,7 +99,7 @@ fn append_three<D: Sectors>(rt: &impl Abort, alloc: Global, committer: &mut Comm
     append(rt, alloc, committer, 1, &[0; 441]);
     append(rt, alloc, committer, 2, &[0; 441]);
     append(rt, alloc, committer, 3, &[]);
-    committer.flush().expect(rt, "flush");
+    committer.flush().expect(rt, "a flush");
 }
 
 #[test]
@@ -115,9 +121,11 @@ fn a_close_uses_the_reserve(rt: HostRuntime) {
     };
     append_three(&rt, alloc, &mut committer);
     assert!(rt; says(&rt, alloc, &mut committer, 2, TWO_OF_THREE));
-    committer.append(2, 4, Event::closing(alloc)).expect(&rt, "an append");
+    committer
+        .append(2, 4, Event::closing(alloc))
+        .expect(&rt, "an append");
     append(&rt, alloc, &mut committer, 5, &[]);
-    committer.flush().expect(&rt, "flush");
+    committer.flush().expect(&rt, "a flush");
     let replies =
         "0035810000000400000000000000020000000000000003056b7cbdebe1527c089a6d04f89eeaf40728ca97b2c3bed08684cba7aec18e3a0006ff000000050d";
     assert!(rt; says(&rt, alloc, &mut committer, 2, replies));
@@ -130,9 +138,10 @@ fn every_question_is_answered(rt: HostRuntime) {
     let (index, count, older, newer) = (0, 1, 1, 1);
     let mut committer = committer_on(&rt, alloc, device(&rt, alloc, 16));
     append(&rt, alloc, &mut committer, 7, b"hi");
-    committer.flush().expect(&rt, "flush");
+    committer.flush().expect(&rt, "a flush");
     ask(&rt, &mut committer, Query::Entry { tag: 5, index });
-    ask(&rt, 
+    ask(
+        &rt,
         &mut committer,
         Query::Membership {
             tag: 5,
@@ -140,7 +149,8 @@ fn every_question_is_answered(rt: HostRuntime) {
             count,
         },
     );
-    ask(&rt, 
+    ask(
+        &rt,
         &mut committer,
         Query::Incremental {
             tag: 6,
@@ -150,7 +160,7 @@ fn every_question_is_answered(rt: HostRuntime) {
     );
     ask(&rt, &mut committer, Query::Entry { tag: 8, index: 1 });
     ask(&rt, &mut committer, Query::Malformed);
-    committer.flush().expect(&rt, "flush");
+    committer.flush().expect(&rt, "a flush");
     let entry =
         "0000000100000002b8879f1e0e12b5bff2e04073ae77cd7220863b2a5d3c10c71940136430292b3a08eea5a823836da22bd11e8e5f9c6e0141ef0a27786dfce7f9366ab4d990cf7c071d";
     let replies = format!(in alloc;
@@ -183,7 +193,7 @@ fn the_257th_item_forces_a_flush(rt: HostRuntime) {
         ask(&rt, &mut committer, Query::Commitment { tag });
     }
     assert!(rt; committer.take_output(1).len() == 256 * 47);
-    committer.flush().expect(&rt, "flush");
+    committer.flush().expect(&rt, "a flush");
     assert!(rt; committer.take_output(1).len() == 47);
 }
 

@@ -29,16 +29,11 @@ fn header(generation: u64, sectors: u64, some: bool) -> Header {
 }
 
 // A device of `size` sectors with these headers.
-fn with_headers(
-    rt: &impl Abort,
-    alloc: Global,
-    size: u64,
-    headers: &[Header],
-) -> MemDisk {
+fn with_headers(rt: &impl Abort, alloc: Global, size: u64, headers: &[Header]) -> MemDisk {
     let mut disk = device(rt, alloc, size);
     for header in headers {
         assert!(rt; disk.size() >= 2 && header.meets_rules(header.generation % 2));
-        write_header(&mut disk, header).expect(rt, "write header");
+        write_header(&mut disk, header).expect(rt, "a header");
     }
     disk
 }
@@ -131,7 +126,7 @@ fn a_header_refused_by_a_failing_device(rt: HostRuntime) {
 // The entry of kind 1 with the payload `hi`, under a key of zeros.
 fn seal_hi(rt: &impl Abort, alloc: Global) -> Sealed {
     let event = Event::new(alloc, 1, b"hi").expect(rt, "an event");
-    seal(alloc, &Key::from_bytes([0; 32]), &FIRST_LINK, &event).expect(rt, "seal")
+    seal(alloc, &Key::from_bytes([0; 32]), &FIRST_LINK, &event).expect(rt, "a sealed entry")
 }
 
 // The sector that begins with these bytes.
@@ -184,7 +179,7 @@ fn is_damaged(found: Result<LogIndex, LogError>) -> bool {
 fn log_scanned(rt: HostRuntime) {
     let sealed = seal_hi(&rt, rt.alloc());
     let mut disk = with_entry(&rt, rt.alloc(), &sealed.bytes);
-    let index = scanned(&rt, rt.alloc(), &mut disk, &header_after(&sealed)).expect(&rt, "scanned");
+    let index = scanned(&rt, rt.alloc(), &mut disk, &header_after(&sealed)).expect(&rt, "an index");
     assert!(rt; index.count() == 1 && index.first_sector(0) == Some(2));
 }
 

@@ -10,7 +10,9 @@ const SECTORS: u64 = COUNT + 2;
 fn empty_events(rt: &impl Abort, alloc: Global, first: u64, count: u64) -> Vec<Event> {
     let mut events = Vec::new(alloc);
     for place in 0..count {
-        events.push(event(rt, alloc, first.wrapping_add(place), 0)).expect(rt, "memory");
+        events
+            .push(event(rt, alloc, first.wrapping_add(place), 0))
+            .expect(rt, "memory");
     }
     events
 }
@@ -20,7 +22,9 @@ fn fill<D: Sectors>(rt: &impl Abort, alloc: Global, store: &mut Store<D>, count:
     for _ in 0..count.div_ceil(64) {
         let first = store.commitment().count;
         let size = count.saturating_sub(first).min(64);
-        store.append(&empty_events(rt, alloc, first, size)).expect(rt, "an append");
+        store
+            .append(&empty_events(rt, alloc, first, size))
+            .expect(rt, "an append");
     }
 }
 
@@ -54,11 +58,17 @@ fn asked_at_places<D: Sectors>(rt: &impl Abort, store: &mut Store<D>) -> [u8; 32
     text.update(&root);
     text.update(&store.end().to_be_bytes());
     for (index, count) in MEMBERS {
-        put_hashes(&mut text, &store.membership(index, count).expect(rt, "a path"));
+        put_hashes(
+            &mut text,
+            &store.membership(index, count).expect(rt, "a path"),
+        );
         text.update(&store.entry(index).expect(rt, "an entry"));
     }
     for (older, newer) in INCREMENTS {
-        put_hashes(&mut text, &store.incremental(older, newer).expect(rt, "a path"));
+        put_hashes(
+            &mut text,
+            &store.incremental(older, newer).expect(rt, "a path"),
+        );
     }
     text.finalize()
 }
@@ -66,7 +76,10 @@ fn asked_at_places<D: Sectors>(rt: &impl Abort, store: &mut Store<D>) -> [u8; 32
 #[test]
 fn a_store_of_more_than_2_to_the_20_events(rt: HostRuntime) {
     let alloc = rt.alloc();
-    let answers = hash(&rt, "37114df4af7128a0849a7868e853d77d4ed7c0bd0d45977c00740541f0a7e9f5");
+    let answers = hash(
+        &rt,
+        "37114df4af7128a0849a7868e853d77d4ed7c0bd0d45977c00740541f0a7e9f5",
+    );
     let mut store = formatted(&rt, alloc, device(&rt, alloc, SECTORS));
     fill(&rt, alloc, &mut store, COUNT);
     assert!(rt; store.append(&empty_events(&rt, alloc, COUNT, 1)).err() == Some(StoreError::Full));

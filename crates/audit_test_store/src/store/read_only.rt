@@ -49,8 +49,16 @@ fn an_append_that_is_not_kept(rt: HostRuntime) {
     let alloc = rt.alloc();
     let disk = store_of(&rt, alloc, 16, &[0, 5]).into_disk();
     let mut store = opened_read_only(&rt, alloc, &disk);
-    assert!(rt; store.append(&batch(&rt, alloc, 2, &[441])).expect(&rt, "an append").count == 3);
-    assert!(rt; answers(&rt, &mut store) == answers(&rt, &mut store_of(&rt, alloc, 16, &[0, 5, 441])));
+    assert!(rt;
+        store
+            .append(&batch(&rt, alloc, 2, &[441]))
+            .expect(&rt, "an append")
+            .count
+            == 3
+    );
+    assert!(rt;
+        answers(&rt, &mut store) == answers(&rt, &mut store_of(&rt, alloc, 16, &[0, 5, 441]))
+    );
     assert!(rt; opened_read_only(&rt, alloc, &disk).commitment().count == 2);
 }
 
@@ -91,7 +99,10 @@ fn a_sector_that_cannot_be_read(rt: HostRuntime) {
         } else {
             None
         };
-        assert!(rt; refusal(alloc, &Unreadable { disk, at }) == expected, "{at}");
+        assert!(rt;
+            refusal(alloc, &Unreadable { disk, at }) == expected,
+            "{at}"
+        );
     }
 }
 

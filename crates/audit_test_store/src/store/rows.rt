@@ -120,7 +120,11 @@ fn disk_over(alloc: Global, disk: MemDisk, left: u64, torn: u64) -> Result<Disk,
 
 // Opens the store in what a crash left of a file in memory.
 fn opened_in_rows(rt: &impl Abort, alloc: Global, disk: MemDisk) -> Store<Disk> {
-    opened(rt, alloc, disk_over(alloc, disk, u64::MAX, NONE).expect(rt, "disk over"))
+    opened(
+        rt,
+        alloc,
+        disk_over(alloc, disk, u64::MAX, NONE).expect(rt, "a disk"),
+    )
 }
 
 // The calls that formatting makes.
@@ -129,7 +133,7 @@ const FORMATTED: u64 = 8;
 // The file after a run that was stopped after `calls` calls, and how many batches were acknowledged.
 fn run_in_rows(rt: &impl Abort, alloc: Global, calls: u64, torn: u64) -> (Tape, u64) {
     let left = calls.saturating_add(FORMATTED);
-    let disk = disk_over(alloc, device(rt, alloc, 16), left, torn).expect(rt, "disk over");
+    let disk = disk_over(alloc, device(rt, alloc, 16), left, torn).expect(rt, "a disk");
     let mut store = formatted(rt, alloc, disk);
     let end = store.run(&batches(rt, alloc));
     let acknowledged = end.receipts.len() as u64;
@@ -194,13 +198,7 @@ const ROOTS: [&str; 4] = [
 
 // Crashes with each pick of the sectors, and expects the batches that have their header. A header that isn't synced is
 // in the second bit of the mask.
-fn expect_held(
-    rt: &impl Abort,
-    alloc: Global,
-    disk: &MemDisk,
-    calls: u64,
-    held: [u64; 3],
-) {
+fn expect_held(rt: &impl Abort, alloc: Global, disk: &MemDisk, calls: u64, held: [u64; 3]) {
     for mask in 0..8 {
         let store = opened_in_rows(rt, alloc, crashed(rt, alloc, disk, mask));
         let batches = passed(calls.saturating_add(mask / 2 % 2), held);
@@ -214,13 +212,7 @@ fn expect_held(
     }
 }
 
-fn expect_stopped(
-    rt: &impl Abort,
-    alloc: Global,
-    torn: u64,
-    held: [u64; 3],
-    ends: [u64; 3],
-) {
+fn expect_stopped(rt: &impl Abort, alloc: Global, torn: u64, held: [u64; 3], ends: [u64; 3]) {
     for calls in 0..=ends[2] {
         let (file, acknowledged) = run_in_rows(rt, alloc, calls, torn);
         assert_eq!(rt; acknowledged, passed(calls, ends), "{calls} of {torn}");
@@ -236,12 +228,7 @@ fn a_run_in_rows_stopped_after_each_call(rt: HostRuntime) {
 }
 
 // Opens what each pick of the sectors leaves, and expects this commitment.
-fn expect_left(
-    rt: &impl Abort,
-    alloc: Global,
-    disk: &MemDisk,
-    wanted: &Commitment,
-) {
+fn expect_left(rt: &impl Abort, alloc: Global, disk: &MemDisk, wanted: &Commitment) {
     for mask in 0..8 {
         let store = opened_in_rows(rt, alloc, crashed(rt, alloc, disk, mask));
         assert!(rt; store.commitment() == *wanted, "{mask}");
@@ -258,7 +245,13 @@ fn expect_repaired(
     wanted: &Commitment,
 ) -> u64 {
     for calls in 0..=20 {
-        let again = disk_over(alloc, left.crash(alloc, &[]).expect(rt, "a device"), calls, torn).expect(rt, "disk over");
+        let again = disk_over(
+            alloc,
+            left.crash(alloc, &[]).expect(rt, "a device"),
+            calls,
+            torn,
+        )
+        .expect(rt, "a disk");
         let (disk, error) = after_opening(alloc, again);
         expect_left(rt, alloc, &disk.into_file().tape.disk, wanted);
         if error.is_none() {
@@ -305,7 +298,9 @@ const ROOT_OF_64: &str = "2f6a3ac508b3abd803f988ea7431f393dbc3ec1bf7cc2ac8d2170d
 // Whether a store takes the 64 events, as its first.
 fn takes_all(rt: &impl Abort, alloc: Global, store: Store<Disk>) -> bool {
     let mut store = store;
-    let receipt = store.append(&batch(rt, alloc, 0, &[0; 64])).expect(rt, "an append");
+    let receipt = store
+        .append(&batch(rt, alloc, 0, &[0; 64]))
+        .expect(rt, "an append");
     receipt.first == 0 && receipt.root == hash(rt, ROOT_OF_64)
 }
 
@@ -314,7 +309,9 @@ fn picks_of(rt: &impl Abort, alloc: Global, at: u64, others: bool) -> Vec<u64> {
     let mut picks = Vec::new(alloc);
     for sector in 0..70 {
         let chosen = (sector == at) != others;
-        picks.push(if chosen && sector > 1 { 1 } else { 0 }).expect(rt, "memory");
+        picks
+            .push(if chosen && sector > 1 { 1 } else { 0 })
+            .expect(rt, "memory");
     }
     picks
 }
@@ -324,7 +321,10 @@ fn picks_of(rt: &impl Abort, alloc: Global, at: u64, others: bool) -> Vec<u64> {
 #[test]
 fn each_sector_of_a_long_row(rt: HostRuntime) {
     let alloc = rt.alloc();
-    let disk = disk_over(alloc, device(&rt, alloc, 70), FORMATTED + 1, NONE).expect(&rt, "disk over");
+    let disk = disk_over(alloc, device(&rt, alloc, 70), FORMATTED + 1, NONE).expect(
+        &rt,
+        "disk over",
+    );
     let mut store = formatted(&rt, alloc, disk);
     let batch = batch(&rt, alloc, 0, &[0; 64]);
     assert!(rt; store.append(&batch).err() == Some(StoreError::Device));
@@ -332,7 +332,11 @@ fn each_sector_of_a_long_row(rt: HostRuntime) {
     assert!(rt; file.made.get(FORMATTED as usize..) == Some(&[Call::Row(2, 64)]));
     for round in 0..2 * 65 {
         let picks = picks_of(&rt, alloc, round / 2 + 2, round % 2 == 1);
-        let left = opened_in_rows(&rt, alloc, file.disk.crash(alloc, &picks).expect(&rt, "a device"));
+        let left = opened_in_rows(
+            &rt,
+            alloc,
+            file.disk.crash(alloc, &picks).expect(&rt, "a device"),
+        );
         assert!(rt;
             left.commitment().count == 0 && takes_all(&rt, alloc, left),
             "{round}"

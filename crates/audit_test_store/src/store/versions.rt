@@ -6,12 +6,7 @@ use audit_chain::ChainError;
 use audit_log::{FIRST_VERSION, Header, VERSION};
 
 // The header sector with another version and generation.
-fn rewritten(
-    rt: &impl Abort,
-    sector: &[u8; 512],
-    version: u16,
-    generation: u64,
-) -> [u8; 512] {
+fn rewritten(rt: &impl Abort, sector: &[u8; 512], version: u16, generation: u64) -> [u8; 512] {
     let Ok(mut header) = Header::decode(generation % 2, sector) else {
         panic!(rt; "no header");
     };
@@ -77,7 +72,11 @@ fn stopped(rt: &impl Abort, alloc: Global, calls: u64, pick: u64) -> MemDisk {
     assert!(rt; refusal.is_none() == (calls == 6));
     assert!(rt; store.version() == if calls == 6 { VERSION } else { FIRST_VERSION });
     let picks = vec![in alloc; pick; 16].expect(rt, "memory");
-    store.into_disk().into_inner().crash(alloc, &picks).expect(rt, "a device")
+    store
+        .into_disk()
+        .into_inner()
+        .crash(alloc, &picks)
+        .expect(rt, "a device")
 }
 
 // For an append stopped after some number of calls, after a crash that left none or all of what was pending: the
@@ -92,20 +91,18 @@ const STOPPED: [[(u16, u64); 2]; 7] = [
     [(2, 14), (2, 14)],
 ];
 
-fn expect_opened(
-    rt: &impl Abort,
-    alloc: Global,
-    disk: MemDisk,
-    (version, calls): (u16, u64),
-) {
+fn expect_opened(rt: &impl Abort, alloc: Global, disk: MemDisk, (version, calls): (u16, u64)) {
     let store = opened(rt, alloc, disk);
     assert!(rt; store.version() == version && store.calls() == calls);
     assert!(rt; store.commitment().count == u64::from(version));
-    let state = hash(rt, if version == FIRST_VERSION {
-        FIRST
-    } else {
-        UPGRADED
-    });
+    let state = hash(
+        rt,
+        if version == FIRST_VERSION {
+            FIRST
+        } else {
+            UPGRADED
+        },
+    );
     assert!(rt; state_of(rt, store) == state);
 }
 
@@ -122,7 +119,10 @@ fn an_upgrade_stopped_at_each_call(rt: HostRuntime) {
 fn outcome_of(rt: &impl Abort, alloc: Global, lengths: &[u64], version: u16) -> u8 {
     let store = store_of(rt, alloc, 16, lengths);
     let sectors = as_versions(rt, alloc, store, [version, version]);
-    outcome(alloc, MemDisk::from_sectors(alloc, &sectors).expect(rt, "a device"))
+    outcome(
+        alloc,
+        MemDisk::from_sectors(alloc, &sectors).expect(rt, "a device"),
+    )
 }
 
 // The longest payload of the first version.
@@ -160,6 +160,9 @@ fn headers_of_two_versions(rt: HostRuntime) {
     let refused = over_one_and_none(&rt, alloc, [FIRST_VERSION, VERSION]);
     assert!(rt; outcome(alloc, refused) == 0x30);
     let upgraded = over_one_and_none(&rt, alloc, [VERSION, FIRST_VERSION]);
-    let state = hash(&rt, "bd5e271e0fa1f3e791a6655e2cb311abdd284727ca9bc12d294bc54687c15ed8");
+    let state = hash(
+        &rt,
+        "bd5e271e0fa1f3e791a6655e2cb311abdd284727ca9bc12d294bc54687c15ed8",
+    );
     assert!(rt; state_of(&rt, opened(&rt, alloc, upgraded)) == state);
 }
