@@ -9,19 +9,18 @@ ghost use Rattle.audit_cli_daemon.specs.Words.{HasBadSetting, HasBadWord, backlo
 use crate::arguments::{DEFAULT_IDLE, DEFAULT_RESERVE, backlog_asked, socket_mode_asked};
 use crate::client_journal::ClientJournal;
 use crate::running::serve_until_stopped;
-use crate::sockets::Sockets;
+use crate::sockets::{Listening, Sockets};
 use crate::state_line::write_state;
 use crate::stopping::stop;
-use audit_cli_base::{
-    CommandError, FileStore, Status, number_asked, open_store, report, report_end,
-};
+use audit_cli_base::{CommandError, Status, number_asked, open_store, report, report_end};
 use audit_disk::SystemFile;
+use audit_disk_model::Sectors;
 use audit_serve_door::{SocketDoor, StopOrders};
 use audit_serve_rights::Rights;
-use audit_store::StoreError;
+use audit_store::{Store, StoreError};
 use std::alloc::Global;
 use std::fs::Files;
-use std::io::{ErrorKind, Write};
+use std::io::{self, ErrorKind, Write};
 use std::net::Net;
 use std::time::{Clock, Duration};
 
@@ -134,10 +133,10 @@ where
     ensures unwritten { HasBadSetting settings.entry → Keeps (W.contents output.old) (W.contents output.new) }
 {
     let judged = judge(settings)?;
-    let store = open_store(rt, alloc, settings.file)?.content;
     let sockets = Sockets::new(alloc, settings.socket, settings.reader)?;
+    let store = open_store(rt, alloc, settings.file)?.content;
     let journal = ClientJournal::new(messages, explains);
-    serve_sockets(rt, alloc, store, &sockets, judged, output, journal, orders)
+    serve_store(rt, alloc, store, &sockets, judged, output, journal, orders)
 }
 
 fn judge(settings: Settings<'_>) -> Result<Judged, CommandError>
@@ -173,37 +172,54 @@ fn fault_of(kind: ErrorKind) -> CommandError {
     }
 }
 
-// The sockets' files are removed at the end, before the last line is written.
-fn serve_sockets<F: Files + Net + Clock, W: Write, M: Write>(
+// The sockets' files are removed at the end, before the last line is written. The store stays locked until then.
+fn serve_store<F: Files + Net + Clock, D: Sectors + Drop, W: Write, M: Write>(
     rt: &F,
     alloc: Global,
-    store: FileStore<F::File>,
+    store: Store<D>,
     sockets: &Sockets<'_>,
     judged: Judged,
     output: &mut W,
     journal: ClientJournal<'_, M>,
     orders: &mut Option<StopOrders>,
 ) -> Result<(), CommandError>
-where
-    F::File: SystemFile,
     requires { judged.most ≤ MAX_BACKLOG }
 {
     let listening = sockets.bind(rt, alloc, judged.mode, judged.rights)?;
-    let opened = SocketDoor::new(
-        rt,
-        rt,
-        alloc,
-        listening.entrances,
-        listening.orders,
-        time_of(judged.idle),
-        journal,
+    let (store, served) = serve_listening(
+        rt, alloc, store, listening, judged, output, journal, orders,
     );
-    let mut door = match opened {
+    let removed = sockets.remove(rt);
+    report_stopped(alloc, served, removed, &store, output)
+}
+
+fn report_stopped<D: Sectors, W: Write>(
+    alloc: Global,
+    served: Result<(), CommandError>,
+    removed: io::Result<()>,
+    store: &Store<D>,
+    output: &mut W,
+) -> Result<(), CommandError> {
+    served?;
+    removed?;
+    write_state(alloc, b"stopped ", &store.commitment(), output)
+}
+
+fn serve_listening<F: Net + Clock, D: Sectors + Drop, W: Write, M: Write>(
+    rt: &F,
+    alloc: Global,
+    store: Store<D>,
+    listening: Listening,
+    judged: Judged,
+    output: &mut W,
+    journal: ClientJournal<'_, M>,
+    orders: &mut Option<StopOrders>,
+) -> (Store<D>, Result<(), CommandError>)
+    requires { judged.most ≤ MAX_BACKLOG }
+{
+    let mut door = match open_door(rt, alloc, listening, time_of(judged.idle), journal) {
         Ok(door) => door,
-        Err(error) => {
-            let _ = sockets.remove(rt);
-            return Err(fault_of(error.kind()));
-        }
+        Err(fault) => return (store, Err(fault)),
     };
     let (store, served) = serve_until_stopped(
         alloc,
@@ -213,15 +229,36 @@ where
         &mut door,
         output,
     );
+    let closed = close_door(door, orders);
+    (store, served.and(closed))
+}
+
+fn open_door<'a, 'b, F: Net + Clock, M: Write>(
+    rt: &'a F,
+    alloc: Global,
+    listening: Listening,
+    idle: Option<Duration>,
+    journal: ClientJournal<'b, M>,
+) -> Result<SocketDoor<'a, F, ClientJournal<'b, M>>, CommandError> {
+    let Listening { entrances, orders } = listening;
+    match SocketDoor::new(rt, rt, alloc, entrances, orders, idle, journal) {
+        Ok(door) => Ok(door),
+        Err(error) => Err(fault_of(error.kind())),
+    }
+}
+
+// Takes the orders to stop, which are answered last. A door that failed is a fault.
+fn close_door<F: Clock, M: Write>(
+    door: SocketDoor<'_, F, ClientJournal<'_, M>>,
+    orders: &mut Option<StopOrders>,
+) -> Result<(), CommandError> {
     let has_failed = door.has_failed();
     let (given, mut journal) = door.close();
     *orders = Some(given);
     journal.print_counts();
-    let removed = sockets.remove(rt);
-    served?;
     if has_failed {
-        return Err(CommandError::File);
+        Err(CommandError::File)
+    } else {
+        Ok(())
     }
-    removed?;
-    write_state(alloc, b"stopped ", &store.commitment(), output)
 }

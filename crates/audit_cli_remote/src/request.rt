@@ -7,7 +7,7 @@ ghost use Rattle.audit_cli_remote.specs.declared.fault.RemoteError.{RemoteError}
 ghost use Rattle.audit_cli_remote.specs.Faults.{IsNoJudgment, judgment_of};
 ghost use Rattle.audit_cli_remote.specs.Arguments.{AreNoSeconds, IsNoWindow, HasWrongNumber};
 
-use crate::arguments::{QuestionWords, question_asked, seconds_asked, window_asked};
+use crate::arguments::{Question, QuestionWords, question_asked, seconds_asked, window_asked};
 use crate::asking::ask_socket;
 use crate::connection::Dial;
 use crate::fault::RemoteError;
@@ -105,7 +105,24 @@ fn print_judgment<W: Write>(
     done
 }
 
-// The words are checked before the socket is opened.
+// A request whose words are judged.
+enum Order<'a> {
+    Ask {
+        socket: &'a str,
+        question: Question<'a>,
+        seconds: u64,
+    },
+    Send {
+        socket: &'a str,
+        task: Task,
+    },
+    Watch {
+        post: Post<'a>,
+        every: Option<u64>,
+    },
+}
+
+// The words are judged before the socket is opened.
 fn perform<F: Files + Dial + Clock, R: Read, W: Write, M: Write>(
     rt: &F,
     alloc: Global,
@@ -117,16 +134,25 @@ fn perform<F: Files + Dial + Clock, R: Read, W: Write, M: Write>(
     ensures words { HasWrongNumber request.entry → result ≡ Err (RemoteError.Command CommandError.BadArgument) }
     ensures unwritten { HasWrongNumber request.entry → Keeps (W.contents output.old) (W.contents output.new) }
 {
+    match judge(request) {
+        Ok(order) => carry_out(rt, alloc, order, input, output, messages),
+        Err(fault) => Err(RemoteError::Command(fault)),
+    }
+}
+
+fn judge<'a>(request: Request<'a>) -> Result<Order<'a>, CommandError>
+    ensures wrong { HasWrongNumber request.entry → result ≡ Err CommandError.BadArgument }
+{
     match request {
         Request::Ask {
             socket,
             question,
             timeout,
-        } => {
-            let question = question_asked(question)?;
-            let seconds = seconds_or_default(timeout)?;
-            ask_socket(rt, alloc, socket, question, seconds, output)?;
-        }
+        } => Ok(Order::Ask {
+            socket,
+            question: question_asked(question)?,
+            seconds: seconds_or_default(timeout)?,
+        }),
         Request::Send {
             socket,
             text,
@@ -141,7 +167,7 @@ fn perform<F: Files + Dial + Clock, R: Read, W: Write, M: Write>(
                 window,
                 seconds,
             };
-            return send_to_socket(rt, alloc, socket, task, input, output, messages);
+            Ok(Order::Send { socket, task })
         }
         Request::Watch {
             socket,
@@ -155,16 +181,51 @@ fn perform<F: Files + Dial + Clock, R: Read, W: Write, M: Write>(
                 state,
                 seconds,
             };
-            match every {
-                Some(word) => {
-                    let every = seconds_asked(word)?;
-                    watch_for_ever(rt, alloc, post, every, output, messages)?;
-                }
-                None => watch_once(rt, alloc, post, output)?,
-            }
+            let every = pause_asked(every)?;
+            Ok(Order::Watch { post, every })
         }
     }
-    Ok(Status::Done)
+}
+
+fn carry_out<F: Files + Dial + Clock, R: Read, W: Write, M: Write>(
+    rt: &F,
+    alloc: Global,
+    order: Order<'_>,
+    input: &mut R,
+    output: &mut W,
+    messages: &mut M,
+) -> Result<Status, RemoteError> {
+    let done = match order {
+        Order::Ask {
+            socket,
+            question,
+            seconds,
+        } => ask_socket(rt, alloc, socket, question, seconds, output),
+        Order::Send { socket, task } => {
+            return send_to_socket(rt, alloc, socket, task, input, output, messages);
+        }
+        Order::Watch { post, every } => match every {
+            Some(every) => watch_for_ever(rt, alloc, post, every, output, messages),
+            None => watch_once(rt, alloc, post, output),
+        },
+    };
+    match done {
+        Ok(()) => Ok(Status::Done),
+        Err(fault) => Err(fault),
+    }
+}
+
+fn pause_asked(word: Option<&str>) -> Result<Option<u64>, CommandError>
+    ensures wrong { AreNoSeconds word.entry → result ≡ Err CommandError.BadArgument }
+    ensures fault { IfErr result (λ fault. fault ≡ CommandError.BadArgument) }
+{
+    match word {
+        Some(word) => match seconds_asked(word) {
+            Ok(seconds) => Ok(Some(seconds)),
+            Err(fault) => Err(fault),
+        },
+        None => Ok(None),
+    }
 }
 
 fn form_or_fault(word: Option<&str>) -> Result<LineForm, CommandError>

@@ -9,6 +9,7 @@ use audit_cli_client::{SendEnd, send_events};
 use audit_text_plain::LineForm;
 use std::alloc::Global;
 use std::io::{BufReader, Read, Write};
+use std::os::unix::net::UnixStream;
 use std::time::Clock;
 
 // The size in bytes of the buffer for the input: the most that is read at a time.
@@ -38,18 +39,28 @@ pub fn send_to_socket<F: Dial + Clock, R: Read, W: Write, M: Write>(
 ) -> Result<Status, RemoteError> {
     let mut lines = BufReader::with_capacity(alloc, INPUT_ROOM, input)?;
     let stream = connect(rt, socket, task.seconds)?;
-    let mut to = &stream;
-    let mut from = BufReader::new(alloc, &stream)?;
-    let end = send_events(
+    let end = send_over(alloc, task, &mut lines, &stream, output)?;
+    Ok(report_sent(&end, messages))
+}
+
+fn send_over<R: Read, W: Write>(
+    alloc: Global,
+    task: Task,
+    lines: &mut BufReader<R>,
+    stream: &UnixStream,
+    output: &mut W,
+) -> Result<SendEnd, RemoteError> {
+    let mut to = stream;
+    let mut from = BufReader::new(alloc, stream)?;
+    Ok(send_events(
         alloc,
         task.form,
-        &mut lines,
+        lines,
         &mut to,
         &mut from,
         output,
         task.window,
-    );
-    Ok(report_sent(&end, messages))
+    ))
 }
 
 // Prints why sending ended before the input did, if so, and which lines weren't acknowledged. Returns the status.

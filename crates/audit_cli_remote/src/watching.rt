@@ -5,7 +5,7 @@ use crate::state_file::{StateFile, push_commitment};
 use audit_cli_client::{Sight, WatchError, watch_and_keep};
 use audit_proof::Commitment;
 use audit_text::write_whole;
-use std::alloc::Global;
+use std::alloc::{AllocError, Global};
 use std::fs::Files;
 use std::io::{BufReader, Write};
 use std::thread;
@@ -110,8 +110,11 @@ fn print_seen<W: Write>(
     output: &mut W,
 ) -> Result<(), RemoteError> {
     let mut line = Vec::from_slice(alloc, word)?;
-    push_commitment(&mut line, seen)?;
-    line.extend_from_slice(b"\n")?;
-    write_whole(output, &line)?;
-    Ok(())
+    push_seen(&mut line, seen)?;
+    Ok(write_whole(output, &line)?)
+}
+
+fn push_seen(line: &mut Vec<u8>, seen: &Commitment) -> Result<(), AllocError> {
+    push_commitment(line, seen)?;
+    line.extend_from_slice(b"\n")
 }

@@ -10,11 +10,13 @@ use crate::looping::loop_over;
 use crate::rounds::serve_rounds;
 use audit_cli_base::{CommandError, OWNER_ONLY, Status, mode_asked, open_store, report_flush};
 use audit_disk::SystemFile;
+use audit_disk_model::Sectors;
 use audit_serve_sockets::{Link, SocketFile};
+use audit_store::Store;
 use audit_text::LinesError;
 use std::alloc::Global;
 use std::fs::{self, Files};
-use std::io::{self, BufReader, Read, Write};
+use std::io::{self, BufRead, BufReader, Read, Write};
 use std::net::Net;
 use std::os::unix::net::UnixStream;
 use std::time::Duration;
@@ -152,9 +154,31 @@ where
     requires { sessions ≤ SESSIONS }
 {
     let store = open_store(rt, alloc, file)?.content;
+    serve_store(rt, alloc, store, socket, mode, rounds, sessions, output)
+}
+
+fn serve_store<F: Files + Net, D: Sectors + Drop, W: Write>(
+    rt: &F,
+    alloc: Global,
+    store: Store<D>,
+    socket: &str,
+    mode: u32,
+    rounds: u64,
+    sessions: usize,
+    output: &mut W,
+) -> Result<(), ServingError>
+    requires { sessions ≤ SESSIONS }
+{
     let bound = SocketFile::bind(rt, alloc, socket, mode)?;
     let (_, served) = serve_rounds(alloc, store, &bound, rounds, sessions, output);
-    let removed = bound.remove(rt, socket);
+    after_removing(served, bound.remove(rt, socket))
+}
+
+// The result of serving, once the socket's file was removed.
+fn after_removing(
+    served: Result<(), ServingError>,
+    removed: io::Result<()>,
+) -> Result<(), ServingError> {
     served?;
     Ok(removed?)
 }
@@ -172,19 +196,39 @@ where
     F::File: SystemFile,
 {
     let store = open_store(rt, alloc, file)?.content;
+    loop_store(rt, alloc, store, socket, mode, input, output)
+}
+
+fn loop_store<F: Files + Net, D: Sectors + Drop, R: Read, W: Write>(
+    rt: &F,
+    alloc: Global,
+    store: Store<D>,
+    socket: &str,
+    mode: u32,
+    input: &mut R,
+    output: &mut W,
+) -> Result<(), ServingError> {
     // The input's buffer is allocated before the socket's file is made, so that the file is removed whatever is
     // refused later.
     let Ok(mut reader) = BufReader::new(alloc, input) else {
         return Err(LinesError::Memory.into());
     };
     let bound = SocketFile::bind(rt, alloc, socket, mode)?;
-    let served = match connect(rt, &bound, socket) {
-        Ok(mut link) => loop_over(alloc, store, &mut link, &mut reader, output).1,
-        Err(fault) => Err(fault),
-    };
-    let removed = bound.remove(rt, socket);
-    served?;
-    Ok(removed?)
+    let served = loop_bound(rt, alloc, store, &bound, socket, &mut reader, output);
+    after_removing(served, bound.remove(rt, socket))
+}
+
+fn loop_bound<F: Files + Net, D: Sectors + Drop, R: BufRead, W: Write>(
+    rt: &F,
+    alloc: Global,
+    store: Store<D>,
+    bound: &SocketFile,
+    socket: &str,
+    reader: &mut R,
+    output: &mut W,
+) -> Result<(), ServingError> {
+    let mut link = connect(rt, bound, socket)?;
+    loop_over(alloc, store, &mut link, reader, output).1
 }
 
 // Makes both ends of a connection through the socket. Another client may connect first, so the client's end sends a

@@ -8,6 +8,7 @@ use audit_cli_base::{
     CommandError, device_in_place, make_device, new_file_asked, read_key, sectors_asked,
 };
 use audit_disk::SystemFile;
+use audit_disk_model::Sectors;
 use std::alloc::Global;
 use std::fs::{self, Files};
 use std::io::Write;
@@ -31,13 +32,7 @@ where
     let (mode, sectors) = new_file_asked(mode, sectors)?;
     let first_key = key_in(rt, alloc, key_file)?;
     let disk = make_device(rt, alloc, file, sectors, mode)?;
-    match format_device(alloc, disk, first_key, output) {
-        Ok(formatted) => formatted.line,
-        Err(failed) => {
-            let _ = fs::remove_file(rt, file);
-            Err(CommandError::Refused(failed.error))
-        }
-    }
+    format_or_remove(rt, alloc, disk, Some(file), first_key, output)
 }
 
 /// Formats all of an existing file or block device. It must have at least the requested number of sectors, and must
@@ -59,9 +54,26 @@ where
     let sectors = sectors_asked(sectors)?;
     let first_key = key_in(rt, alloc, key_file)?;
     let disk = device_in_place(rt, alloc, file, sectors, erase)?;
+    format_or_remove(rt, alloc, disk, None, first_key, output)
+}
+
+// Formats a device. If it can't be formatted its file is removed, while it is still locked, if it was made for that.
+fn format_or_remove<F: Files, D: Sectors + Drop, W: Write>(
+    rt: &F,
+    alloc: Global,
+    disk: D,
+    made: Option<&str>,
+    first_key: Key,
+    output: &mut W,
+) -> Result<(), CommandError> {
     match format_device(alloc, disk, first_key, output) {
         Ok(formatted) => formatted.line,
-        Err(failed) => Err(CommandError::Refused(failed.error)),
+        Err(failed) => {
+            if let Some(file) = made {
+                let _ = fs::remove_file(rt, file);
+            }
+            Err(CommandError::Refused(failed.error))
+        }
     }
 }
 
