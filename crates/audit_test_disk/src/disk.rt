@@ -2,13 +2,12 @@ use audit_disk::{
     DeviceFault, FailOnce, FileDisk, FileFault, Fuse, MemDisk, OsFile, SECTOR_SIZE, Sectors,
     publish, write_sectors,
 };
-use std::alloc::{AllocError, Global};
+use std::alloc::Global;
 use std::env;
 use std::fs::{self, OpenOptions};
 use std::os::unix::fs::PermissionsExt;
 use std::path::PathBuf;
 use std::process::{self, Abort};
-use std::test::Fail;
 
 mod reading_ahead;
 mod rows;
@@ -63,29 +62,20 @@ fn expect<D: Sectors>(rt: &impl Abort, disk: &mut D, steps: &[Step]) {
 }
 
 /// Takes the steps on the device that a crash with these picks leaves.
-fn expect_left(
-    rt: &impl Abort,
-    alloc: Global,
-    disk: &MemDisk,
-    picks: &[u64],
-    steps: &[Step],
-) -> Result<(), AllocError> {
-    expect(rt, &mut disk.crash(alloc, picks)?, steps);
-    Ok(())
+fn expect_left(rt: &impl Abort, alloc: Global, disk: &MemDisk, picks: &[u64], steps: &[Step]) {
+    expect(
+        rt,
+        &mut disk.crash(alloc, picks).expect(rt, "a device"),
+        steps,
+    );
 }
 
 /// The content of sector 2 of three after a crash with each of these picks, if sector 1 was never written.
-fn expect_picked(
-    rt: &impl Abort,
-    alloc: Global,
-    disk: &MemDisk,
-    cases: &[(&[u64], u8)],
-) -> Result<(), AllocError> {
+fn expect_picked(rt: &impl Abort, alloc: Global, disk: &MemDisk, cases: &[(&[u64], u8)]) {
     for (picks, byte) in cases {
         let steps = [Step::Found(2, *byte), Step::Found(1, 0), Step::Calls(0)];
-        expect_left(rt, alloc, disk, picks, &steps)?;
+        expect_left(rt, alloc, disk, picks, &steps);
     }
-    Ok(())
 }
 
 // Two writes to sector 2 of three, and what each pick leaves there, before and after a sync.
@@ -100,8 +90,8 @@ const BEFORE_SYNC: [(&[u64], u8); 5] = [
 const AFTER_SYNC: [(&[u64], u8); 2] = [(&[], b'y'), (&[0, 0, 1], b'y')];
 
 #[test]
-fn a_crash_leaves_what_its_picks_say(rt: HostRuntime) -> Result<(), Fail> {
-    let mut disk = MemDisk::new(rt.alloc(), 3)?;
+fn a_crash_leaves_what_its_picks_say(rt: HostRuntime) {
+    let mut disk = MemDisk::new(rt.alloc(), 3).expect(&rt, "a device");
     let writes = [
         Step::Size(3),
         Step::Put(2, b'x'),
@@ -109,44 +99,36 @@ fn a_crash_leaves_what_its_picks_say(rt: HostRuntime) -> Result<(), Fail> {
         Step::Found(2, b'y'),
     ];
     expect(&rt, &mut disk, &writes);
-    expect_picked(&rt, rt.alloc(), &disk, &BEFORE_SYNC)?;
+    expect_picked(&rt, rt.alloc(), &disk, &BEFORE_SYNC);
     expect(&rt, &mut disk, &[Step::Syncs, Step::Calls(3)]);
-    expect_picked(&rt, rt.alloc(), &disk, &AFTER_SYNC)?;
-    Ok(())
+    expect_picked(&rt, rt.alloc(), &disk, &AFTER_SYNC);
 }
 
 #[test]
-fn a_device_begins_with_the_sectors_that_it_is_given(rt: HostRuntime) -> Result<(), Fail> {
-    let sectors = vec![in rt.alloc(); [7; SECTOR_SIZE]; 1]?;
+fn a_device_begins_with_the_sectors_that_it_is_given(rt: HostRuntime) {
+    let sectors = vec![in rt.alloc(); [7; SECTOR_SIZE]; 1].expect(&rt, "memory");
     expect(
         &rt,
-        &mut MemDisk::from_sectors(rt.alloc(), &sectors)?,
+        &mut MemDisk::from_sectors(rt.alloc(), &sectors).expect(&rt, "a device"),
         &[Step::Found(0, 7)],
     );
     expect(
         &rt,
-        &mut MemDisk::from_sectors(rt.alloc(), &[])?,
+        &mut MemDisk::from_sectors(rt.alloc(), &[]).expect(&rt, "a device"),
         &[Step::Size(0)],
     );
-    Ok(())
 }
 
 // The contents of three sectors after a crash with each of these picks.
-fn expect_images(
-    rt: &impl Abort,
-    alloc: Global,
-    disk: &MemDisk,
-    cases: &[([u64; 3], [u8; 3])],
-) -> Result<(), AllocError> {
+fn expect_images(rt: &impl Abort, alloc: Global, disk: &MemDisk, cases: &[([u64; 3], [u8; 3])]) {
     for (picks, [first, second, third]) in cases {
         let steps = [
             Step::Found(0, *first),
             Step::Found(1, *second),
             Step::Found(2, *third),
         ];
-        expect_left(rt, alloc, disk, picks, &steps)?;
+        expect_left(rt, alloc, disk, picks, &steps);
     }
-    Ok(())
 }
 
 const SIX_IMAGES: [([u64; 3], [u8; 3]); 6] = [
@@ -167,8 +149,8 @@ const ONE_IMAGE: [([u64; 3], [u8; 3]); 3] = [
 // Two writes to sector 2 and one to sector 1, followed by a failed sync, leave six images. Each is selected by its
 // picks. After a successful sync the content is the only image.
 #[test]
-fn six_images_of_three_writes_and_a_failed_sync(rt: HostRuntime) -> Result<(), Fail> {
-    let mut disk = FailOnce::new(MemDisk::new(rt.alloc(), 3)?, 3);
+fn six_images_of_three_writes_and_a_failed_sync(rt: HostRuntime) {
+    let mut disk = FailOnce::new(MemDisk::new(rt.alloc(), 3).expect(&rt, "a device"), 3);
     let calls = [
         Step::Put(2, b'x'),
         Step::Put(2, b'y'),
@@ -177,15 +159,14 @@ fn six_images_of_three_writes_and_a_failed_sync(rt: HostRuntime) -> Result<(), F
     ];
     expect(&rt, &mut disk, &calls);
     let mut disk = disk.into_inner();
-    expect_images(&rt, rt.alloc(), &disk, &SIX_IMAGES)?;
+    expect_images(&rt, rt.alloc(), &disk, &SIX_IMAGES);
     expect(&rt, &mut disk, &[Step::Syncs]);
-    expect_images(&rt, rt.alloc(), &disk, &ONE_IMAGE)?;
-    Ok(())
+    expect_images(&rt, rt.alloc(), &disk, &ONE_IMAGE);
 }
 
 #[test]
-fn a_fuse_lets_so_many_calls_pass(rt: HostRuntime) -> Result<(), Fail> {
-    let mut fuse = Fuse::new(MemDisk::new(rt.alloc(), 3)?, 1);
+fn a_fuse_lets_so_many_calls_pass(rt: HostRuntime) {
+    let mut fuse = Fuse::new(MemDisk::new(rt.alloc(), 3).expect(&rt, "a device"), 1);
     let calls = [
         Step::Put(2, b'x'),
         Step::PutFails(2, b'y'),
@@ -197,9 +178,8 @@ fn a_fuse_lets_so_many_calls_pass(rt: HostRuntime) -> Result<(), Fail> {
     expect(&rt, &mut fuse, &calls);
     let mut disk = fuse.into_inner();
     expect(&rt, &mut disk, &[Step::Calls(1)]);
-    expect_left(&rt, rt.alloc(), &disk, &[0, 0, 2], &[Step::Found(2, b'x')])?;
+    expect_left(&rt, rt.alloc(), &disk, &[0, 0, 2], &[Step::Found(2, b'x')]);
     expect(&rt, &mut Fuse::new(disk, 0), &[Step::SyncFails]);
-    Ok(())
 }
 
 // Four calls, one of which fails, and the content of the first sector afterwards.
@@ -243,14 +223,16 @@ const FAILING: [([Step; 4], u8); 4] = [
 ];
 
 #[test]
-fn one_call_fails_and_no_other(rt: HostRuntime) -> Result<(), Fail> {
+fn one_call_fails_and_no_other(rt: HostRuntime) {
     for (call, (steps, left)) in FAILING.iter().enumerate() {
-        let mut disk = FailOnce::new(MemDisk::new(rt.alloc(), 3)?, call as u64);
+        let mut disk = FailOnce::new(
+            MemDisk::new(rt.alloc(), 3).expect(&rt, "a device"),
+            call as u64,
+        );
         expect(&rt, &mut disk, steps);
         expect(&rt, &mut disk, &[Step::Size(3), Step::Calls(3)]);
         expect(&rt, &mut disk.into_inner(), &[Step::Found(0, *left)]);
     }
-    Ok(())
 }
 
 /// A plain model of a device of four sectors of equal bytes.
@@ -331,47 +313,50 @@ fn next_picks(seed: &mut u64) -> [u64; 4] {
 }
 
 /// Plays a script and crashes. Each sector must have the model's content.
-fn expect_as_model(rt: &impl Abort, alloc: Global, seed: &mut u64) -> Result<(), AllocError> {
-    let mut disk = FailOnce::new(MemDisk::new(alloc, 4)?, next(seed) % 32);
+fn expect_as_model(rt: &impl Abort, alloc: Global, seed: &mut u64) {
+    let mut disk = FailOnce::new(
+        MemDisk::new(alloc, 4).expect(rt, "a device"),
+        next(seed) % 32,
+    );
     let mut model = new_model();
     play(rt, &mut disk, &mut model, seed);
     let picks = next_picks(seed);
-    let mut left = disk.into_inner().crash(alloc, &picks)?;
+    let mut left = disk
+        .into_inner()
+        .crash(alloc, &picks)
+        .expect(rt, "a device");
     for (at, pick) in picks.iter().enumerate() {
         let byte = model.left(at, *pick);
         assert!(rt; takes(rt, &mut left, Step::Found(at as u64, byte)));
     }
-    Ok(())
 }
 
 #[test]
-fn random_scripts_crash_as_a_plain_model_says(rt: HostRuntime) -> Result<(), Fail> {
+fn random_scripts_crash_as_a_plain_model_says(rt: HostRuntime) {
     let mut seed = 1;
     for _ in 0..1000 {
-        expect_as_model(&rt, rt.alloc(), &mut seed)?;
+        expect_as_model(&rt, rt.alloc(), &mut seed);
     }
-    Ok(())
 }
 
 #[test]
-fn ten_thousand_writes_and_a_crash(rt: HostRuntime) -> Result<(), Fail> {
-    let mut disk = MemDisk::new(rt.alloc(), 70)?;
+fn ten_thousand_writes_and_a_crash(rt: HostRuntime) {
+    let mut disk = MemDisk::new(rt.alloc(), 70).expect(&rt, "a device");
     for at in 0..10_000 {
         assert!(rt; put(&rt, &mut disk, at % 70, (at % 256) as u8));
     }
     expect(&rt, &mut disk, &[Step::Calls(10_000)]);
-    let picks = vec![in rt.alloc(); 200; 70]?;
+    let picks = vec![in rt.alloc(); 200; 70].expect(&rt, "memory");
     let last = [Step::Found(59, (9_999 % 256) as u8)];
-    expect_left(&rt, rt.alloc(), &disk, &picks, &last)?;
-    Ok(())
+    expect_left(&rt, rt.alloc(), &disk, &picks, &last);
 }
 
 /// Two sectors, of ones and of twos.
-fn window(alloc: Global) -> Result<Vec<[u8; SECTOR_SIZE]>, AllocError> {
+fn window(rt: &impl Abort, alloc: Global) -> Vec<[u8; SECTOR_SIZE]> {
     let mut sectors = Vec::new(alloc);
-    sectors.push([1; SECTOR_SIZE])?;
-    sectors.push([2; SECTOR_SIZE])?;
-    Ok(sectors)
+    sectors.push([1; SECTOR_SIZE]).expect(rt, "memory");
+    sectors.push([2; SECTOR_SIZE]).expect(rt, "memory");
+    sectors
 }
 
 /// Publishes the window at sector 2, marked by a 9 in sector 0, and returns whether that succeeded.
@@ -399,30 +384,28 @@ const PUBLISHED: [(u64, bool, &[Step]); 6] = [
 ];
 
 #[test]
-fn a_window_is_published_whole_or_not_at_all(rt: HostRuntime) -> Result<(), Fail> {
-    let window = window(rt.alloc())?;
+fn a_window_is_published_whole_or_not_at_all(rt: HostRuntime) {
+    let window = window(&rt, rt.alloc());
     for (calls, done, left) in &PUBLISHED {
-        let mut disk = Fuse::new(MemDisk::new(rt.alloc(), 4)?, *calls);
+        let mut disk = Fuse::new(MemDisk::new(rt.alloc(), 4).expect(&rt, "a device"), *calls);
         assert!(rt; publishes(&rt, &mut disk, &window) == *done);
-        expect_left(&rt, rt.alloc(), &disk.into_inner(), &[1, 1, 1, 1], left)?;
+        expect_left(&rt, rt.alloc(), &disk.into_inner(), &[1, 1, 1, 1], left);
     }
-    Ok(())
 }
 
 #[test]
-fn sectors_are_written_in_a_row(rt: HostRuntime) -> Result<(), Fail> {
-    let window = window(rt.alloc())?;
-    let mut disk = MemDisk::new(rt.alloc(), 4)?;
+fn sectors_are_written_in_a_row(rt: HostRuntime) {
+    let window = window(&rt, rt.alloc());
+    let mut disk = MemDisk::new(rt.alloc(), 4).expect(&rt, "a device");
     assert!(rt; disk.size() == 4 && window.len() == 2);
-    write_sectors(&mut disk, 1, &window)?;
+    write_sectors(&mut disk, 1, &window).expect(&rt, "writes");
     let written = [Step::Found(1, 1), Step::Found(2, 2), Step::Calls(2)];
     expect(&rt, &mut disk, &written);
-    Ok(())
 }
 
 #[test]
-fn a_file_in_memory_keeps_its_sectors(rt: HostRuntime) -> Result<(), Fail> {
-    let mut disk = FileDisk::in_memory(rt.alloc(), 3)?;
+fn a_file_in_memory_keeps_its_sectors(rt: HostRuntime) {
+    let mut disk = FileDisk::in_memory(rt.alloc(), 3).expect(&rt, "a device");
     let steps = [
         Step::Size(3),
         Step::Calls(0),
@@ -435,32 +418,26 @@ fn a_file_in_memory_keeps_its_sectors(rt: HostRuntime) -> Result<(), Fail> {
         Step::Calls(3),
     ];
     expect(&rt, &mut disk, &steps);
-    Ok(())
 }
 
 /// The path of a file of this process in the temporary directory. No such file exists yet.
-fn fresh_path(rt: &HostRuntime, name: &str) -> Result<PathBuf, Fail> {
-    let mut path = env::temp_dir(rt)?;
-    let file = format!(in rt.alloc(); "{name}_{}", process::id(rt.process()))?;
-    path.push(file.as_str())?;
+fn fresh_path(rt: &HostRuntime, judge: &impl Abort, name: &str) -> PathBuf {
+    let mut path = env::temp_dir(rt).expect(judge, "a folder");
+    let file = format!(in rt.alloc(); "{name}_{}", process::id(rt.process())).expect(
+        judge, "memory",
+    );
+    path.push(file.as_str()).expect(judge, "memory");
     let _ = fs::remove_file(rt, path.as_str());
-    Ok(path)
+    path
 }
 
 /// Makes a file of `sectors` sectors, and takes the steps on it.
-fn expect_created(
-    rt: &HostRuntime,
-    judge: &impl Abort,
-    path: &str,
-    sectors: u64,
-    steps: &[Step],
-) -> Result<(), Fail> {
+fn expect_created(rt: &HostRuntime, judge: &impl Abort, path: &str, sectors: u64, steps: &[Step]) {
     expect(
         judge,
-        &mut FileDisk::create(rt, rt.alloc(), path, sectors)?,
+        &mut FileDisk::create(rt, rt.alloc(), path, sectors).expect(judge, "a new device"),
         steps,
     );
-    Ok(())
 }
 
 fn expect_uncreated(
@@ -480,8 +457,8 @@ fn expect_unopened(rt: &HostRuntime, judge: &impl Abort, path: &str, fault: File
 }
 
 #[test]
-fn a_real_file_keeps_its_sectors(rt: HostRuntime) -> Result<(), Fail> {
-    let path = fresh_path(&rt, "audit_disk_device")?;
+fn a_real_file_keeps_its_sectors(rt: HostRuntime) {
+    let path = fresh_path(&rt, &rt, "audit_disk_device");
     let path = path.as_str();
     let written = [
         Step::Size(3),
@@ -489,55 +466,55 @@ fn a_real_file_keeps_its_sectors(rt: HostRuntime) -> Result<(), Fail> {
         Step::Syncs,
         Step::Calls(2),
     ];
-    expect_created(&rt, &rt, path, 3, &written)?;
+    expect_created(&rt, &rt, path, 3, &written);
     expect_uncreated(&rt, &rt, path, 3, FileFault::Io);
-    expect_cut(&rt, &rt, path)?;
+    expect_cut(&rt, &rt, path);
     expect_uncreated(&rt, &rt, path, u64::MAX, FileFault::Length);
-    fs::remove_file(&rt, path)?;
+    fs::remove_file(&rt, path).expect(&rt, "a removal");
     expect_unopened(&rt, &rt, path, FileFault::Io);
     expect_unopened(&rt, &rt, "/", FileFault::Io);
-    Ok(())
+}
+
+/// Reads 300 sectors, of which those from `end` on are gone.
+fn expect_rows<D: Sectors>(rt: &impl Abort, disk: &mut D, end: u64) {
+    for at in 0..300 {
+        let there = Step::Found(at, (at % 251) as u8);
+        let gone = Step::FindFails(at);
+        expect(rt, disk, &[if at < end { there } else { gone }]);
+    }
 }
 
 // Reads consecutive sectors of a file that is truncated meanwhile. Those before its end are still found.
 #[test]
-fn a_real_file_is_read_in_rows(rt: HostRuntime) -> Result<(), Fail> {
-    let path = fresh_path(&rt, "audit_disk_rows")?;
+fn a_real_file_is_read_in_rows(rt: HostRuntime) {
+    let path = fresh_path(&rt, &rt, "audit_disk_rows");
     let path = path.as_str();
-    let mut disk = FileDisk::create(&rt, rt.alloc(), path, 300)?;
+    let mut disk = FileDisk::create(&rt, rt.alloc(), path, 300).expect(&rt, "a new device");
     for at in 0..300 {
-        assert!(&rt; put(&rt, &mut disk, at, (at % 251) as u8));
+        expect(&rt, &mut disk, &[Step::Put(at, (at % 251) as u8)]);
     }
-    for at in 0..300 {
-        expect(&rt, &mut disk, &[Step::Found(at, (at % 251) as u8)]);
-    }
+    expect_rows(&rt, &mut disk, 300);
     expect(&rt, &mut disk, &[Step::Syncs]);
-    set_len(&rt, path, 512 * 200)?;
-    for at in 0..300 {
-        let there = Step::Found(at, (at % 251) as u8);
-        let gone = Step::FindFails(at);
-        expect(&rt, &mut disk, &[if at < 200 { there } else { gone }]);
-    }
-    fs::remove_file(&rt, path)?;
-    Ok(())
+    set_len(&rt, &rt, path, 512 * 200);
+    expect_rows(&rt, &mut disk, 200);
+    fs::remove_file(&rt, path).expect(&rt, "a removal");
 }
 
 /// Opens a file of three sectors, then truncates it to two of them, and to a length that no device has.
-fn expect_cut(rt: &HostRuntime, judge: &impl Abort, path: &str) -> Result<(), Fail> {
-    expect_cut_while_open(rt, judge, path)?;
-    set_len(rt, path, 1025)?;
+fn expect_cut(rt: &HostRuntime, judge: &impl Abort, path: &str) {
+    expect_cut_while_open(rt, judge, path);
+    set_len(rt, judge, path, 1025);
     expect_unopened(rt, judge, path, FileFault::Length);
-    set_len(rt, path, 1024)?;
+    set_len(rt, judge, path, 1024);
     expect(
         judge,
-        &mut FileDisk::open(rt, rt.alloc(), path)?,
+        &mut FileDisk::open(rt, rt.alloc(), path).expect(judge, "a device"),
         &[Step::Size(2)],
     );
-    Ok(())
 }
 
-fn expect_cut_while_open(rt: &HostRuntime, judge: &impl Abort, path: &str) -> Result<(), Fail> {
-    let mut disk = FileDisk::open(rt, rt.alloc(), path)?;
+fn expect_cut_while_open(rt: &HostRuntime, judge: &impl Abort, path: &str) {
+    let mut disk = FileDisk::open(rt, rt.alloc(), path).expect(judge, "a device");
     let kept = [
         Step::Size(3),
         Step::Calls(0),
@@ -545,34 +522,34 @@ fn expect_cut_while_open(rt: &HostRuntime, judge: &impl Abort, path: &str) -> Re
         Step::Found(1, 0),
     ];
     expect(judge, &mut disk, &kept);
-    set_len(rt, path, 1024)?;
+    set_len(rt, judge, path, 1024);
     expect(judge, &mut disk, &[Step::FindFails(2)]);
-    Ok(())
 }
 
-fn set_len(rt: &HostRuntime, path: &str, len: u64) -> Result<(), Fail> {
-    let file = OpenOptions::new().write(true).open(rt, path)?;
-    file.set_len(len)?;
-    Ok(())
+fn set_len(rt: &HostRuntime, judge: &impl Abort, path: &str, len: u64) {
+    let file = OpenOptions::new()
+        .write(true)
+        .open(rt, path)
+        .expect(judge, "a file");
+    file.set_len(len).expect(judge, "a length");
 }
 
 #[test]
-fn a_file_that_cant_be_laid_out_leaves_nothing(rt: HostRuntime) -> Result<(), Fail> {
-    let path = fresh_path(&rt, "audit_disk_too_long")?;
+fn a_file_that_cant_be_laid_out_leaves_nothing(rt: HostRuntime) {
+    let path = fresh_path(&rt, &rt, "audit_disk_too_long");
     let path = path.as_str();
     expect_uncreated(&rt, &rt, path, 1 << 54, FileFault::Io);
     expect_unopened(&rt, &rt, path, FileFault::Io);
-    expect_created(&rt, &rt, path, 1, &[Step::Size(1)])?;
-    fs::remove_file(&rt, path)?;
-    Ok(())
+    expect_created(&rt, &rt, path, 1, &[Step::Size(1)]);
+    fs::remove_file(&rt, path).expect(&rt, "a removal");
 }
 
 // A system device that accepts writes but can't be synced.
 #[test]
-fn after_a_failed_sync_a_file_takes_no_call(rt: HostRuntime) -> Result<(), Fail> {
+fn after_a_failed_sync_a_file_takes_no_call(rt: HostRuntime) {
     let mut options = OpenOptions::new();
     options.read(true).write(true);
-    let file = options.open(&rt, "/dev/null")?;
+    let file = options.open(&rt, "/dev/null").expect(&rt, "a file");
     let steps = [
         Step::Put(0, b'x'),
         Step::SyncFails,
@@ -581,37 +558,36 @@ fn after_a_failed_sync_a_file_takes_no_call(rt: HostRuntime) -> Result<(), Fail>
         Step::SyncFails,
         Step::Calls(4),
     ];
-    let mut disk = FileDisk::over(rt.alloc(), OsFile::new(file), 1)?;
+    let mut disk = FileDisk::over(rt.alloc(), OsFile::new(file), 1).expect(&rt, "a device");
     expect(&rt, &mut disk, &steps);
-    Ok(())
 }
 
 // Applies only if the file's mode binds the user: a superuser may write every file.
 #[test]
-fn a_file_that_may_only_be_read_takes_no_write(rt: HostRuntime) -> Result<(), Fail> {
-    let path = fresh_path(&rt, "audit_disk_read_only")?;
+fn a_file_that_may_only_be_read_takes_no_write(rt: HostRuntime) {
+    let path = fresh_path(&rt, &rt, "audit_disk_read_only");
     let path = path.as_str();
-    expect_created(&rt, &rt, path, 1, &[])?;
-    expect_unwritten(&rt, &rt, path)?;
-    expect_opened_as_allowed(&rt, &rt, path)?;
-    fs::remove_file(&rt, path)?;
-    Ok(())
+    expect_created(&rt, &rt, path, 1, &[]);
+    expect_unwritten(&rt, &rt, path);
+    expect_opened_as_allowed(&rt, &rt, path);
+    fs::remove_file(&rt, path).expect(&rt, "a removal");
 }
 
 /// A file opened for reading only.
-fn expect_unwritten(rt: &HostRuntime, judge: &impl Abort, path: &str) -> Result<(), Fail> {
-    let file = OpenOptions::new().read(true).open(rt, path)?;
-    let mut disk = FileDisk::over(rt.alloc(), OsFile::new(file), 1)?;
+fn expect_unwritten(rt: &HostRuntime, judge: &impl Abort, path: &str) {
+    let file = OpenOptions::new()
+        .read(true)
+        .open(rt, path)
+        .expect(judge, "a file");
+    let mut disk = FileDisk::over(rt.alloc(), OsFile::new(file), 1).expect(judge, "a device");
     let steps = [Step::PutFails(0, b'x'), Step::Found(0, 0), Step::Calls(1)];
     expect(judge, &mut disk, &steps);
-    Ok(())
 }
 
 /// A file whose mode allows only reading can be opened as a device only if this user may write it anyway.
-fn expect_opened_as_allowed(rt: &HostRuntime, judge: &impl Abort, path: &str) -> Result<(), Fail> {
-    fs::set_permissions(rt, path, fs::Permissions::from_mode(0o444))?;
+fn expect_opened_as_allowed(rt: &HostRuntime, judge: &impl Abort, path: &str) {
+    fs::set_permissions(rt, path, fs::Permissions::from_mode(0o444)).expect(judge, "permissions");
     let writable = OpenOptions::new().write(true).open(rt, path).is_ok();
     let fault = FileDisk::open(rt, rt.alloc(), path).err();
     assert_eq!(judge; fault, if writable { None } else { Some(FileFault::Io) });
-    Ok(())
 }

@@ -2,9 +2,8 @@ ghost use Rattle.audit_wire.specs.Reply.{IsReply};
 
 use audit_base::MAX_ENTRY;
 use audit_wire::*;
-use std::alloc::{AllocError, Global};
+use std::alloc::Global;
 use std::process::Abort;
-use std::test::Fail;
 
 mod streams;
 mod vectors;
@@ -81,11 +80,15 @@ fn check_request(rt: &impl Abort, decoder: &mut Decoder, frame: &[u8], request: 
 }
 
 #[test]
-fn requests_are_read_whole_cut_anywhere_and_byte_by_byte(rt: HostRuntime) -> Result<(), Fail> {
+fn requests_are_read_whole_cut_anywhere_and_byte_by_byte(rt: HostRuntime) {
     for (frame, request) in &REQUESTS {
-        check_request(&rt, &mut Decoder::new(rt.alloc())?, frame, request);
+        check_request(
+            &rt,
+            &mut Decoder::new(rt.alloc()).expect(&rt, "memory"),
+            frame,
+            request,
+        );
     }
-    Ok(())
 }
 
 // A view of an owned request.
@@ -116,21 +119,19 @@ fn view_of(request: &Request) -> RequestView<'_> {
 }
 
 #[test]
-fn an_owned_request_is_what_its_view_shows(rt: HostRuntime) -> Result<(), Fail> {
+fn an_owned_request_is_what_its_view_shows(rt: HostRuntime) {
     for (_, request) in &REQUESTS {
-        assert!(rt; view_of(&request.own(rt.alloc())?) == *request);
+        assert!(rt; view_of(&request.own(rt.alloc()).expect(&rt, "memory")) == *request);
     }
-    Ok(())
 }
 
 #[test]
-fn a_list_is_the_vector_that_it_was_made_of(rt: HostRuntime) -> Result<(), Fail> {
-    let payload = ByteList::from_vec(Vec::from_slice(rt.alloc(), b"hi")?);
+fn a_list_is_the_vector_that_it_was_made_of(rt: HostRuntime) {
+    let payload = ByteList::from_vec(Vec::from_slice(rt.alloc(), b"hi").expect(&rt, "memory"));
     assert!(rt; payload.into_vec().as_slice() == b"hi".as_slice());
-    let hashes = HashList::from_vec(Vec::from_slice(rt.alloc(), &[ROOT])?);
+    let hashes = HashList::from_vec(Vec::from_slice(rt.alloc(), &[ROOT]).expect(&rt, "memory"));
     assert!(rt; hashes.as_slice() == [ROOT].as_slice());
     assert!(rt; hashes.into_vec().len() == 1);
-    Ok(())
 }
 
 // Lengths, and whether a frame may have them.
@@ -163,24 +164,23 @@ fn drops_all(decoder: &mut Decoder) -> bool {
 }
 
 #[test]
-fn a_length_is_judged_at_its_second_byte(rt: HostRuntime) -> Result<(), Fail> {
+fn a_length_is_judged_at_its_second_byte(rt: HostRuntime) {
     for ([first, second], allowed) in LENGTHS {
-        let mut decoder = Decoder::new(rt.alloc())?;
+        let mut decoder = Decoder::new(rt.alloc()).expect(&rt, "memory");
         assert!(rt;
             judges(&mut decoder, first, second, allowed),
             "length {first} {second}"
         );
         assert!(rt; allowed || drops_all(&mut decoder));
     }
-    Ok(())
 }
 
 // The first `size` bytes of the longest append's frame.
-fn frame_of(alloc: Global, size: usize) -> Result<Vec<u8>, AllocError> {
-    let mut frame = Vec::from_slice(alloc, &[0x7f, 0xc1])?;
-    frame.extend_from_slice(&APPEND[2..11])?;
-    frame.resize(size, 0xab)?;
-    Ok(frame)
+fn frame_of(rt: &impl Abort, alloc: Global, size: usize) -> Vec<u8> {
+    let mut frame = Vec::from_slice(alloc, &[0x7f, 0xc1]).expect(rt, "memory");
+    frame.extend_from_slice(&APPEND[2..11]).expect(rt, "memory");
+    frame.resize(size, 0xab).expect(rt, "memory");
+    frame
 }
 
 fn is_append_of(body: &[u8], len: usize) -> bool {
@@ -191,20 +191,18 @@ fn is_append_of(body: &[u8], len: usize) -> bool {
 }
 
 #[test]
-fn the_longest_frame_is_read(rt: HostRuntime) -> Result<(), Fail> {
-    let frame = frame_of(rt.alloc(), MAX_FRAME)?;
-    let mut decoder = Decoder::new(rt.alloc())?;
+fn the_longest_frame_is_read(rt: HostRuntime) {
+    let frame = frame_of(&rt, rt.alloc(), MAX_FRAME);
+    let mut decoder = Decoder::new(rt.alloc()).expect(&rt, "memory");
     assert!(rt; decoder.feed(&frame) == Fed::Body { taken: 32_707 });
     assert!(rt; is_append_of(decoder.body(), 32_696));
-    Ok(())
 }
 
 #[test]
-fn the_longest_body_and_one_byte_more_is_not_read(rt: HostRuntime) -> Result<(), Fail> {
-    let frame = frame_of(rt.alloc(), MAX_FRAME + 1)?;
+fn the_longest_body_and_one_byte_more_is_not_read(rt: HostRuntime) {
+    let frame = frame_of(&rt, rt.alloc(), MAX_FRAME + 1);
     assert!(rt; frame.len() == MAX_FRAME + 1);
     assert!(rt; read_request(&frame[2..]) == Err(Malformed));
-    Ok(())
 }
 
 const NO_REQUESTS: [&[u8]; 18] = [
@@ -278,11 +276,15 @@ fn check_again(rt: &impl Abort, decoder: &mut Decoder, frame: &[u8], request: &R
 }
 
 #[test]
-fn a_byte_that_is_put_back_comes_again(rt: HostRuntime) -> Result<(), Fail> {
+fn a_byte_that_is_put_back_comes_again(rt: HostRuntime) {
     for (frame, request) in &REQUESTS {
-        check_again(&rt, &mut Decoder::new(rt.alloc())?, frame, request);
+        check_again(
+            &rt,
+            &mut Decoder::new(rt.alloc()).expect(&rt, "memory"),
+            frame,
+            request,
+        );
     }
-    Ok(())
 }
 
 // Whether a malformed length is reported, and its last byte can be put back.
@@ -298,38 +300,31 @@ fn puts_back_length(decoder: &mut Decoder) -> bool {
 
 // The next byte makes it an allowed length.
 #[test]
-fn a_malformed_length_that_is_put_back_comes_again(rt: HostRuntime) -> Result<(), Fail> {
-    let mut decoder = Decoder::new(rt.alloc())?;
+fn a_malformed_length_that_is_put_back_comes_again(rt: HostRuntime) {
+    let mut decoder = Decoder::new(rt.alloc()).expect(&rt, "memory");
     assert!(rt; puts_back_length(&mut decoder));
     assert!(rt; waits(&mut decoder, b"\xc1"));
-    Ok(())
 }
 
 /// The frame of a reply after these bytes, in a vector with capacity for `room` bytes.
-fn written(alloc: Global, reply: &Reply, before: &[u8], room: usize) -> Result<Vec<u8>, AllocError>
+fn written(rt: &impl Abort, alloc: Global, reply: &Reply, before: &[u8], room: usize) -> Vec<u8>
     requires { IsReply reply.now }
 {
-    let mut out = Vec::with_capacity(alloc, room)?;
-    out.extend_from_slice(before)?;
-    write_reply(alloc, reply, &mut out)?;
-    Ok(out)
+    let mut out = Vec::with_capacity(alloc, room).expect(rt, "memory");
+    out.extend_from_slice(before).expect(rt, "memory");
+    write_reply(alloc, reply, &mut out).expect(rt, "a reply");
+    out
 }
 
 /// The frame of a reply follows the existing bytes, even if the capacity is exactly its size.
-fn check_reply(
-    rt: &impl Abort,
-    alloc: Global,
-    reply: &Reply,
-    frame: &[u8],
-) -> Result<(), AllocError>
+fn check_reply(rt: &impl Abort, alloc: Global, reply: &Reply, frame: &[u8])
     requires { IsReply reply.now }
 {
     let room = frame.len().saturating_add(1);
-    let after = written(alloc, reply, &[0xaa], room)?;
+    let after = written(rt, alloc, reply, &[0xaa], room);
     assert!(rt; after.capacity() == room && is_after_a_byte(&after, frame));
-    let out = written(alloc, reply, &[], 0)?;
+    let out = written(rt, alloc, reply, &[], 0);
     assert!(rt; out.as_slice() == frame && is_read_back(alloc, &out));
-    Ok(())
 }
 
 fn is_after_a_byte(out: &[u8], frame: &[u8]) -> bool {
@@ -365,26 +360,24 @@ fn bodies_that_are_no_replies(rt: HostRuntime) {
 }
 
 #[test]
-fn an_acknowledgement_has_the_bytes_of_the_formats(rt: HostRuntime) -> Result<(), Fail> {
+fn an_acknowledgement_has_the_bytes_of_the_formats(rt: HostRuntime) {
     let acknowledgement = Reply::Acknowledgement {
         tag: 7,
         index: 0,
         count: 1,
         root: ROOT,
     };
-    check_reply(&rt, rt.alloc(), &acknowledgement, &ACKNOWLEDGED)?;
-    Ok(())
+    check_reply(&rt, rt.alloc(), &acknowledgement, &ACKNOWLEDGED);
 }
 
 #[test]
-fn a_commitment_has_the_bytes_of_the_formats(rt: HostRuntime) -> Result<(), Fail> {
+fn a_commitment_has_the_bytes_of_the_formats(rt: HostRuntime) {
     let commitment = Reply::Commitment {
         tag: 9,
         count: 0,
         root: [0; 32],
     };
-    check_reply(&rt, rt.alloc(), &commitment, &EMPTY_COMMITMENT)?;
-    Ok(())
+    check_reply(&rt, rt.alloc(), &commitment, &EMPTY_COMMITMENT);
 }
 
 const REFUSALS: [(u8, Refusal, u8); 7] = [
@@ -398,94 +391,80 @@ const REFUSALS: [(u8, Refusal, u8); 7] = [
 ];
 
 #[test]
-fn refusals_have_the_bytes_of_the_formats(rt: HostRuntime) -> Result<(), Fail> {
+fn refusals_have_the_bytes_of_the_formats(rt: HostRuntime) {
     for (tag, refusal, code) in REFUSALS {
         let frame = [0x00, 0x06, 0xff, 0x00, 0x00, 0x00, tag, code];
         let refused = Reply::Refused {
             tag: u32::from(tag),
             refusal,
         };
-        check_reply(&rt, rt.alloc(), &refused, &frame)?;
+        check_reply(&rt, rt.alloc(), &refused, &frame);
     }
-    Ok(())
 }
 
 // A reply of the greatest length of its kind.
-fn check_longest(
-    rt: &impl Abort,
-    alloc: Global,
-    reply: &Reply,
-    len: usize,
-    begins: &[u8],
-) -> Result<(), AllocError>
+fn check_longest(rt: &impl Abort, alloc: Global, reply: &Reply, len: usize, begins: &[u8])
     requires { IsReply reply.now }
 {
-    let out = written(alloc, reply, &[], 0)?;
+    let out = written(rt, alloc, reply, &[], 0);
     assert!(rt; out.len() == len && out.starts_with(begins) && out.ends_with(&[7; 32]));
-    Ok(())
 }
 
 #[test]
-fn the_longest_increment(rt: HostRuntime) -> Result<(), Fail> {
+fn the_longest_increment(rt: HostRuntime) {
     let increment = Reply::Incremental {
         tag: 6,
-        hashes: HashList::from_vec(vec![in rt.alloc(); [7; 32]; 25]?),
+        hashes: HashList::from_vec(vec![in rt.alloc(); [7; 32]; 25].expect(&rt, "memory")),
     };
     let begins = [0x03, 0x26, 0x84, 0x00, 0x00, 0x00, 0x06, 25];
-    check_longest(&rt, rt.alloc(), &increment, 808, &begins)?;
-    Ok(())
+    check_longest(&rt, rt.alloc(), &increment, 808, &begins);
 }
 
 #[test]
-fn the_longest_membership(rt: HostRuntime) -> Result<(), Fail> {
+fn the_longest_membership(rt: HostRuntime) {
     let membership = Reply::Membership {
         tag: 5,
-        hashes: HashList::from_vec(vec![in rt.alloc(); [7; 32]; 24]?),
-        entry: ByteList::from_vec(vec![in rt.alloc(); 7; MAX_ENTRY]?),
+        hashes: HashList::from_vec(vec![in rt.alloc(); [7; 32]; 24].expect(&rt, "memory")),
+        entry: ByteList::from_vec(vec![in rt.alloc(); 7; MAX_ENTRY].expect(&rt, "memory")),
     };
     let begins = [0x83, 0x06, 0x83, 0x00, 0x00, 0x00, 0x05, 24];
-    check_longest(&rt, rt.alloc(), &membership, 33_544, &begins)?;
-    Ok(())
+    check_longest(&rt, rt.alloc(), &membership, 33_544, &begins);
 }
 
 #[test]
-fn the_longest_entry(rt: HostRuntime) -> Result<(), Fail> {
+fn the_longest_entry(rt: HostRuntime) {
     let entry = Reply::Entry {
         tag: 4,
-        entry: ByteList::from_vec(vec![in rt.alloc(); 7; MAX_ENTRY]?),
+        entry: ByteList::from_vec(vec![in rt.alloc(); 7; MAX_ENTRY].expect(&rt, "memory")),
     };
     let begins = [0x80, 0x05, 0x85, 0x00, 0x00, 0x00, 0x04, 7];
-    check_longest(&rt, rt.alloc(), &entry, 32_775, &begins)?;
-    Ok(())
+    check_longest(&rt, rt.alloc(), &entry, 32_775, &begins);
 }
 
 #[test]
-fn an_increment_has_the_bytes_of_the_formats(rt: HostRuntime) -> Result<(), Fail> {
+fn an_increment_has_the_bytes_of_the_formats(rt: HostRuntime) {
     let increment = Reply::Incremental {
         tag: 6,
-        hashes: HashList::from_vec(Vec::from_slice(rt.alloc(), &[ROOT])?),
+        hashes: HashList::from_vec(Vec::from_slice(rt.alloc(), &[ROOT]).expect(&rt, "memory")),
     };
-    check_reply(&rt, rt.alloc(), &increment, &INCREMENT)?;
-    Ok(())
+    check_reply(&rt, rt.alloc(), &increment, &INCREMENT);
 }
 
 #[test]
-fn a_membership_has_the_bytes_of_the_formats(rt: HostRuntime) -> Result<(), Fail> {
+fn a_membership_has_the_bytes_of_the_formats(rt: HostRuntime) {
     let membership = Reply::Membership {
         tag: 5,
         hashes: HashList::from_vec(Vec::new(rt.alloc())),
-        entry: ByteList::from_vec(Vec::from_slice(rt.alloc(), &ENTRY)?),
+        entry: ByteList::from_vec(Vec::from_slice(rt.alloc(), &ENTRY).expect(&rt, "memory")),
     };
-    check_reply(&rt, rt.alloc(), &membership, &MEMBERSHIP)?;
-    Ok(())
+    check_reply(&rt, rt.alloc(), &membership, &MEMBERSHIP);
 }
 
 #[test]
-fn an_entry_has_the_bytes_of_the_formats(rt: HostRuntime) -> Result<(), Fail> {
+fn an_entry_has_the_bytes_of_the_formats(rt: HostRuntime) {
     let entry = Reply::Entry {
         tag: 4,
-        entry: ByteList::from_vec(Vec::from_slice(rt.alloc(), &ENTRY)?),
+        entry: ByteList::from_vec(Vec::from_slice(rt.alloc(), &ENTRY).expect(&rt, "memory")),
     };
-    check_reply(&rt, rt.alloc(), &entry, &ENTRY_REPLY)?;
-    Ok(())
+    check_reply(&rt, rt.alloc(), &entry, &ENTRY_REPLY);
 }

@@ -9,7 +9,6 @@ use audit_serve_ready::{
     vacant_slots,
 };
 use std::alloc::Global;
-use std::test::Fail;
 
 /// A client that sends a few bytes, one for each read, with nothing available at every other read, and accepts `room`
 /// bytes.
@@ -103,10 +102,10 @@ impl Door for Clients {
 // Each of 40 clients sends three bytes in passes of their own, and receives a reply of one byte to each. One accepts
 // nothing, and is dismissed.
 #[test]
-fn clients_come_and_go(rt: HostRuntime) -> Result<(), Fail> {
+fn clients_come_and_go(rt: HostRuntime) {
     let alloc: Global = rt.alloc();
-    let mut core = Recorder::new(alloc, usize::MAX)?;
-    let mut slots = vacant_slots(alloc, SESSIONS, DEFAULT_BACKLOG)?;
+    let mut core = Recorder::new(&rt, alloc, usize::MAX);
+    let mut slots = vacant_slots(alloc, SESSIONS, DEFAULT_BACKLOG).expect(&rt, "memory");
     let mut door = Clients {
         coming: 40,
         came: 0,
@@ -121,5 +120,4 @@ fn clients_come_and_go(rt: HostRuntime) -> Result<(), Fail> {
     assert!(rt; door.dismissed == 1);
     assert!(rt; door.replies == 117);
     assert!(rt; !slots[0].has_client());
-    Ok(())
 }

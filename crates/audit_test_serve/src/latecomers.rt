@@ -7,7 +7,6 @@ use audit_serve_passes::StreamError;
 use audit_serve_ready::{
     DEFAULT_BACKLOG, Departure, Door, Next, ReadyStream, serve_clients, vacant_slots,
 };
-use std::test::Fail;
 
 /// How many bytes each of the first reads of a client's stream returns: none where nothing is there, zero at its end.
 type Reads = [Option<usize>; 3];
@@ -81,10 +80,10 @@ const SILENT: Reads = [None, None, None];
 // The first pass ends the sessions of places without clients. In the next one the late client is asked again, since the
 // early one has sent something, and one flush has both. Nobody is read twice in a pass.
 #[test]
-fn one_flush_has_what_comes_meanwhile(rt: HostRuntime) -> Result<(), Fail> {
+fn one_flush_has_what_comes_meanwhile(rt: HostRuntime) {
     let alloc = rt.alloc();
-    let mut core = Recorder::new(alloc, usize::MAX)?;
-    let mut slots = vacant_slots(alloc, 3, DEFAULT_BACKLOG)?;
+    let mut core = Recorder::new(&rt, alloc, usize::MAX);
+    let mut slots = vacant_slots(alloc, 3, DEFAULT_BACKLOG).expect(&rt, "memory");
     let mut door = Crowd {
         clients: [LATE, EARLY, SILENT],
         came: 0,
@@ -116,5 +115,4 @@ fn one_flush_has_what_comes_meanwhile(rt: HostRuntime) -> Result<(), Fail> {
             Asked::Flush,
         ])
     );
-    Ok(())
 }

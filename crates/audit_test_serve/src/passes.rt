@@ -10,7 +10,6 @@ use audit_serve_passes::{
 };
 use std::alloc::{AllocError, Global};
 use std::io::{self, ErrorKind, Read, Write};
-use std::test::Fail;
 
 /// A reader that returns at most `most` bytes at a time, and fails after `reads` reads.
 #[derive(Drop)]
@@ -80,9 +79,9 @@ fn wrote(stream: &Stream, bytes: &[u8]) -> bool {
 
 // Without streams there are no passes and one flush.
 #[test]
-fn no_stream(rt: HostRuntime) -> Result<(), Fail> {
+fn no_stream(rt: HostRuntime) {
     let alloc = rt.alloc();
-    let mut core = Recorder::new(alloc, ANY)?;
+    let mut core = Recorder::new(&rt, alloc, ANY);
     let mut streams: [Stream; 0] = [];
     let end = serve(&mut core, &mut streams);
     assert!(rt;
@@ -92,14 +91,13 @@ fn no_stream(rt: HostRuntime) -> Result<(), Fail> {
         }
     );
     assert!(rt; core.was_asked(&[Asked::Flush]));
-    Ok(())
 }
 
 // One stream returns one byte for each read, the other all bytes at once. Each live session has one read in each pass.
 #[test]
-fn streams_are_read_in_turns(rt: HostRuntime) -> Result<(), Fail> {
+fn streams_are_read_in_turns(rt: HostRuntime) {
     let alloc = rt.alloc();
-    let mut core = Recorder::new(alloc, ANY)?;
+    let mut core = Recorder::new(&rt, alloc, ANY);
     let mut streams = [
         stream(alloc, b"ab", 1, ANY, ANY),
         stream(alloc, b"cde", 4_096, ANY, ANY),
@@ -126,14 +124,13 @@ fn streams_are_read_in_turns(rt: HostRuntime) -> Result<(), Fail> {
     );
     assert!(rt; wrote(&streams[0], &[4, 5]));
     assert!(rt; wrote(&streams[1], &[4]));
-    Ok(())
 }
 
 // A failed read ends its session. A failed write ends its own session, and later output for it is dropped.
 #[test]
-fn faults_end_their_session(rt: HostRuntime) -> Result<(), Fail> {
+fn faults_end_their_session(rt: HostRuntime) {
     let alloc = rt.alloc();
-    let mut core = Recorder::new(alloc, ANY)?;
+    let mut core = Recorder::new(&rt, alloc, ANY);
     let mut streams = [
         stream(alloc, b"abcd", 1, 2, ANY),
         stream(alloc, b"efgh", 1, ANY, 1),
@@ -161,14 +158,13 @@ fn faults_end_their_session(rt: HostRuntime) -> Result<(), Fail> {
     );
     assert!(rt; wrote(&streams[0], &[2, 4]));
     assert!(rt; wrote(&streams[1], &[2]));
-    Ok(())
 }
 
 // The core refuses its fourth step, which stops serving.
 #[test]
-fn a_refusal_of_the_core(rt: HostRuntime) -> Result<(), Fail> {
+fn a_refusal_of_the_core(rt: HostRuntime) {
     let alloc = rt.alloc();
-    let mut core = Recorder::new(alloc, 3)?;
+    let mut core = Recorder::new(&rt, alloc, 3);
     let mut streams = [stream(alloc, b"ab", 1, ANY, ANY)];
     let done = serve(&mut core, &mut streams);
     assert!(rt;
@@ -178,7 +174,6 @@ fn a_refusal_of_the_core(rt: HostRuntime) -> Result<(), Fail> {
         }
     );
     assert!(rt; core.was_asked(&[feed(0, 1), Asked::Flush, feed(0, 1)]));
-    Ok(())
 }
 
 /// A client that sends two bytes, the second only after a reply to the first.
@@ -210,9 +205,9 @@ impl Duplex for Polite {
 
 // What waits is written before the reads of the next pass.
 #[test]
-fn replies_are_written_in_their_round(rt: HostRuntime) -> Result<(), Fail> {
+fn replies_are_written_in_their_round(rt: HostRuntime) {
     let alloc = rt.alloc();
-    let mut core = Recorder::new(alloc, ANY)?;
+    let mut core = Recorder::new(&rt, alloc, ANY);
     let client = Polite {
         sent: 0,
         replies: 0,
@@ -236,7 +231,6 @@ fn replies_are_written_in_their_round(rt: HostRuntime) -> Result<(), Fail> {
             Asked::Flush,
         ])
     );
-    Ok(())
 }
 
 /// A client that sends without end, and accepts whatever it is sent.
@@ -257,9 +251,9 @@ impl Duplex for Endless {
 
 // When the limit of passes is reached, the session is ended.
 #[test]
-fn as_many_rounds_as_may_be(rt: HostRuntime) -> Result<(), Fail> {
+fn as_many_rounds_as_may_be(rt: HostRuntime) {
     let alloc = rt.alloc();
-    let mut core = Recorder::new(alloc, ANY)?;
+    let mut core = Recorder::new(&rt, alloc, ANY);
     let mut streams = [DuplexStream::new(Endless)];
     let done = serve(&mut core, &mut streams);
     assert!(rt;
@@ -269,5 +263,4 @@ fn as_many_rounds_as_may_be(rt: HostRuntime) -> Result<(), Fail> {
         }
     );
     assert!(rt; core.ended(0));
-    Ok(())
 }

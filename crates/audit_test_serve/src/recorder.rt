@@ -1,5 +1,5 @@
 //! A core that records the steps that it is asked to do.
-ghost use Rattle.std.specs.Prelude.{◌≡◌, ◌<◌, ℕ, [], ◌∷◌, IfOk, OnOk, length, map};
+ghost use Rattle.std.specs.Prelude.{◌≡◌, ◌<◌, ℕ, [], ◌∷◌, OnOk, length, map};
 ghost use Rattle.audit_base.specs.declared.limits.TheConstants.{SESSIONS};
 ghost use Rattle.audit_serve_passes.specs.Steps.{a_piece, an_end, a_flush};
 ghost use Rattle.audit_serve_passes.specs.Core.{CoreModel, no_bytes, bytes_for};
@@ -10,6 +10,7 @@ use audit_serve_passes::SessionCore;
 use std::alloc::{AllocError, Global};
 use std::marker::Model;
 use std::mem;
+use std::process::Abort;
 
 /// A step that a core was asked to do.
 #[derive(Clone, Copy, Debug, PartialEq, Eq)]
@@ -47,22 +48,22 @@ impl Model for Recorder {
     ghost invariant = { λ core. length core.outputs.items ≡ SESSIONS };
 }
 
-fn no_outputs(alloc: Global) -> Result<Vec<Vec<u8>>, AllocError>
-    ensures { IfOk result (λ outputs. length outputs.items ≡ SESSIONS) }
+fn no_outputs(rt: &impl Abort, alloc: Global) -> Vec<Vec<u8>>
+    ensures { length result.items ≡ SESSIONS }
 {
-    let mut outputs = Vec::with_capacity(alloc, SESSIONS)?;
+    let mut outputs = Vec::with_capacity(alloc, SESSIONS).expect(rt, "memory");
     for _ in 0..SESSIONS {
-        outputs.push(Vec::new(alloc))?;
+        outputs.push(Vec::new(alloc)).expect(rt, "memory");
     }
-    Ok(outputs)
+    outputs
 }
 
 impl Recorder {
     /// Makes a core that does `refused` steps and refuses the next one.
-    pub fn new(alloc: Global, refused: usize) -> Result<Recorder, AllocError> {
-        let outputs = no_outputs(alloc)?;
-        let asked = Vec::with_capacity(alloc, MOST)?;
-        Ok(Recorder {
+    pub fn new(rt: &impl Abort, alloc: Global, refused: usize) -> Recorder {
+        let outputs = no_outputs(rt, alloc);
+        let asked = Vec::with_capacity(alloc, MOST).expect(rt, "memory");
+        Recorder {
             alloc,
             asked,
             refused,
@@ -70,7 +71,7 @@ impl Recorder {
             fed: [false; SESSIONS],
             total: 0,
             outputs,
-        })
+        }
     }
 
     /// Returns whether the recorded steps are these.

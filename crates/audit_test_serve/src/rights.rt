@@ -4,8 +4,8 @@ ghost use Rattle.audit_serve_passes.specs.Pairs.{unknown_calls};
 use audit_serve_passes::StreamError;
 use audit_serve_ready::ReadyStream;
 use audit_serve_rights::{Guarded, Rights};
-use std::alloc::{AllocError, Global};
-use std::test::Fail;
+use std::alloc::Global;
+use std::process::Abort;
 
 /// A stream that gives at most `most` bytes a read, with nothing there at every other read, and takes every byte.
 #[derive(Drop)]
@@ -44,7 +44,7 @@ struct Output {
 
 // What is given of these bytes, if they come in pieces of at most `most`. Of a stream that doesn't end, what comes
 // after them is a wait without end.
-fn given(alloc: Global, sent: &[u8], most: usize, rights: Rights) -> Result<Output, AllocError> {
+fn given(rt: &impl Abort, alloc: Global, sent: &[u8], most: usize, rights: Rights) -> Output {
     let source = Source {
         bytes: sent,
         most,
@@ -56,21 +56,23 @@ fn given(alloc: Global, sent: &[u8], most: usize, rights: Rights) -> Result<Outp
     for _ in 0..200 {
         match guarded.read_ready(&mut buffer) {
             Some(Ok(0)) => {
-                return Ok(Output {
+                return Output {
                     bytes,
                     ended: true,
                     cut_off: guarded.is_cut_off(),
-                });
+                };
             }
-            Some(Ok(count)) => bytes.extend_from_slice(&buffer[..count])?,
+            Some(Ok(count)) => bytes
+                .extend_from_slice(&buffer[..count])
+                .expect(rt, "memory"),
             Some(Err(_)) | None => {}
         }
     }
-    Ok(Output {
+    Output {
         bytes,
         ended: false,
         cut_off: guarded.is_cut_off(),
-    })
+    }
 }
 
 // An append of `h` under kind 7, a commitment and a close, each with its tag.
@@ -80,32 +82,33 @@ const COMMITMENT: [u8; 7] = [0, 5, 2, 0, 0, 0, 9];
 
 // Whether the first `passed` bytes are let through, however the stream is cut, and then the end is given.
 fn passes(
+    rt: &impl Abort,
     alloc: Global,
     rights: Rights,
     sent: &[u8],
     passed: usize,
     cut_off: bool,
-) -> Result<bool, AllocError> {
+) -> bool {
     for most in 1..20 {
-        let given = given(alloc, sent, most, rights)?;
+        let given = given(rt, alloc, sent, most, rights);
         let front = sent.get(..passed).unwrap_or(&[]);
         if given.bytes.as_slice() != front || !given.ended || given.cut_off != cut_off {
-            return Ok(false);
+            return false;
         }
     }
-    Ok(true)
+    true
 }
 
 // A stream, how many of its bytes are let through, and whether it is cut off then.
 type Case<'a> = (&'a [u8], usize, bool);
 
-fn all_pass(alloc: Global, rights: Rights, cases: &[Case]) -> Result<bool, AllocError> {
+fn all_pass(rt: &impl Abort, alloc: Global, rights: Rights, cases: &[Case]) -> bool {
     for (sent, passed, cut_off) in cases {
-        if !passes(alloc, rights, sent, *passed, *cut_off)? {
-            return Ok(false);
+        if !passes(rt, alloc, rights, sent, *passed, *cut_off) {
+            return false;
         }
     }
-    Ok(true)
+    true
 }
 
 const COMMITMENT_APPEND: [u8; 26] = [
@@ -118,24 +121,21 @@ const APPEND_CLOSE: [u8; 26] = [
 
 // Each right lets through what it includes. The frames after one that isn't allowed are lost with it.
 #[test]
-fn readers_only_ask(rt: HostRuntime) -> Result<(), Fail> {
+fn readers_only_ask(rt: HostRuntime) {
     let cases: [Case; 2] = [(&COMMITMENT_APPEND, 7, true), (&APPEND_CLOSE, 0, true)];
-    assert!(rt; all_pass(rt.alloc(), Rights::Read, &cases)?);
-    Ok(())
+    assert!(rt; all_pass(&rt, rt.alloc(), Rights::Read, &cases));
 }
 
 #[test]
-fn appenders_do_not_close(rt: HostRuntime) -> Result<(), Fail> {
+fn appenders_do_not_close(rt: HostRuntime) {
     let cases: [Case; 2] = [(&COMMITMENT_APPEND, 26, false), (&APPEND_CLOSE, 12, true)];
-    assert!(rt; all_pass(rt.alloc(), Rights::Append, &cases)?);
-    Ok(())
+    assert!(rt; all_pass(&rt, rt.alloc(), Rights::Append, &cases));
 }
 
 #[test]
-fn closers_may_do_everything(rt: HostRuntime) -> Result<(), Fail> {
+fn closers_may_do_everything(rt: HostRuntime) {
     let cases: [Case; 2] = [(&COMMITMENT_APPEND, 26, false), (&APPEND_CLOSE, 26, false)];
-    assert!(rt; all_pass(rt.alloc(), Rights::Close, &cases)?);
-    Ok(())
+    assert!(rt; all_pass(&rt, rt.alloc(), Rights::Close, &cases));
 }
 
 const UNKNOWN: [u8; 15] = [0, 0, 0, 2, 99, 1, 0, 0, 0, 5, 2, 0, 0, 0, 9];
@@ -147,28 +147,26 @@ const LONG_APPEND: [u8; 5] = [255, 255, 1, 0, 0];
 // What is no request is let through: an empty frame, an unknown kind, a length over the limit. Of a frame over the
 // limit whose kind isn't allowed nothing is.
 #[test]
-fn frames_that_are_no_requests(rt: HostRuntime) -> Result<(), Fail> {
+fn frames_that_are_no_requests(rt: HostRuntime) {
     let cases: [Case; 4] = [
         (&[], 0, false),
         (&UNKNOWN, 15, false),
         (&LONG_CLOSE, 0, true),
         (&LONG_APPEND, 5, false),
     ];
-    assert!(rt; all_pass(rt.alloc(), Rights::Append, &cases)?);
-    Ok(())
+    assert!(rt; all_pass(&rt, rt.alloc(), Rights::Append, &cases));
 }
 
 // What is held back is given when the stream ends. The third byte of a frame decides on it.
 #[test]
-fn streams_that_end_in_a_length(rt: HostRuntime) -> Result<(), Fail> {
+fn streams_that_end_in_a_length(rt: HostRuntime) {
     let cases: [Case; 4] = [
         (&[0], 1, false),
         (&[0, 5], 2, false),
         (&[0, 5, 1], 0, true),
         (&[0, 5, 2, 0], 4, false),
     ];
-    assert!(rt; all_pass(rt.alloc(), Rights::Read, &cases)?);
-    Ok(())
+    assert!(rt; all_pass(&rt, rt.alloc(), Rights::Read, &cases));
 }
 
 /// A stream that gives a question with the first byte of the next frame, then nothing, and then fails.
@@ -200,7 +198,7 @@ impl ReadyStream for Failing {
 
 // A length that is held back is nothing as yet, and a fault is that of the inner stream.
 #[test]
-fn a_length_is_held_back(rt: HostRuntime) -> Result<(), Fail> {
+fn a_length_is_held_back(rt: HostRuntime) {
     let mut guarded = Guarded::new(Failing { reads: 0 }, Rights::Append);
     let mut buffer = [0; 24];
     let first = guarded.read_ready(&mut buffer);
@@ -210,17 +208,15 @@ fn a_length_is_held_back(rt: HostRuntime) -> Result<(), Fail> {
     assert!(rt; second == None);
     assert!(rt; third == Some(Err(StreamError)));
     assert!(rt; guarded.into_stream().reads == 3);
-    Ok(())
 }
 
 // Writes are those of the inner stream. A buffer of two bytes gets nothing.
 #[test]
-fn writes_and_short_buffers(rt: HostRuntime) -> Result<(), Fail> {
+fn writes_and_short_buffers(rt: HostRuntime) {
     let mut guarded = Guarded::new(Failing { reads: 0 }, Rights::Append);
     let mut buffer = [0; 2];
     assert!(rt; guarded.read_ready(&mut buffer) == None);
     assert!(rt; guarded.stream().reads == 0);
     assert!(rt; guarded.write_ready(&buffer) == Ok(1));
     assert!(rt; guarded.rights() == Rights::Append);
-    Ok(())
 }

@@ -5,9 +5,8 @@ ghost use Rattle.audit_disk.specs.OsFile.{unknown_file};
 
 use super::next;
 use audit_disk::{DeviceFault, FileDisk, SECTOR_SIZE, SectorFile, Sectors, counted};
-use std::alloc::{AllocError, Global};
+use std::alloc::Global;
 use std::process::Abort;
-use std::test::Fail;
 
 const SECTORS: usize = 400;
 
@@ -86,7 +85,7 @@ fn counted_bytes() -> [u8; SECTORS] {
 }
 
 /// A device over a file whose sector k consists of bytes k modulo 251.
-fn new_disk(alloc: Global, bad: usize) -> Result<Disk, AllocError> {
+fn new_disk(rt: &impl Abort, alloc: Global, bad: usize) -> Disk {
     let file = Patchy {
         bytes: counted_bytes(),
         bad,
@@ -94,7 +93,7 @@ fn new_disk(alloc: Global, bad: usize) -> Result<Disk, AllocError> {
         rows: 0,
         failures: 0,
     };
-    FileDisk::over(alloc, file, SECTORS as u64)
+    FileDisk::over(alloc, file, SECTORS as u64).expect(rt, "a device")
 }
 
 fn found(rt: &impl Abort, disk: &mut Disk, at: usize) -> Option<u8> {
@@ -124,58 +123,54 @@ fn expect_calls(rt: &impl Abort, disk: Disk, reads: u64, rows: u64) {
 
 // The first two sectors are always read one by one; then rows of 2, 4, .. 128 sectors, another 128, and the last 16.
 #[test]
-fn reads_that_go_on_read_rows(rt: HostRuntime) -> Result<(), Fail> {
-    let mut disk = new_disk(rt.alloc(), SECTORS)?;
+fn reads_that_go_on_read_rows(rt: HostRuntime) {
+    let mut disk = new_disk(&rt, rt.alloc(), SECTORS);
     for at in 0..SECTORS {
         expect_read(&rt, &mut disk, &[at]);
     }
     expect_read(&rt, &mut disk, &[0, 1, 0, 1]);
     expect_calls(&rt, disk, 6, 9);
-    Ok(())
 }
 
 #[test]
-fn reads_elsewhere_read_one_sector_each(rt: HostRuntime) -> Result<(), Fail> {
-    let mut disk = new_disk(rt.alloc(), SECTORS)?;
+fn reads_elsewhere_read_one_sector_each(rt: HostRuntime) {
+    let mut disk = new_disk(&rt, rt.alloc(), SECTORS);
     expect_read(&rt, &mut disk, &[7, 3, 399, 7, 5, 5]);
     for back in 0..SECTORS {
         expect_read(&rt, &mut disk, &[SECTORS - 1 - back]);
     }
     expect_calls(&rt, disk, 406, 0);
-    Ok(())
 }
 
 // The first read is of one sector, then there are rows from 11, 13 and 17 on. Rereads return the same, in any order.
 #[test]
-fn sectors_that_were_read_are_given_again(rt: HostRuntime) -> Result<(), Fail> {
+fn sectors_that_were_read_are_given_again(rt: HostRuntime) {
     let onwards = [10, 11, 12, 13, 14, 15, 16, 17];
     for (again, reads, rows) in [
         (&[] as &[usize], 1, 3),
         (&[24, 20, 17, 18, 24], 1, 3),
         (&[24, 20, 17, 18, 24, 16, 17, 25], 3, 4),
     ] {
-        let mut disk = new_disk(rt.alloc(), SECTORS)?;
+        let mut disk = new_disk(&rt, rt.alloc(), SECTORS);
         expect_read(&rt, &mut disk, &onwards);
         expect_read(&rt, &mut disk, again);
         expect_calls(&rt, disk, reads, rows);
     }
-    Ok(())
 }
 
 #[test]
-fn a_write_and_a_sync_drop_what_was_read(rt: HostRuntime) -> Result<(), Fail> {
-    let mut disk = new_disk(rt.alloc(), SECTORS)?;
+fn a_write_and_a_sync_drop_what_was_read(rt: HostRuntime) {
+    let mut disk = new_disk(&rt, rt.alloc(), SECTORS);
     expect_read(&rt, &mut disk, &[1, 2]);
     write(&rt, &mut disk, 3, b'w');
     assert_eq!(&rt; found(&rt, &mut disk, 3), Some(b'w'));
     assert!(&rt; disk.sync().is_ok());
     assert_eq!(&rt; found(&rt, &mut disk, 3), Some(SYNCED));
-    Ok(())
 }
 
 #[test]
-fn a_bad_sector_spoils_no_other(rt: HostRuntime) -> Result<(), Fail> {
-    let mut disk = new_disk(rt.alloc(), 100)?;
+fn a_bad_sector_spoils_no_other(rt: HostRuntime) {
+    let mut disk = new_disk(&rt, rt.alloc(), 100);
     for at in 0..SECTORS {
         let wanted = if at == 100 {
             None
@@ -184,7 +179,13 @@ fn a_bad_sector_spoils_no_other(rt: HostRuntime) -> Result<(), Fail> {
         };
         assert_eq!(&rt; found(&rt, &mut disk, at), wanted);
     }
-    Ok(())
+}
+
+/// Reads from sector `at` up to, but not including, `end`.
+fn expect_model(rt: &impl Abort, disk: &mut Disk, model: &[u8; SECTORS], at: usize, end: usize) {
+    for (place, byte) in model.iter().enumerate().take(end).skip(at) {
+        assert_eq!(rt; found(rt, disk, place), Some(*byte));
+    }
 }
 
 /// A call on the device and on a plain list of its bytes: a write, a sync, or some consecutive reads from any place.
@@ -202,20 +203,17 @@ fn play(rt: &impl Abort, disk: &mut Disk, model: &mut [u8; SECTORS], seed: &mut 
         }
         _ => {
             let end = (at + (next(seed) % 32) as usize).min(SECTORS);
-            for place in at..end {
-                assert_eq!(rt; found(rt, disk, place), Some(model[place]));
-            }
+            expect_model(rt, disk, model, at, end);
         }
     }
 }
 
 #[test]
-fn random_calls_give_what_a_plain_list_holds(rt: HostRuntime) -> Result<(), Fail> {
-    let mut disk = new_disk(rt.alloc(), SECTORS)?;
+fn random_calls_give_what_a_plain_list_holds(rt: HostRuntime) {
+    let mut disk = new_disk(&rt, rt.alloc(), SECTORS);
     let mut model = counted_bytes();
     let mut seed = 7;
     for _ in 0..2000 {
         play(&rt, &mut disk, &mut model, &mut seed);
     }
-    Ok(())
 }

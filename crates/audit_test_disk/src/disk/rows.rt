@@ -4,9 +4,8 @@ ghost use Rattle.audit_disk.specs.OsFile.{unknown_file};
 
 use super::{Step, expect};
 use audit_disk::{DeviceFault, FileDisk, SECTOR_SIZE, SectorFile, counted};
-use std::alloc::{AllocError, Global};
+use std::alloc::Global;
 use std::process::Abort;
-use std::test::Fail;
 
 /// A file of zero bytes that counts its writes. Rows fail if `refuses_rows` is set, and so does a write of one sector
 /// at the offset `bad`.
@@ -50,7 +49,7 @@ impl SectorFile for Tally {
     }
 }
 
-fn new_disk(alloc: Global, refuses_rows: bool, bad: u64) -> Result<FileDisk<Tally>, AllocError> {
+fn new_disk(rt: &impl Abort, alloc: Global, refuses_rows: bool, bad: u64) -> FileDisk<Tally> {
     let file = Tally {
         refuses_rows,
         bad,
@@ -59,7 +58,7 @@ fn new_disk(alloc: Global, refuses_rows: bool, bad: u64) -> Result<FileDisk<Tall
         alone: 0,
         failures: 0,
     };
-    FileDisk::over(alloc, file, 400)
+    FileDisk::over(alloc, file, 400).expect(rt, "a device")
 }
 
 /// Expects these numbers of rows, of sectors in the longest one, and of writes of one sector.
@@ -80,8 +79,8 @@ fn put_all(rt: &impl Abort, disk: &mut FileDisk<Tally>, first: u64, count: u64) 
 
 // A store's batch of 64 sectors: the entries, and each header by itself.
 #[test]
-fn a_batch_is_a_row_and_two_headers(rt: HostRuntime) -> Result<(), Fail> {
-    let mut disk = new_disk(rt.alloc(), false, u64::MAX)?;
+fn a_batch_is_a_row_and_two_headers(rt: HostRuntime) {
+    let mut disk = new_disk(&rt, rt.alloc(), false, u64::MAX);
     put_all(&rt, &mut disk, 2, 64);
     let rest = [
         Step::Syncs,
@@ -93,23 +92,21 @@ fn a_batch_is_a_row_and_two_headers(rt: HostRuntime) -> Result<(), Fail> {
     ];
     expect(&rt, &mut disk, &rest);
     expect_writes(&rt, disk, 1, 64, 2);
-    Ok(())
 }
 
 // The 129th sector finds the row full.
 #[test]
-fn a_row_has_at_most_128_sectors(rt: HostRuntime) -> Result<(), Fail> {
-    let mut disk = new_disk(rt.alloc(), false, u64::MAX)?;
+fn a_row_has_at_most_128_sectors(rt: HostRuntime) {
+    let mut disk = new_disk(&rt, rt.alloc(), false, u64::MAX);
     put_all(&rt, &mut disk, 2, 130);
     expect(&rt, &mut disk, &[Step::Syncs]);
     expect_writes(&rt, disk, 2, 128, 0);
-    Ok(())
 }
 
 // Sectors 5 and 6 go before 9, those before 4, and that one before the sync. A write that nothing followed is lost.
 #[test]
-fn a_write_elsewhere_hands_the_row_over(rt: HostRuntime) -> Result<(), Fail> {
-    let mut disk = new_disk(rt.alloc(), false, u64::MAX)?;
+fn a_write_elsewhere_hands_the_row_over(rt: HostRuntime) {
+    let mut disk = new_disk(&rt, rt.alloc(), false, u64::MAX);
     let writes = [
         Step::Put(5, b'a'),
         Step::Put(6, b'b'),
@@ -122,13 +119,12 @@ fn a_write_elsewhere_hands_the_row_over(rt: HostRuntime) -> Result<(), Fail> {
     ];
     expect(&rt, &mut disk, &writes);
     expect_writes(&rt, disk, 3, 3, 0);
-    Ok(())
 }
 
 #[test]
-fn a_read_hands_over_a_row_that_has_its_sector(rt: HostRuntime) -> Result<(), Fail> {
+fn a_read_hands_over_a_row_that_has_its_sector(rt: HostRuntime) {
     for (at, rows) in [(4, 0), (5, 1), (6, 1), (7, 0)] {
-        let mut disk = new_disk(rt.alloc(), false, u64::MAX)?;
+        let mut disk = new_disk(&rt, rt.alloc(), false, u64::MAX);
         expect(
             &rt,
             &mut disk,
@@ -136,13 +132,12 @@ fn a_read_hands_over_a_row_that_has_its_sector(rt: HostRuntime) -> Result<(), Fa
         );
         expect_writes(&rt, disk, rows, if rows == 0 { 0 } else { 2 }, 0);
     }
-    Ok(())
 }
 
 // The row of three is refused and written sector by sector; then each write is made by itself.
 #[test]
-fn a_row_that_fails_is_written_sector_by_sector(rt: HostRuntime) -> Result<(), Fail> {
-    let mut disk = new_disk(rt.alloc(), true, 8 * 512)?;
+fn a_row_that_fails_is_written_sector_by_sector(rt: HostRuntime) {
+    let mut disk = new_disk(&rt, rt.alloc(), true, 8 * 512);
     put_all(&rt, &mut disk, 5, 3);
     let rest = [
         Step::Syncs,
@@ -154,14 +149,13 @@ fn a_row_that_fails_is_written_sector_by_sector(rt: HostRuntime) -> Result<(), F
     ];
     expect(&rt, &mut disk, &rest);
     expect_writes(&rt, disk, 1, 3, 6);
-    Ok(())
 }
 
 // Sector 6 can't be written. The call that hands over its row fails, and so does every later one.
 #[test]
-fn a_row_that_fails_sector_by_sector_too_stops_the_device(rt: HostRuntime) -> Result<(), Fail> {
+fn a_row_that_fails_sector_by_sector_too_stops_the_device(rt: HostRuntime) {
     for last in [Step::SyncFails, Step::PutFails(9, b'x'), Step::FindFails(6)] {
-        let mut disk = new_disk(rt.alloc(), true, 6 * 512)?;
+        let mut disk = new_disk(&rt, rt.alloc(), true, 6 * 512);
         put_all(&rt, &mut disk, 5, 3);
         let rest = [
             last,
@@ -172,5 +166,4 @@ fn a_row_that_fails_sector_by_sector_too_stops_the_device(rt: HostRuntime) -> Re
         expect(&rt, &mut disk, &rest);
         expect_writes(&rt, disk, 1, 3, 3);
     }
-    Ok(())
 }

@@ -7,16 +7,15 @@ use audit_disk::{
     FileDisk, FileFault, FileIdentity, MemDisk, MemFile, OsFile, PositionedFile, SECTOR_SIZE,
     Sectors,
 };
+use std::alloc::Global;
 use std::fs::{self, File, OpenOptions};
 use std::io::{self, ErrorKind};
 use std::os::unix::fs::PermissionsExt;
 use std::process::Abort;
-use std::test::Fail;
 
-#[test]
-fn a_file_in_memory_is_measured_and_keeps_its_sectors(rt: HostRuntime) -> Result<(), Fail> {
-    let disk = MemDisk::new(rt.alloc(), 3)?;
-    let mut whole = FileDisk::over_whole(rt.alloc(), MemFile { disk })?;
+fn expect_measured(rt: &impl Abort, alloc: Global) {
+    let disk = MemDisk::new(alloc, 3).expect(rt, "a device");
+    let mut whole = FileDisk::over_whole(alloc, MemFile { disk }).expect(rt, "a device");
     let steps = [
         Step::Size(3),
         Step::Put(2, b'y'),
@@ -27,18 +26,26 @@ fn a_file_in_memory_is_measured_and_keeps_its_sectors(rt: HostRuntime) -> Result
         Step::Found(2, b'y'),
         Step::Calls(3),
     ];
-    expect(&rt, &mut whole, &steps);
-    assert!(&rt; whole.size() == 3);
+    expect(rt, &mut whole, &steps);
+    assert!(rt; whole.size() == 3);
     let mut first = whole.with_sectors(2);
     let steps = [Step::Size(2), Step::Found(1, b'x'), Step::Calls(3)];
-    expect(&rt, &mut first, &steps);
-    let disk = MemDisk::new(rt.alloc(), 3)?;
-    let mut front = FileDisk::over_front(rt.alloc(), MemFile { disk }, 2)?;
-    expect(&rt, &mut front, &[Step::Size(2), Step::Put(1, b'x')]);
-    let disk = MemDisk::new(rt.alloc(), 3)?;
+    expect(rt, &mut first, &steps);
+}
+
+fn expect_front(rt: &impl Abort, alloc: Global) {
+    let disk = MemDisk::new(alloc, 3).expect(rt, "a device");
+    let mut front = FileDisk::over_front(alloc, MemFile { disk }, 2).expect(rt, "a device");
+    expect(rt, &mut front, &[Step::Size(2), Step::Put(1, b'x')]);
+}
+
+#[test]
+fn a_file_in_memory_is_measured_and_keeps_its_sectors(rt: HostRuntime) {
+    expect_measured(&rt, rt.alloc());
+    expect_front(&rt, rt.alloc());
+    let disk = MemDisk::new(rt.alloc(), 3).expect(&rt, "a device");
     let beyond = FileDisk::over_front(rt.alloc(), MemFile { disk }, 4).err();
     assert_eq!(&rt; beyond, Some(FileFault::TooSmall { sectors: 3 }));
-    Ok(())
 }
 
 /// A file of zero bytes. Writes, syncs, and reads at offset 1024 or later fail.
@@ -74,8 +81,8 @@ impl PositionedFile for Faulty {
 }
 
 #[test]
-fn a_failed_call_of_a_file_is_a_fault_of_its_device(rt: HostRuntime) -> Result<(), Fail> {
-    let mut disk = FileDisk::over_whole(rt.alloc(), Faulty { bytes: 2048 })?;
+fn a_failed_call_of_a_file_is_a_fault_of_its_device(rt: HostRuntime) {
+    let mut disk = FileDisk::over_whole(rt.alloc(), Faulty { bytes: 2048 }).expect(&rt, "a device");
     let steps = [
         Step::Size(4),
         Step::Found(1, 0),
@@ -90,7 +97,6 @@ fn a_failed_call_of_a_file_is_a_fault_of_its_device(rt: HostRuntime) -> Result<(
     expect(&rt, &mut disk, &steps);
     let ragged = FileDisk::over_whole(rt.alloc(), Faulty { bytes: 2049 }).err();
     assert_eq!(&rt; ragged, Some(FileFault::Length));
-    Ok(())
 }
 
 fn fault_of(opened: Result<FileDisk<OsFile<File>>, FileFault>) -> Option<FileFault> {
@@ -99,27 +105,30 @@ fn fault_of(opened: Result<FileDisk<OsFile<File>>, FileFault>) -> Option<FileFau
 
 // The result of another open of the file while one is held.
 #[test]
-fn one_device_at_a_time_may_write_a_file(rt: HostRuntime) -> Result<(), Fail> {
-    let path = fresh_path(&rt, "audit_disk_lock")?;
+fn one_device_at_a_time_may_write_a_file(rt: HostRuntime) {
+    let path = fresh_path(&rt, &rt, "audit_disk_lock");
     let path = path.as_str();
-    let made = FileDisk::create(&rt, rt.alloc(), path, 2)?;
-    expect_shut_out(&rt, &rt, path, Some(FileFault::InUse));
-    drop(made);
-    let opened = FileDisk::open(&rt, rt.alloc(), path)?;
-    expect_shut_out(&rt, &rt, path, Some(FileFault::InUse));
-    drop(opened);
-    let placed = FileDisk::open_in_place(&rt, rt.alloc(), path, 1)?;
-    expect_shut_out(&rt, &rt, path, Some(FileFault::InUse));
-    drop(placed);
-    let reading = FileDisk::open_read_only(&rt, rt.alloc(), path)?;
-    expect_shut_out(&rt, &rt, path, None);
-    drop(reading);
+    let in_use = Some(FileFault::InUse);
+    let made = FileDisk::create(&rt, rt.alloc(), path, 2).expect(&rt, "a new device");
+    expect_shut_out(&rt, &rt, made, path, in_use);
+    let opened = FileDisk::open(&rt, rt.alloc(), path).expect(&rt, "a device");
+    expect_shut_out(&rt, &rt, opened, path, in_use);
+    let placed = FileDisk::open_in_place(&rt, rt.alloc(), path, 1).expect(&rt, "a device");
+    expect_shut_out(&rt, &rt, placed, path, in_use);
+    let reading = FileDisk::open_read_only(&rt, rt.alloc(), path).expect(&rt, "a device");
+    expect_shut_out(&rt, &rt, reading, path, None);
     assert_eq!(&rt; fault_of(FileDisk::open(&rt, rt.alloc(), path)), None);
-    fs::remove_file(&rt, path)?;
-    Ok(())
+    fs::remove_file(&rt, path).expect(&rt, "a removal");
 }
 
-fn expect_shut_out(rt: &HostRuntime, judge: &impl Abort, path: &str, reader: Option<FileFault>) {
+/// Opens the file while this device holds it, and drops the device.
+fn expect_shut_out(
+    rt: &HostRuntime,
+    judge: &impl Abort,
+    holder: FileDisk<OsFile<File>>,
+    path: &str,
+    reader: Option<FileFault>,
+) {
     let in_use = Some(FileFault::InUse);
     assert_eq!(judge; fault_of(FileDisk::open(rt, rt.alloc(), path)), in_use);
     assert_eq!(judge;
@@ -130,62 +139,83 @@ fn expect_shut_out(rt: &HostRuntime, judge: &impl Abort, path: &str, reader: Opt
         fault_of(FileDisk::open_read_only(rt, rt.alloc(), path)),
         reader
     );
+    drop(holder);
 }
 
 #[test]
-fn a_new_file_has_its_mode(rt: HostRuntime) -> Result<(), Fail> {
-    let path = fresh_path(&rt, "audit_disk_mode")?;
+fn a_new_file_has_its_mode(rt: HostRuntime) {
+    let path = fresh_path(&rt, &rt, "audit_disk_mode");
     let path = path.as_str();
     for mode in [0o600, 0o640, 0o666] {
-        drop(FileDisk::create_with_mode(&rt, rt.alloc(), path, 1, mode)?);
-        assert_eq!(&rt;
-            fs::metadata(&rt, path)?.permissions().mode() % 0o1000,
-            mode
-        );
-        fs::remove_file(&rt, path)?;
+        expect_mode(&rt, &rt, path, mode);
     }
-    let disk = FileDisk::create(&rt, rt.alloc(), path, 1)?;
-    let metadata = fs::metadata(&rt, path)?;
-    assert_eq!(&rt; metadata.permissions().mode() % 0o1000, 0o600);
-    assert_eq!(&rt; disk.identity()?, FileIdentity::of(&metadata));
-    assert!(&rt; disk.identity()? != FileIdentity::of(&fs::metadata(&rt, "/")?));
-    fs::remove_file(&rt, path)?;
-    Ok(())
+    expect_identity(&rt, &rt, path);
+    fs::remove_file(&rt, path).expect(&rt, "a removal");
+}
+
+/// Makes a file with the usual mode.
+fn expect_identity(rt: &HostRuntime, judge: &impl Abort, path: &str) {
+    let disk = FileDisk::create(rt, rt.alloc(), path, 1).expect(judge, "a new device");
+    assert_eq!(judge; mode_of(rt, judge, path), 0o600);
+    let identity = disk.identity().expect(judge, "its identity");
+    assert_eq!(judge; identity, identity_of(rt, judge, path));
+    assert!(judge; identity != identity_of(rt, judge, "/"));
+}
+
+fn mode_of(rt: &HostRuntime, judge: &impl Abort, path: &str) -> u32 {
+    let metadata = fs::metadata(rt, path).expect(judge, "its metadata");
+    metadata.permissions().mode() % 0o1000
+}
+
+fn identity_of(rt: &HostRuntime, judge: &impl Abort, path: &str) -> FileIdentity {
+    FileIdentity::of(&fs::metadata(rt, path).expect(judge, "its metadata"))
+}
+
+/// Makes a file with this mode, and removes it.
+fn expect_mode(rt: &HostRuntime, judge: &impl Abort, path: &str, mode: u32) {
+    let disk = FileDisk::create_with_mode(rt, rt.alloc(), path, 1, mode);
+    drop(disk.expect(judge, "a new device"));
+    assert_eq!(judge; mode_of(rt, judge, path), mode);
+    fs::remove_file(rt, path).expect(judge, "a removal");
 }
 
 #[test]
-fn a_file_is_opened_in_place_and_only_to_be_read(rt: HostRuntime) -> Result<(), Fail> {
-    let path = fresh_path(&rt, "audit_disk_place")?;
+fn a_file_is_opened_in_place_and_only_to_be_read(rt: HostRuntime) {
+    let path = fresh_path(&rt, &rt, "audit_disk_place");
     let path = path.as_str();
-    drop(FileDisk::create(&rt, rt.alloc(), path, 3)?);
-    set_len(&rt, path, 1700)?;
-    let beyond = FileDisk::open_in_place(&rt, rt.alloc(), path, 4);
-    assert_eq!(&rt; fault_of(beyond), Some(FileFault::TooSmall { sectors: 3 }));
-    let mut placed = FileDisk::open_in_place(&rt, rt.alloc(), path, 2)?;
-    expect(
-        &rt,
-        &mut placed,
-        &[Step::Size(2), Step::Put(1, b'x'), Step::Syncs],
-    );
-    drop(placed);
-    assert_eq!(&rt; fs::metadata(&rt, path)?.len(), 1700);
-    set_len(&rt, path, 1536)?;
-    let mut reading = FileDisk::open_read_only(&rt, rt.alloc(), path)?;
+    drop(FileDisk::create(&rt, rt.alloc(), path, 3).expect(&rt, "a new device"));
+    set_len(&rt, &rt, path, 1700);
+    expect_placed(&rt, &rt, path);
+    let metadata = fs::metadata(&rt, path).expect(&rt, "its metadata");
+    assert_eq!(&rt; metadata.len(), 1700);
+    set_len(&rt, &rt, path, 1536);
+    expect_only_read(&rt, &rt, path);
+    expect_unreadable(&rt, &rt, path);
+    expect_unreadable(&rt, &rt, "/");
+}
+
+fn expect_placed(rt: &HostRuntime, judge: &impl Abort, path: &str) {
+    let beyond = FileDisk::open_in_place(rt, rt.alloc(), path, 4);
+    assert_eq!(judge; fault_of(beyond), Some(FileFault::TooSmall { sectors: 3 }));
+    let mut placed = FileDisk::open_in_place(rt, rt.alloc(), path, 2).expect(judge, "a device");
+    let steps = [Step::Size(2), Step::Put(1, b'x'), Step::Syncs];
+    expect(judge, &mut placed, &steps);
+}
+
+/// The file is removed while the device is there.
+fn expect_only_read(rt: &HostRuntime, judge: &impl Abort, path: &str) {
+    let mut reading = FileDisk::open_read_only(rt, rt.alloc(), path).expect(judge, "a device");
     let steps = [
         Step::Size(3),
         Step::Found(1, b'x'),
         Step::PutFails(1, b'y'),
         Step::Found(1, b'x'),
     ];
-    expect(&rt, &mut reading, &steps);
-    fs::remove_file(&rt, path)?;
-    assert_eq!(&rt;
-        fault_of(FileDisk::open_read_only(&rt, rt.alloc(), path)),
-        Some(FileFault::Io)
-    );
-    assert_eq!(&rt;
-        fault_of(FileDisk::open_read_only(&rt, rt.alloc(), "/")),
-        Some(FileFault::Io)
-    );
-    Ok(())
+    expect(judge, &mut reading, &steps);
+    fs::remove_file(rt, path).expect(judge, "a removal");
+}
+
+fn expect_unreadable(rt: &HostRuntime, judge: &impl Abort, path: &str) {
+    let opened = FileDisk::open_read_only(rt, rt.alloc(), path);
+    assert_eq!(judge; fault_of(opened), Some(FileFault::Io));
 }

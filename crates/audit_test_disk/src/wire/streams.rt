@@ -3,8 +3,8 @@
 ghost use Rattle.std.specs.Prelude.{◌<◌};
 
 use audit_wire::{Decoder, Fed, RequestView, read_request};
-use std::alloc::{AllocError, Global};
-use std::test::Fail;
+use std::alloc::Global;
+use std::process::Abort;
 
 /// The digest of all readings, which a model of the formats in another language computes for the same streams.
 const EXPECTED: u64 = 0xb323_b236_ca1e_5348;
@@ -96,58 +96,62 @@ impl Reading {
     }
 }
 
-fn put_random(stream: &mut Vec<u8>, dice: &mut Dice, count: u64) -> Result<(), AllocError> {
+fn put_random(rt: &impl Abort, stream: &mut Vec<u8>, dice: &mut Dice, count: u64) {
     for _ in 0..count {
-        stream.push(dice.byte())?;
+        stream.push(dice.byte()).expect(rt, "memory");
     }
-    Ok(())
 }
 
 /// A frame with this first byte, followed by random bytes.
-fn put_query(stream: &mut Vec<u8>, dice: &mut Dice, kind: u8, size: u8) -> Result<(), AllocError> {
-    stream.extend_from_slice(&[0, size, kind])?;
-    put_random(stream, dice, (size as u64).saturating_sub(1))
+fn put_query(rt: &impl Abort, stream: &mut Vec<u8>, dice: &mut Dice, kind: u8, size: u8) {
+    stream
+        .extend_from_slice(&[0, size, kind])
+        .expect(rt, "memory");
+    put_random(rt, stream, dice, (size as u64).saturating_sub(1));
 }
 
-fn put_append(stream: &mut Vec<u8>, dice: &mut Dice) -> Result<(), AllocError> {
+fn put_append(rt: &impl Abort, stream: &mut Vec<u8>, dice: &mut Dice) {
     let size = dice.below(24);
-    stream.extend_from_slice(&[0, 9 + size as u8, 1])?;
-    put_random(stream, dice, 4)?;
+    stream
+        .extend_from_slice(&[0, 9 + size as u8, 1])
+        .expect(rt, "memory");
+    put_random(rt, stream, dice, 4);
     if dice.below(16) == 0 {
-        stream.extend_from_slice(&[0xff; 4])?;
+        stream.extend_from_slice(&[0xff; 4]).expect(rt, "memory");
     } else {
-        put_random(stream, dice, 4)?;
+        put_random(rt, stream, dice, 4);
     }
-    put_random(stream, dice, size)
+    put_random(rt, stream, dice, size);
 }
 
 /// A frame that is hardly ever a request.
-fn put_junk(stream: &mut Vec<u8>, dice: &mut Dice) -> Result<(), AllocError> {
+fn put_junk(rt: &impl Abort, stream: &mut Vec<u8>, dice: &mut Dice) {
     let size = dice.below(24);
-    stream.extend_from_slice(&[0, size as u8])?;
+    stream
+        .extend_from_slice(&[0, size as u8])
+        .expect(rt, "memory");
     for _ in 0..size {
-        stream.push(dice.below(8) as u8)?;
+        stream.push(dice.below(8) as u8).expect(rt, "memory");
     }
-    Ok(())
 }
 
-fn put_frame(stream: &mut Vec<u8>, dice: &mut Dice) -> Result<(), AllocError> {
+fn put_frame(rt: &impl Abort, stream: &mut Vec<u8>, dice: &mut Dice) {
     match dice.below(9) {
-        0..=2 => put_append(stream, dice),
-        3 => put_query(stream, dice, 2, 5),
-        4 => put_query(stream, dice, 3, 21),
-        5 => put_query(stream, dice, 4, 21),
-        6 => put_query(stream, dice, 5, 13),
-        7 => put_query(stream, dice, 6, 5),
-        _ => put_junk(stream, dice),
+        0..=2 => put_append(rt, stream, dice),
+        3 => put_query(rt, stream, dice, 2, 5),
+        4 => put_query(rt, stream, dice, 3, 21),
+        5 => put_query(rt, stream, dice, 4, 21),
+        6 => put_query(rt, stream, dice, 5, 13),
+        7 => put_query(rt, stream, dice, 6, 5),
+        _ => put_junk(rt, stream, dice),
     }
 }
 
 /// One to six frames. Every fourth stream has one byte changed, and every third is truncated.
-fn stream_of(alloc: Global, dice: &mut Dice) -> Result<Vec<u8>, AllocError> {
+fn stream_of(rt: &impl Abort, alloc: Global, dice: &mut Dice) -> Vec<u8> {
     let mut stream = Vec::new(alloc);
     for _ in 0..dice.below(6) + 1 {
-        put_frame(&mut stream, dice)?;
+        put_frame(rt, &mut stream, dice);
     }
     if dice.below(4) == 0 && !stream.is_empty() {
         let at = dice.below(stream.len() as u64) as usize;
@@ -157,7 +161,7 @@ fn stream_of(alloc: Global, dice: &mut Dice) -> Result<Vec<u8>, AllocError> {
         let size = dice.below(stream.len() as u64 + 1) as usize;
         stream.truncate(size);
     }
-    Ok(stream)
+    stream
 }
 
 /// Feeds a piece, again and again, until nothing of it is left.
@@ -182,8 +186,8 @@ fn hear(decoder: &mut Decoder, piece: &[u8], reading: &mut Reading) {
 }
 
 /// A decoder's reading of a stream in pieces of up to nine bytes.
-fn decoded(alloc: Global, stream: &[u8], dice: &mut Dice) -> Result<Reading, AllocError> {
-    let mut decoder = Decoder::new(alloc)?;
+fn decoded(rt: &impl Abort, alloc: Global, stream: &[u8], dice: &mut Dice) -> Reading {
+    let mut decoder = Decoder::new(alloc).expect(rt, "memory");
     let mut reading = Reading::NOTHING;
     let mut rest = stream;
     while !rest.is_empty() {
@@ -193,7 +197,7 @@ fn decoded(alloc: Global, stream: &[u8], dice: &mut Dice) -> Result<Reading, All
         rest = after;
     }
     reading.begun = !reading.malformed && decoder.pending();
-    Ok(reading)
+    reading
 }
 
 /// The number in the first `size` bytes, and the bytes after it.
@@ -270,20 +274,25 @@ fn plain(stream: &[u8]) -> Reading {
     reading
 }
 
+/// The reading of the stream of this number, which the decoder and the plain reader share.
+fn read_both_ways(rt: &impl Abort, alloc: Global, number: u64) -> Reading {
+    let mut dice = Dice {
+        state: number.wrapping_mul(0x9E37_79B9_7F4A_7C15).wrapping_add(1),
+    };
+    let stream = stream_of(rt, alloc, &mut dice);
+    let reading = decoded(rt, alloc, &stream, &mut dice);
+    assert_eq!(rt; reading, plain(&stream), "stream {number}");
+    reading
+}
+
 #[test]
-fn ten_thousand_streams_in_any_cuts(rt: HostRuntime) -> Result<(), Fail> {
+fn ten_thousand_streams_in_any_cuts(rt: HostRuntime) {
     let mut total = Reading::NOTHING;
     for i in 0..STREAMS {
-        let mut dice = Dice {
-            state: i.wrapping_mul(0x9E37_79B9_7F4A_7C15).wrapping_add(1),
-        };
-        let stream = stream_of(rt.alloc(), &mut dice)?;
-        let reading = decoded(rt.alloc(), &stream, &mut dice)?;
-        assert_eq!(rt; reading, plain(&stream), "stream {i}");
+        let reading = read_both_ways(&rt, rt.alloc(), i);
         total.add(reading.digest);
         total.add(reading.malformed as u64);
         total.add(reading.begun as u64);
     }
     assert_eq!(rt; total.digest, EXPECTED);
-    Ok(())
 }
