@@ -1,5 +1,5 @@
 use audit_base::*;
-use std::test::Fail;
+use std::process::Abort;
 
 #[test]
 fn digests_that_differ_in_one_bit_are_not_the_same(rt: HostRuntime) {
@@ -20,15 +20,19 @@ fn numbers_have_their_highest_byte_first(rt: HostRuntime) {
 }
 
 #[test]
-fn digests_are_read_one_after_the_other(rt: HostRuntime) -> Result<(), Fail> {
+fn digests_are_read_one_after_the_other(rt: HostRuntime) {
     let bytes: [u8; MAX_INCREMENT_HASHES * HASH_LEN] = std::array::from_fn(|i| (i
         / HASH_LEN) as u8);
     for number in 0..=MAX_INCREMENT_HASHES {
-        let hashes = read_hashes(rt.alloc(), &bytes, number)?;
-        assert_eq!(rt; hashes.len(), number);
-        for (place, hash) in hashes.iter().enumerate() {
-            assert_eq!(rt; *hash, [place as u8; HASH_LEN]);
-        }
+        let hashes = read_hashes(rt.alloc(), &bytes, number).expect(&rt, "hashes");
+        assert_counted(&rt, &hashes, number);
     }
-    Ok(())
+}
+
+// Asserts that these are `number` hashes, each of bytes of its place.
+fn assert_counted(rt: &impl Abort, hashes: &[Hash], number: usize) {
+    assert_eq!(rt; hashes.len(), number);
+    for (place, hash) in hashes.iter().enumerate() {
+        assert_eq!(rt; *hash, [place as u8; HASH_LEN]);
+    }
 }

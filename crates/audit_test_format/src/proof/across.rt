@@ -2,7 +2,6 @@ ghost use Rattle.std.specs.Prelude.{◌≡◌, ◌∷◌, replicate, slice_index
 
 use super::*;
 use audit_proof::laws::collide_three_with;
-use std::alloc::AllocError;
 
 // A weak hash: the sum of the first bytes of a text's two sides, after its mark.
 #[derive(Drop)]
@@ -45,19 +44,19 @@ struct Versions {
     second: usize,
 }
 
-fn versions_at(tree: &Tree, older: u64, newer: u64, index: u64) -> Result<Versions, TreeError> {
-    Ok(Versions {
+fn versions_at(rt: &impl Abort, tree: &Tree, older: u64, newer: u64, index: u64) -> Versions {
+    Versions {
         older,
         newer,
         index,
-        increment: tree.incremental(older, newer)?.len(),
-        first: tree.membership(index, older)?.len(),
-        second: tree.membership(index, newer)?.len(),
-    })
+        increment: tree.incremental(older, newer).expect(rt, "a path").len(),
+        first: tree.membership(index, older).expect(rt, "a path").len(),
+        second: tree.membership(index, newer).expect(rt, "a path").len(),
+    }
 }
 
 // `count` hashes of zeros, except that the one at `place` cancels what a leaf contributes.
-fn zeros_but(alloc: Global, count: usize, place: usize, leaf: u8) -> Result<Vec<Hash>, AllocError> {
+fn zeros_but(rt: &impl Abort, alloc: Global, count: usize, place: usize, leaf: u8) -> Vec<Hash> {
     let mut hashes = Vec::new(alloc);
     for at in 0..count {
         let byte = if at == place {
@@ -65,9 +64,9 @@ fn zeros_but(alloc: Global, count: usize, place: usize, leaf: u8) -> Result<Vec<
         } else {
             0
         };
-        hashes.push(first_byte(byte))?;
+        hashes.push(first_byte(byte)).expect(rt, "memory");
     }
-    Ok(hashes)
+    hashes
 }
 
 // The sum of a leaf that some hash cancels, or of a leaf like all others.
@@ -78,11 +77,12 @@ fn leaf_at(place: usize, count: usize, sum: u8) -> u8 {
 // The result for two entries in trees whose roots and hashes are all zero. Each entry has a nonzero sum, which is
 // carried up to the hash at its place, if there is one.
 fn found(
+    rt: &impl Abort,
     alloc: Global,
     at: &Versions,
     first_place: usize,
     second_place: usize,
-) -> Result<Collision, CollideFault> {
+) -> Collision {
     let first = leaf_at(first_place, at.first, 1);
     let second = leaf_at(second_place, at.second, 2);
     collide_three_with(
@@ -90,13 +90,14 @@ fn found(
         &Sums,
         &of_zeros(at.older),
         &of_zeros(at.newer),
-        &zeros_but(alloc, at.increment, 0, 0)?,
+        &zeros_but(rt, alloc, at.increment, 0, 0),
         at.index,
         &[first, 1],
-        &zeros_but(alloc, at.first, first_place, first)?,
+        &zeros_but(rt, alloc, at.first, first_place, first),
         &[second, 2],
-        &zeros_but(alloc, at.second, second_place, second)?,
+        &zeros_but(rt, alloc, at.second, second_place, second),
     )
+    .expect(rt, "a collision")
 }
 
 fn have_one_sum(found: &Collision) -> bool {
@@ -104,63 +105,38 @@ fn have_one_sum(found: &Collision) -> bool {
         && Sums.hash(&found.left) == Sums.hash(&found.right)
 }
 
-fn assert_entries_collide_at(
-    rt: &impl Abort,
-    alloc: Global,
-    at: &Versions,
-    first_place: usize,
-) -> Result<(), CollideFault> {
+fn assert_entries_collide_at(rt: &impl Abort, alloc: Global, at: &Versions, first_place: usize) {
     for second_place in 0..=at.second {
-        let collision = found(alloc, at, first_place, second_place)?;
+        let collision = found(rt, alloc, at, first_place, second_place);
         assert!(rt; have_one_sum(&collision), "{first_place} {second_place}");
     }
-    Ok(())
 }
 
-fn assert_all_entries_collide(
-    rt: &impl Abort,
-    alloc: Global,
-    at: &Versions,
-) -> Result<(), CollideFault> {
+fn assert_all_entries_collide(rt: &impl Abort, alloc: Global, at: &Versions) {
     for first_place in 0..=at.first {
-        assert_entries_collide_at(rt, alloc, at, first_place)?;
+        assert_entries_collide_at(rt, alloc, at, first_place);
     }
-    Ok(())
 }
 
-fn assert_versions_collide(
-    rt: &impl Abort,
-    alloc: Global,
-    tree: &Tree,
-    older: u64,
-    newer: u64,
-) -> Result<(), Fail> {
+fn assert_versions_collide(rt: &impl Abort, alloc: Global, tree: &Tree, older: u64, newer: u64) {
     for index in 0..older {
-        let at = versions_at(tree, older, newer, index)?;
-        assert_all_entries_collide(rt, alloc, &at)?;
+        let at = versions_at(rt, tree, older, newer, index);
+        assert_all_entries_collide(rt, alloc, &at);
     }
-    Ok(())
 }
 
-fn assert_older_versions_collide(
-    rt: &impl Abort,
-    alloc: Global,
-    tree: &Tree,
-    newer: u64,
-) -> Result<(), Fail> {
+fn assert_older_versions_collide(rt: &impl Abort, alloc: Global, tree: &Tree, newer: u64) {
     for older in 1..=newer {
-        assert_versions_collide(rt, alloc, tree, older, newer)?;
+        assert_versions_collide(rt, alloc, tree, older, newer);
     }
-    Ok(())
 }
 
 #[test]
-fn entries_under_any_two_versions_collide(rt: HostRuntime) -> Result<(), Fail> {
-    let tree = counted_tree(rt.alloc(), 17)?;
+fn entries_under_any_two_versions_collide(rt: HostRuntime) {
+    let tree = counted_tree(&rt, rt.alloc(), 17);
     for newer in 1..=17 {
-        assert_older_versions_collide(&rt, rt.alloc(), &tree, newer)?;
+        assert_older_versions_collide(&rt, rt.alloc(), &tree, newer);
     }
-    Ok(())
 }
 
 // Entries of the tree without its last leaf: the first, those around its middle and the last, with the numbers of
@@ -173,7 +149,7 @@ const LARGEST: [(u64, usize, usize); 4] = [
 ];
 
 #[test]
-fn entries_under_the_largest_versions_collide(rt: HostRuntime) -> Result<(), Fail> {
+fn entries_under_the_largest_versions_collide(rt: HostRuntime) {
     for (index, first, second) in LARGEST {
         let at = Versions {
             older: FULL - 1,
@@ -183,17 +159,12 @@ fn entries_under_the_largest_versions_collide(rt: HostRuntime) -> Result<(), Fai
             first,
             second,
         };
-        assert_all_entries_collide(&rt, rt.alloc(), &at)?;
+        assert_all_entries_collide(&rt, rt.alloc(), &at);
     }
-    Ok(())
 }
 
 // Whether entries of equal length collide, the first alone in its tree and the second with another.
-fn entries_collide_across(
-    alloc: Global,
-    first: &[u8],
-    second: &[u8],
-) -> Result<bool, CollideFault> {
+fn entries_collide_across(rt: &impl Abort, alloc: Global, first: &[u8], second: &[u8]) -> bool {
     let root = weak_commitment(first.len().saturating_add(1));
     let mut pair = weak_commitment(65);
     pair.count = 2;
@@ -209,32 +180,26 @@ fn entries_collide_across(
         &[],
         second,
         &[[0; 32]],
-    )?;
-    Ok(have_one_value(&found))
+    )
+    .expect(rt, "a collision");
+    have_one_value(&found)
 }
 
-fn assert_entries_collide_across(
-    rt: &impl Abort,
-    alloc: Global,
-    first: &[u8],
-    second: &[u8],
-) -> Result<(), CollideFault> {
+fn assert_entries_collide_across(rt: &impl Abort, alloc: Global, first: &[u8], second: &[u8]) {
     for len in 1..=MAX_ENTRY {
         assert!(rt; len <= first.len() && len <= second.len());
         assert!(rt;
-            entries_collide_across(alloc, &first[..len], &second[..len])?,
+            entries_collide_across(rt, alloc, &first[..len], &second[..len]),
             "of {len}"
         );
     }
-    Ok(())
 }
 
 #[test]
-fn entries_of_each_length_collide_across_versions(rt: HostRuntime) -> Result<(), Fail> {
-    let first = vec![in rt.alloc(); 1; MAX_ENTRY]?;
-    let second = vec![in rt.alloc(); 2; MAX_ENTRY]?;
-    assert_entries_collide_across(&rt, rt.alloc(), &first, &second)?;
-    Ok(())
+fn entries_of_each_length_collide_across_versions(rt: HostRuntime) {
+    let first = vec![in rt.alloc(); 1; MAX_ENTRY].expect(&rt, "memory");
+    let second = vec![in rt.alloc(); 2; MAX_ENTRY].expect(&rt, "memory");
+    assert_entries_collide_across(&rt, rt.alloc(), &first, &second);
 }
 
 // The result of the weak hash for `aa` alone in its tree, and another entry followed by one more.
@@ -260,49 +225,54 @@ fn weakly_across(
 }
 
 #[test]
-fn a_text_before_and_after_growth_collides(rt: HostRuntime) -> Result<(), Fail> {
+fn a_text_before_and_after_growth_collides(rt: HostRuntime) {
     let increment = [first_byte(2), [0; 32]];
-    let found = weakly_across(rt.alloc(), &increment, &[0xbb])?;
+    let found = weakly_across(rt.alloc(), &increment, &[0xbb]).expect(&rt, "a collision");
     assert!(&rt; have_one_value(&found));
-    let shorter = weakly_across(rt.alloc(), &increment[..1], &[0xbb]);
-    assert!(&rt; shorter.err() == Some(CollideFault::NotAccepted));
-    let same = weakly_across(rt.alloc(), &increment, &[0xaa]);
-    assert!(&rt; same.err() == Some(CollideFault::NoDisagreement));
-    Ok(())
+    let shorter = weak_fault(rt.alloc(), &increment[..1], &[0xbb]);
+    assert!(&rt; shorter == Some(CollideFault::NotAccepted));
+    let same = weak_fault(rt.alloc(), &increment, &[0xaa]);
+    assert!(&rt; same == Some(CollideFault::NoDisagreement));
+}
+
+fn weak_fault(alloc: Global, increment: &[Hash], second: &[u8]) -> Option<CollideFault> {
+    weakly_across(alloc, increment, second).err()
 }
 
 // Why real proofs of leaf 1 of three and of five, for these entries, and an incremental proof don't collide.
 fn fault_across(
+    rt: &impl Abort,
     alloc: Global,
     first: &[u8],
     second: &[u8],
     older: u8,
     newer: u8,
-) -> Result<Option<CollideFault>, Fail> {
-    let tree = counted_tree(alloc, 5)?;
-    let three = commitment_to(&counted_tree(alloc, 3)?);
+) -> Option<CollideFault> {
+    let tree = counted_tree(rt, alloc, 5);
+    let three = commitment_to(&counted_tree(rt, alloc, 3));
     let found = collide_three(
         alloc,
         &three,
         &commitment_to(&tree),
-        &tree.incremental(u64::from(older), u64::from(newer))?,
+        &tree
+            .incremental(u64::from(older), u64::from(newer))
+            .expect(rt, "a path"),
         1,
         first,
-        &tree.membership(1, 3)?,
+        &tree.membership(1, 3).expect(rt, "a path"),
         second,
-        &tree.membership(1, 5)?,
+        &tree.membership(1, 5).expect(rt, "a path"),
     );
-    Ok(found.err())
+    found.err()
 }
 
 #[test]
-fn made_proofs_across_versions_do_not_collide(rt: HostRuntime) -> Result<(), Fail> {
+fn made_proofs_across_versions_do_not_collide(rt: HostRuntime) {
     let alloc = rt.alloc();
-    let same = fault_across(alloc, &[1], &[1], 3, 5)?;
+    let same = fault_across(&rt, alloc, &[1], &[1], 3, 5);
     assert!(&rt; same == Some(CollideFault::NoDisagreement));
     for (first, second, older, newer) in [(2, 1, 3, 5), (1, 2, 3, 5), (1, 1, 3, 4), (1, 1, 2, 5)] {
-        let other = fault_across(alloc, &[first], &[second], older, newer)?;
+        let other = fault_across(&rt, alloc, &[first], &[second], older, newer);
         assert!(&rt; other == Some(CollideFault::NotAccepted));
     }
-    Ok(())
 }

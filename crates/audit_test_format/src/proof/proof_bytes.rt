@@ -1,5 +1,4 @@
 use super::*;
-use std::alloc::AllocError;
 
 // The entry of kind 1 and payload `hi` under the zero key, and its proof under count 1.
 const FIRST_ENTRY: &str =
@@ -23,8 +22,8 @@ fn is_no_increment(alloc: Global, bytes: &[u8]) -> bool {
     read_increment(alloc, bytes).err() == Some(ProofError::BadProof)
 }
 
-fn is_hex(alloc: Global, bytes: &[u8], digits: &str) -> Result<bool, AllocError> {
-    Ok(hex::encode(alloc, bytes)?.as_str() == digits)
+fn is_hex(rt: &impl Abort, alloc: Global, bytes: &[u8], digits: &str) -> bool {
+    hex::encode(alloc, bytes).expect(rt, "memory").as_str() == digits
 }
 
 fn is_same_member(one: &MemberProof, other: &MemberProof) -> bool {
@@ -41,137 +40,136 @@ fn is_same_increment(one: &IncrementProof, other: &IncrementProof) -> bool {
 }
 
 // Writes a proof and reads it back.
-fn member_through_bytes(
-    rt: &impl Abort,
-    alloc: Global,
-    proof: &MemberProof,
-) -> Result<Vec<u8>, ProofError> {
+fn member_through_bytes(rt: &impl Abort, alloc: Global, proof: MemberProof) -> Vec<u8> {
     assert!(rt; proof.hashes.len() <= MAX_MEMBER_HASHES && proof.entry.len() <= MAX_ENTRY);
-    let bytes = write_member(alloc, proof)?;
-    assert!(rt; is_same_member(&read_member(alloc, &bytes)?, proof));
-    Ok(bytes)
+    let bytes = write_member(alloc, &proof).expect(rt, "bytes of a proof");
+    assert_member_read(rt, alloc, &bytes, &proof);
+    bytes
 }
 
-fn increment_through_bytes(
-    rt: &impl Abort,
-    alloc: Global,
-    proof: &IncrementProof,
-) -> Result<Vec<u8>, ProofError> {
+fn assert_member_read(rt: &impl Abort, alloc: Global, bytes: &[u8], proof: &MemberProof) {
+    let read = read_member(alloc, bytes).expect(rt, "a proof");
+    assert!(rt; is_same_member(&read, proof));
+}
+
+fn increment_through_bytes(rt: &impl Abort, alloc: Global, proof: IncrementProof) -> Vec<u8> {
     assert!(rt; proof.hashes.len() <= MAX_INCREMENT_HASHES);
-    let bytes = write_increment(alloc, proof)?;
-    assert!(rt; is_same_increment(&read_increment(alloc, &bytes)?, proof));
-    Ok(bytes)
+    let bytes = write_increment(alloc, &proof).expect(rt, "bytes of a proof");
+    assert_increment_read(rt, alloc, &bytes, &proof);
+    bytes
 }
 
-fn first_proof(alloc: Global) -> Result<MemberProof, Fail> {
-    Ok(MemberProof {
+fn assert_increment_read(rt: &impl Abort, alloc: Global, bytes: &[u8], proof: &IncrementProof) {
+    let read = read_increment(alloc, bytes).expect(rt, "a proof");
+    assert!(rt; is_same_increment(&read, proof));
+}
+
+fn first_proof(rt: &impl Abort, alloc: Global) -> MemberProof {
+    MemberProof {
         index: 0,
         count: 1,
         hashes: Vec::new(alloc),
-        entry: hex::decode(alloc, FIRST_ENTRY)?,
-    })
+        entry: hex::decode(alloc, FIRST_ENTRY).expect(rt, "digits"),
+    }
 }
 
 #[test]
-fn the_first_entry_is_proved_in_92_bytes(rt: HostRuntime) -> Result<(), Fail> {
-    let bytes = member_through_bytes(&rt, rt.alloc(), &first_proof(rt.alloc())?)?;
+fn the_first_entry_is_proved_in_92_bytes(rt: HostRuntime) {
+    let bytes = member_through_bytes(&rt, rt.alloc(), first_proof(&rt, rt.alloc()));
     assert!(&rt; bytes.len() == 92);
-    assert!(&rt; is_hex(rt.alloc(), &bytes, FIRST_PROOF)?);
+    assert!(&rt; is_hex(&rt, rt.alloc(), &bytes, FIRST_PROOF));
     assert!(&rt; is_no_member(rt.alloc(), &bytes[..17]));
-    Ok(())
 }
 
 #[test]
-fn the_first_entry_is_accepted(rt: HostRuntime) -> Result<(), Fail> {
+fn the_first_entry_is_accepted(rt: HostRuntime) {
     let one = commitment(
+        &rt,
         1,
         "1adb768b1a8442d111228c6b4ee67325246d75c87ac4a45dce6d4ed7a0cba265",
-    )?;
-    let proof = first_proof(rt.alloc())?;
+    );
+    let proof = first_proof(&rt, rt.alloc());
     assert!(&rt; accepts_member(&one, 0, &proof.entry, &proof.hashes));
-    Ok(())
 }
 
-fn membership_of_three(alloc: Global) -> Result<MemberProof, TreeError> {
-    let entry = Vec::from_slice(alloc, &[1])?;
-    let hashes = counted_tree(alloc, 3)?.membership(1, 3)?;
-    Ok(MemberProof {
+fn membership_of_three(rt: &impl Abort, alloc: Global) -> MemberProof {
+    MemberProof {
         index: 1,
         count: 3,
-        hashes,
-        entry,
-    })
+        hashes: path_of_three(rt, alloc),
+        entry: Vec::from_slice(alloc, &[1]).expect(rt, "memory"),
+    }
 }
 
 #[test]
-fn a_membership_is_written_as_listed(rt: HostRuntime) -> Result<(), Fail> {
-    let bytes = member_through_bytes(&rt, rt.alloc(), &membership_of_three(rt.alloc())?)?;
-    assert!(&rt; is_hex(rt.alloc(), &bytes, MEMBERSHIP)?);
+fn a_membership_is_written_as_listed(rt: HostRuntime) {
+    let bytes = member_through_bytes(&rt, rt.alloc(), membership_of_three(&rt, rt.alloc()));
+    assert!(&rt; is_hex(&rt, rt.alloc(), &bytes, MEMBERSHIP));
     assert!(&rt; is_no_increment(rt.alloc(), &bytes));
-    Ok(())
 }
 
-fn increment_of_five(alloc: Global) -> Result<IncrementProof, TreeError> {
-    Ok(IncrementProof {
+fn increment_of_five(rt: &impl Abort, alloc: Global) -> IncrementProof {
+    IncrementProof {
         older: 3,
         newer: 5,
-        hashes: counted_tree(alloc, 5)?.incremental(3, 5)?,
-    })
+        hashes: counted_tree(rt, alloc, 5)
+            .incremental(3, 5)
+            .expect(rt, "a path"),
+    }
 }
 
 #[test]
-fn an_increment_is_written_as_listed(rt: HostRuntime) -> Result<(), Fail> {
-    let mut bytes = increment_through_bytes(&rt, rt.alloc(), &increment_of_five(rt.alloc())?)?;
-    assert!(&rt; is_hex(rt.alloc(), &bytes, INCREMENT)?);
+fn an_increment_is_written_as_listed(rt: HostRuntime) {
+    let mut bytes = increment_through_bytes(&rt, rt.alloc(), increment_of_five(&rt, rt.alloc()));
+    assert!(&rt; is_hex(&rt, rt.alloc(), &bytes, INCREMENT));
     assert!(&rt; is_no_member(rt.alloc(), &bytes));
-    bytes.push(0)?;
+    bytes.push(0).expect(&rt, "memory");
     assert!(&rt; is_no_increment(rt.alloc(), &bytes));
-    Ok(())
 }
 
-fn longest_membership(alloc: Global) -> Result<MemberProof, Fail> {
-    let hashes = counted_hashes(alloc, 24)?;
-    Ok(MemberProof {
+fn longest_membership(rt: &impl Abort, alloc: Global) -> MemberProof {
+    let hashes = counted_hashes(rt, alloc, 24);
+    MemberProof {
         index: u64::MAX,
         count: 0,
         hashes,
-        entry: vec![in alloc; 7; MAX_ENTRY]?,
-    })
+        entry: vec![in alloc; 7; MAX_ENTRY].expect(rt, "memory"),
+    }
 }
 
 #[test]
-fn the_longest_membership_is_read(rt: HostRuntime) -> Result<(), Fail> {
-    let mut bytes = member_through_bytes(&rt, rt.alloc(), &longest_membership(rt.alloc())?)?;
-    bytes.push(7)?;
+fn the_longest_membership_is_read(rt: HostRuntime) {
+    let mut bytes = member_through_bytes(&rt, rt.alloc(), longest_membership(&rt, rt.alloc()));
+    bytes.push(7).expect(&rt, "memory");
     assert!(&rt; is_no_member(rt.alloc(), &bytes));
     bytes.truncate(900);
     assert!(&rt; 17 < bytes.len());
     bytes[17] = 25;
     assert!(&rt; is_no_member(rt.alloc(), &bytes));
-    Ok(())
+}
+
+fn longest_increment(rt: &impl Abort, alloc: Global) -> IncrementProof {
+    IncrementProof {
+        older: u64::MAX,
+        newer: 0,
+        hashes: counted_hashes(rt, alloc, 25),
+    }
 }
 
 #[test]
-fn the_longest_increment_is_read(rt: HostRuntime) -> Result<(), Fail> {
-    let proof = IncrementProof {
-        older: u64::MAX,
-        newer: 0,
-        hashes: counted_hashes(rt.alloc(), 25)?,
-    };
-    let mut bytes = increment_through_bytes(&rt, rt.alloc(), &proof)?;
-    bytes.extend_from_slice(&[0; 32])?;
+fn the_longest_increment_is_read(rt: HostRuntime) {
+    let mut bytes = increment_through_bytes(&rt, rt.alloc(), longest_increment(&rt, rt.alloc()));
+    bytes.extend_from_slice(&[0; 32]).expect(&rt, "memory");
     assert!(&rt; 17 < bytes.len());
     bytes[17] = 26;
     assert!(&rt; is_no_increment(rt.alloc(), &bytes));
-    Ok(())
 }
 
 #[test]
-fn bytes_of_no_proof_are_refused(rt: HostRuntime) -> Result<(), Fail> {
+fn bytes_of_no_proof_are_refused(rt: HostRuntime) {
     assert!(&rt; is_no_member(rt.alloc(), &[]) && is_no_increment(rt.alloc(), &[]));
-    let mut changed = hex::decode(rt.alloc(), FIRST_PROOF)?;
+    let mut changed = hex::decode(rt.alloc(), FIRST_PROOF).expect(&rt, "digits");
     assert!(&rt; 17 < changed.len());
     changed[17] = 25;
     assert!(&rt; is_no_member(rt.alloc(), &changed));
-    Ok(())
 }

@@ -2,7 +2,8 @@
 //! and by its width in leaves. It shares nothing with the tree.
 
 use sha2::{Digest, Sha256};
-use std::alloc::{AllocError, Global};
+use std::alloc::Global;
+use std::process::Abort;
 
 type Digest32 = [u8; 32];
 
@@ -41,49 +42,51 @@ pub fn root(texts: &[u8]) -> Digest32 {
 
 // Appends the siblings on a leaf's path, from the node of one width up to that of another, over these texts.
 fn add_siblings(
+    rt: &impl Abort,
     hashes: &mut Vec<Digest32>,
     texts: &[u8],
     leaf: usize,
     from: usize,
     width: usize,
-) -> Result<(), AllocError> {
+) {
     if width <= from || width <= 1 {
-        return Ok(());
+        return;
     }
     let half = width / 2;
     if texts.len() <= half {
-        return add_siblings(hashes, texts, leaf, from, half);
+        return add_siblings(rt, hashes, texts, leaf, from, half);
     }
     let (left, right) = texts.split_at(half);
     if leaf < half {
-        add_siblings(hashes, left, leaf, from, half)?;
-        hashes.push(node(right, half))?;
-        return Ok(());
+        add_siblings(rt, hashes, left, leaf, from, half);
+        hashes.push(node(right, half)).expect(rt, "memory");
+        return;
     }
-    add_siblings(hashes, right, leaf - half, from, half)?;
-    hashes.push(node(left, half))?;
-    Ok(())
+    add_siblings(rt, hashes, right, leaf - half, from, half);
+    hashes.push(node(left, half)).expect(rt, "memory");
 }
 
 // The membership proof of a leaf under the count of these texts.
-pub fn membership(alloc: Global, texts: &[u8], leaf: usize) -> Result<Vec<Digest32>, AllocError> {
+pub fn membership(rt: &impl Abort, alloc: Global, texts: &[u8], leaf: usize) -> Vec<Digest32> {
     let mut hashes = Vec::new(alloc);
-    add_siblings(&mut hashes, texts, leaf, 1, width_of(texts.len()))?;
-    Ok(hashes)
+    add_siblings(rt, &mut hashes, texts, leaf, 1, width_of(texts.len()));
+    hashes
 }
 
 // The incremental proof from an older count (at least one) to the count of these texts.
-pub fn increment(alloc: Global, texts: &[u8], older: usize) -> Result<Vec<Digest32>, AllocError> {
+pub fn increment(rt: &impl Abort, alloc: Global, texts: &[u8], older: usize) -> Vec<Digest32> {
     let width = older & older.wrapping_neg();
     let last = older.saturating_sub(width);
+    let first = node(texts.get(last..).unwrap_or(&[]), width);
     let mut hashes = Vec::new(alloc);
-    hashes.push(node(texts.get(last..).unwrap_or(&[]), width))?;
+    hashes.push(first).expect(rt, "memory");
     add_siblings(
+        rt,
         &mut hashes,
         texts,
         older.saturating_sub(1),
         width,
         width_of(texts.len()),
-    )?;
-    Ok(hashes)
+    );
+    hashes
 }

@@ -4,18 +4,17 @@ use audit_cli_store::{Access, Request, ShowForm, Site, run};
 use std::fs::{self, OpenOptions};
 use std::io::{self, ErrorKind};
 use std::path::PathBuf;
-use std::test::Fail;
+use std::process::Abort;
 use std::{env, process};
 
 // The path of a temporary file that doesn't exist.
-fn unused(rt: &HostRuntime, name: &str) -> Result<PathBuf, Fail> {
-    let mut path = env::temp_dir(rt)?;
-    path.push(format!(in rt.alloc();
-        "audit_commands_{name}_{}",
-        process::id(rt.process())
-    )?.as_str())?;
+fn unused(rt: &HostRuntime, judge: &impl Abort, name: &str) -> PathBuf {
+    let mut path = env::temp_dir(rt).expect(judge, "a folder");
+    let number = process::id(rt.process());
+    let file = format!(in rt.alloc(); "audit_commands_{name}_{number}").expect(judge, "memory");
+    path.push(file.as_str()).expect(judge, "memory");
     let _ = fs::remove_file(rt, path.as_str());
-    Ok(path)
+    path
 }
 
 // Whether a command prints this and ends with this status.
@@ -65,68 +64,75 @@ const ACK: &str = "ack 0 3 14f62f94f894a0899217375286c3fc9aff843acaf2f9244791534
 
 const THREE: &[u8] = b"event 1 6869\nevent 7 -\nevent 4294967294 DEadBEef";
 
-#[test]
-fn a_store_in_a_file(rt: HostRuntime) -> Result<(), Fail> {
-    let (file, key, out) = (
-        unused(&rt, "store")?,
-        unused(&rt, "key")?,
-        unused(&rt, "out")?,
-    );
-    fs::write(&rt, key.as_str(), KEY_TEXT)?;
-    fs::write(
-        &rt,
-        out.as_str(),
-        "what stood there before, longer than the proof that comes to stand there: it has 113 bytes, this text more of them, for it goes on and on",
-    )?;
-    let file = file.as_str();
-    assert!(rt;
+const LONGER: &str =
+    "what stood there before, longer than the proof that comes to stand there: it has 113 bytes, this text more of them, for it goes on and on";
+
+// A file is formatted once.
+fn expect_formatted(rt: &HostRuntime, judge: &impl Abort, file: &str, key: &str) {
+    assert!(judge;
         prints(
-            &rt,
-            format(file, "10", key.as_str()),
+            rt,
+            format(file, "10", key),
             b"",
             "formatted 10\n",
             Status::Done
         )
     );
-    assert!(rt;
+    assert!(judge;
         prints(
-            &rt,
-            format(file, "10", key.as_str()),
+            rt,
+            format(file, "10", key),
             b"",
             "audit: file exists\n",
             Status::Refused
         )
     );
-    assert!(rt; prints(&rt, Request::Append { file }, THREE, ACK, Status::Done));
-    for access in [Access::Repair, Access::ReadOnly] {
-        assert!(rt;
-            prints(
-                &rt,
-                Request::Show {
-                    file,
-                    access,
-                    form: ShowForm::State
-                },
-                b"",
-                SHOWN,
-                Status::Done
-            )
-        );
-    }
+}
+
+fn expect_shown(rt: &HostRuntime, judge: &impl Abort, file: &str, access: Access) {
+    let show = Request::Show {
+        file,
+        access,
+        form: ShowForm::State,
+    };
+    assert!(judge; prints(rt, show, b"", SHOWN, Status::Done));
+}
+
+fn expect_proved(rt: &HostRuntime, judge: &impl Abort, file: &str, out: &str) {
     let prove = Request::Prove {
         file,
         kind: "increment",
         first: "1",
         second: "3",
-        out: out.as_str(),
+        out,
         access: Access::Repair,
     };
-    assert!(rt; prints(&rt, prove, b"", "proof 114\n", Status::Done));
-    assert!(rt; fs::metadata(&rt, out.as_str())?.len() == 114);
-    for path in [file, key.as_str(), out.as_str()] {
-        fs::remove_file(&rt, path)?;
+    assert!(judge; prints(rt, prove, b"", "proof 114\n", Status::Done));
+    let metadata = fs::metadata(rt, out).expect(judge, "metadata");
+    assert!(judge; metadata.len() == 114);
+}
+
+// The commands over a store in a file, a key file, and a file for a proof.
+fn expect_commands(rt: &HostRuntime, judge: &impl Abort, file: &str, key: &str, out: &str) {
+    fs::write(rt, key, KEY_TEXT).expect(judge, "a write");
+    fs::write(rt, out, LONGER).expect(judge, "a write");
+    expect_formatted(rt, judge, file, key);
+    assert!(judge; prints(rt, Request::Append { file }, THREE, ACK, Status::Done));
+    for access in [Access::Repair, Access::ReadOnly] {
+        expect_shown(rt, judge, file, access);
     }
-    Ok(())
+    expect_proved(rt, judge, file, out);
+    for path in [file, key, out] {
+        fs::remove_file(rt, path).expect(judge, "a removal");
+    }
+}
+
+#[test]
+fn a_store_in_a_file(rt: HostRuntime) {
+    let file = unused(&rt, &rt, "store");
+    let key = unused(&rt, &rt, "key");
+    let out = unused(&rt, &rt, "out");
+    expect_commands(&rt, &rt, file.as_str(), key.as_str(), out.as_str());
 }
 
 // Words, and the permissions they denote, as POSIX's chmod reads them if the owner reads and writes.
@@ -146,15 +152,14 @@ const MODES: [(&str, Option<u32>); 12] = [
 ];
 
 #[test]
-fn modes_are_three_octal_digits(rt: HostRuntime) -> Result<(), Fail> {
+fn modes_are_three_octal_digits(rt: HostRuntime) {
     for (word, mode) in MODES {
         assert!(rt; mode_asked(word).ok() == mode);
     }
-    Ok(())
 }
 
 #[test]
-fn output_that_is_lost_is_reported_last(rt: HostRuntime) -> Result<(), Fail> {
+fn output_that_is_lost_is_reported_last(rt: HostRuntime) {
     let mut messages = Vec::new(rt.alloc());
     let lost = || Err(io::Error::from(ErrorKind::StorageFull));
     assert!(rt; report_end(Err(CommandError::BadProof), lost(), &mut messages) == Status::Device);
@@ -162,5 +167,4 @@ fn output_that_is_lost_is_reported_last(rt: HostRuntime) -> Result<(), Fail> {
     assert!(rt; report_end(Err(CommandError::File), lost(), &mut messages) == Status::Device);
     let wanted = "audit: 32 BadProof\naudit: file fault\naudit: file fault\naudit: file fault\n";
     assert!(rt; messages.as_slice() == wanted.as_bytes());
-    Ok(())
 }

@@ -1,10 +1,10 @@
 // The expected output was computed by an independent model, which shares no code with the program.
 use audit_cli_base::Status;
 use audit_cli_store::{Request, run};
-use std::alloc::{AllocError, Global};
+use std::alloc::Global;
 use std::io::{self, ErrorKind, Read, Write};
+use std::process::Abort;
 use std::str;
-use std::test::Fail;
 
 // A key line of zeros.
 const KEY_LINE: &str = "key 0000000000000000000000000000000000000000000000000000000000000000\n";
@@ -69,11 +69,10 @@ fn prints_entries(rt: &HostRuntime, text: &[u8]) -> bool {
 }
 
 #[test]
-fn a_log_of_three_events(rt: HostRuntime) -> Result<(), Fail> {
+fn a_log_of_three_events(rt: HostRuntime) {
     let lines = "event 1 6869\nevent 7 -\nevent 4294967294 DEadBEef";
-    let text = format!(in rt.alloc(); "{KEY_LINE}{lines}")?;
+    let text = format!(in rt.alloc(); "{KEY_LINE}{lines}").expect(&rt, "memory");
     assert!(rt; prints_entries(&rt, text.as_bytes()));
-    Ok(())
 }
 
 #[test]
@@ -100,7 +99,7 @@ fn bad_key_lines(rt: HostRuntime) {
 }
 
 #[test]
-fn bad_lines_of_events(rt: HostRuntime) -> Result<(), Fail> {
+fn bad_lines_of_events(rt: HostRuntime) {
     let message = "audit: line 2: bad event line\n";
     for line in [
         b"".as_slice(),
@@ -132,22 +131,28 @@ fn bad_lines_of_events(rt: HostRuntime) -> Result<(), Fail> {
         b"\xff\xfe".as_slice(),
         b"event 1 \xff\xff".as_slice(),
     ] {
-        assert!(rt; refuses_line(&rt, line, message)?);
+        assert!(rt; refuses_line(&rt, &rt, line, message));
     }
-    Ok(())
 }
 
-fn refuses_line(rt: &HostRuntime, line: &[u8], message: &str) -> Result<bool, Fail> {
-    let mut input = Vec::from_slice(rt.alloc(), KEY_LINE.as_bytes())?;
-    input.extend_from_slice(line)?;
-    input.push(b'\n')?;
-    Ok(refuses(rt, &input, message))
+fn refuses_line(rt: &HostRuntime, judge: &impl Abort, line: &[u8], message: &str) -> bool {
+    let input = input_of(judge, rt.alloc(), line);
+    refuses(rt, &input, message)
+}
+
+// The key line, and a line after it.
+fn input_of(rt: &impl Abort, alloc: Global, line: &[u8]) -> Vec<u8> {
+    let mut input = Vec::from_slice(alloc, KEY_LINE.as_bytes()).expect(rt, "memory");
+    input.extend_from_slice(line).expect(rt, "memory");
+    input.push(b'\n').expect(rt, "memory");
+    input
 }
 
 // A line of an event of this kind, with a payload of `digits` zero digits, followed by `rest`.
-fn line_of(alloc: Global, kind: &str, digits: usize, rest: &str) -> Result<String, Fail> {
-    let zeros = vec![in alloc; b'0'; digits]?;
-    Ok(format!(in alloc; "event {kind} {}{rest}", str::from_utf8(&zeros)?)?)
+fn line_of(rt: &impl Abort, alloc: Global, kind: &str, digits: usize, rest: &str) -> String {
+    let zeros = vec![in alloc; b'0'; digits].expect(rt, "memory");
+    let zeros = str::from_utf8(&zeros).expect(rt, "digits");
+    format!(in alloc; "event {kind} {zeros}{rest}").expect(rt, "memory")
 }
 
 // The kind, the digits and the text after them, and the expected message.
@@ -173,12 +178,14 @@ const FAULTS: [(&str, usize, &str, &str); 7] = [
 
 // A bad line takes precedence over the reserved kind, which takes precedence over a payload that is too long.
 #[test]
-fn faults_of_a_line_in_their_order(rt: HostRuntime) -> Result<(), Fail> {
+fn faults_of_a_line_in_their_order(rt: HostRuntime) {
     for (kind, digits, rest, message) in FAULTS {
-        let line = line_of(rt.alloc(), kind, digits, rest)?;
-        assert!(rt; refuses_line(&rt, line.as_bytes(), message)?, "{message}");
+        let line = line_of(&rt, rt.alloc(), kind, digits, rest);
+        assert!(rt;
+            refuses_line(&rt, &rt, line.as_bytes(), message),
+            "{message}"
+        );
     }
-    Ok(())
 }
 
 #[test]
@@ -194,34 +201,33 @@ fn an_input_of_the_limit_and_one_byte_more(rt: HostRuntime) {
 }
 
 // 256 events of zeros with the longest payloads, and one that fills the input up to its limit.
-fn longest_input(alloc: Global) -> Result<Vec<u8>, AllocError> {
-    let mut input = Vec::from_slice(alloc, KEY_LINE.as_bytes())?;
+fn longest_input(rt: &impl Abort, alloc: Global) -> Vec<u8> {
+    let mut input = Vec::from_slice(alloc, KEY_LINE.as_bytes()).expect(rt, "memory");
     for _ in 0..256 {
-        push_event(alloc, &mut input, 65_392)?;
+        push_event(rt, alloc, &mut input, 65_392);
     }
-    push_event(alloc, &mut input, 34_482)?;
-    Ok(input)
+    push_event(rt, alloc, &mut input, 34_482);
+    input
 }
 
 #[test]
-fn a_log_of_the_longest_input(rt: HostRuntime) -> Result<(), Fail> {
-    let input = longest_input(rt.alloc())?;
+fn a_log_of_the_longest_input(rt: HostRuntime) {
+    let input = longest_input(&rt, rt.alloc());
     assert!(rt; input.len() == 16_777_216);
     let found = outcome_of(&rt, &mut input.as_slice());
     assert!(rt; found.status == Status::Done);
     assert!(rt; found.output.ends_with(LAST_COMMIT));
-    Ok(())
 }
 
 const LAST_COMMIT: &[u8] =
     b"\ncommit 257 d8cd69f7c899bfe6ba6f211167b9d893209c8daedc41e0cdfcbc85e2ddf93097\n";
 
 // Appends a line of an event of kind 1 whose payload is zeros, written with `digits` digits.
-fn push_event(alloc: Global, input: &mut Vec<u8>, digits: usize) -> Result<(), AllocError> {
-    input.extend_from_slice(b"event 1 ")?;
-    input.extend_from_slice(&vec![in alloc; b'0'; digits]?)?;
-    input.push(b'\n')?;
-    Ok(())
+fn push_event(rt: &impl Abort, alloc: Global, input: &mut Vec<u8>, digits: usize) {
+    let zeros = vec![in alloc; b'0'; digits].expect(rt, "memory");
+    input.extend_from_slice(b"event 1 ").expect(rt, "memory");
+    input.extend_from_slice(&zeros).expect(rt, "memory");
+    input.push(b'\n').expect(rt, "memory");
 }
 
 // A key line and one event.

@@ -5,46 +5,41 @@ use audit_cli_store::{ShowForm, append_lines, close_log, format_device, proof_by
 use audit_disk::{FailOnce, MemDisk};
 use audit_store::{Store, StoreError};
 use audit_text::{LineError, LinesError};
-use std::alloc::{AllocError, Global};
-use std::test::Fail;
+use std::alloc::Global;
+use std::process::Abort;
 
 // A store without events on a device of `sectors` sectors, with a first key of zeros.
-fn empty_store(alloc: Global, sectors: u64) -> Result<Store<MemDisk>, Fail> {
+fn empty_store(rt: &impl Abort, alloc: Global, sectors: u64) -> Store<MemDisk> {
     let key = Key::from_bytes([0; 32]);
-    match Store::format(alloc, MemDisk::new(alloc, sectors)?, key) {
-        Ok(store) => Ok(store),
-        Err(failed) => Err(failed.error.into()),
+    let disk = MemDisk::new(alloc, sectors).expect(rt, "a device");
+    match Store::format(alloc, disk, key) {
+        Ok(store) => store,
+        Err(failed) => panic!(rt; "a store: {:?}", failed.error),
     }
 }
 
 // For each row a number of lines, each an event of kind 1, and the number of zero digits in their payloads.
 type Rows = [(usize, usize); 3];
 
-fn lines_of(alloc: Global, rows: Rows) -> Result<Vec<u8>, AllocError> {
+fn lines_of(rt: &impl Abort, alloc: Global, rows: Rows) -> Vec<u8> {
     let mut lines = Vec::new(alloc);
     for (count, digits) in rows {
-        push_lines(alloc, &mut lines, count, digits)?;
+        push_lines(rt, alloc, &mut lines, count, digits);
     }
-    Ok(lines)
+    lines
 }
 
-fn push_lines(
-    alloc: Global,
-    lines: &mut Vec<u8>,
-    count: usize,
-    digits: usize,
-) -> Result<(), AllocError> {
+fn push_lines(rt: &impl Abort, alloc: Global, lines: &mut Vec<u8>, count: usize, digits: usize) {
     let payload = if digits == 0 {
-        vec![in alloc; b'-'; 1]?
+        vec![in alloc; b'-'; 1].expect(rt, "memory")
     } else {
-        vec![in alloc; b'0'; digits]?
+        vec![in alloc; b'0'; digits].expect(rt, "memory")
     };
     for _ in 0..count {
-        lines.extend_from_slice(b"event 1 ")?;
-        lines.extend_from_slice(&payload)?;
-        lines.push(b'\n')?;
+        lines.extend_from_slice(b"event 1 ").expect(rt, "memory");
+        lines.extend_from_slice(&payload).expect(rt, "memory");
+        lines.push(b'\n').expect(rt, "memory");
     }
-    Ok(())
 }
 
 // The sectors of a device and the lines, and what is printed for them.
@@ -84,28 +79,33 @@ ack 2 3 26ac92625465d3f5576712c88cfacee43ce807767b5e3d341559a8643817d2d3\n",
 ];
 
 #[test]
-fn lines_are_gathered_into_batches(rt: HostRuntime) -> Result<(), Fail> {
+fn lines_are_gathered_into_batches(rt: HostRuntime) {
     for (sectors, rows, printed) in RUNS {
-        let mut store = empty_store(rt.alloc(), sectors)?;
-        let lines = lines_of(rt.alloc(), rows)?;
-        let mut output = Vec::new(rt.alloc());
-        append_lines(rt.alloc(), &mut store, &mut lines.as_slice(), &mut output)?;
+        let lines = lines_of(&rt, rt.alloc(), rows);
+        let output = output_of(&rt, rt.alloc(), sectors, &lines);
         assert!(rt; output.as_slice() == printed.as_bytes());
     }
-    Ok(())
+}
+
+// What is printed for lines that are appended to a new store.
+fn output_of(rt: &impl Abort, alloc: Global, sectors: u64, lines: &[u8]) -> Vec<u8> {
+    let mut store = empty_store(rt, alloc, sectors);
+    let mut input = lines;
+    let mut output = Vec::new(alloc);
+    append_lines(alloc, &mut store, &mut input, &mut output).expect(rt, "an append");
+    output
 }
 
 // Whatever was appended before the refusal is printed, and is in the store.
 #[test]
-fn a_device_that_gets_full(rt: HostRuntime) -> Result<(), Fail> {
-    let mut store = empty_store(rt.alloc(), 66)?;
-    let lines = lines_of(rt.alloc(), [(65, 0), (0, 0), (0, 0)])?;
+fn a_device_that_gets_full(rt: HostRuntime) {
+    let mut store = empty_store(&rt, rt.alloc(), 66);
+    let lines = lines_of(&rt, rt.alloc(), [(65, 0), (0, 0), (0, 0)]);
     let mut output = Vec::new(rt.alloc());
     let fault = append_lines(rt.alloc(), &mut store, &mut lines.as_slice(), &mut output).err();
     assert!(rt; fault == Some(CommandError::Refused(StoreError::Full)));
-    show(rt.alloc(), &store, ShowForm::State, &mut output)?;
+    show(rt.alloc(), &store, ShowForm::State, &mut output).expect(&rt, "a report");
     assert!(rt; output.as_slice() == FULL);
-    Ok(())
 }
 
 const FULL: &[u8] = b"\
@@ -121,27 +121,25 @@ free 0\n";
 
 // A closed log stays unchanged.
 #[test]
-fn a_log_of_no_event_is_closed(rt: HostRuntime) -> Result<(), Fail> {
-    let mut store = empty_store(rt.alloc(), 3)?;
+fn a_log_of_no_event_is_closed(rt: HostRuntime) {
+    let mut store = empty_store(&rt, rt.alloc(), 3);
     let mut output = Vec::new(rt.alloc());
-    close_log(rt.alloc(), &mut store, &mut output)?;
+    close_log(rt.alloc(), &mut store, &mut output).expect(&rt, "a closing");
     let fault = close_log(rt.alloc(), &mut store, &mut output).err();
     assert!(rt; fault == Some(CommandError::Refused(StoreError::Closed)));
-    show(rt.alloc(), &store, ShowForm::WithFree, &mut output)?;
+    show(rt.alloc(), &store, ShowForm::WithFree, &mut output).expect(&rt, "a report");
     assert!(rt; output.as_slice() == CLOSED);
-    Ok(())
 }
 
 // The last line is bad, so nothing is appended.
 #[test]
-fn all_lines_are_judged_first(rt: HostRuntime) -> Result<(), Fail> {
-    let mut store = empty_store(rt.alloc(), 10)?;
+fn all_lines_are_judged_first(rt: HostRuntime) {
+    let mut store = empty_store(&rt, rt.alloc(), 10);
     let mut input = b"event 1 6869\nevent 1 6\n".as_slice();
     let mut output = Vec::new(rt.alloc());
     let fault = append_lines(rt.alloc(), &mut store, &mut input, &mut output).err();
     assert!(rt; fault == Some(CommandError::Lines(BAD_SECOND_LINE)));
     assert!(rt; output.is_empty() && store.commitment().count == 0);
-    Ok(())
 }
 
 const BAD_SECOND_LINE: LinesError = LinesError::Line {
@@ -151,11 +149,11 @@ const BAD_SECOND_LINE: LinesError = LinesError::Line {
 
 const THREE: &[u8] = b"event 1 6869\nevent 7 -\nevent 4294967294 DEadBEef";
 
-fn store_of_three(alloc: Global) -> Result<Store<MemDisk>, Fail> {
-    let mut store = empty_store(alloc, 10)?;
+fn store_of_three(rt: &impl Abort, alloc: Global) -> Store<MemDisk> {
+    let mut store = empty_store(rt, alloc, 10);
     let mut input = THREE;
-    append_lines(alloc, &mut store, &mut input, &mut Vec::new(alloc))?;
-    Ok(store)
+    append_lines(alloc, &mut store, &mut input, &mut Vec::new(alloc)).expect(rt, "an append");
+    store
 }
 
 // The request, and the proof in hex digits.
@@ -176,13 +174,22 @@ c12d3d40",
 ];
 
 #[test]
-fn proofs_of_a_store(rt: HostRuntime) -> Result<(), Fail> {
-    let mut store = store_of_three(rt.alloc())?;
+fn proofs_of_a_store(rt: HostRuntime) {
+    let mut store = store_of_three(&rt, rt.alloc());
     for (asked, digits) in PROOFS {
-        let proof = proof_bytes(rt.alloc(), &mut store, asked)?;
-        assert!(rt; hex::encode(rt.alloc(), &proof)?.as_str() == digits);
+        let found = proof_digits(&rt, rt.alloc(), &mut store, asked);
+        assert!(rt; found.as_str() == digits);
     }
-    Ok(())
+}
+
+fn proof_digits(
+    rt: &impl Abort,
+    alloc: Global,
+    store: &mut Store<MemDisk>,
+    asked: ProofRequest,
+) -> String {
+    let proof = proof_bytes(alloc, store, asked).expect(rt, "a proof");
+    hex::encode(alloc, &proof).expect(rt, "memory")
 }
 
 const NO_PROOFS: [ProofRequest; 4] = [
@@ -193,42 +200,40 @@ const NO_PROOFS: [ProofRequest; 4] = [
 ];
 
 #[test]
-fn no_proof_beyond_the_store(rt: HostRuntime) -> Result<(), Fail> {
-    let mut store = store_of_three(rt.alloc())?;
+fn no_proof_beyond_the_store(rt: HostRuntime) {
+    let mut store = store_of_three(&rt, rt.alloc());
     for asked in NO_PROOFS {
         let refused = proof_bytes(rt.alloc(), &mut store, asked).err();
         assert!(rt; refused == Some(CommandError::Refused(StoreError::NoSuchVersion)));
     }
-    Ok(())
 }
 
 #[test]
-fn a_device_is_formatted(rt: HostRuntime) -> Result<(), Fail> {
+fn a_device_is_formatted(rt: HostRuntime) {
     let alloc = rt.alloc();
     let mut output = Vec::new(alloc);
     let key = Key::from_bytes([0; 32]);
-    match format_device(alloc, MemDisk::new(alloc, 3)?, key, &mut output) {
-        Ok(formatted) => formatted.line?,
-        Err(failed) => return Err(failed.error.into()),
+    let disk = MemDisk::new(alloc, 3).expect(&rt, "a device");
+    match format_device(alloc, disk, key, &mut output) {
+        Ok(formatted) => formatted.line.expect(&rt, "a line"),
+        Err(failed) => panic!(&rt; "a device: {:?}", failed.error),
     }
     assert!(rt; output.as_slice() == b"formatted 3\n".as_slice());
-    Ok(())
 }
 
 // Each call of the device fails once. Formatting three sectors takes eight calls.
 #[test]
-fn a_device_that_fails(rt: HostRuntime) -> Result<(), Fail> {
+fn a_device_that_fails(rt: HostRuntime) {
     for calls in 0..9 {
-        assert!(rt; format_fails(rt.alloc(), calls)? == (calls < 8));
+        assert!(rt; format_fails(&rt, rt.alloc(), calls) == (calls < 8));
     }
-    Ok(())
 }
 
-fn format_fails(alloc: Global, calls: u64) -> Result<bool, Fail> {
-    let disk = FailOnce::new(MemDisk::new(alloc, 3)?, calls);
+fn format_fails(rt: &impl Abort, alloc: Global, calls: u64) -> bool {
+    let disk = FailOnce::new(MemDisk::new(alloc, 3).expect(rt, "a device"), calls);
     let key = Key::from_bytes([0; 32]);
     match format_device(alloc, disk, key, &mut Vec::new(alloc)) {
-        Ok(_) => Ok(false),
-        Err(failed) => Ok(failed.error == StoreError::Device),
+        Ok(_) => false,
+        Err(failed) => failed.error == StoreError::Device,
     }
 }
