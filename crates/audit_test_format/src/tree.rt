@@ -141,17 +141,11 @@ fn versions_outside_the_tree_have_no_increment(rt: HostRuntime) {
     }
 }
 
-// A tree of the sample's first leaf, with room for the others.
-fn reserved_tree(rt: &impl Abort, alloc: Global) -> Tree {
-    let mut tree = Tree::new(alloc);
-    tree.reserve(3).expect(rt, "memory");
-    tree.push(leaf_hash(b"")).expect(rt, "memory");
-    tree
-}
-
 #[test]
 fn reserved_room_survives_a_push(rt: HostRuntime) {
-    let mut tree = reserved_tree(&rt, rt.alloc());
+    let mut tree = Tree::new(rt.alloc());
+    tree.reserve(3).expect(&rt, "memory");
+    tree.push(leaf_hash(b"")).expect(&rt, "memory");
     assert!(&rt; tree.spare() == 3);
     tree.push_reserved(leaf_hash(&[0x00]));
     tree.push_reserved(leaf_hash(&[0x10]));

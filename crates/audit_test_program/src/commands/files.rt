@@ -64,29 +64,18 @@ const ACK: &str = "ack 0 3 14f62f94f894a0899217375286c3fc9aff843acaf2f9244791534
 
 const THREE: &[u8] = b"event 1 6869\nevent 7 -\nevent 4294967294 DEadBEef";
 
+// What stands in the file of the proof before.
 const LONGER: &str =
     "what stood there before, longer than the proof that comes to stand there: it has 113 bytes, this text more of them, for it goes on and on";
 
 // A file is formatted once.
 fn expect_formatted(rt: &HostRuntime, judge: &impl Abort, file: &str, key: &str) {
-    assert!(judge;
-        prints(
-            rt,
-            format(file, "10", key),
-            b"",
-            "formatted 10\n",
-            Status::Done
-        )
-    );
-    assert!(judge;
-        prints(
-            rt,
-            format(file, "10", key),
-            b"",
-            "audit: file exists\n",
-            Status::Refused
-        )
-    );
+    for (printed, status) in [
+        ("formatted 10\n", Status::Done),
+        ("audit: file exists\n", Status::Refused),
+    ] {
+        assert!(judge; prints(rt, format(file, "10", key), b"", printed, status));
+    }
 }
 
 fn expect_shown(rt: &HostRuntime, judge: &impl Abort, file: &str, access: Access) {
@@ -114,15 +103,20 @@ fn expect_proved(rt: &HostRuntime, judge: &impl Abort, file: &str, out: &str) {
 
 // The commands over a store in a file, a key file, and a file for a proof.
 fn expect_commands(rt: &HostRuntime, judge: &impl Abort, file: &str, key: &str, out: &str) {
-    fs::write(rt, key, KEY_TEXT).expect(judge, "a write");
-    fs::write(rt, out, LONGER).expect(judge, "a write");
     expect_formatted(rt, judge, file, key);
     assert!(judge; prints(rt, Request::Append { file }, THREE, ACK, Status::Done));
     for access in [Access::Repair, Access::ReadOnly] {
         expect_shown(rt, judge, file, access);
     }
     expect_proved(rt, judge, file, out);
-    for path in [file, key, out] {
+}
+
+fn write(rt: &HostRuntime, judge: &impl Abort, path: &str, text: &str) {
+    fs::write(rt, path, text).expect(judge, "a write");
+}
+
+fn remove(rt: &HostRuntime, judge: &impl Abort, paths: [&str; 3]) {
+    for path in paths {
         fs::remove_file(rt, path).expect(judge, "a removal");
     }
 }
@@ -132,7 +126,10 @@ fn a_store_in_a_file(rt: HostRuntime) {
     let file = unused(&rt, &rt, "store");
     let key = unused(&rt, &rt, "key");
     let out = unused(&rt, &rt, "out");
+    write(&rt, &rt, key.as_str(), KEY_TEXT);
+    write(&rt, &rt, out.as_str(), LONGER);
     expect_commands(&rt, &rt, file.as_str(), key.as_str(), out.as_str());
+    remove(&rt, &rt, [file.as_str(), key.as_str(), out.as_str()]);
 }
 
 // Words, and the permissions they denote, as POSIX's chmod reads them if the owner reads and writes.

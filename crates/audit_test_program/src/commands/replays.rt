@@ -181,11 +181,12 @@ const FAULTS: [(&str, usize, &str, &str); 7] = [
 fn faults_of_a_line_in_their_order(rt: HostRuntime) {
     for (kind, digits, rest, message) in FAULTS {
         let line = line_of(&rt, rt.alloc(), kind, digits, rest);
-        assert!(rt;
-            refuses_line(&rt, &rt, line.as_bytes(), message),
-            "{message}"
-        );
+        expect_refused(&rt, &rt, line.as_bytes(), message);
     }
+}
+
+fn expect_refused(rt: &HostRuntime, judge: &impl Abort, line: &[u8], message: &str) {
+    assert!(judge; refuses_line(rt, judge, line, message), "{message}");
 }
 
 #[test]

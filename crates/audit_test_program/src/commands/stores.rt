@@ -102,10 +102,21 @@ fn a_device_that_gets_full(rt: HostRuntime) {
     let mut store = empty_store(&rt, rt.alloc(), 66);
     let lines = lines_of(&rt, rt.alloc(), [(65, 0), (0, 0), (0, 0)]);
     let mut output = Vec::new(rt.alloc());
-    let fault = append_lines(rt.alloc(), &mut store, &mut lines.as_slice(), &mut output).err();
+    let fault = fault_of(rt.alloc(), &mut store, &lines, &mut output);
     assert!(rt; fault == Some(CommandError::Refused(StoreError::Full)));
     show(rt.alloc(), &store, ShowForm::State, &mut output).expect(&rt, "a report");
     assert!(rt; output.as_slice() == FULL);
+}
+
+// Why lines are not all appended to a store.
+fn fault_of(
+    alloc: Global,
+    store: &mut Store<MemDisk>,
+    lines: &[u8],
+    output: &mut Vec<u8>,
+) -> Option<CommandError> {
+    let mut input = lines;
+    append_lines(alloc, store, &mut input, output).err()
 }
 
 const FULL: &[u8] = b"\
@@ -135,9 +146,9 @@ fn a_log_of_no_event_is_closed(rt: HostRuntime) {
 #[test]
 fn all_lines_are_judged_first(rt: HostRuntime) {
     let mut store = empty_store(&rt, rt.alloc(), 10);
-    let mut input = b"event 1 6869\nevent 1 6\n".as_slice();
+    let lines = b"event 1 6869\nevent 1 6\n".as_slice();
     let mut output = Vec::new(rt.alloc());
-    let fault = append_lines(rt.alloc(), &mut store, &mut input, &mut output).err();
+    let fault = fault_of(rt.alloc(), &mut store, lines, &mut output);
     assert!(rt; fault == Some(CommandError::Lines(BAD_SECOND_LINE)));
     assert!(rt; output.is_empty() && store.commitment().count == 0);
 }
@@ -210,15 +221,19 @@ fn no_proof_beyond_the_store(rt: HostRuntime) {
 
 #[test]
 fn a_device_is_formatted(rt: HostRuntime) {
-    let alloc = rt.alloc();
-    let mut output = Vec::new(alloc);
-    let key = Key::from_bytes([0; 32]);
-    let disk = MemDisk::new(alloc, 3).expect(&rt, "a device");
-    match format_device(alloc, disk, key, &mut output) {
-        Ok(formatted) => formatted.line.expect(&rt, "a line"),
-        Err(failed) => panic!(&rt; "a device: {:?}", failed.error),
-    }
+    let disk = MemDisk::new(rt.alloc(), 3).expect(&rt, "a device");
+    let output = formatted_line(&rt, rt.alloc(), disk);
     assert!(rt; output.as_slice() == b"formatted 3\n".as_slice());
+}
+
+// What is printed for a device that is formatted.
+fn formatted_line(rt: &impl Abort, alloc: Global, disk: MemDisk) -> Vec<u8> {
+    let mut output = Vec::new(alloc);
+    match format_device(alloc, disk, Key::from_bytes([0; 32]), &mut output) {
+        Ok(formatted) => formatted.line.expect(rt, "a line"),
+        Err(failed) => panic!(rt; "a store: {:?}", failed.error),
+    }
+    output
 }
 
 // Each call of the device fails once. Formatting three sectors takes eight calls.
