@@ -247,7 +247,7 @@ fn open_door<'a, 'b, F: Net + Clock, M: Write>(
     }
 }
 
-// Takes the orders to stop, which are answered last. A door that failed is a fault.
+// Takes the orders to stop, which are answered last, and prints what clients did. A door that failed is a fault.
 fn close_door<F: Clock, M: Write>(
     door: SocketDoor<'_, F, ClientJournal<'_, M>>,
     orders: &mut Option<StopOrders>,

@@ -170,7 +170,8 @@ fn serve_store<F: Files + Net, D: Sectors + Drop, W: Write>(
     requires { sessions ≤ SESSIONS }
 {
     let bound = SocketFile::bind(rt, alloc, socket, mode)?;
-    let (_, served) = serve_rounds(alloc, store, &bound, rounds, sessions, output);
+    // The store stays locked until the socket's file is removed.
+    let (_store, served) = serve_rounds(alloc, store, &bound, rounds, sessions, output);
     after_removing(served, bound.remove(rt, socket))
 }
 
@@ -214,7 +215,8 @@ fn loop_store<F: Files + Net, D: Sectors + Drop, R: Read, W: Write>(
         return Err(LinesError::Memory.into());
     };
     let bound = SocketFile::bind(rt, alloc, socket, mode)?;
-    let served = loop_bound(rt, alloc, store, &bound, socket, &mut reader, output);
+    // The store stays locked until the socket's file is removed.
+    let (_store, served) = loop_bound(rt, alloc, store, &bound, socket, &mut reader, output);
     after_removing(served, bound.remove(rt, socket))
 }
 
@@ -226,9 +228,11 @@ fn loop_bound<F: Files + Net, D: Sectors + Drop, R: BufRead, W: Write>(
     socket: &str,
     reader: &mut R,
     output: &mut W,
-) -> Result<(), ServingError> {
-    let mut link = connect(rt, bound, socket)?;
-    loop_over(alloc, store, &mut link, reader, output).1
+) -> (Store<D>, Result<(), ServingError>) {
+    match connect(rt, bound, socket) {
+        Ok(mut link) => loop_over(alloc, store, &mut link, reader, output),
+        Err(fault) => (store, Err(fault)),
+    }
 }
 
 // Makes both ends of a connection through the socket. Another client may connect first, so the client's end sends a

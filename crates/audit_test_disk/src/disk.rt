@@ -398,7 +398,7 @@ fn sectors_are_written_in_a_row(rt: HostRuntime) {
     let window = window(&rt, rt.alloc());
     let mut disk = MemDisk::new(rt.alloc(), 4).expect(&rt, "a device");
     assert!(rt; disk.size() == 4 && window.len() == 2);
-    write_sectors(&mut disk, 1, &window).expect(&rt, "writes");
+    write_sectors(&mut disk, 1, &window).expect(&rt, "a write");
     let written = [Step::Found(1, 1), Step::Found(2, 2), Step::Calls(2)];
     expect(&rt, &mut disk, &written);
 }

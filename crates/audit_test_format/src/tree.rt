@@ -263,7 +263,7 @@ fn assert_plain_nodes(rt: &impl Abort, tree: &Tree, texts: &[u8], start: usize) 
     }
 }
 
-// Asserts a node over these first texts: at its place too, if it is full.
+// Asserts a node over the first of these texts: at its place too, if it is full.
 fn assert_plain_node(
     rt: &impl Abort,
     tree: &Tree,

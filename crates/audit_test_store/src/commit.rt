@@ -17,7 +17,7 @@ fn device(rt: &impl Abort, alloc: Global, sectors: u64) -> MemDisk {
 fn formatted<D: Sectors + Drop>(rt: &impl Abort, alloc: Global, disk: D) -> Store<D> {
     match Store::format(alloc, disk, Key::from_bytes([0; 32])) {
         Ok(store) => store,
-        Err(failed) => panic!(rt; "{}", failed.error),
+        Err(failed) => panic!(rt; "a store: {}", failed.error),
     }
 }
 

@@ -12,7 +12,7 @@ fn opened_read_only<'a, S: SectorSource>(
 ) -> Store<ReadOnly<'a, S>> {
     match Store::open_read_only(alloc, source) {
         Ok(store) => store,
-        Err(failed) => panic!(rt; "{}", failed.error),
+        Err(failed) => panic!(rt; "a store: {}", failed.error),
     }
 }
 
@@ -106,8 +106,8 @@ fn a_sector_that_cannot_be_read(rt: HostRuntime) {
     }
 }
 
-// Run with each allocation refused in turn: an opening allocates nothing for the writes that it keeps after its first
-// sync, so it is never refused with a device fault.
+// Run with each allocation refused in turn, as in `memory`: an opening allocates nothing for the writes that it keeps
+// after its first sync, so it is never refused with a device fault.
 #[test]
 fn a_growth_that_is_refused_read_only(rt: HostRuntime) {
     let alloc = rt.alloc();

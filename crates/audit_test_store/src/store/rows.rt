@@ -321,10 +321,7 @@ fn picks_of(rt: &impl Abort, alloc: Global, at: u64, others: bool) -> Vec<u64> {
 #[test]
 fn each_sector_of_a_long_row(rt: HostRuntime) {
     let alloc = rt.alloc();
-    let disk = disk_over(alloc, device(&rt, alloc, 70), FORMATTED + 1, NONE).expect(
-        &rt,
-        "disk over",
-    );
+    let disk = disk_over(alloc, device(&rt, alloc, 70), FORMATTED + 1, NONE).expect(&rt, "a disk");
     let mut store = formatted(&rt, alloc, disk);
     let batch = batch(&rt, alloc, 0, &[0; 64]);
     assert!(rt; store.append(&batch).err() == Some(StoreError::Device));
