@@ -64,9 +64,10 @@ const ACK: &str = "ack 0 3 14f62f94f894a0899217375286c3fc9aff843acaf2f9244791534
 
 const THREE: &[u8] = b"event 1 6869\nevent 7 -\nevent 4294967294 DEadBEef";
 
-// What stands in the file of the proof before.
+// What OUT contains before a proof of 113 bytes replaces it.
 const LONGER: &str =
-    "what stood there before, longer than the proof that comes to stand there: it has 113 bytes, this text more of them, for it goes on and on";
+    "what stood there before, longer than the proof that comes to stand there: it has \
+    113 bytes, this text more of them, for it goes on and on";
 
 // A file is formatted once.
 fn expect_formatted(rt: &HostRuntime, judge: &impl Abort, file: &str, key: &str) {
