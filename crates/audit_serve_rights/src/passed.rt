@@ -1,7 +1,7 @@
 use audit_serve_passes::StreamError;
 
 /// What a read of the inner stream came to.
-#[derive(Clone, Copy, Debug, PartialEq, Eq)]
+#[derive(Clone, Copy)]
 pub(crate) enum Passed {
     /// Nothing was there.
     Nothing,

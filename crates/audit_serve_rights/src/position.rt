@@ -7,7 +7,7 @@ use crate::rights::Rights;
 use audit_wire::LENGTH_BYTES;
 
 /// Where a stream of frames is, up to the bytes that were let through.
-#[derive(Clone, Copy, Debug, PartialEq, Eq)]
+#[derive(Clone, Copy, PartialEq, Eq)]
 pub(crate) enum Position {
     /// At the first byte of a frame.
     Start,
