@@ -12,7 +12,7 @@ use audit_store::StoreError;
 use audit_text::number_in_text;
 
 /// The requested proof.
-#[derive(Clone, Copy, Debug, PartialEq, Eq)]
+#[derive(Clone, Copy)]
 pub enum ProofRequest {
     /// A membership (inclusion) proof: the event of this index is one of the first `count` events.
     Member {

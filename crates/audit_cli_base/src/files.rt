@@ -33,24 +33,21 @@ pub fn open_store<F: Files>(
 where
     F::File: SystemFile,
 {
-    let opened = open_and_repair(rt, alloc, file)?;
+    let opened = repaired(alloc, open_bounded(rt, alloc, file)?)?;
     opened.content.wipe_stack();
     Ok(opened)
 }
 
-// Not inlined, so that the copies of the key that it leaves on the stack are below its caller, which overwrites them.
+// Opens the store on a device. It is generic over the device, like the functions below: a proof about a file's device
+// would release its parts one by one at each way out. It isn't inlined, so that the copies of the key that it leaves on
+// the stack are below its caller, which overwrites them.
 #[inline(never)]
-fn open_and_repair<F: Files>(
-    rt: &F,
+fn repaired<D: Sectors + Drop>(
     alloc: Global,
-    file: &str,
-) -> Result<Opened<FileStore<F::File>>, CommandError>
-where
-    F::File: SystemFile,
-{
-    let disk = open_bounded(rt, alloc, file)?;
-    let identity = disk.identity()?;
-    match Store::open(alloc, disk) {
+    opened: Opened<D>,
+) -> Result<Opened<Store<D>>, CommandError> {
+    let Opened { content, identity } = opened;
+    match Store::open(alloc, content) {
         Ok(store) => Ok(Opened {
             content: store,
             identity,
@@ -69,12 +66,7 @@ pub fn open_device_to_read<F: Files>(
 where
     F::File: SystemFile,
 {
-    let disk = FileDisk::open_read_only(rt, alloc, file)?;
-    let identity = disk.identity()?;
-    Ok(Opened {
-        content: bounded(disk, identity),
-        identity,
-    })
+    identified(FileDisk::open_read_only(rt, alloc, file)?)
 }
 
 /// Opens the store on a device that is only read. Repairs are made only in memory.
@@ -118,11 +110,14 @@ pub fn device_in_place<F: Files>(
 where
     F::File: SystemFile,
 {
-    let mut disk = open_bounded(rt, alloc, file)?;
-    if disk.size() < sectors {
-        return Err(CommandError::TooSmall {
-            sectors: disk.size(),
-        });
+    if_free(open_bounded(rt, alloc, file)?.content, sectors, erase)
+}
+
+// Returns a device if a store may be made on it.
+fn if_free<D: Sectors + Drop>(mut disk: D, sectors: u64, erase: bool) -> Result<D, CommandError> {
+    let size = disk.size();
+    if size < sectors {
+        return Err(CommandError::TooSmall { sectors: size });
     }
     if !erase && holds_store(&mut disk)? {
         return Err(CommandError::FileExists);
@@ -135,13 +130,20 @@ fn open_bounded<F: Files>(
     rt: &F,
     alloc: Global,
     file: &str,
-) -> Result<FileDevice<F::File>, CommandError>
+) -> Result<Opened<FileDevice<F::File>>, CommandError>
 where
     F::File: SystemFile,
 {
-    let disk = FileDisk::open(rt, alloc, file)?;
+    identified(FileDisk::open(rt, alloc, file)?)
+}
+
+// A device with the identity of its file, limited to the sectors that a store can have.
+fn identified<F: SystemFile>(disk: FileDevice<F>) -> Result<Opened<FileDevice<F>>, CommandError> {
     let identity = disk.identity()?;
-    Ok(bounded(disk, identity))
+    Ok(Opened {
+        content: bounded(disk, identity),
+        identity,
+    })
 }
 
 // A block device may have more sectors than a store: the store then uses the first ones. A file has the size that it
