@@ -50,9 +50,8 @@ where
 {
     match access {
         Access::Repair => {
-            let mut opened = open_store(rt, alloc, file)?;
-            let identity = opened.identity;
-            answer(rt, alloc, &mut opened.content, identity, question, output)
+            let opened = open_store(rt, alloc, file)?;
+            answer_opened(rt, alloc, opened, question, output)
         }
         Access::ReadOnly | Access::Salvage => {
             let opened = open_device_to_read(rt, alloc, file)?;
@@ -74,20 +73,46 @@ fn answer_device<F: Files, D: Sectors + Drop, W: Write>(
     let identity = opened.identity;
     let mut source = SharedDisk::new(opened.content);
     match store_to_read(alloc, &source) {
-        Ok(mut store) => answer(rt, alloc, &mut store, identity, question, output),
-        Err(CommandError::Refused(error)) if access == Access::Salvage && is_damage(error) => {
-            answer_damaged(
+        Ok(content) => {
+            let opened = Opened { content, identity };
+            answer_opened(rt, alloc, opened, question, output)
+        }
+        Err(fault) => match damage_of(fault, access) {
+            Some(damage) => answer_damaged(
                 rt,
                 alloc,
                 source.get_mut(),
                 identity,
-                error,
+                damage,
                 question,
                 output,
-            )
-        }
-        Err(fault) => Err(fault),
+            ),
+            None => Err(fault),
+        },
     }
+}
+
+// The damage because of which an opening was refused, if what can still be read is to be written.
+fn damage_of(fault: CommandError, access: Access) -> Option<StoreError> {
+    match access {
+        Access::Repair | Access::ReadOnly => None,
+        Access::Salvage => match fault {
+            CommandError::Refused(error) if is_damage(error) => Some(error),
+            _ => None,
+        },
+    }
+}
+
+// Answers a question about a store, and then closes it.
+fn answer_opened<F: Files, D: Sectors + Drop, W: Write>(
+    rt: &F,
+    alloc: Global,
+    mut opened: Opened<Store<D>>,
+    question: StoreQuestion<'_>,
+    output: &mut W,
+) -> Result<(), CommandError> {
+    let identity = opened.identity;
+    answer(rt, alloc, &mut opened.content, identity, question, output)
 }
 
 fn answer<F: Files, D: Sectors, W: Write>(
@@ -283,8 +308,7 @@ where
 {
     match access {
         Access::Repair => {
-            let mut opened = open_store(rt, alloc, file)?;
-            proof_in(alloc, &mut opened, asked)
+            proof_of_opened(alloc, open_store(rt, alloc, file)?, asked)
         }
         Access::ReadOnly | Access::Salvage => {
             proof_on(alloc, open_device_to_read(rt, alloc, file)?, asked)
@@ -292,13 +316,23 @@ where
     }
 }
 
-fn proof_in<D: Sectors>(
+// The same for a store that is then closed.
+fn proof_of_opened<D: Sectors + Drop>(
     alloc: Global,
-    opened: &mut Opened<Store<D>>,
+    mut opened: Opened<Store<D>>,
     asked: ProofRequest,
 ) -> Result<(Vec<u8>, FileIdentity), CommandError> {
-    let proof = proof_bytes(alloc, &mut opened.content, asked)?;
-    Ok((proof, opened.identity))
+    let identity = opened.identity;
+    proof_in(alloc, &mut opened.content, identity, asked)
+}
+
+fn proof_in<D: Sectors>(
+    alloc: Global,
+    store: &mut Store<D>,
+    identity: FileIdentity,
+    asked: ProofRequest,
+) -> Result<(Vec<u8>, FileIdentity), CommandError> {
+    Ok((proof_bytes(alloc, store, asked)?, identity))
 }
 
 // The same for the store on a device that is only read.
@@ -307,9 +341,12 @@ fn proof_on<D: Sectors + Drop>(
     opened: Opened<D>,
     asked: ProofRequest,
 ) -> Result<(Vec<u8>, FileIdentity), CommandError> {
+    let identity = opened.identity;
     let source = SharedDisk::new(opened.content);
-    let mut store = store_to_read(alloc, &source)?;
-    Ok((proof_bytes(alloc, &mut store, asked)?, opened.identity))
+    match store_to_read(alloc, &source) {
+        Ok(content) => proof_of_opened(alloc, Opened { content, identity }, asked),
+        Err(fault) => Err(fault),
+    }
 }
 
 fn output_bytes<F: Files, W: Write>(

@@ -38,10 +38,25 @@ pub fn check_file<F: Files, W: Write>(
     )
 }
 
-/// Verifies the export in a file. The arguments are checked before the export is opened. A file is read twice, so that
-/// nothing of it has to be kept. Input that can't be read twice, such as a pipe, is read once and kept. Returns how the
-/// export ends.
-pub fn verify_file<F: Files, W: Write>(
+/// Verifies the export in a file as `verify_file` does, and ends the report as `end_report` does.
+pub fn report_file<F: Files, W: Write, M: Write>(
+    rt: &F,
+    alloc: Global,
+    export: &str,
+    key_file: &str,
+    commitment: &str,
+    form: ReportForm,
+    output: &mut W,
+    messages: &mut M,
+) -> Result<(), CommandError> {
+    let end = verify_file(rt, alloc, export, key_file, commitment, form, output)?;
+    end_report(alloc, form, end, output, messages)
+}
+
+// Verifies the export in a file. The arguments are checked before the export is opened. A file is read twice, so that
+// nothing of it has to be kept. Input that can't be read twice, such as a pipe, is read once and kept. Returns how the
+// export ends.
+fn verify_file<F: Files, W: Write>(
     rt: &F,
     alloc: Global,
     export: &str,
@@ -68,8 +83,8 @@ pub fn verify_file<F: Files, W: Write>(
     )?)
 }
 
-/// Ends a report. After one in text the output is flushed, and then the message with its number of events is written.
-pub fn end_report<W: Write, M: Write>(
+// Ends a report. After one in text the output is flushed, and then the message with its number of events is written.
+fn end_report<W: Write, M: Write>(
     alloc: Global,
     form: ReportForm,
     end: VerifiedEnd,

@@ -1,8 +1,10 @@
 //! Making stores in files and on block devices.
 ghost use Rattle.std.specs.Prelude.{◌≡◌, Err};
 ghost use Rattle.audit_cli_base.specs.Arguments.{IsNewFileFault, RefusesWords, sectors_asked};
+ghost use Rattle.audit_cli_store.specs.Requests.{IsFormatFault};
 
 use crate::formatting::format_device;
+use crate::request::Site;
 use audit_chain::Key;
 use audit_cli_base::{
     CommandError, device_in_place, make_device, new_file_asked, read_key, sectors_asked,
@@ -13,9 +15,34 @@ use std::alloc::Global;
 use std::fs::{self, Files};
 use std::io::Write;
 
-/// Formats a new file for a store. The file is made only after all words were checked and the key was read. If it
-/// can't be formatted it is removed again.
-pub fn format_file<F: Files, W: Write>(
+/// Makes a store in a new file, or in an existing file or block device.
+pub fn format_site<F: Files, W: Write>(
+    rt: &F,
+    alloc: Global,
+    file: &str,
+    site: Site<'_>,
+    sectors: &str,
+    key_file: &str,
+    output: &mut W,
+) -> Result<(), CommandError>
+where
+    F::File: SystemFile,
+    ensures { RefusesWords (IsFormatFault site.entry sectors.now) (W.contents output.old) (W.contents output.new)
+        result }
+{
+    match site {
+        Site::NewFile { mode } => {
+            format_file(rt, alloc, file, mode, sectors, key_file, output)
+        }
+        Site::InPlace { erase } => {
+            format_in_place(rt, alloc, file, erase, sectors, key_file, output)
+        }
+    }
+}
+
+// Formats a new file for a store. The file is made only after all words were checked and the key was read. If it
+// can't be formatted it is removed again.
+fn format_file<F: Files, W: Write>(
     rt: &F,
     alloc: Global,
     file: &str,
@@ -35,9 +62,9 @@ where
     format_or_remove(rt, alloc, disk, Some(file), first_key, output)
 }
 
-/// Formats all of an existing file or block device. It must have at least the requested number of sectors, and must
-/// not hold a store unless `erase` is set.
-pub fn format_in_place<F: Files, W: Write>(
+// Formats all of an existing file or block device. It must have at least the requested number of sectors, and must
+// not hold a store unless `erase` is set.
+fn format_in_place<F: Files, W: Write>(
     rt: &F,
     alloc: Global,
     file: &str,

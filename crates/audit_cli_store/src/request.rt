@@ -3,9 +3,9 @@ ghost use Rattle.audit_cli_base.specs.Arguments.{RefusesWords};
 ghost use Rattle.audit_cli_store.specs.Requests.{IsWordFault, IsReplayOf, IsCarriedOut};
 
 use crate::answering::{StoreQuestion, answer_file, prove_file};
-use crate::auditing::{check_file, end_report, verify_file};
+use crate::auditing::{check_file, report_file};
 use crate::changing::{append_to, close_file};
-use crate::making::{format_file, format_in_place};
+use crate::making::format_site;
 use crate::replaying::replay;
 use crate::show_form::ShowForm;
 use audit_cli_base::{CommandError, Status, proof_request, report_end};
@@ -16,7 +16,7 @@ use std::fs::Files;
 use std::io::{Read, Write};
 
 /// How a command that only answers opens the store.
-#[derive(Clone, Copy, Debug, PartialEq, Eq)]
+#[derive(Clone, Copy)]
 pub enum Access {
     /// Like every other command: opening repairs what a crash left unfinished.
     Repair,
@@ -27,7 +27,7 @@ pub enum Access {
 }
 
 /// Where a store is made.
-#[derive(Clone, Copy, Debug, PartialEq, Eq)]
+#[derive(Clone, Copy)]
 pub enum Site<'a> {
     /// In a new file, with these permissions if they are given.
     NewFile {
@@ -42,7 +42,7 @@ pub enum Site<'a> {
 }
 
 /// A request to the program, with the words of the command line as given.
-#[derive(Clone, Copy, Debug)]
+#[derive(Clone, Copy)]
 pub enum Request<'a> {
     /// Seal the events of the input, and write the entries and their commitment.
     Replay,
@@ -160,16 +160,10 @@ where
         Request::Replay => Ok(replay(alloc, input, output)?),
         Request::Format {
             file,
-            site: Site::NewFile { mode },
+            site,
             sectors,
             key_file,
-        } => format_file(rt, alloc, file, mode, sectors, key_file, output),
-        Request::Format {
-            file,
-            site: Site::InPlace { erase },
-            sectors,
-            key_file,
-        } => format_in_place(rt, alloc, file, erase, sectors, key_file, output),
+        } => format_site(rt, alloc, file, site, sectors, key_file, output),
         Request::Append { file } => append_to(rt, alloc, file, input, output),
         Request::Close { file } => close_file(rt, alloc, file, output),
         Request::Show { file, access, form } => {
@@ -203,10 +197,9 @@ where
             key_file,
             commitment,
             form,
-        } => {
-            let end = verify_file(rt, alloc, export, key_file, commitment, form, output)?;
-            end_report(alloc, form, end, output, messages)
-        }
+        } => report_file(
+            rt, alloc, export, key_file, commitment, form, output, messages,
+        ),
         Request::Prove {
             file,
             kind,

@@ -1,5 +1,5 @@
 /// What `show` writes of a store.
-#[derive(Clone, Copy, Debug, PartialEq, Eq)]
+#[derive(Clone, Copy)]
 pub enum ShowForm {
     /// Its commitment, and the state of its log.
     State,

@@ -1,5 +1,5 @@
 //! Showing the state of a store.
-ghost use Rattle.std.specs.Prelude.{◌≡◌, ◌++◌, IfOk, IfErr, OnOk, OnErr};
+ghost use Rattle.std.specs.Prelude.{◌≡◌, ◌++◌, IfErr, OnOk, OnErr};
 ghost use Rattle.std.specs.Io.KnownBytes.{Appends};
 ghost use Rattle.audit_text.specs.Writing.{WritesInPart};
 ghost use Rattle.audit_store.specs.Store.{active_header};
@@ -30,25 +30,24 @@ pub fn show<D: Sectors, W: Write>(
         (printed_state form (active_header store.now))) }
     ensures fault { IfErr result (IsUnwritten (W.contents writer.old) (W.contents writer.new)) }
 {
-    let lines = lines_of(alloc, store, form)?;
+    let mut lines = Vec::new(alloc);
+    put_lines(&mut lines, store, form)?;
     write_whole(writer, &lines)?;
     Ok(())
 }
 
-fn lines_of<D: Sectors>(
-    alloc: Global,
+// Replaces the contents of the buffer with the lines about a store.
+fn put_lines<D: Sectors>(
+    lines: &mut Vec<u8>,
     store: &Store<D>,
     form: ShowForm,
-) -> Result<Vec<u8>, AllocError>
-    ensures { IfOk result (λ lines. lines.items ≡ printed_state form (active_header store.now)) }
+) -> Result<(), AllocError>
+    ensures { OnOk result (lines.new.items ≡ printed_state form (active_header store.now)) }
 {
-    let mut lines = state_lines(alloc, store)?;
+    put_state(lines, store)?;
     match form {
-        ShowForm::State => Ok(lines),
-        ShowForm::WithFree => {
-            push_free(&mut lines, store)?;
-            Ok(lines)
-        }
+        ShowForm::State => Ok(()),
+        ShowForm::WithFree => push_free(lines, store),
     }
 }
 
@@ -61,18 +60,16 @@ fn push_free<D: Sectors>(lines: &mut Vec<u8>, store: &Store<D>) -> Result<(), Al
 }
 
 #[tactic(auto, unfolding(crate::specs::Shown::shown_lines, audit_text::specs::NumberedLine::numbered_line))]
-fn state_lines<D: Sectors>(alloc: Global, store: &Store<D>) -> Result<Vec<u8>, AllocError>
-    ensures { IfOk result (λ lines. lines.items ≡ shown_lines (active_header store.now)) }
+fn put_state<D: Sectors>(lines: &mut Vec<u8>, store: &Store<D>) -> Result<(), AllocError>
+    ensures { OnOk result (lines.new.items ≡ shown_lines (active_header store.now)) }
 {
-    let mut lines = Vec::new(alloc);
     let commitment = store.commitment();
-    put_line(&mut lines, b"commit ", commitment.count, &commitment.root)?;
-    push_number(&mut lines, b"sectors ", store.sectors())?;
-    push_number(&mut lines, b" end ", store.end())?;
-    push_number(&mut lines, b" generation ", store.generation())?;
-    push_number(&mut lines, b" version ", store.version() as u64)?;
+    put_line(lines, b"commit ", commitment.count, &commitment.root)?;
+    push_number(lines, b"sectors ", store.sectors())?;
+    push_number(lines, b" end ", store.end())?;
+    push_number(lines, b" generation ", store.generation())?;
+    push_number(lines, b" version ", store.version() as u64)?;
     lines.extend_from_slice(b" state ")?;
-    push_state(&mut lines, store.closed())?;
-    lines.extend_from_slice(b"\n")?;
-    Ok(lines)
+    push_state(lines, store.closed())?;
+    lines.extend_from_slice(b"\n")
 }

@@ -16,11 +16,8 @@ returns-in-Show-clause-words g c = λ fault asked. absurd (subst (λ request. Is
 pub returns-in-Export-clause-words : goal.returns-in-Export-clause-words
 returns-in-Export-clause-words g c = λ fault asked. absurd (subst (λ request. IsWordFault request fault) c.in-Export.is asked)
 
-pub returns-in_err-end-in-Verify-clause-words : goal.returns-in_err-end-in-Verify-clause-words
-returns-in_err-end-in-Verify-clause-words g c = λ fault asked. absurd (subst (λ request. IsWordFault request fault) c.in-Verify.is asked)
-
-pub returns-in_ok-end-in-Verify-clause-words : goal.returns-in_ok-end-in-Verify-clause-words
-returns-in_ok-end-in-Verify-clause-words g c = λ fault asked. absurd (subst (λ request. IsWordFault request fault) c.in-Verify.is asked)
+pub returns-in-Verify-clause-words : goal.returns-in-Verify-clause-words
+returns-in-Verify-clause-words g c = λ fault asked. absurd (subst (λ request. IsWordFault request fault) c.in-Verify.is asked)
 
 pub returns-in-Check-clause-words : goal.returns-in-Check-clause-words
 returns-in-Check-clause-words g c = λ fault asked. c.check_file.ensures fault (subst (λ request. IsWordFault request fault) c.in-Check.is asked)
@@ -42,11 +39,8 @@ returns-in-Check-clause-replayed g c = rw c.in-Check.is tt
 pub returns-in-Export-clause-replayed : goal.returns-in-Export-clause-replayed
 returns-in-Export-clause-replayed g c = rw c.in-Export.is tt
 
-pub returns-in_err-end-in-Verify-clause-replayed : goal.returns-in_err-end-in-Verify-clause-replayed
-returns-in_err-end-in-Verify-clause-replayed g c = rw c.in-Verify.is tt
-
-pub returns-in_ok-end-in-Verify-clause-replayed : goal.returns-in_ok-end-in-Verify-clause-replayed
-returns-in_ok-end-in-Verify-clause-replayed g c = rw c.in-Verify.is tt
+pub returns-in-Verify-clause-replayed : goal.returns-in-Verify-clause-replayed
+returns-in-Verify-clause-replayed g c = rw c.in-Verify.is tt
 
 pub returns-in-Some-clause-replayed : goal.returns-in-Some-clause-replayed
 returns-in-Some-clause-replayed g c = rw c.in-Prove.is tt
@@ -54,8 +48,5 @@ returns-in-Some-clause-replayed g c = rw c.in-Prove.is tt
 pub returns-in-None-clause-replayed : goal.returns-in-None-clause-replayed
 returns-in-None-clause-replayed g c = rw c.in-Prove.is tt
 
-pub returns-in-Format-default-NewFile-default-default-clause-replayed : goal.returns-in-Format-default-NewFile-default-default-clause-replayed
-returns-in-Format-default-NewFile-default-default-clause-replayed g c = rw c.in-Format-default-NewFile-default-default.is tt
-
-pub returns-in-Format-default-InPlace-default-default-clause-replayed : goal.returns-in-Format-default-InPlace-default-default-clause-replayed
-returns-in-Format-default-InPlace-default-default-clause-replayed g c = rw c.in-Format-default-InPlace-default-default.is tt
+pub returns-in-Format-clause-replayed : goal.returns-in-Format-clause-replayed
+returns-in-Format-clause-replayed g c = rw c.in-Format.is tt
