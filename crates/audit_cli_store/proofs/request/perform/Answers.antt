@@ -1,5 +1,6 @@
-use Rattle.std.proofs.Common.{subst}
-use Rattle.audit_cli_store.specs.Requests.{IsWordFault}
+use Rattle.std.proofs.Common.{Ok, subst, sym}
+use Rattle.std.proofs.lemmas.Result.{err_from_is_err_and}
+use Rattle.audit_cli_store.specs.Requests.{IsWordFault, IsReplayed, IsReplayOf}
 use Rattle.audit_cli_store.proofs.request.perform.Goals as goal
 
 -- Only a format, a check and a proof have words that are checked before a file is opened.
@@ -50,3 +51,28 @@ returns-in-None-clause-replayed g c = rw c.in-Prove.is tt
 
 pub returns-in-Format-clause-replayed : goal.returns-in-Format-clause-replayed
 returns-in-Format-clause-replayed g c = rw c.in-Format.is tt
+
+pub returns-in-Format-clause-words : goal.returns-in-Format-clause-words
+returns-in-Format-clause-words g c = λ fault asked. c.format_site.ensures fault (subst (λ request. IsWordFault request fault) c.in-Format.is asked)
+
+pub returns-in_err-replay-in-Replay-clause-words : goal.returns-in_err-replay-in-Replay-clause-words
+returns-in_err-replay-in-Replay-clause-words g c = λ fault asked. absurd (subst (λ request. IsWordFault request fault) c.in-Replay.is asked)
+
+pub returns-in_ok-replay-in-Replay-clause-words : goal.returns-in_ok-replay-in-Replay-clause-words
+returns-in_ok-replay-in-Replay-clause-words g c = λ fault asked. absurd (subst (λ request. IsWordFault request fault) c.in-Replay.is asked)
+
+pub returns-in_err-replay-in-Replay-clause-replayed : goal.returns-in_err-replay-in-Replay-clause-replayed
+returns-in_err-replay-in-Replay-clause-replayed g c =
+    let input = g.R.Read.remaining c.args.input.now in
+    let old = g.W.Write.contents c.args.output.now in
+    let new = g.W.Write.contents c.replay.new.writer in
+    let stopped = c.in_err-replay-in-Replay in
+    let p = err_from_is_err_and c.from_residual.result c.from_residual.ensures.1 in
+    subst (λ request. IsReplayOf request input old new c.from_residual.result) (sym c.in-Replay.is)
+    (subst (IsReplayed input old new) (sym p.1)
+    (record { cause = stopped.field-0.0; fault_is = p.2; found = stopped.ensures.fault; unwritten = stopped.ensures.unwritten; part = stopped.ensures.part }))
+
+pub returns-in_ok-replay-in-Replay-clause-replayed : goal.returns-in_ok-replay-in-Replay-clause-replayed
+returns-in_ok-replay-in-Replay-clause-replayed g c =
+    subst (λ request. IsReplayOf request (g.R.Read.remaining c.args.input.now) (g.W.Write.contents c.args.output.now) (g.W.Write.contents c.replay.new.writer) (Ok tt)) (sym c.in-Replay.is)
+    c.in_ok-replay-in-Replay.ensures.ok
