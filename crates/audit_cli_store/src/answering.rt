@@ -307,9 +307,7 @@ where
     F::File: SystemFile,
 {
     match access {
-        Access::Repair => {
-            proof_of_opened(alloc, open_store(rt, alloc, file)?, asked)
-        }
+        Access::Repair => { proof_of_opened(alloc, open_store(rt, alloc, file)?, asked) }
         Access::ReadOnly | Access::Salvage => {
             proof_on(alloc, open_device_to_read(rt, alloc, file)?, asked)
         }

@@ -31,9 +31,7 @@ where
         result }
 {
     match site {
-        Site::NewFile { mode } => {
-            format_file(rt, alloc, file, mode, sectors, key_file, output)
-        }
+        Site::NewFile { mode } => { format_file(rt, alloc, file, mode, sectors, key_file, output) }
         Site::InPlace { erase } => {
             format_in_place(rt, alloc, file, erase, sectors, key_file, output)
         }
