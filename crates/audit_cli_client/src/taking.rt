@@ -20,7 +20,7 @@ use std::io::{BufReader, Read};
 const FRAMES_ROOM: usize = 1 << 15;
 
 /// The lines that were taken for a round.
-#[derive(Clone, Copy, Debug, PartialEq, Eq)]
+#[derive(Clone, Copy)]
 pub(crate) struct Taken {
     /// Their number.
     pub count: u64,

@@ -3,7 +3,7 @@ ghost use Rattle.std.specs.Prelude.{◌≡◌, IfErr};
 ghost use Rattle.audit_cli_remote.specs.Arguments.{judged_number, seconds_asked, window_asked};
 ghost use Rattle.audit_text.specs.Number.{number_in_text};
 
-use audit_cli_base::CommandError;
+use audit_cli_base::{CommandError, ProofRequest, proof_request};
 use audit_text::number_in_text;
 
 /// The most seconds of a timeout or a pause: a day.
@@ -13,42 +13,25 @@ pub const MAX_SECONDS: u64 = 86_400;
 pub const MAX_WINDOW: u64 = 1024;
 
 /// What is asked of a server.
-#[derive(Clone, Copy, Debug, PartialEq, Eq)]
+#[derive(Clone, Copy)]
 pub enum Question<'a> {
     /// The newest commitment.
     Commitment,
-    /// The entry of an index.
-    Entry {
-        /// The index.
-        index: u64,
-        /// The file for the entry.
-        out: &'a str,
-    },
-    /// A membership (inclusion) proof.
-    Member {
-        /// The event's index.
-        index: u64,
-        /// The number of events.
-        count: u64,
-        /// The file for the proof.
-        out: &'a str,
-    },
-    /// An incremental (consistency) proof.
-    Increment {
-        /// The count of the older commitment.
-        older: u64,
-        /// The count of the newer commitment.
-        newer: u64,
-        /// The file for the proof.
-        out: &'a str,
-    },
-    /// All entries.
-    Export {
-        /// The file for the entries.
-        out: &'a str,
-    },
+    /// A piece of the log, and the file for it.
+    Piece(Piece, &'a str),
+    /// All entries, and the file for them.
+    Export(&'a str),
     /// To close the log.
     Close,
+}
+
+/// A piece of a log, which fits in memory.
+#[derive(Clone, Copy)]
+pub enum Piece {
+    /// The entry of this index.
+    Entry(u64),
+    /// A proof.
+    Proof(ProofRequest),
 }
 
 /// The words of a question: its name, and up to three more.
@@ -66,24 +49,19 @@ pub fn question_asked<'a>(words: QuestionWords<'a>) -> Result<Question<'a>, Comm
 }
 
 fn question_in<'a>(words: QuestionWords<'a>) -> Option<Question<'a>> {
-    match words {
-        ("commitment", None, None, None) => Some(Question::Commitment),
-        ("close", None, None, None) => Some(Question::Close),
-        ("export", Some(out), None, None) => Some(Question::Export { out }),
-        ("entry", Some(index), Some(out), None) => Some(Question::Entry {
-            index: number_in_text(index.as_bytes())?,
-            out,
-        }),
-        ("member", Some(index), Some(count), Some(out)) => Some(Question::Member {
-            index: number_in_text(index.as_bytes())?,
-            count: number_in_text(count.as_bytes())?,
-            out,
-        }),
-        ("increment", Some(older), Some(newer), Some(out)) => Some(Question::Increment {
-            older: number_in_text(older.as_bytes())?,
-            newer: number_in_text(newer.as_bytes())?,
-            out,
-        }),
+    let (name, first, second, third) = words;
+    match (first, second, third) {
+        (None, None, None) if name == "commitment" => Some(Question::Commitment),
+        (None, None, None) if name == "close" => Some(Question::Close),
+        (Some(out), None, None) if name == "export" => Some(Question::Export(out)),
+        (Some(index), Some(out), None) if name == "entry" => {
+            let index = number_in_text(index.as_bytes())?;
+            Some(Question::Piece(Piece::Entry(index), out))
+        }
+        (Some(first), Some(second), Some(out)) => {
+            let proof = proof_request(name, first, second)?;
+            Some(Question::Piece(Piece::Proof(proof), out))
+        }
         _ => None,
     }
 }

@@ -1,15 +1,16 @@
 //! Questions to a server, whose answers are written to files.
-use crate::arguments::Question;
+use crate::arguments::{Piece, Question};
 use crate::connection::{Dial, connect, socket_identity};
 use crate::fault::RemoteError;
-use crate::out::OutFile;
-use audit_cli_base::{CommandError, write_exported};
+use crate::out::{OutFile, is_standard_output};
+use audit_cli_base::{CommandError, ProofRequest, write_exported, write_number};
 use audit_cli_client::{
-    close_log, newest_commitment, put_entry, put_export, put_increment, put_member,
+    AskError, Export, Out, close_log, newest_commitment, put_entry, put_export, put_increment,
+    put_member,
 };
 use audit_disk::FileIdentity;
 use audit_proof::Commitment;
-use audit_text::{push_number, put_line, write_whole};
+use audit_text::{put_line, write_whole};
 use std::alloc::Global;
 use std::fs::{self, Files};
 use std::io::{BufReader, Read, Write};
@@ -49,25 +50,15 @@ fn answer<F: Files, A: Write, B: Read, W: Write>(
             let last = close_log(alloc, to, from)?;
             print_commitment(alloc, b"closed ", &last, output)
         }
-        Question::Entry { index, out } => {
+        Question::Piece(piece, out) => {
             let mut file = OutFile::new(rt, alloc, socket, out);
-            let size = put_entry(alloc, to, from, index, &mut file)?;
-            if write_held(&file, output)? {
-                write_exported(alloc, 1, size, output)?;
-            }
-            Ok(())
+            let put = put_piece(alloc, to, from, piece, &mut file);
+            print_piece(alloc, piece, put, &file, output)
         }
-        Question::Member { index, count, out } => {
-            let mut file = OutFile::new(rt, alloc, socket, out);
-            let size = put_member(alloc, to, from, index, count, &mut file)?;
-            print_proof(alloc, &file, size, output)
+        Question::Export(out) => {
+            let export = export_to(rt, alloc, socket, to, from, out)?;
+            Ok(write_exported(alloc, export.count, export.size, output)?)
         }
-        Question::Increment { older, newer, out } => {
-            let mut file = OutFile::new(rt, alloc, socket, out);
-            let size = put_increment(alloc, to, from, older, newer, &mut file)?;
-            print_proof(alloc, &file, size, output)
-        }
-        Question::Export { out } => export_to(rt, alloc, socket, to, from, out, output),
     }
 }
 
@@ -83,50 +74,64 @@ fn print_commitment<W: Write>(
     Ok(())
 }
 
-// Writes what is to go to standard output. Returns whether a line is to follow.
-fn write_held<F: Files, W: Write>(
+fn put_piece<A: Write, B: Read, O: Out>(
+    alloc: Global,
+    to: &mut A,
+    from: &mut B,
+    piece: Piece,
+    file: &mut O,
+) -> Result<u64, AskError<O::Error>> {
+    match piece {
+        Piece::Entry(index) => put_entry(alloc, to, from, index, file),
+        Piece::Proof(ProofRequest::Member { index, count }) => {
+            put_member(alloc, to, from, index, count, file)
+        }
+        Piece::Proof(ProofRequest::Increment { older, newer }) => {
+            put_increment(alloc, to, from, older, newer, file)
+        }
+    }
+}
+
+// Prints a piece that was put, if it is to go to standard output, or else its line.
+fn print_piece<F: Files, W: Write>(
+    alloc: Global,
+    piece: Piece,
+    put: Result<u64, AskError<RemoteError>>,
     file: &OutFile<'_, F>,
     output: &mut W,
-) -> Result<bool, RemoteError> {
+) -> Result<(), RemoteError> {
+    let size = put?;
     if let Some(bytes) = file.held() {
         write_whole(output, bytes)?;
     }
-    Ok(file.takes_line())
-}
-
-fn print_proof<F: Files, W: Write>(
-    alloc: Global,
-    file: &OutFile<'_, F>,
-    size: u64,
-    output: &mut W,
-) -> Result<(), RemoteError> {
-    if !write_held(file, output)? {
+    if !file.takes_line() {
         return Ok(());
     }
-    let mut line = Vec::new(alloc);
-    push_number(&mut line, b"proof ", size)?;
-    line.extend_from_slice(b"\n")?;
-    write_whole(output, &line)?;
+    match piece {
+        Piece::Entry(_) => write_exported(alloc, 1, size, output)?,
+        Piece::Proof(_) => write_number(alloc, b"proof ", size, output)?,
+    }
     Ok(())
 }
 
 // Writes all entries to a temporary file, which replaces `out` once they are accepted. Anything but a regular file
 // couldn't be replaced, and is refused.
-fn export_to<F: Files, A: Write, B: Read, W: Write>(
+fn export_to<F: Files, A: Write, B: Read>(
     rt: &F,
     alloc: Global,
     socket: FileIdentity,
     to: &mut A,
     from: &mut B,
     out: &str,
-    output: &mut W,
-) -> Result<(), RemoteError> {
-    let mut file = OutFile::new(rt, alloc, socket, out);
-    if file.is_standard_output() || !can_be_replaced(rt, out) {
+) -> Result<Export, RemoteError> {
+    if is_standard_output(out) || !can_be_replaced(rt, out) {
         return Err(RemoteError::Command(CommandError::BadArgument));
     }
-    let export = put_export(alloc, to, from, &mut file)?;
-    Ok(write_exported(alloc, export.count, export.size, output)?)
+    let mut file = OutFile::new(rt, alloc, socket, out);
+    match put_export(alloc, to, from, &mut file) {
+        Ok(export) => Ok(export),
+        Err(error) => Err(error.into()),
+    }
 }
 
 fn can_be_replaced<F: Files>(rt: &F, out: &str) -> bool {

@@ -56,11 +56,11 @@ impl<'a, F: Files> OutFile<'a, F> {
     pub fn takes_line(&self) -> bool {
         self.path != STANDARD_OUTPUT
     }
+}
 
-    /// Whether the path selects standard output.
-    pub fn is_standard_output(&self) -> bool {
-        self.path == STANDARD_OUTPUT || self.path == OUTPUT_DEVICE
-    }
+/// Whether a path selects standard output.
+pub fn is_standard_output(path: &str) -> bool {
+    path == STANDARD_OUTPUT || path == OUTPUT_DEVICE
 }
 
 /// Nothing is known of the bytes of a file.
@@ -72,7 +72,7 @@ impl<F: Files> Out for OutFile<'_, F> {
     ghost file = { λ out. if out.is_put then Some None else None };
 
     fn draft(&mut self) -> Result<Draft<F::File>, RemoteError> {
-        if self.is_standard_output() {
+        if is_standard_output(self.path) {
             return Ok(Draft::Held(Vec::new(self.alloc)));
         }
         let made = OutputFile::create(self.rt, self.alloc, self.socket, self.path)?;

@@ -1,11 +1,12 @@
 //! The requests that ask a server, and how they are carried out.
-ghost use Rattle.std.specs.Prelude.{◌≡◌, ◌⊎◌, ℕ, List, Err, Some, None, IfErr};
+ghost use Rattle.std.specs.Prelude.{◌≡◌, ◌⊎◌, ℕ, List, Err, Some, None, IfOk, IfErr};
 ghost use Rattle.std.specs.Io.KnownBytes.{Appends, Keeps};
 ghost use Rattle.audit_text.specs.declared.fault.LinesError.{LinesError};
 ghost use Rattle.audit_text_plain.specs.LineEvents.{form_asked};
 ghost use Rattle.audit_cli_remote.specs.declared.fault.RemoteError.{RemoteError};
 ghost use Rattle.audit_cli_remote.specs.Faults.{IsNoJudgment, judgment_of};
-ghost use Rattle.audit_cli_remote.specs.Arguments.{AreNoSeconds, IsNoWindow, HasWrongNumber};
+ghost use Rattle.audit_cli_remote.specs.Arguments.{AreNoSeconds, IsNoWindow, HasWrongNumber, HasNumbersOf};
+ghost use Rattle.audit_cli_remote.specs.Arguments.{IsPause, seconds_or_default, window_or_default};
 
 use crate::arguments::{Question, QuestionWords, question_asked, seconds_asked, window_asked};
 use crate::asking::ask_socket;
@@ -28,7 +29,7 @@ const TIMEOUT: u64 = 30;
 const WINDOW: u64 = 64;
 
 /// A request to a server, with the words of the command line as they were given.
-#[derive(Clone, Copy, Debug)]
+#[derive(Clone, Copy)]
 pub enum Request<'a> {
     /// Asks a question.
     Ask {
@@ -142,6 +143,7 @@ fn perform<F: Files + Dial + Clock, R: Read, W: Write, M: Write>(
 
 fn judge<'a>(request: Request<'a>) -> Result<Order<'a>, CommandError>
     ensures wrong { HasWrongNumber request.entry → result ≡ Err CommandError.BadArgument }
+    ensures numbers { IfOk result (HasNumbersOf request.entry) }
 {
     match request {
         Request::Ask {
@@ -216,6 +218,7 @@ fn carry_out<F: Files + Dial + Clock, R: Read, W: Write, M: Write>(
 }
 
 fn pause_asked(word: Option<&str>) -> Result<Option<u64>, CommandError>
+    ensures asked { IfOk result (IsPause word.entry) }
     ensures wrong { AreNoSeconds word.entry → result ≡ Err CommandError.BadArgument }
     ensures fault { IfErr result (λ fault. fault ≡ CommandError.BadArgument) }
 {
@@ -229,6 +232,7 @@ fn pause_asked(word: Option<&str>) -> Result<Option<u64>, CommandError>
 }
 
 fn form_or_fault(word: Option<&str>) -> Result<LineForm, CommandError>
+    ensures asked { IfOk result (λ form. form_asked word.entry ≡ Some form) }
     ensures wrong { form_asked word.entry ≡ None → result ≡ Err CommandError.BadArgument }
     ensures fault { IfErr result (λ fault. fault ≡ CommandError.BadArgument) }
 {
@@ -239,6 +243,7 @@ fn form_or_fault(word: Option<&str>) -> Result<LineForm, CommandError>
 }
 
 fn seconds_or_default(word: Option<&str>) -> Result<u64, CommandError>
+    ensures asked { result ≡ seconds_or_default word.entry }
     ensures wrong { AreNoSeconds word.entry → result ≡ Err CommandError.BadArgument }
     ensures fault { IfErr result (λ fault. fault ≡ CommandError.BadArgument) }
 {
@@ -249,6 +254,7 @@ fn seconds_or_default(word: Option<&str>) -> Result<u64, CommandError>
 }
 
 fn window_or_default(word: Option<&str>) -> Result<u64, CommandError>
+    ensures asked { result ≡ window_or_default word.entry }
     ensures wrong { IsNoWindow word.entry → result ≡ Err CommandError.BadArgument }
     ensures fault { IfErr result (λ fault. fault ≡ CommandError.BadArgument) }
 {

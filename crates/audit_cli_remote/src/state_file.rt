@@ -1,5 +1,5 @@
 //! The file of a witness: a line for each commitment that it saw, the newest last.
-ghost use Rattle.std.specs.Prelude.{◌≡◌, map, Some, IfOk};
+ghost use Rattle.std.specs.Prelude.{◌≡◌, ◌⊎◌, ◌∷◌, ◌++◌, [], map, Some, IfOk, OnOk, OnErr};
 ghost use Rattle.audit_text.specs.Lines.{lines_of};
 ghost use Rattle.audit_cli_offline.specs.CommitmentWord.{commitment_in_word};
 
@@ -45,6 +45,20 @@ impl<'a, F: Files> StateFile<'a, F> {
         })
     }
 
+    // Adds a commitment and its line.
+    fn add_line(&mut self, seen: &Commitment, line: &[u8]) -> Result<(), RemoteError>
+        ensures done { OnOk result (self.new.kept.items ≡ self.old.kept.items ++ seen.now ∷ []) }
+        ensures part { OnErr result ((self.new.kept.items ≡ self.old.kept.items)
+            ⊎ (self.new.kept.items ≡ self.old.kept.items ++ seen.now ∷ [])) }
+    {
+        self.kept.reserve(1)?;
+        self.text.reserve(line.len())?;
+        self.write(line)?;
+        self.kept.push_reserved(*seen);
+        self.text.extend_from_slice(line)?;
+        Ok(())
+    }
+
     // Replaces the file by one with another line.
     fn write(&self, line: &[u8]) -> Result<(), CommandError> {
         let mut made = OutputFile::create(self.rt, self.alloc, self.socket, self.path)?;
@@ -67,12 +81,7 @@ impl<F: Files> Kept for StateFile<'_, F> {
 
     fn add(&mut self, seen: &Commitment) -> Result<(), RemoteError> {
         let line = line_after(self.alloc, &self.text, seen)?;
-        self.kept.reserve(1)?;
-        self.text.reserve(line.len())?;
-        self.write(&line)?;
-        self.kept.push_reserved(*seen);
-        self.text.extend_from_slice(&line)?;
-        Ok(())
+        self.add_line(seen, &line)
     }
 }
 
@@ -112,14 +121,14 @@ fn line_after(alloc: Global, text: &[u8], seen: &Commitment) -> Result<Vec<u8>, 
     if !text.is_empty() && !text.ends_with(b"\n") {
         line.push(b'\n')?;
     }
-    push_commitment(&mut line, seen)?;
-    line.extend_from_slice(b"\n")?;
+    push_commitment_line(&mut line, seen)?;
     Ok(line)
 }
 
-/// Appends a commitment as COUNT:ROOT.
-pub fn push_commitment(line: &mut Vec<u8>, seen: &Commitment) -> Result<(), AllocError> {
+/// Appends a commitment as COUNT:ROOT, and a line feed.
+pub fn push_commitment_line(line: &mut Vec<u8>, seen: &Commitment) -> Result<(), AllocError> {
     push_number(line, b"", seen.count)?;
     line.extend_from_slice(b":")?;
-    push_hex(line, &seen.root)
+    push_hex(line, &seen.root)?;
+    line.extend_from_slice(b"\n")
 }

@@ -1,18 +1,18 @@
 //! A witness of a log, which keeps what it sees in a file.
 use crate::connection::{Dial, connect, socket_identity};
 use crate::fault::RemoteError;
-use crate::state_file::{StateFile, push_commitment};
-use audit_cli_client::{Sight, WatchError, watch_and_keep};
+use crate::state_file::{StateFile, push_commitment_line};
+use audit_cli_client::{Kept, Sight, WatchError, watch_and_keep};
 use audit_proof::Commitment;
 use audit_text::write_whole;
-use std::alloc::{AllocError, Global};
+use std::alloc::Global;
 use std::fs::Files;
 use std::io::{BufReader, Write};
 use std::thread;
 use std::time::{Clock, Duration};
 
 /// What a witness needs: the server's socket, its own file, and how long it waits for a reply.
-#[derive(Clone, Copy, Debug)]
+#[derive(Clone, Copy)]
 pub struct Post<'a> {
     /// The socket.
     pub socket: &'a str,
@@ -84,10 +84,19 @@ fn look<F: Files + Dial + Clock>(
 ) -> Result<Sight, RemoteError> {
     let identity = socket_identity(rt, post.socket)?;
     let mut kept = StateFile::read(rt, alloc, post.state, identity)?;
+    look_and_keep(rt, alloc, post, &mut kept)
+}
+
+fn look_and_keep<F: Dial + Clock, K: Kept<Error = RemoteError>>(
+    rt: &F,
+    alloc: Global,
+    post: Post<'_>,
+    kept: &mut K,
+) -> Result<Sight, RemoteError> {
     let stream = connect(rt, post.socket, post.seconds)?;
     let mut to = &stream;
     let mut from = BufReader::new(alloc, &stream)?;
-    match watch_and_keep(alloc, &mut to, &mut from, &mut kept) {
+    match watch_and_keep(alloc, &mut to, &mut from, kept) {
         Ok(sight) => Ok(sight),
         Err(WatchError::Client(error)) => Err(RemoteError::Server(error)),
         Err(WatchError::Kept(error)) => Err(error),
@@ -110,11 +119,6 @@ fn print_seen<W: Write>(
     output: &mut W,
 ) -> Result<(), RemoteError> {
     let mut line = Vec::from_slice(alloc, word)?;
-    push_seen(&mut line, seen)?;
+    push_commitment_line(&mut line, seen)?;
     Ok(write_whole(output, &line)?)
-}
-
-fn push_seen(line: &mut Vec<u8>, seen: &Commitment) -> Result<(), AllocError> {
-    push_commitment(line, seen)?;
-    line.extend_from_slice(b"\n")
 }
