@@ -13,7 +13,7 @@ use std::fs::{self, Files};
 use std::io::Write;
 
 /// A request to rotate the log of a store, with the words of the command line as given.
-#[derive(Clone, Copy, Debug)]
+#[derive(Clone, Copy)]
 pub struct Request<'a> {
     /// The file of the store whose log is closed.
     pub old: &'a str,
