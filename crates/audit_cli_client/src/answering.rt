@@ -150,8 +150,7 @@ fn put_acknowledgement(
     push_number(line, b" ", count)?;
     line.extend_from_slice(b" ")?;
     push_hex(line, root)?;
-    line.extend_from_slice(b"\n")?;
-    Ok(())
+    line.extend_from_slice(b"\n")
 }
 
 // `refused`, the number of the line, and the number and name of the refusal.
@@ -164,6 +163,5 @@ fn put_refusal(line: &mut Vec<u8>, number: u64, refusal: Refusal) -> Result<(), 
     push_number(line, b" ", u64::from(refusal.code()))?;
     line.extend_from_slice(b" ")?;
     line.extend_from_slice(word_of_refusal(refusal).as_bytes())?;
-    line.extend_from_slice(b"\n")?;
-    Ok(())
+    line.extend_from_slice(b"\n")
 }

@@ -130,8 +130,7 @@ fn read_body<R: Read>(from: &mut R, body: &mut Vec<u8>) -> Result<(), ClientErro
     ensures fault { IfErr result IsLost }
 {
     let size = read_size(from)?;
-    read_sized(from, body, size as usize)?;
-    Ok(())
+    read_sized(from, body, size as usize)
 }
 
 // Reads the length field of a frame.
@@ -160,8 +159,7 @@ fn read_sized<R: Read>(from: &mut R, body: &mut Vec<u8>, size: usize) -> Result<
 {
     body.clear();
     body.resize(size, 0)?;
-    receive(from, body)?;
-    Ok(())
+    receive(from, body)
 }
 
 // Reads as many bytes as the buffer has.

@@ -9,6 +9,7 @@ use Rattle.audit_cli_remote.specs.declared.arguments.TheConstants.{MAX_SECONDS, 
 use Rattle.audit_cli_remote.specs.declared.request.TheConstants.{TIMEOUT, WINDOW}
 use Rattle.audit_cli_remote.specs.declared.request.Request.{Request}
 use Rattle.audit_cli_remote.specs.declared.request.Request.TheVariants.{Ask, Send, Watch}
+use Rattle.audit_cli_remote.specs.declared.sending.Task.{Task}
 use Rattle.audit_cli_remote.specs.declared.request.Order.{Order}
 use Rattle.audit_cli_remote.specs.declared.request.Order.TheVariants as order
 
@@ -53,11 +54,15 @@ HasWrongNumber (Ask socket question timeout) = AreNoSeconds timeout
 HasWrongNumber (Send socket text window timeout) = (form_asked text ≡ None) ⊎ (IsNoWindow window ⊎ AreNoSeconds timeout)
 HasWrongNumber (Watch socket state every timeout) = AreNoSeconds every ⊎ AreNoSeconds timeout
 
+-- a task has the form and the numbers of the words
+abbrev pub HasTaskNumbers : Option (Bor (List ℕ)) → Option (Bor (List ℕ)) → Option (Bor (List ℕ)) → Task → Type 0
+HasTaskNumbers text window timeout task = (form_asked text ≡ Some task.form)
+    × (window_or_default window ≡ Ok task.window) × (seconds_or_default timeout ≡ Ok task.seconds)
+
 -- what is ordered has the numbers of the words
 abbrev pub HasNumbersOf : Request → Order → Type 0
 HasNumbersOf (Ask socket question timeout) (order.Ask path asked seconds) = seconds_or_default timeout ≡ Ok seconds
-HasNumbersOf (Send socket text window timeout) (order.Send path task) = (form_asked text ≡ Some task.form)
-    × (window_or_default window ≡ Ok task.window) × (seconds_or_default timeout ≡ Ok task.seconds)
+HasNumbersOf (Send socket text window timeout) (order.Send path task) = HasTaskNumbers text window timeout task
 HasNumbersOf (Watch socket state every timeout) (order.Watch post pause) =
     IsPause every pause × (seconds_or_default timeout ≡ Ok post.seconds)
 HasNumbersOf request other = ⊥

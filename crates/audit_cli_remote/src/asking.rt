@@ -5,8 +5,8 @@ use crate::fault::RemoteError;
 use crate::out::{OutFile, is_standard_output};
 use audit_cli_base::{CommandError, ProofRequest, write_exported, write_number};
 use audit_cli_client::{
-    AskError, Export, Out, close_log, newest_commitment, put_entry, put_export, put_increment,
-    put_member,
+    AskError, ClientError, Export, Out, close_log, newest_commitment, put_entry, put_export,
+    put_increment, put_member,
 };
 use audit_disk::FileIdentity;
 use audit_proof::Commitment;
@@ -43,12 +43,12 @@ fn answer<F: Files, A: Write, B: Read, W: Write>(
 ) -> Result<(), RemoteError> {
     match question {
         Question::Commitment => {
-            let newest = newest_commitment(alloc, to, from)?;
-            print_commitment(alloc, b"commit ", &newest, output)
+            let newest = newest_commitment(alloc, to, from);
+            print_commitment(alloc, b"commit ", newest, output)
         }
         Question::Close => {
-            let last = close_log(alloc, to, from)?;
-            print_commitment(alloc, b"closed ", &last, output)
+            let last = close_log(alloc, to, from);
+            print_commitment(alloc, b"closed ", last, output)
         }
         Question::Piece(piece, out) => {
             let mut file = OutFile::new(rt, alloc, socket, out);
@@ -56,18 +56,20 @@ fn answer<F: Files, A: Write, B: Read, W: Write>(
             print_piece(alloc, piece, put, &file, output)
         }
         Question::Export(out) => {
-            let export = export_to(rt, alloc, socket, to, from, out)?;
-            Ok(write_exported(alloc, export.count, export.size, output)?)
+            let export = export_to(rt, alloc, socket, to, from, out);
+            print_export(alloc, export, output)
         }
     }
 }
 
+// Prints the line of a commitment that was given.
 fn print_commitment<W: Write>(
     alloc: Global,
     word: &[u8],
-    commitment: &Commitment,
+    given: Result<Commitment, ClientError>,
     output: &mut W,
 ) -> Result<(), RemoteError> {
+    let commitment = given?;
     let mut line = Vec::new(alloc);
     put_line(&mut line, word, commitment.count, &commitment.root)?;
     write_whole(output, &line)?;
@@ -123,15 +125,22 @@ fn export_to<F: Files, A: Write, B: Read>(
     to: &mut A,
     from: &mut B,
     out: &str,
-) -> Result<Export, RemoteError> {
+) -> Result<Export, AskError<RemoteError>> {
     if is_standard_output(out) || !can_be_replaced(rt, out) {
-        return Err(RemoteError::Command(CommandError::BadArgument));
+        return Err(AskError::Out(RemoteError::Command(CommandError::BadArgument)));
     }
     let mut file = OutFile::new(rt, alloc, socket, out);
-    match put_export(alloc, to, from, &mut file) {
-        Ok(export) => Ok(export),
-        Err(error) => Err(error.into()),
-    }
+    put_export(alloc, to, from, &mut file)
+}
+
+// Prints the line of an export that was put.
+fn print_export<W: Write>(
+    alloc: Global,
+    put: Result<Export, AskError<RemoteError>>,
+    output: &mut W,
+) -> Result<(), RemoteError> {
+    let export = put?;
+    Ok(write_exported(alloc, export.count, export.size, output)?)
 }
 
 fn can_be_replaced<F: Files>(rt: &F, out: &str) -> bool {

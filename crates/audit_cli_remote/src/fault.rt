@@ -53,7 +53,7 @@ impl RemoteError {
                 let _ = report(fault, messages);
                 Ok(())
             }
-            RemoteError::NoConnection => writeln!(messages, "audit: file fault"),
+            RemoteError::NoConnection => messages.write_all(b"audit: file fault\n"),
             RemoteError::Server(error) => print_server_error(error, messages),
             RemoteError::BadStateLine(line) => {
                 writeln!(messages, "audit: line {line}: bad commitment line")
@@ -106,21 +106,22 @@ fn status_of_server(error: ClientError) -> Status
 }
 
 fn print_server_error<M: Write>(error: ClientError, messages: &mut M) -> io::Result<()> {
-    match error {
+    let line = match error {
         ClientError::Refused(refusal) => {
             let (number, name) = (refusal.code(), word_of_refusal(refusal));
-            writeln!(messages, "audit: {number} {name}")
+            return writeln!(messages, "audit: {number} {name}");
         }
-        ClientError::BadReply => writeln!(messages, "audit: bad reply"),
-        ClientError::Ended => writeln!(messages, "audit: connection ended"),
-        ClientError::TimedOut => writeln!(messages, "audit: no reply in time"),
-        ClientError::Output => writeln!(messages, "audit: file fault"),
         ClientError::Memory => {
             let _ = report(CommandError::Refused(StoreError::Memory), messages);
-            Ok(())
+            return Ok(());
         }
-        ClientError::NotAccepted | ClientError::Shorter | ClientError::OtherRoot => Ok(()),
-    }
+        ClientError::BadReply => "audit: bad reply\n",
+        ClientError::Ended => "audit: connection ended\n",
+        ClientError::TimedOut => "audit: no reply in time\n",
+        ClientError::Output => "audit: file fault\n",
+        ClientError::NotAccepted | ClientError::Shorter | ClientError::OtherRoot => return Ok(()),
+    };
+    messages.write_all(line.as_bytes())
 }
 
 impl From<CommandError> for RemoteError {

@@ -6,6 +6,7 @@ ghost use Rattle.audit_text_plain.specs.LineEvents.{form_asked};
 ghost use Rattle.audit_cli_remote.specs.declared.fault.RemoteError.{RemoteError};
 ghost use Rattle.audit_cli_remote.specs.Faults.{IsNoJudgment, judgment_of};
 ghost use Rattle.audit_cli_remote.specs.Arguments.{AreNoSeconds, IsNoWindow, HasWrongNumber, HasNumbersOf};
+ghost use Rattle.audit_cli_remote.specs.Arguments.{HasTaskNumbers};
 ghost use Rattle.audit_cli_remote.specs.Arguments.{IsPause, seconds_or_default, window_or_default};
 
 use crate::arguments::{Question, QuestionWords, question_asked, seconds_asked, window_asked};
@@ -161,14 +162,7 @@ fn judge<'a>(request: Request<'a>) -> Result<Order<'a>, CommandError>
             window,
             timeout,
         } => {
-            let form = form_or_fault(text)?;
-            let window = window_or_default(window)?;
-            let seconds = seconds_or_default(timeout)?;
-            let task = Task {
-                form,
-                window,
-                seconds,
-            };
+            let task = task_asked(text, window, timeout)?;
             Ok(Order::Send { socket, task })
         }
         Request::Watch {
@@ -187,6 +181,26 @@ fn judge<'a>(request: Request<'a>) -> Result<Order<'a>, CommandError>
             Ok(Order::Watch { post, every })
         }
     }
+}
+
+fn task_asked(
+    text: Option<&str>,
+    window: Option<&str>,
+    timeout: Option<&str>,
+) -> Result<Task, CommandError>
+    ensures wrong { (form_asked text.entry ≡ None) ⊎ (IsNoWindow window.entry ⊎ AreNoSeconds timeout.entry)
+        → result ≡ Err CommandError.BadArgument }
+    ensures asked { IfOk result (HasTaskNumbers text.entry window.entry timeout.entry) }
+    ensures fault { IfErr result (λ fault. fault ≡ CommandError.BadArgument) }
+{
+    let form = form_or_fault(text)?;
+    let window = window_or_default(window)?;
+    let seconds = seconds_or_default(timeout)?;
+    Ok(Task {
+        form,
+        window,
+        seconds,
+    })
 }
 
 fn carry_out<F: Files + Dial + Clock, R: Read, W: Write, M: Write>(
