@@ -25,7 +25,7 @@ use std::net::Net;
 use std::time::{Clock, Duration};
 
 /// A request about a daemon, with the words of the command line as they were given.
-#[derive(Clone, Copy, Debug)]
+#[derive(Clone, Copy)]
 pub enum Request<'a> {
     /// Runs a daemon.
     Run(Settings<'a>),
@@ -37,7 +37,7 @@ pub enum Request<'a> {
 }
 
 /// What a daemon serves, and to whom.
-#[derive(Clone, Copy, Debug)]
+#[derive(Clone, Copy)]
 pub struct Settings<'a> {
     /// The store's file.
     pub file: &'a str,
