@@ -9,6 +9,7 @@ use audit_cli_client::{SendEnd, send_events};
 use audit_text_plain::LineForm;
 use std::alloc::Global;
 use std::io::{BufReader, Read, Write};
+use std::os::unix::net::UnixStream;
 use std::time::Clock;
 
 // The size in bytes of the buffer for the input: the most that is read at a time.
@@ -37,23 +38,20 @@ pub fn send_to_socket<F: Dial + Clock, R: Read, W: Write, M: Write>(
     messages: &mut M,
 ) -> Result<Status, RemoteError> {
     let mut lines = BufReader::with_capacity(alloc, INPUT_ROOM, input)?;
-    match send_lines(rt, alloc, socket, task, &mut lines, output) {
-        Ok(end) => Ok(report_sent(&end, messages)),
-        Err(fault) => Err(fault),
-    }
+    let stream = connect(rt, socket, task.seconds)?;
+    let end = send_over(alloc, task, &mut lines, &stream, output)?;
+    Ok(report_sent(&end, messages))
 }
 
-fn send_lines<F: Dial + Clock, R: Read, W: Write>(
-    rt: &F,
+fn send_over<R: Read, W: Write>(
     alloc: Global,
-    socket: &str,
     task: Task,
     lines: &mut BufReader<R>,
+    stream: &UnixStream,
     output: &mut W,
 ) -> Result<SendEnd, RemoteError> {
-    let stream = connect(rt, socket, task.seconds)?;
-    let mut to = &stream;
-    let mut from = BufReader::new(alloc, &stream)?;
+    let mut to = stream;
+    let mut from = BufReader::new(alloc, stream)?;
     Ok(send_events(
         alloc,
         task.form,
