@@ -7,11 +7,13 @@ use crate::random::Random;
 use crate::random_door::RandomDoor;
 use crate::stores::{Device, new_core, worn_core};
 use crate::subject::Core;
-use crate::texts::{text_of, two_numbers};
+use crate::texts::{digest_text, two_numbers};
 use crate::visitor::Visitor;
 use anyhow::bail;
 use audit_base::SESSIONS;
+use audit_disk::Sectors;
 use audit_serve_ready::{MAX_BACKLOG, Slot, finish_writing, vacant_slots};
+use audit_store::StoreError;
 use sha2::{Digest, Sha256};
 use std::alloc::{AllocError, Global};
 
@@ -23,8 +25,8 @@ pub fn play_clients<R: AllocGlobal + Print>(rt: &R, rest: &str) -> anyhow::Resul
         let digest = play_run(rt.alloc(), first.saturating_add(place))?;
         hasher.update(&digest);
     }
-    let digest: [u8; 32] = hasher.finalize();
-    println!(rt; "clients from {first} {}", text_of(rt.alloc(), &digest)?)?;
+    let digest = digest_text(rt.alloc(), hasher)?;
+    println!(rt; "clients from {first} {digest}")?;
     Ok(())
 }
 
@@ -33,16 +35,57 @@ pub fn play_clients<R: AllocGlobal + Print>(rt: &R, rest: &str) -> anyhow::Resul
 fn play_run(alloc: Global, number: u64) -> anyhow::Result<[u8; 32]> {
     let mut random = Random::new(number);
     let mut core = some_core(alloc, &mut random)?;
-    let mut slots = some_slots(alloc, &mut random)?;
-    let mut door = RandomDoor::new(alloc, random);
-    if let Err(error) = core.serve_clients(&mut slots, &mut door) {
-        bail!("run {number} was refused: {error}");
-    }
-    finish_writing(&mut slots, &mut door);
-    let mut hasher = door.into_hasher();
-    add_left(&slots, &mut hasher);
+    let mut hasher = hasher_of(number, serve_run(alloc, &mut core, random)?)?;
     add_store(core.into_store(), &mut hasher)?;
     Ok(hasher.finalize())
+}
+
+/// The clients of a run after it was served, and why the core refused to serve on.
+#[derive(Drop)]
+pub struct ServedRun {
+    pub slots: Vec<Slot<Visitor>>,
+    pub door: RandomDoor,
+    pub refused: Option<StoreError>,
+}
+
+/// Serves the clients of a run. If the core refuses a step, nothing more is written, as in a daemon.
+pub fn serve_run<D: Sectors>(
+    alloc: Global,
+    core: &mut Core<D>,
+    random: Random,
+) -> Result<ServedRun, AllocError> {
+    let mut random = random;
+    let mut slots = some_slots(alloc, &mut random)?;
+    let mut door = RandomDoor::new(alloc, random);
+    let refused = core.serve_clients(&mut slots, &mut door).err();
+    if refused.is_none() {
+        finish_writing(&mut slots, &mut door);
+    }
+    Ok(ServedRun {
+        slots,
+        door,
+        refused,
+    })
+}
+
+// The digest of what the door was told and of the clients that are in their places. It is an error if the run was
+// refused.
+fn hasher_of(number: u64, run: ServedRun) -> anyhow::Result<Sha256> {
+    if let Some(error) = run.refused {
+        bail!("run {number} was refused: {error}");
+    }
+    let mut hasher = run.door.into_hasher();
+    add_left(&run.slots, &mut hasher);
+    Ok(hasher)
+}
+
+// Adds the clients that are in their places.
+fn add_left(slots: &[Slot<Visitor>], hasher: &mut Sha256) {
+    for slot in slots {
+        if let Some(client) = slot.client() {
+            client.add_to(hasher);
+        }
+    }
 }
 
 // A core over a store of 3 to 82 sectors. One store in eight has a generation left for one commit.
@@ -54,8 +97,8 @@ fn some_core(alloc: Global, random: &mut Random) -> anyhow::Result<Core<Device>>
     }
 }
 
-/// One to sixteen places, with a backlog that many clients, some or none exceed.
-pub fn some_slots(alloc: Global, random: &mut Random) -> Result<Vec<Slot<Visitor>>, AllocError>
+// One to sixteen places, with a backlog that many clients, some or none exceed.
+fn some_slots(alloc: Global, random: &mut Random) -> Result<Vec<Slot<Visitor>>, AllocError>
     ensures { IfOk result (λ slots. length slots.items ≤ SESSIONS) }
 {
     let places = (random.up_to(SESSIONS as u64) as usize).min(SESSIONS);
@@ -65,13 +108,4 @@ pub fn some_slots(alloc: Global, random: &mut Random) -> Result<Vec<Slot<Visitor
         _ => MAX_BACKLOG,
     };
     vacant_slots(alloc, places, most.min(MAX_BACKLOG))
-}
-
-// Adds the clients that are in their places.
-fn add_left(slots: &[Slot<Visitor>], hasher: &mut Sha256) {
-    for slot in slots {
-        if let Some(client) = slot.client() {
-            client.add_to(hasher);
-        }
-    }
 }

@@ -1,8 +1,9 @@
 //! A stream cut into pieces: the answers don't depend on the pieces.
-use crate::stores::{Device, new_core};
+use crate::stores::new_core;
 use crate::subject::Core;
 use crate::texts::text_of;
 use anyhow::{anyhow, bail};
+use audit_disk::Sectors;
 use std::alloc::Global;
 
 // An append of `hi` under kind 1 with tag 7.
@@ -14,10 +15,16 @@ pub fn try_cuts<R: AllocGlobal + Print>(rt: &R, stream: &[u8]) -> anyhow::Result
     let alloc = rt.alloc();
     let whole = answers(alloc, &[stream])?;
     let ways = try_ways(alloc, stream, &whole)?;
-    if answers_by_bytes(alloc, stream)?.as_slice() != whole.as_slice() {
+    try_bytes(alloc, stream, &whole)?;
+    println!(rt; "{ways} ways {}", text_of(alloc, &whole)?)?;
+    Ok(())
+}
+
+fn try_bytes(alloc: Global, stream: &[u8], whole: &[u8]) -> anyhow::Result<()> {
+    let bytes: Vec<&[u8]> = stream.chunks(1).collect(alloc)?;
+    if !is_answered(alloc, &bytes, whole)? {
         bail!("byte by byte it is answered otherwise");
     }
-    println!(rt; "{ways} ways {}", text_of(alloc, &whole)?)?;
     Ok(())
 }
 
@@ -41,7 +48,7 @@ fn cuts_after(alloc: Global, front: &[u8], rest: &[u8], whole: &[u8]) -> anyhow:
     let mut ways = 0u64;
     for second in 0..=rest.len() {
         let (middle, back) = cut(rest, second);
-        if answers(alloc, &[front, middle, back])?.as_slice() != whole {
+        if !is_answered(alloc, &[front, middle, back], whole)? {
             bail!(
                 "cut after {} and {second} bytes it is answered otherwise",
                 front.len()
@@ -52,45 +59,39 @@ fn cuts_after(alloc: Global, front: &[u8], rest: &[u8], whole: &[u8]) -> anyhow:
     Ok(ways)
 }
 
+fn is_answered(alloc: Global, pieces: &[&[u8]], whole: &[u8]) -> anyhow::Result<bool> {
+    Ok(answers(alloc, pieces)?.as_slice() == whole)
+}
+
 // The answers to the pieces, from a store of one event; whether the session has ended; and the number of events
 // afterwards.
 fn answers(alloc: Global, pieces: &[&[u8]]) -> anyhow::Result<Vec<u8>> {
-    let mut core = core_of_one_event(alloc)?;
-    for piece in pieces {
-        feed(&mut core, piece)?;
-    }
-    outcome(core)
+    answers_of(new_core(alloc, 16, u64::MAX)?, pieces)
 }
 
-fn answers_by_bytes(alloc: Global, stream: &[u8]) -> anyhow::Result<Vec<u8>> {
-    let mut core = core_of_one_event(alloc)?;
-    for piece in stream.chunks(1) {
-        feed(&mut core, piece)?;
-    }
-    outcome(core)
-}
-
-fn core_of_one_event(alloc: Global) -> anyhow::Result<Core<Device>> {
-    let mut core = new_core(alloc, 16, u64::MAX)?;
-    feed(&mut core, APPEND)?;
-    core.flush()?;
-    core.take_output(0);
-    Ok(core)
-}
-
-/// Feeds a piece to the first session.
-pub fn feed(core: &mut Core<Device>, piece: &[u8]) -> anyhow::Result<()> {
-    match core.feed(0, piece) {
-        Ok(()) => Ok(()),
-        Err(fault) => Err(fault.error.into()),
-    }
-}
-
-fn outcome(mut core: Core<Device>) -> anyhow::Result<Vec<u8>> {
-    core.flush()?;
+fn answers_of<D: Sectors + Drop>(core: Core<D>, pieces: &[&[u8]]) -> anyhow::Result<Vec<u8>> {
+    let mut core = core;
+    feed_pieces(&mut core, pieces)?;
     let mut outcome = core.take_output(0);
     outcome.push(u8::from(core.ended(0)))?;
     let commitment = core.into_store().commitment();
     outcome.extend_from_slice(&commitment.count.to_be_bytes())?;
     Ok(outcome)
+}
+
+// Appends an event, whose answer is dropped, and feeds the pieces.
+fn feed_pieces<D: Sectors>(core: &mut Core<D>, pieces: &[&[u8]]) -> anyhow::Result<()> {
+    feed(core, &[APPEND])?;
+    core.take_output(0);
+    feed(core, pieces)
+}
+
+/// Feeds pieces to the first session, and flushes the core.
+pub fn feed<D: Sectors>(core: &mut Core<D>, pieces: &[&[u8]]) -> anyhow::Result<()> {
+    for piece in pieces {
+        if let Err(fault) = core.feed(0, piece) {
+            return Err(fault.error.into());
+        }
+    }
+    Ok(core.flush()?)
 }

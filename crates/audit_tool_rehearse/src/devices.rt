@@ -5,12 +5,12 @@ use crate::random::Random;
 use crate::stores::{Device, blocks_of, open_core};
 use crate::streams::stream_of;
 use crate::subject::{Core, Store};
-use crate::texts::{text_of, two_numbers};
+use crate::texts::{digest_text, two_numbers};
 use audit_base::u64_at;
 use audit_chain::Event;
-use audit_disk::{FailOnce, MemDisk, SECTOR_SIZE};
+use audit_disk::{MemDisk, SECTOR_SIZE, Sectors};
 use audit_log::{FIRST_VERSION, VERSION};
-use audit_store::StoreError;
+use audit_store::{Failed, StoreError};
 use sha2::{Digest, Sha256};
 use std::alloc::{AllocError, Global};
 
@@ -47,14 +47,19 @@ fn print_outcomes<R: AllocGlobal + Print>(
     outcomes: Outcomes,
 ) -> anyhow::Result<()> {
     println!(rt; "devices from {first} opened {}", outcomes.opened)?;
+    print_refused(rt, &outcomes.refused)?;
+    let digest = digest_text(rt.alloc(), outcomes.hasher)?;
+    println!(rt; "outcomes {digest}")?;
+    Ok(())
+}
+
+fn print_refused<R: Print>(rt: &R, refused: &[u64; 16]) -> anyhow::Result<()> {
     for number in 0..16 {
-        let refused = outcomes.refused[number];
-        if refused > 0 {
-            println!(rt; "refused {number} {refused}")?;
+        let times = refused[number];
+        if times > 0 {
+            println!(rt; "refused {number} {times}")?;
         }
     }
-    let digest: [u8; 32] = outcomes.hasher.finalize();
-    println!(rt; "outcomes {}", text_of(rt.alloc(), &digest)?)?;
     Ok(())
 }
 
@@ -63,24 +68,55 @@ fn play_device(alloc: Global, number: u64, outcomes: &mut Outcomes) -> anyhow::R
     let core = random_core(alloc, &mut random)?;
     let mut disk = with_events(alloc, core, &mut random)?;
     let older = blocks_of(alloc, &mut disk)?;
-    let core = open_core(alloc, disk)?;
-    let mut disk = with_events(alloc, core, &mut random)?;
-    let mut content = blocks_of(alloc, &mut disk)?;
-    let hurts = random.up_to(2);
-    for _ in 0..hurts {
-        hurt(&mut random, &older, &mut content)?;
-    }
+    let content = hurt_later(alloc, disk, &mut random, &older)?;
     open_hurt(alloc, &content, outcomes)
 }
 
+// The blocks of the device after appending more events, damaged once or twice.
+fn hurt_later(
+    alloc: Global,
+    disk: Device,
+    random: &mut Random,
+    older: &[Block],
+) -> anyhow::Result<Vec<Block>> {
+    let core = open_core(alloc, disk.into_inner())?;
+    let mut disk = with_events(alloc, core, random)?;
+    let mut content = blocks_of(alloc, &mut disk)?;
+    hurt_repeatedly(random, older, &mut content)?;
+    Ok(content)
+}
+
 // The device of a core after appending up to four more events.
-fn with_events(alloc: Global, core: Core<Device>, random: &mut Random) -> anyhow::Result<MemDisk> {
+fn with_events<D: Sectors + Drop>(
+    alloc: Global,
+    core: Core<D>,
+    random: &mut Random,
+) -> anyhow::Result<D> {
     let mut core = core;
+    append_events(alloc, &mut core, random)?;
+    Ok(core.into_store().into_disk())
+}
+
+fn append_events<D: Sectors>(
+    alloc: Global,
+    core: &mut Core<D>,
+    random: &mut Random,
+) -> anyhow::Result<()> {
     let events = random.below(5);
     let stream = stream_of(alloc, random, events, 20)?;
-    feed(&mut core, &stream)?;
-    core.flush()?;
-    Ok(core.into_store().into_disk().into_inner())
+    feed(core, &[stream.as_slice()])
+}
+
+fn hurt_repeatedly(
+    random: &mut Random,
+    older: &[Block],
+    content: &mut Vec<Block>,
+) -> Result<(), AllocError> {
+    let hurts = random.up_to(2);
+    for _ in 0..hurts {
+        hurt(random, older, content)?;
+    }
+    Ok(())
 }
 
 // Damages a device in one of several ways.
@@ -281,22 +317,36 @@ fn resize(random: &mut Random, content: &mut Vec<Block>) -> Result<(), AllocErro
 
 // Opens the device and appends an event to its store, and adds the outcomes and the device's resulting contents.
 fn open_hurt(alloc: Global, content: &[Block], outcomes: &mut Outcomes) -> anyhow::Result<()> {
-    let disk = FailOnce::new(MemDisk::from_sectors(alloc, content)?, u64::MAX);
-    let disk = match Store::open(alloc, disk) {
-        Ok(store) => {
-            outcomes.add_opened(&store);
-            outcomes.add_append(alloc, store)?
-        }
-        Err(failed) => {
-            outcomes.add_refused(failed.error);
-            failed.disk
-        }
+    let disk = MemDisk::from_sectors(alloc, content)?;
+    add_opening(alloc, Store::open(alloc, disk), outcomes)
+}
+
+fn add_opening<D: Sectors + Drop>(
+    alloc: Global,
+    opened: Result<Store<D>, Failed<D>>,
+    outcomes: &mut Outcomes,
+) -> anyhow::Result<()> {
+    let mut disk = match opened {
+        Ok(store) => outcomes.add_store(alloc, store)?,
+        Err(failed) => outcomes.add_refused(failed),
     };
-    add_device(disk.into_inner(), &mut outcomes.hasher)
+    add_device(&mut disk, &mut outcomes.hasher)
 }
 
 impl Outcomes {
-    fn add_opened(&mut self, store: &Store<Device>) {
+    // Adds a store and an append to it, and returns the device.
+    fn add_store<D: Sectors + Drop>(
+        &mut self,
+        alloc: Global,
+        store: Store<D>,
+    ) -> anyhow::Result<D> {
+        let mut store = store;
+        self.add_opened(&store);
+        self.add_append(alloc, &mut store)?;
+        Ok(store.into_disk())
+    }
+
+    fn add_opened<D: Sectors>(&mut self, store: &Store<D>) {
         let commitment = store.commitment();
         self.opened = self.opened.saturating_add(1);
         self.hasher.update(&[0]);
@@ -306,20 +356,24 @@ impl Outcomes {
         self.hasher.update(&store.generation().to_be_bytes());
     }
 
-    // Appends an event with the payload `hi`, and returns the device.
-    fn add_append(&mut self, alloc: Global, store: Store<Device>) -> anyhow::Result<Device> {
-        let mut store = store;
-        let events = vec![in alloc; Event::new(alloc, 1, b"hi")?]?;
+    // Appends an event with the payload `hi`.
+    fn add_append<D: Sectors>(
+        &mut self,
+        alloc: Global,
+        store: &mut Store<D>,
+    ) -> anyhow::Result<()> {
+        let event = Event::new(alloc, 1, b"hi")?;
         self.hasher.update(&store.version().to_be_bytes());
-        let number = match store.append(&events) {
+        let number = match store.append(&[event]) {
             Ok(_) => 0,
             Err(error) => error.number(),
         };
         self.hasher.update(&[number]);
-        Ok(store.into_disk())
+        Ok(())
     }
 
-    fn add_refused(&mut self, error: StoreError) {
+    fn add_refused<D: Sectors>(&mut self, failed: Failed<D>) -> D {
+        let Failed { error, disk } = failed;
         let number = error.number();
         let index = match error {
             StoreError::DamagedLog { index } => index,
@@ -329,5 +383,6 @@ impl Outcomes {
         *refused = refused.saturating_add(1);
         self.hasher.update(&[number]);
         self.hasher.update(&index.to_be_bytes());
+        disk
     }
 }

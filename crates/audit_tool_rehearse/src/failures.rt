@@ -1,16 +1,14 @@
 //! A run of clients over devices that fail once, each at a later call.
-use crate::clients::some_slots;
+use crate::clients::{ServedRun, serve_run};
 use crate::random::Random;
-use crate::random_door::RandomDoor;
-use crate::stores::{Device, core_over, made, new_core};
-use crate::subject::{Core, Store};
+use crate::stores::{Device, core_over, new_core};
+use crate::subject::Store;
 use crate::sweep::{entries_of, verified_events};
 use crate::texts::two_numbers;
 use crate::visitor::Visitor;
 use anyhow::Context;
-use audit_disk::FailOnce;
+use audit_disk::{FailOnce, Sectors};
 use audit_proof::Commitment;
-use audit_serve_ready::finish_writing;
 use audit_wire::first_frame;
 use std::alloc::Global;
 
@@ -25,53 +23,47 @@ const ACKNOWLEDGED: u8 = 0x81;
 pub fn play_failures<R: AllocGlobal + Print>(rt: &R, rest: &str) -> anyhow::Result<()> {
     let (number, count) = two_numbers(rest)?;
     for calls in 0..count {
-        if let Some(core) = failing_core(rt.alloc(), calls)? {
-            play_failing(rt.alloc(), number, core)?;
-        }
+        play_failing(rt.alloc(), number, calls)?;
     }
     println!(rt; "failures of {number} calls {count} kept")?;
     Ok(())
 }
 
-// A core over a store without events whose device fails after `calls` calls, unless opening it fails.
-fn failing_core(alloc: Global, calls: u64) -> anyhow::Result<Option<Core<Device>>> {
+// Plays a run over a store without events whose device fails after `calls` calls, unless opening it fails.
+fn play_failing(alloc: Global, number: u64, calls: u64) -> anyhow::Result<()> {
     let store = new_core(alloc, SECTORS, u64::MAX)?.into_store();
     let disk = FailOnce::new(store.into_disk().into_inner(), calls);
     match Store::open(alloc, disk) {
-        Ok(store) => Ok(Some(core_over(alloc, store)?)),
-        Err(_) => Ok(None),
+        Ok(store) => play_opened(alloc, number, store),
+        Err(_) => Ok(()),
     }
 }
 
-// If the core refuses a step, nothing more is written, as in a daemon.
-fn play_failing(alloc: Global, number: u64, core: Core<Device>) -> anyhow::Result<()> {
-    let mut core = core;
-    let mut random = Random::new(number);
-    let mut slots = some_slots(alloc, &mut random)?;
-    let mut door = RandomDoor::new(alloc, random);
-    if core.serve_clients(&mut slots, &mut door).is_ok() {
-        finish_writing(&mut slots, &mut door);
-    }
-    let entries = reopened(alloc, core)?;
-    check_visitors(alloc, &door.into_gone(), &entries)?;
-    for slot in &slots {
-        if let Some(visitor) = slot.client() {
-            check_replies(alloc, visitor, &entries)?;
-        }
-    }
-    Ok(())
+// Afterwards the store is opened on its device that doesn't fail any more.
+fn play_opened(alloc: Global, number: u64, store: Store<Device>) -> anyhow::Result<()> {
+    let (run, disk) = served_on(alloc, number, store)?;
+    let entries = entries_of(alloc, disk.into_inner())?;
+    check_served(alloc, &run, &entries)
 }
 
-// The entries of the store, on its device that doesn't fail any more.
-fn reopened(alloc: Global, core: Core<Device>) -> anyhow::Result<Vec<Vec<u8>>> {
-    let disk = core.into_store().into_disk().into_inner();
-    let store = made(Store::open(alloc, FailOnce::new(disk, u64::MAX)))?;
-    entries_of(alloc, store)
+fn served_on<D: Sectors + Drop>(
+    alloc: Global,
+    number: u64,
+    store: Store<D>,
+) -> anyhow::Result<(ServedRun, D)> {
+    let mut core = core_over(alloc, store)?;
+    let run = serve_run(alloc, &mut core, Random::new(number))?;
+    Ok((run, core.into_store().into_disk()))
 }
 
-fn check_visitors(alloc: Global, visitors: &[Visitor], entries: &[Vec<u8>]) -> anyhow::Result<()> {
-    for visitor in visitors {
+fn check_served(alloc: Global, served: &ServedRun, entries: &[Vec<u8>]) -> anyhow::Result<()> {
+    for visitor in served.door.gone() {
         check_replies(alloc, visitor, entries)?;
+    }
+    for slot in &served.slots {
+        if let Some(visitor) = slot.client() {
+            check_replies(alloc, visitor, entries)?;
+        }
     }
     Ok(())
 }
@@ -93,15 +85,19 @@ fn check_replies(alloc: Global, visitor: &Visitor, entries: &[Vec<u8>]) -> anyho
 
 // The commitment of an acknowledgement must be to the first of the entries.
 fn check_acknowledgement(alloc: Global, reply: &[u8], entries: &[Vec<u8>]) -> anyhow::Result<()> {
-    let count = reply.get(13..21).and_then(|bytes| bytes.first_chunk::<8>());
-    let count = u64::from_be_bytes(*count.context("a count is missing")?);
-    let root = reply
-        .get(21..53)
-        .and_then(|bytes| bytes.first_chunk::<32>());
-    let root = *root.context("a root is missing")?;
+    let commitment = commitment_in(reply).context("a commitment is missing")?;
     let front = entries
-        .get(..count as usize)
+        .get(..commitment.count as usize)
         .context("an acknowledged event is lost")?;
-    verified_events(alloc, front, &Commitment { count, root })?;
+    verified_events(alloc, front, &commitment)?;
     Ok(())
+}
+
+fn commitment_in(reply: &[u8]) -> Option<Commitment> {
+    let count = reply.get(13..21)?.first_chunk::<8>()?;
+    let root = reply.get(21..53)?.first_chunk::<32>()?;
+    Some(Commitment {
+        count: u64::from_be_bytes(*count),
+        root: *root,
+    })
 }

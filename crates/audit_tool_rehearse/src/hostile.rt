@@ -1,11 +1,12 @@
 //! Batches of hostile streams, and a digest of everything they produce.
-use crate::lists::{add_sessions, add_store, drive_groups, no_outputs};
+use crate::lists::play_plan;
 use crate::plan::Plan;
 use crate::random::Random;
 use crate::stores::{Device, first_core, new_core};
 use crate::streams::{add_append, add_head, cut_off};
 use crate::subject::Core;
-use crate::texts::{text_of, two_numbers};
+use crate::texts::{digest_text, two_numbers};
+use audit_disk::Sectors;
 use audit_wire::MAX_BODY;
 use sha2::{Digest, Sha256};
 use std::alloc::{AllocError, Global};
@@ -42,9 +43,8 @@ pub fn play_hostile<R: AllocGlobal + Print>(rt: &R, rest: &str) -> anyhow::Resul
             &mut hasher,
         )?;
     }
-    let digest: [u8; 32] = hasher.finalize();
     let (frames, malformed) = (tally.frames, tally.malformed);
-    let text = text_of(rt.alloc(), &digest)?;
+    let text = digest_text(rt.alloc(), hasher)?;
     println!(rt; "hostile from {first} {frames} frames {malformed} malformed {text}")?;
     Ok(())
 }
@@ -56,14 +56,20 @@ fn play_batch(
     hasher: &mut Sha256,
 ) -> anyhow::Result<()> {
     let mut random = Random::new(number);
-    let mut core = small_core(alloc, &mut random)?;
+    let core = small_core(alloc, &mut random)?;
+    play_core(alloc, core, random, tally, hasher)
+}
+
+fn play_core<D: Sectors + Drop>(
+    alloc: Global,
+    core: Core<D>,
+    random: Random,
+    tally: &mut Tally,
+    hasher: &mut Sha256,
+) -> anyhow::Result<()> {
+    let mut random = random;
     let streams = hostile_streams(alloc, &mut random, tally)?;
-    let mut outputs = no_outputs(alloc)?;
-    let mut plan = Plan::new(random, &streams, 12);
-    drive_groups(&mut core, &mut plan, GROUPS, &mut outputs)?;
-    core.flush()?;
-    add_sessions(&mut core, &mut outputs, hasher)?;
-    add_store(core.into_store(), hasher)
+    play_plan(alloc, core, Plan::new(random, &streams, 12), GROUPS, hasher)
 }
 
 // A core over a store of 3 to 32 sectors. One store in four is of the first version of the format.

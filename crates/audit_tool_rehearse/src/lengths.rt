@@ -1,6 +1,6 @@
 //! A request and a membership proof of each possible length.
 use crate::streams::add_head;
-use crate::texts::text_of;
+use crate::texts::digest_text;
 use anyhow::bail;
 use audit_base::{MAX_ENTRY, MAX_MEMBER_HASHES, MAX_PAYLOAD};
 use audit_proof::{MemberProof, read_member, write_member};
@@ -16,8 +16,8 @@ pub fn try_lengths<R: AllocGlobal + Print>(rt: &R) -> anyhow::Result<()> {
         add_owned(rt.alloc(), length, &mut hasher)?;
         add_member(rt.alloc(), length, &mut hasher)?;
     }
-    let digest: [u8; 32] = hasher.finalize();
-    println!(rt; "lengths {}", text_of(rt.alloc(), &digest)?)?;
+    let digest = digest_text(rt.alloc(), hasher)?;
+    println!(rt; "lengths {digest}")?;
     Ok(())
 }
 

@@ -4,10 +4,10 @@ use crate::random::Random;
 use crate::stores::{Device, first_core, new_core, worn_core};
 use crate::streams::stream_of;
 use crate::subject::{Core, Store};
-use crate::texts::text_of;
+use crate::texts::digest_text;
 use anyhow::bail;
 use audit_base::SESSIONS;
-use audit_disk::{MemDisk, SECTOR_SIZE, Sectors};
+use audit_disk::{SECTOR_SIZE, Sectors};
 use sha2::{Digest, Sha256};
 use std::alloc::{AllocError, Global};
 
@@ -22,20 +22,39 @@ pub fn play_lists<R: AllocGlobal + Print>(rt: &R, first: u64) -> anyhow::Result<
     for place in 0..LISTS {
         play_list(rt.alloc(), first.saturating_add(place), &mut hasher)?;
     }
-    let digest: [u8; 32] = hasher.finalize();
-    println!(rt; "lists from {first} {}", text_of(rt.alloc(), &digest)?)?;
+    let digest = digest_text(rt.alloc(), hasher)?;
+    println!(rt; "lists from {first} {digest}")?;
     Ok(())
 }
 
 fn play_list(alloc: Global, number: u64, hasher: &mut Sha256) -> anyhow::Result<()> {
     let mut random = Random::new(number);
-    let mut core = random_core(alloc, &mut random)?;
+    let core = random_core(alloc, &mut random)?;
+    play_core(alloc, core, random, hasher)
+}
+
+fn play_core<D: Sectors + Drop>(
+    alloc: Global,
+    core: Core<D>,
+    random: Random,
+    hasher: &mut Sha256,
+) -> anyhow::Result<()> {
+    let mut random = random;
     let streams = random_streams(alloc, &mut random)?;
-    let mut outputs = no_outputs(alloc)?;
-    let mut plan = random_plan(random, &streams);
-    drive_groups(&mut core, &mut plan, GROUPS, &mut outputs)?;
-    core.flush()?;
-    add_sessions(&mut core, &mut outputs, hasher)?;
+    play_plan(alloc, core, random_plan(random, &streams), GROUPS, hasher)
+}
+
+/// Plays groups of four steps, and adds what the sessions received and what the store then holds.
+pub fn play_plan<D: Sectors + Drop>(
+    alloc: Global,
+    core: Core<D>,
+    plan: Plan,
+    groups: usize,
+    hasher: &mut Sha256,
+) -> anyhow::Result<()> {
+    let mut core = core;
+    let outputs = outputs_of(alloc, &mut core, plan, groups)?;
+    add_sessions(&core, &outputs, hasher);
     add_store(core.into_store(), hasher)
 }
 
@@ -49,9 +68,22 @@ pub fn random_plan<'a>(mut random: Random, streams: &'a [Vec<u8>]) -> Plan<'a> {
     Plan::new(random, streams, flushes)
 }
 
-/// Drives groups of four steps, and after each group takes the output of a session.
-pub fn drive_groups(
-    core: &mut Core<Device>,
+/// Drives groups of four steps and flushes the core. Returns the output of each session.
+pub fn outputs_of<D: Sectors>(
+    alloc: Global,
+    core: &mut Core<D>,
+    plan: Plan,
+    groups: usize,
+) -> anyhow::Result<Vec<Vec<u8>>> {
+    let mut plan = plan;
+    let mut outputs = no_outputs(alloc)?;
+    drive_groups(core, &mut plan, groups, &mut outputs)?;
+    Ok(outputs)
+}
+
+// After each group the output of one session is taken, and in the end that of each.
+fn drive_groups<D: Sectors>(
+    core: &mut Core<D>,
     plan: &mut Plan,
     groups: usize,
     outputs: &mut [Vec<u8>],
@@ -59,6 +91,10 @@ pub fn drive_groups(
     for group in 0..groups {
         drive_four(core, plan)?;
         gather(core, outputs, group % SESSIONS)?;
+    }
+    core.flush()?;
+    for session in 0..SESSIONS {
+        gather(core, outputs, session)?;
     }
     Ok(())
 }
@@ -100,8 +136,8 @@ pub fn random_streams(alloc: Global, random: &mut Random) -> Result<Vec<Vec<u8>>
     Ok(streams)
 }
 
-/// Empty outputs for all sessions.
-pub fn no_outputs(alloc: Global) -> Result<Vec<Vec<u8>>, AllocError> {
+// Empty outputs for all sessions.
+fn no_outputs(alloc: Global) -> Result<Vec<Vec<u8>>, AllocError> {
     let mut outputs = Vec::new(alloc);
     for _ in 0..SESSIONS {
         outputs.push(Vec::new(alloc))?;
@@ -109,7 +145,7 @@ pub fn no_outputs(alloc: Global) -> Result<Vec<Vec<u8>>, AllocError> {
     Ok(outputs)
 }
 
-fn drive_four(core: &mut Core<Device>, plan: &mut Plan) -> anyhow::Result<()> {
+fn drive_four<D: Sectors>(core: &mut Core<D>, plan: &mut Plan) -> anyhow::Result<()> {
     let steps = [
         plan.next_step(),
         plan.next_step(),
@@ -123,55 +159,40 @@ fn drive_four(core: &mut Core<Device>, plan: &mut Plan) -> anyhow::Result<()> {
 }
 
 // Takes the output of a session.
-fn gather(
-    core: &mut Core<Device>,
+fn gather<D: Sectors>(
+    core: &mut Core<D>,
     outputs: &mut [Vec<u8>],
     session: usize,
 ) -> Result<(), AllocError> {
-    let output = core.take_output(session);
-    if let Some(gathered) = outputs.get_mut(session) {
-        gathered.extend_from_slice(&output)?;
+    match outputs.get_mut(session) {
+        Some(gathered) => gathered.extend_from_slice(&core.take_output(session)),
+        None => Ok(()),
     }
-    Ok(())
 }
 
-/// Takes the output of each session.
-pub fn gather_each(core: &mut Core<Device>, outputs: &mut [Vec<u8>]) -> Result<(), AllocError> {
+// Adds the length and the bytes of each session's output, and whether the session has ended.
+fn add_sessions<D: Sectors>(core: &Core<D>, outputs: &[Vec<u8>], hasher: &mut Sha256) {
     for session in 0..SESSIONS {
-        gather(core, outputs, session)?;
-    }
-    Ok(())
-}
-
-/// Adds the length and the bytes of each session's output, and whether the session has ended.
-pub fn add_sessions(
-    core: &mut Core<Device>,
-    outputs: &mut [Vec<u8>],
-    hasher: &mut Sha256,
-) -> anyhow::Result<()> {
-    for session in 0..SESSIONS {
-        gather(core, outputs, session)?;
         if let Some(output) = outputs.get(session) {
             hasher.update(&(output.len() as u64).to_be_bytes());
             hasher.update(output);
         }
         hasher.update(&[u8::from(core.ended(session))]);
     }
-    Ok(())
 }
 
 /// Adds the generation, the count, the end, the root and the device.
-pub fn add_store(store: Store<Device>, hasher: &mut Sha256) -> anyhow::Result<()> {
+pub fn add_store<D: Sectors + Drop>(store: Store<D>, hasher: &mut Sha256) -> anyhow::Result<()> {
     let commitment = store.commitment();
     hasher.update(&store.generation().to_be_bytes());
     hasher.update(&commitment.count.to_be_bytes());
     hasher.update(&store.end().to_be_bytes());
     hasher.update(&commitment.root);
-    add_device(store.into_disk().into_inner(), hasher)
+    add_device(&mut store.into_disk(), hasher)
 }
 
 /// Adds the bytes of each sector.
-pub fn add_device(mut disk: MemDisk, hasher: &mut Sha256) -> anyhow::Result<()> {
+pub fn add_device<D: Sectors>(disk: &mut D, hasher: &mut Sha256) -> anyhow::Result<()> {
     let mut sector = [0; SECTOR_SIZE];
     for at in 0..disk.size() {
         if at < disk.size() {

@@ -51,8 +51,8 @@ impl RandomDoor {
     }
 
     /// The clients that have gone.
-    pub fn into_gone(self) -> Vec<Visitor> {
-        self.gone
+    pub fn gone(&self) -> &[Visitor] {
+        &self.gone
     }
 
     fn new_visitor(&mut self) -> Result<Visitor, AllocError> {

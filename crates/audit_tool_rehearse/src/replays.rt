@@ -16,23 +16,19 @@ pub fn is_replayed(
     commitment: &Commitment,
 ) -> anyhow::Result<bool> {
     let input = input_of(alloc, events)?;
-    let mut reader = input.as_bytes();
+    let lines = lines_of(alloc, entries, commitment)?;
+    is_replayed_as(alloc, input.as_bytes(), lines.as_bytes())
+}
+
+fn is_replayed_as(alloc: Global, input: &[u8], lines: &[u8]) -> anyhow::Result<bool> {
+    let mut reader = input;
     let mut output = Vec::new(alloc);
     match replay(alloc, &mut reader, &mut output) {
-        Ok(()) => {
-            check_lines(&output, &lines_of(alloc, entries, commitment)?)?;
-            Ok(true)
-        }
+        Ok(()) if output.as_slice() == lines => Ok(true),
+        Ok(()) => bail!("a replay writes other lines than those of the store"),
         Err(LinesError::InputTooLong) => Ok(false),
         Err(fault) => Err(fault.into()),
     }
-}
-
-fn check_lines(output: &[u8], lines: &str) -> anyhow::Result<()> {
-    if output != lines.as_bytes() {
-        bail!("a replay writes other lines than those of the store");
-    }
-    Ok(())
 }
 
 // The input of a replay: the key of zeros and the events.
@@ -40,28 +36,50 @@ fn input_of(alloc: Global, events: &[Event]) -> anyhow::Result<String> {
     let key: String = [0; 32].encode_hex(alloc)?;
     let mut input = format!(in alloc; "key {key}\n")?;
     for event in events {
-        let payload = payload_of(alloc, event)?;
-        input.push_str(format!(in alloc; "event {} {payload}\n", event.kind())?.as_str())?;
+        push_event(alloc, &mut input, event)?;
     }
     Ok(input)
 }
 
-// The payload as an event line has it.
-fn payload_of(alloc: Global, event: &Event) -> anyhow::Result<String> {
+fn push_event(alloc: Global, input: &mut String, event: &Event) -> anyhow::Result<()> {
     if event.payload().is_empty() {
-        return Ok(format!(in alloc; "-")?);
+        input.push_str(&format!(in alloc; "event {} -\n", event.kind())?)?;
+        return Ok(());
     }
-    Ok(event.payload().encode_hex(alloc)?)
+    push_line(
+        alloc,
+        input,
+        "event",
+        u64::from(event.kind()),
+        event.payload(),
+    )
 }
 
 // The lines of a store's entries and of its commitment.
 fn lines_of(alloc: Global, entries: &[Vec<u8>], commitment: &Commitment) -> anyhow::Result<String> {
     let mut lines = String::new(alloc);
-    for (index, entry) in entries.iter().enumerate() {
-        let entry: String = entry.encode_hex(alloc)?;
-        lines.push_str(format!(in alloc; "entry {index} {entry}\n")?.as_str())?;
+    for index in 0..entries.len() {
+        push_line(alloc, &mut lines, "entry", index as u64, &entries[index])?;
     }
-    let root: String = commitment.root.encode_hex(alloc)?;
-    lines.push_str(format!(in alloc; "commit {} {root}\n", commitment.count)?.as_str())?;
+    push_line(
+        alloc,
+        &mut lines,
+        "commit",
+        commitment.count,
+        &commitment.root,
+    )?;
     Ok(lines)
+}
+
+// Adds a line of a word, a number and the hex digits of these bytes.
+fn push_line(
+    alloc: Global,
+    lines: &mut String,
+    word: &str,
+    number: u64,
+    bytes: &[u8],
+) -> anyhow::Result<()> {
+    let digits: String = bytes.encode_hex(alloc)?;
+    lines.push_str(&format!(in alloc; "{word} {number} {digits}\n")?)?;
+    Ok(())
 }

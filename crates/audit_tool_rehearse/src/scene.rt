@@ -13,7 +13,7 @@ use crate::sweep::play_sweep;
 use crate::texts::{bytes_of, number_of, text_of, two_numbers};
 use anyhow::{Context, bail};
 use audit_base::SESSIONS;
-use audit_disk::MemDisk;
+use audit_disk::Sectors;
 use audit_server::Step;
 use audit_store::StoreError;
 
@@ -36,10 +36,8 @@ impl Scene {
             "store" | "worn" => self.begin(rt, task, rest),
             "open" => self.open(rt),
             "first" => self.begin_first(rt, rest),
-            "lengths" => try_lengths(rt),
-            "cuts" | "lists" | "serve" | "clients" | "failures" | "hostile" | "devices" | "sweep" =>
-                { play_apart(rt, task, rest) }
-            _ => self.step(rt, task, rest),
+            "feed" | "end" | "drive" | "show" | "flush" => self.step(rt, task, rest),
+            _ => play_apart(rt, task, rest),
         }
     }
 
@@ -73,8 +71,10 @@ impl Scene {
 
     fn open<R: AllocGlobal + Print>(&mut self, rt: &R) -> anyhow::Result<()> {
         let core = self.core.take().context("there is no store")?;
-        let core = open_core(rt.alloc(), show_store(rt, "held", core)?)?;
-        self.core = Some(open_core(rt.alloc(), show_store(rt, "opened", core)?)?);
+        let held = show_store(rt, "held", core)?;
+        let core = open_core(rt.alloc(), held.into_inner())?;
+        let opened = show_store(rt, "opened", core)?;
+        self.core = Some(open_core(rt.alloc(), opened.into_inner())?);
         Ok(())
     }
 
@@ -98,6 +98,7 @@ impl Scene {
 // Plays a task that makes its own stores.
 fn play_apart<R: AllocGlobal + Print>(rt: &R, task: &str, rest: &str) -> anyhow::Result<()> {
     match task {
+        "lengths" => try_lengths(rt),
         "cuts" => try_cuts(rt, &bytes_of(rt.alloc(), rest)?),
         "lists" => play_lists(rt, number_of(rest)?),
         "hostile" => play_hostile(rt, rest),
@@ -105,7 +106,8 @@ fn play_apart<R: AllocGlobal + Print>(rt: &R, task: &str, rest: &str) -> anyhow:
         "sweep" => play_sweep(rt, rest),
         "clients" => play_clients(rt, rest),
         "failures" => play_failures(rt, rest),
-        _ => serve_scene(rt, rest),
+        "serve" => serve_scene(rt, rest),
+        _ => bail!("there is no such step: {task}"),
     }
 }
 
@@ -113,9 +115,9 @@ fn session_of(word: &str) -> anyhow::Result<usize> {
     Ok(word.parse().context("a session is wanted")?)
 }
 
-fn step_session<R: AllocGlobal + Print>(
+fn step_session<R: AllocGlobal + Print, D: Sectors>(
     rt: &R,
-    core: &mut Core<Device>,
+    core: &mut Core<D>,
     task: &str,
     session: usize,
     piece: &[u8],
@@ -124,15 +126,14 @@ fn step_session<R: AllocGlobal + Print>(
         "feed" => feed(rt, core, session, piece),
         "end" => end(rt, core, session),
         "drive" => drive_steps(rt, core, session, piece),
-        "show" => show(rt, core, session),
-        _ => bail!("there is no such step: {task}"),
+        _ => show(rt, core, session),
     }
 }
 
 // Feeds a piece, and tries again if memory was refused.
-fn feed<R: Print>(
+fn feed<R: Print, D: Sectors>(
     rt: &R,
-    core: &mut Core<Device>,
+    core: &mut Core<D>,
     session: usize,
     piece: &[u8],
 ) -> anyhow::Result<()> {
@@ -150,7 +151,7 @@ fn feed<R: Print>(
     bail!("memory is refused again and again")
 }
 
-fn end<R: Print>(rt: &R, core: &mut Core<Device>, session: usize) -> anyhow::Result<()> {
+fn end<R: Print, D: Sectors>(rt: &R, core: &mut Core<D>, session: usize) -> anyhow::Result<()> {
     for _ in 0..TRIES {
         let Err(error) = core.end(session) else {
             return Ok(());
@@ -163,7 +164,7 @@ fn end<R: Print>(rt: &R, core: &mut Core<Device>, session: usize) -> anyhow::Res
     bail!("memory is refused again and again")
 }
 
-fn flush<R: Print>(rt: &R, core: &mut Core<Device>) -> anyhow::Result<()> {
+fn flush<R: Print, D: Sectors>(rt: &R, core: &mut Core<D>) -> anyhow::Result<()> {
     for _ in 0..TRIES {
         let Err(error) = core.flush() else {
             return Ok(());
@@ -176,9 +177,9 @@ fn flush<R: Print>(rt: &R, core: &mut Core<Device>) -> anyhow::Result<()> {
     bail!("memory is refused again and again")
 }
 
-fn drive_steps<R: Print>(
+fn drive_steps<R: Print, D: Sectors>(
     rt: &R,
-    core: &mut Core<Device>,
+    core: &mut Core<D>,
     session: usize,
     piece: &[u8],
 ) -> anyhow::Result<()> {
@@ -200,9 +201,9 @@ fn drive_steps<R: Print>(
     Ok(())
 }
 
-fn show<R: AllocGlobal + Print>(
+fn show<R: AllocGlobal + Print, D: Sectors>(
     rt: &R,
-    core: &mut Core<Device>,
+    core: &mut Core<D>,
     session: usize,
 ) -> anyhow::Result<()> {
     let output = core.take_output(session);
@@ -213,20 +214,20 @@ fn show<R: AllocGlobal + Print>(
 }
 
 // Prints what a core's store holds, and returns its device.
-fn show_store<R: AllocGlobal + Print>(
+fn show_store<R: AllocGlobal + Print, D: Sectors + Drop>(
     rt: &R,
     name: &str,
-    core: Core<Device>,
-) -> anyhow::Result<MemDisk> {
+    core: Core<D>,
+) -> anyhow::Result<D> {
     let store = core.into_store();
     print_store(rt, name, &store)?;
-    Ok(store.into_disk().into_inner())
+    Ok(store.into_disk())
 }
 
-fn print_store<R: AllocGlobal + Print>(
+fn print_store<R: AllocGlobal + Print, D: Sectors>(
     rt: &R,
     name: &str,
-    store: &Store<Device>,
+    store: &Store<D>,
 ) -> anyhow::Result<()> {
     let commitment = store.commitment();
     let root = text_of(rt.alloc(), &commitment.root)?;

@@ -4,32 +4,31 @@ use crate::texts::{bytes_of, number_of, text_of};
 use anyhow::Context;
 use audit_serve_passes::{ServeEnd, ServeFault, StreamPair};
 use audit_store::StoreError;
-use std::alloc::{AllocError, Global};
+use std::alloc::Global;
 use std::cell::Cell;
 use std::io::{self, ErrorKind, Read, Write};
-use std::rc::Rc;
 
 /// A reader that returns some bytes for each read, and fails after a number of reads. If it waits for something, every
 /// read but its first fails until that has happened.
 #[derive(Drop)]
-struct Source {
+struct Source<'a> {
     bytes: Vec<u8>,
     given: usize,
     most: usize,
     reads: usize,
-    waits_for: Option<Rc<Cell<bool>>>,
+    waits_for: Option<&'a Cell<bool>>,
 }
 
-impl Source {
+impl<'a> Source<'a> {
     fn has_to_wait(&self) -> bool {
-        match &self.waits_for {
+        match self.waits_for {
             Some(has_come) => self.given > 0 && !has_come.get(),
             None => false,
         }
     }
 }
 
-impl Read for Source {
+impl<'a> Read for Source<'a> {
     fn read(&mut self, buffer: &mut [u8]) -> io::Result<usize> {
         if self.reads == 0 || self.has_to_wait() {
             return Err(io::Error::from(ErrorKind::Other));
@@ -45,13 +44,13 @@ impl Read for Source {
 
 /// A writer that accepts some bytes for each write, and notes that something arrived.
 #[derive(Drop)]
-struct Sink {
+struct Sink<'a> {
     bytes: Vec<u8>,
     most: usize,
-    has_come: Rc<Cell<bool>>,
+    has_come: &'a Cell<bool>,
 }
 
-impl Write for Sink {
+impl<'a> Write for Sink<'a> {
     fn write(&mut self, bytes: &[u8]) -> io::Result<usize> {
         self.has_come.set(true);
         let most = bytes.len().min(self.most);
@@ -63,7 +62,7 @@ impl Write for Sink {
     }
 }
 
-type Stream = StreamPair<Source, Sink>;
+type Stream<'a> = StreamPair<Source<'a>, Sink<'a>>;
 
 /// How the streams of a scene behave.
 #[derive(Clone, Copy, Drop)]
@@ -76,61 +75,72 @@ struct Manner {
 
 /// Serves two streams as the words specify, and prints how serving ended and what was written to each.
 pub fn serve_scene<R: AllocGlobal + Print>(rt: &R, rest: &str) -> anyhow::Result<()> {
-    let words = words_of(rt.alloc(), rest)?;
-    let mut streams = streams_of(rt.alloc(), &words)?;
-    let served = serve_both(rt.alloc(), number_at(&words, 0)?, &mut streams)?;
+    let mut words = Words { left: Some(rest) };
+    let calls = number_of(words.next_word()?)?;
+    let manner = words.next_manner()?;
+    let (front, back) = (Cell::new(false), Cell::new(false));
+    let alloc = rt.alloc();
+    let first = bytes_of(alloc, words.next_word()?)?;
+    let second = bytes_of(alloc, words.next_word()?)?;
+    let streams = [
+        stream(alloc, manner, first, &front, &back),
+        stream(alloc, manner, second, &back, &front),
+    ];
+    serve_streams(rt, calls, streams)
+}
+
+fn serve_streams<R: AllocGlobal + Print>(
+    rt: &R,
+    calls: u64,
+    streams: [Stream<'_>; 2],
+) -> anyhow::Result<()> {
+    let mut streams = streams;
+    let served = serve_both(rt.alloc(), calls, &mut streams)?;
+    print_served(rt, served, &streams)
+}
+
+fn print_served<R: AllocGlobal + Print>(
+    rt: &R,
+    served: Served,
+    streams: &[Stream],
+) -> anyhow::Result<()> {
     println!(rt; "turns {} {}", served.turns, served.end)?;
-    print_written(rt, &streams)?;
+    for stream in streams {
+        println!(rt; "written {}", text_of(rt.alloc(), &stream.writer().bytes)?)?;
+    }
     println!(rt; "count {}", served.count)?;
     Ok(())
 }
 
-fn words_of<'a>(alloc: Global, text: &'a str) -> Result<Vec<&'a str>, AllocError> {
-    let mut words = Vec::new(alloc);
-    for word in text.split(' ') {
-        words.push(word)?;
+/// The words that are left of a line.
+#[derive(Drop)]
+struct Words<'a> {
+    left: Option<&'a str>,
+}
+
+impl<'a> Words<'a> {
+    fn next_word(&mut self) -> anyhow::Result<&'a str> {
+        let left = self.left.context("a word is missing")?;
+        let Some((word, rest)) = left.split_once(' ') else {
+            self.left = None;
+            return Ok(left);
+        };
+        self.left = Some(rest);
+        Ok(word)
     }
-    Ok(words)
-}
 
-// The streams that the words after the first describe.
-fn streams_of(alloc: Global, words: &[&str]) -> anyhow::Result<[Stream; 2]> {
-    let manner = manner_of(words)?;
-    let first = bytes_of(alloc, word_at(words, 5)?)?;
-    let second = bytes_of(alloc, word_at(words, 6)?)?;
-    Ok(two_streams(alloc, manner, first, second)?)
-}
+    fn next_size(&mut self) -> anyhow::Result<usize> {
+        Ok(number_of(self.next_word()?)? as usize)
+    }
 
-fn manner_of(words: &[&str]) -> anyhow::Result<Manner> {
-    Ok(Manner {
-        most_read: number_at(words, 1)? as usize,
-        reads: number_at(words, 2)? as usize,
-        most_written: number_at(words, 3)? as usize,
-        waits: number_at(words, 4)? > 0,
-    })
-}
-
-fn word_at<'a>(words: &[&'a str], place: usize) -> anyhow::Result<&'a str> {
-    Ok(words.get(place).copied().context("a word is missing")?)
-}
-
-fn number_at(words: &[&str], place: usize) -> anyhow::Result<u64> {
-    number_of(word_at(words, place)?)
-}
-
-// Two streams of these bytes. Each may wait until something is written to the other.
-fn two_streams(
-    alloc: Global,
-    manner: Manner,
-    first: Vec<u8>,
-    second: Vec<u8>,
-) -> Result<[Stream; 2], AllocError> {
-    let front = Rc::new(alloc, Cell::new(false))?;
-    let back = Rc::new(alloc, Cell::new(false))?;
-    Ok([
-        stream(alloc, manner, first, front.clone()?, back.clone()?),
-        stream(alloc, manner, second, back, front),
-    ])
+    fn next_manner(&mut self) -> anyhow::Result<Manner> {
+        Ok(Manner {
+            most_read: self.next_size()?,
+            reads: self.next_size()?,
+            most_written: self.next_size()?,
+            waits: self.next_size()? > 0,
+        })
+    }
 }
 
 // How the streams were served, and how many events the store then has.
@@ -152,21 +162,14 @@ fn serve_both(alloc: Global, calls: u64, streams: &mut [Stream; 2]) -> anyhow::R
     })
 }
 
-fn print_written<R: AllocGlobal + Print>(rt: &R, streams: &[Stream]) -> anyhow::Result<()> {
-    for stream in streams {
-        println!(rt; "written {}", text_of(rt.alloc(), &stream.writer().bytes)?)?;
-    }
-    Ok(())
-}
-
 // A stream of these bytes, with places to note that something was written to it and to the other.
-fn stream(
+fn stream<'a>(
     alloc: Global,
     manner: Manner,
     bytes: Vec<u8>,
-    own: Rc<Cell<bool>>,
-    other: Rc<Cell<bool>>,
-) -> Stream {
+    own: &'a Cell<bool>,
+    other: &'a Cell<bool>,
+) -> Stream<'a> {
     let source = Source {
         bytes,
         given: 0,

@@ -20,7 +20,7 @@ pub const TRIES: u64 = 3;
 pub fn new_core(alloc: Global, sectors: u64, calls: u64) -> anyhow::Result<Core<Device>> {
     let disk = FailOnce::new(MemDisk::new(alloc, sectors)?, calls);
     let key = Key::from_bytes([0; 32]);
-    core_over(alloc, made(Store::format(alloc, disk, key))?)
+    core_of(alloc, Store::format(alloc, disk, key))
 }
 
 /// A core over a store without events that has generations left for `commits` commits.
@@ -42,9 +42,9 @@ fn core_of_no_events(
     generations: [u64; 2],
 ) -> anyhow::Result<Core<Device>> {
     let mut content = vec![in alloc; [0; SECTOR_SIZE]; sectors as usize]?;
-    for (slot, generation) in generations.into_iter().enumerate() {
+    for slot in 0..generations.len() {
         if let Some(sector) = content.get_mut(slot) {
-            *sector = header_of(sectors, version, generation)?;
+            *sector = header_of(sectors, version, generations[slot])?;
         }
     }
     open_core(alloc, MemDisk::from_sectors(alloc, &content)?)
@@ -72,11 +72,14 @@ fn header_of(sectors: u64, version: u16, generation: u64) -> anyhow::Result<[u8;
 /// A core over the store on a device, which no longer fails.
 pub fn open_core(alloc: Global, disk: MemDisk) -> anyhow::Result<Core<Device>> {
     let disk = FailOnce::new(disk, u64::MAX);
-    core_over(alloc, made(Store::open(alloc, disk))?)
+    core_of(alloc, Store::open(alloc, disk))
 }
 
 /// The sectors of a device.
-pub fn blocks_of(alloc: Global, disk: &mut MemDisk) -> anyhow::Result<Vec<[u8; SECTOR_SIZE]>> {
+pub fn blocks_of<D: Sectors>(
+    alloc: Global,
+    disk: &mut D,
+) -> anyhow::Result<Vec<[u8; SECTOR_SIZE]>> {
     let mut blocks = Vec::new(alloc);
     let mut sector = [0; SECTOR_SIZE];
     for at in 0..disk.size() {
@@ -88,8 +91,16 @@ pub fn blocks_of(alloc: Global, disk: &mut MemDisk) -> anyhow::Result<Vec<[u8; S
     Ok(blocks)
 }
 
+// A core over the store that was made, or why there is none.
+fn core_of<D: Sectors + Drop>(
+    alloc: Global,
+    opened: Result<Store<D>, Failed<D>>,
+) -> anyhow::Result<Core<D>> {
+    core_over(alloc, made(opened)?)
+}
+
 /// A core over a store.
-pub fn core_over(alloc: Global, store: Store<Device>) -> anyhow::Result<Core<Device>> {
+pub fn core_over<D: Sectors + Drop>(alloc: Global, store: Store<D>) -> anyhow::Result<Core<D>> {
     let mut left = store;
     for _ in 0..TRIES {
         match Core::new(alloc, left) {
@@ -101,7 +112,7 @@ pub fn core_over(alloc: Global, store: Store<Device>) -> anyhow::Result<Core<Dev
 }
 
 /// The store, or why there is none.
-pub fn made(opened: Result<Store<Device>, Failed<Device>>) -> anyhow::Result<Store<Device>> {
+pub fn made<D: Sectors + Drop>(opened: Result<Store<D>, Failed<D>>) -> anyhow::Result<Store<D>> {
     match opened {
         Ok(store) => Ok(store),
         Err(failed) => Err(failed.error.into()),

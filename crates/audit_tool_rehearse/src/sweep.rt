@@ -1,12 +1,13 @@
 //! The large sweep: lists of steps drawn by a cipher, whose stores are reopened, exported, verified and replayed.
-use crate::lists::{drive_groups, gather_each, no_outputs, random_plan, random_streams};
+use crate::lists::{outputs_of, random_plan, random_streams};
 use crate::random::Random;
 use crate::replays::is_replayed;
-use crate::stores::{Device, made, new_core};
-use crate::subject::Store;
-use crate::texts::{text_of, two_numbers};
+use crate::stores::{made, new_core};
+use crate::subject::{Core, Store};
+use crate::texts::{digest_text, two_numbers};
 use anyhow::{Context, bail};
 use audit_chain::{Event, Key};
+use audit_disk::Sectors;
 use audit_proof::Commitment;
 use audit_verify::verify;
 use audit_wire::first_frame;
@@ -32,6 +33,18 @@ struct Sums {
     too_long: u64,
 }
 
+impl Sums {
+    fn add(&mut self, events: &[Event], commitment: &Commitment, is_replayed: bool) {
+        if is_replayed {
+            self.replayed = self.replayed.saturating_add(1);
+        } else {
+            self.too_long = self.too_long.saturating_add(1);
+        }
+        self.events = self.events.saturating_add(events.len() as u64);
+        self.hasher.update(&commitment.root);
+    }
+}
+
 /// Sweeps a range of numbered lists, and prints the sums. It is an error if a call is refused, if `verify` doesn't
 /// return the acknowledged events in their order, or if `replay` doesn't write the store's lines for them.
 pub fn play_sweep<R: AllocGlobal + Print>(rt: &R, rest: &str) -> anyhow::Result<()> {
@@ -52,8 +65,7 @@ pub fn play_sweep<R: AllocGlobal + Print>(rt: &R, rest: &str) -> anyhow::Result<
 fn print_sums<R: AllocGlobal + Print>(rt: &R, first: u64, sums: Sums) -> anyhow::Result<()> {
     let (events, acknowledged) = (sums.events, sums.acknowledged);
     let (replayed, too_long) = (sums.replayed, sums.too_long);
-    let digest: [u8; 32] = sums.hasher.finalize();
-    let text = text_of(rt.alloc(), &digest)?;
+    let text = digest_text(rt.alloc(), sums.hasher)?;
     println!(rt; "sweep from {first} events {events} acknowledged {acknowledged} roots {text}")?;
     println!(rt; "replayed {replayed} lists, {too_long} were too long")?;
     Ok(())
@@ -62,43 +74,60 @@ fn print_sums<R: AllocGlobal + Print>(rt: &R, first: u64, sums: Sums) -> anyhow:
 fn sweep_list(alloc: Global, number: u64, sums: &mut Sums) -> anyhow::Result<()> {
     let mut random = Random::of_cipher(number);
     let sectors = random.below(298).saturating_add(3);
-    let mut core = new_core(alloc, sectors, u64::MAX)?;
+    let core = new_core(alloc, sectors, u64::MAX)?;
+    sweep_core(alloc, core, random, sums)
+}
+
+fn sweep_core<D: Sectors + Drop>(
+    alloc: Global,
+    core: Core<D>,
+    random: Random,
+    sums: &mut Sums,
+) -> anyhow::Result<()> {
+    let (mut core, mut random) = (core, random);
     let streams = random_streams(alloc, &mut random)?;
-    let mut outputs = no_outputs(alloc)?;
-    let mut plan = random_plan(random, &streams);
-    drive_groups(&mut core, &mut plan, GROUPS, &mut outputs)?;
-    core.flush()?;
-    gather_each(&mut core, &mut outputs)?;
-    let store = core.into_store();
-    let count = store.commitment().count;
-    let appended = acknowledged_appends(alloc, count, &streams, &outputs, sums)?;
-    add_reopened(alloc, store, &appended, sums)
+    let outputs = outputs_of(alloc, &mut core, random_plan(random, &streams), GROUPS)?;
+    sweep_store(alloc, core.into_store(), &streams, &outputs, sums)
 }
 
 // Adds a store after reopening it. Its events must be those that were appended.
-fn add_reopened(
+fn sweep_store<D: Sectors + Drop>(
     alloc: Global,
-    store: Store<Device>,
-    appended: &[Option<&[u8]>],
+    store: Store<D>,
+    streams: &[Vec<u8>],
+    outputs: &[Vec<u8>],
     sums: &mut Sums,
 ) -> anyhow::Result<()> {
     let commitment = store.commitment();
-    let entries = entries_of(alloc, store)?;
-    let events = verified_events(alloc, &entries, &commitment)?;
+    let entries = entries_of(alloc, store.into_disk())?;
+    let appended = acknowledged_appends(alloc, commitment.count, streams, outputs, sums)?;
+    add_entries(alloc, &entries, &commitment, &appended, sums)
+}
+
+fn add_entries(
+    alloc: Global,
+    entries: &[Vec<u8>],
+    commitment: &Commitment,
+    appended: &[Option<&[u8]>],
+    sums: &mut Sums,
+) -> anyhow::Result<()> {
+    let events = verified_events(alloc, entries, commitment)?;
     check_events(&events, appended)?;
-    if is_replayed(alloc, &events, &entries, &commitment)? {
-        sums.replayed = sums.replayed.saturating_add(1);
-    } else {
-        sums.too_long = sums.too_long.saturating_add(1);
-    }
-    sums.events = sums.events.saturating_add(events.len() as u64);
-    sums.hasher.update(&commitment.root);
+    sums.add(
+        &events,
+        commitment,
+        is_replayed(alloc, &events, entries, commitment)?,
+    );
     Ok(())
 }
 
-/// The entries of a store, after reopening it.
-pub fn entries_of(alloc: Global, store: Store<Device>) -> anyhow::Result<Vec<Vec<u8>>> {
-    let mut store = made(Store::open(alloc, store.into_disk()))?;
+/// The entries of the store on a device.
+pub fn entries_of<D: Sectors + Drop>(alloc: Global, disk: D) -> anyhow::Result<Vec<Vec<u8>>> {
+    let mut store = made(Store::open(alloc, disk))?;
+    read_entries(alloc, &mut store)
+}
+
+fn read_entries<D: Sectors>(alloc: Global, store: &mut Store<D>) -> anyhow::Result<Vec<Vec<u8>>> {
     let mut entries = Vec::new(alloc);
     for index in 0..store.commitment().count {
         entries.push(store.entry(index)?)?;
@@ -184,8 +213,7 @@ fn note<'a>(
     reply: &[u8],
     append: &'a [u8],
 ) -> anyhow::Result<()> {
-    let index = reply.get(5..13).and_then(|bytes| bytes.first_chunk::<8>());
-    let index = u64::from_be_bytes(*index.context("an index is missing")?);
+    let index = index_in(reply).context("an index is missing")?;
     match appended.get_mut(index as usize) {
         Some(place) if place.is_none() => {
             *place = Some(append);
@@ -193,6 +221,11 @@ fn note<'a>(
         }
         _ => bail!("index {index} was acknowledged twice, or of no event"),
     }
+}
+
+fn index_in(reply: &[u8]) -> Option<u64> {
+    let index = reply.get(5..13)?.first_chunk::<8>()?;
+    Some(u64::from_be_bytes(*index))
 }
 
 // Each event must be that of the append which was acknowledged with its index.

@@ -20,6 +20,12 @@ pub fn bytes_of(alloc: Global, word: &str) -> anyhow::Result<Vec<u8>> {
     Ok(hex::decode(alloc, word).context("hex digits are wanted")?)
 }
 
+/// The hex digits of a digest.
+pub fn digest_text(alloc: Global, hasher: Sha256) -> anyhow::Result<String> {
+    let digest: [u8; 32] = hasher.finalize();
+    Ok(digest.encode_hex(alloc)?)
+}
+
 /// The hex digits of the bytes, or of their digest if there are many; `-` if there are none.
 pub fn text_of(alloc: Global, bytes: &[u8]) -> anyhow::Result<String> {
     if bytes.is_empty() {
