@@ -1,7 +1,7 @@
 //! A run of clients over devices that fail once, each at a later call.
 use crate::clients::{ServedRun, serve_run};
 use crate::random::Random;
-use crate::stores::{Device, core_over, new_core};
+use crate::stores::{Device, core_over, made, new_core};
 use crate::subject::Store;
 use crate::sweep::{entries_of, verified_events};
 use crate::texts::two_numbers;
@@ -39,10 +39,11 @@ fn play_failing(alloc: Global, number: u64, calls: u64) -> anyhow::Result<()> {
     }
 }
 
-// Afterwards the store is opened on its device that doesn't fail any more.
+// Afterwards the store is opened twice on its device, which doesn't fail any more.
 fn play_opened(alloc: Global, number: u64, store: Store<Device>) -> anyhow::Result<()> {
     let (run, disk) = served_on(alloc, number, store)?;
-    let entries = entries_of(alloc, disk.into_inner())?;
+    let store = made(Store::open(alloc, disk.into_inner()))?;
+    let entries = entries_of(alloc, store.into_disk())?;
     check_served(alloc, &run, &entries)
 }
 
