@@ -24,7 +24,7 @@ seconds_asked word = judged_number MAX_SECONDS (number_in_text word)
 abbrev pub window_asked : List ℕ → Result ℕ CommandError
 window_asked word = judged_number MAX_WINDOW (number_in_text word)
 
--- the number in a word; without a word, that of the program
+-- the number in a word; without a word, the default of the program
 abbrev pub seconds_or_default : Option (Bor (List ℕ)) → Result ℕ CommandError
 seconds_or_default None = Ok TIMEOUT
 seconds_or_default (Some word) = seconds_asked word.now

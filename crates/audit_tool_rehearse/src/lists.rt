@@ -81,7 +81,7 @@ pub fn outputs_of<D: Sectors>(
     Ok(outputs)
 }
 
-// After each group the output of one session is taken, and in the end that of each.
+// After each group the output of one session is taken, and at the end the output of each.
 fn drive_groups<D: Sectors>(
     core: &mut Core<D>,
     plan: &mut Plan,
