@@ -38,9 +38,9 @@ where
     Ok(opened)
 }
 
-// Opens the store on a device. It is generic over the device, like the functions below: a proof about a file's device
-// would release its parts one by one at each way out. It isn't inlined, so that the copies of the key that it leaves on
-// the stack are below its caller, which overwrites them.
+// Opens the store on a device. It is generic over the device, so that its proof needn't follow the release of a file's
+// device at each way out. It isn't inlined, so that the copies of the key that it leaves on the stack are below its
+// caller, which overwrites them.
 #[inline(never)]
 fn repaired<D: Sectors + Drop>(
     alloc: Global,
@@ -110,11 +110,15 @@ pub fn device_in_place<F: Files>(
 where
     F::File: SystemFile,
 {
-    if_free(open_bounded(rt, alloc, file)?.content, sectors, erase)
+    free_device(open_bounded(rt, alloc, file)?.content, sectors, erase)
 }
 
 // Returns a device if a store may be made on it.
-fn if_free<D: Sectors + Drop>(mut disk: D, sectors: u64, erase: bool) -> Result<D, CommandError> {
+fn free_device<D: Sectors + Drop>(
+    mut disk: D,
+    sectors: u64,
+    erase: bool,
+) -> Result<D, CommandError> {
     let size = disk.size();
     if size < sectors {
         return Err(CommandError::TooSmall { sectors: size });

@@ -39,7 +39,7 @@ IsPause None pause = pause ≡ None
 IsPause (Some word) None = ⊥
 IsPause (Some word) (Some seconds) = seconds_asked word.now ≡ Ok seconds
 
--- there is a word, and it is no such number
+-- there is a word, and it isn't a number of seconds from 1 to the limit
 abbrev pub AreNoSeconds : Option (Bor (List ℕ)) → Type 0
 AreNoSeconds None = ⊥
 AreNoSeconds (Some word) = seconds_asked word.now ≡ Err BadArgument

@@ -17,17 +17,17 @@ pub const MAX_WINDOW: u64 = 1024;
 pub enum Question<'a> {
     /// The newest commitment.
     Commitment,
-    /// A piece of the log, and the file for it.
-    Piece(Piece, &'a str),
+    /// An entry or a proof, and the file for it.
+    Item(Item, &'a str),
     /// All entries, and the file for them.
     Export(&'a str),
     /// To close the log.
     Close,
 }
 
-/// A piece of a log, which fits in memory.
+/// What a server sends in one reply.
 #[derive(Clone, Copy)]
-pub enum Piece {
+pub enum Item {
     /// The entry of this index.
     Entry(u64),
     /// A proof.
@@ -56,11 +56,11 @@ fn question_in<'a>(words: QuestionWords<'a>) -> Option<Question<'a>> {
         (Some(out), None, None) if name == "export" => Some(Question::Export(out)),
         (Some(index), Some(out), None) if name == "entry" => {
             let index = number_in_text(index.as_bytes())?;
-            Some(Question::Piece(Piece::Entry(index), out))
+            Some(Question::Item(Item::Entry(index), out))
         }
         (Some(first), Some(second), Some(out)) => {
             let proof = proof_request(name, first, second)?;
-            Some(Question::Piece(Piece::Proof(proof), out))
+            Some(Question::Item(Item::Proof(proof), out))
         }
         _ => None,
     }

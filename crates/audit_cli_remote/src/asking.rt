@@ -1,5 +1,5 @@
 //! Questions to a server, whose answers are written to files.
-use crate::arguments::{Piece, Question};
+use crate::arguments::{Item, Question};
 use crate::connection::{Dial, connect, socket_identity};
 use crate::fault::RemoteError;
 use crate::out::{OutFile, is_standard_output};
@@ -50,10 +50,10 @@ fn answer<F: Files, A: Write, B: Read, W: Write>(
             let last = close_log(alloc, to, from);
             print_commitment(alloc, b"closed ", last, output)
         }
-        Question::Piece(piece, out) => {
+        Question::Item(item, out) => {
             let mut file = OutFile::new(rt, alloc, socket, out);
-            let put = put_piece(alloc, to, from, piece, &mut file);
-            print_piece(alloc, piece, put, &file, output)
+            let put = put_item(alloc, to, from, item, &mut file);
+            print_item(alloc, item, put, &file, output)
         }
         Question::Export(out) => {
             let export = export_to(rt, alloc, socket, to, from, out);
@@ -62,7 +62,7 @@ fn answer<F: Files, A: Write, B: Read, W: Write>(
     }
 }
 
-// Prints the line of a commitment that was given.
+// Prints the line of a commitment, or passes the client's error on.
 fn print_commitment<W: Write>(
     alloc: Global,
     word: &[u8],
@@ -76,28 +76,28 @@ fn print_commitment<W: Write>(
     Ok(())
 }
 
-fn put_piece<A: Write, B: Read, O: Out>(
+fn put_item<A: Write, B: Read, O: Out>(
     alloc: Global,
     to: &mut A,
     from: &mut B,
-    piece: Piece,
+    item: Item,
     file: &mut O,
 ) -> Result<u64, AskError<O::Error>> {
-    match piece {
-        Piece::Entry(index) => put_entry(alloc, to, from, index, file),
-        Piece::Proof(ProofRequest::Member { index, count }) => {
+    match item {
+        Item::Entry(index) => put_entry(alloc, to, from, index, file),
+        Item::Proof(ProofRequest::Member { index, count }) => {
             put_member(alloc, to, from, index, count, file)
         }
-        Piece::Proof(ProofRequest::Increment { older, newer }) => {
+        Item::Proof(ProofRequest::Increment { older, newer }) => {
             put_increment(alloc, to, from, older, newer, file)
         }
     }
 }
 
-// Prints a piece that was put, if it is to go to standard output, or else its line.
-fn print_piece<F: Files, W: Write>(
+// Prints what was put: its bytes if they go to standard output, and its line unless OUT is `-`.
+fn print_item<F: Files, W: Write>(
     alloc: Global,
-    piece: Piece,
+    item: Item,
     put: Result<u64, AskError<RemoteError>>,
     file: &OutFile<'_, F>,
     output: &mut W,
@@ -109,9 +109,9 @@ fn print_piece<F: Files, W: Write>(
     if !file.takes_line() {
         return Ok(());
     }
-    match piece {
-        Piece::Entry(_) => write_exported(alloc, 1, size, output)?,
-        Piece::Proof(_) => write_number(alloc, b"proof ", size, output)?,
+    match item {
+        Item::Entry(_) => write_exported(alloc, 1, size, output)?,
+        Item::Proof(_) => write_number(alloc, b"proof ", size, output)?,
     }
     Ok(())
 }

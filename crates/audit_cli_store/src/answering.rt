@@ -61,7 +61,7 @@ where
 }
 
 // Answers a question about the store on a device that is only read. It is generic over the device, like the functions
-// below: a proof about a file's device would release its parts one by one at each way out.
+// below, so that no proof has to follow the release of a file's device at each way out.
 fn answer_device<F: Files, D: Sectors + Drop, W: Write>(
     rt: &F,
     alloc: Global,
@@ -92,7 +92,7 @@ fn answer_device<F: Files, D: Sectors + Drop, W: Write>(
     }
 }
 
-// The damage because of which an opening was refused, if what can still be read is to be written.
+// The damage for which an opening was refused, if the command salvages what can still be read.
 fn damage_of(fault: CommandError, access: Access) -> Option<StoreError> {
     match access {
         Access::Repair | Access::ReadOnly => None,
@@ -103,7 +103,7 @@ fn damage_of(fault: CommandError, access: Access) -> Option<StoreError> {
     }
 }
 
-// Answers a question about a store, and then closes it.
+// Answers a question about a store, and then releases it.
 fn answer_opened<F: Files, D: Sectors + Drop, W: Write>(
     rt: &F,
     alloc: Global,
@@ -314,7 +314,7 @@ where
     }
 }
 
-// The same for a store that is then closed.
+// The same for a store, which is then released.
 fn proof_of_opened<D: Sectors + Drop>(
     alloc: Global,
     mut opened: Opened<Store<D>>,

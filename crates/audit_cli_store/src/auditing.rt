@@ -38,8 +38,9 @@ pub fn check_file<F: Files, W: Write>(
     )
 }
 
-/// Verifies the export in a file as `verify_file` does, and ends the report as `end_report` does.
-pub fn report_file<F: Files, W: Write, M: Write>(
+/// Verifies the export in a file, and writes its events. After a report in text the output is flushed, and then the
+/// message with its number of events is written.
+pub fn verify_and_report<F: Files, W: Write, M: Write>(
     rt: &F,
     alloc: Global,
     export: &str,

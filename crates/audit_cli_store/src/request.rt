@@ -3,7 +3,7 @@ ghost use Rattle.audit_cli_base.specs.Arguments.{RefusesWords};
 ghost use Rattle.audit_cli_store.specs.Requests.{IsWordFault, IsReplayOf, IsCarriedOut};
 
 use crate::answering::{StoreQuestion, answer_file, prove_file};
-use crate::auditing::{check_file, report_file};
+use crate::auditing::{check_file, verify_and_report};
 use crate::changing::{append_to, close_file};
 use crate::making::format_site;
 use crate::replaying::replay;
@@ -197,7 +197,7 @@ where
             key_file,
             commitment,
             form,
-        } => report_file(
+        } => verify_and_report(
             rt, alloc, export, key_file, commitment, form, output, messages,
         ),
         Request::Prove {

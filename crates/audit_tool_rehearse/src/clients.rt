@@ -40,7 +40,7 @@ fn play_run(alloc: Global, number: u64) -> anyhow::Result<[u8; 32]> {
     Ok(hasher.finalize())
 }
 
-/// The clients of a run after it was served, and why the core refused to serve on.
+/// The clients of a run after it was served, and the core's refusal if it stopped the run.
 #[derive(Drop)]
 pub struct ServedRun {
     pub slots: Vec<Slot<Visitor>>,

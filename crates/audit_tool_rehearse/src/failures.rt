@@ -39,7 +39,7 @@ fn play_failing(alloc: Global, number: u64, calls: u64) -> anyhow::Result<()> {
     }
 }
 
-// Afterwards the store is opened twice on its device, which doesn't fail any more.
+// Serves the run, and then opens the store twice on its device, which no longer fails.
 fn play_opened(alloc: Global, number: u64, store: Store<Device>) -> anyhow::Result<()> {
     let (run, disk) = served_on(alloc, number, store)?;
     let store = made(Store::open(alloc, disk.into_inner()))?;

@@ -44,7 +44,7 @@ fn play_core<D: Sectors + Drop>(
     play_plan(alloc, core, random_plan(random, &streams), GROUPS, hasher)
 }
 
-/// Plays groups of four steps, and adds what the sessions received and what the store then holds.
+/// Plays groups of four steps, and adds what the sessions received and what the store then holds to the digest.
 pub fn play_plan<D: Sectors + Drop>(
     alloc: Global,
     core: Core<D>,

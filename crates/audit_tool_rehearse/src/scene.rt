@@ -95,7 +95,7 @@ impl Scene {
     }
 }
 
-// Plays a task that makes its own stores.
+// Plays a task that needs no store of the scene.
 fn play_apart<R: AllocGlobal + Print>(rt: &R, task: &str, rest: &str) -> anyhow::Result<()> {
     match task {
         "lengths" => try_lengths(rt),
@@ -126,7 +126,8 @@ fn step_session<R: AllocGlobal + Print, D: Sectors>(
         "feed" => feed(rt, core, session, piece),
         "end" => end(rt, core, session),
         "drive" => drive_steps(rt, core, session, piece),
-        _ => show(rt, core, session),
+        "show" => show(rt, core, session),
+        _ => bail!("there is no such step: {task}"),
     }
 }
 

@@ -112,7 +112,7 @@ fn print_served<R: AllocGlobal + Print>(
     Ok(())
 }
 
-/// The words that are left of a line.
+/// The remaining words of a line.
 #[derive(Drop)]
 struct Words<'a> {
     left: Option<&'a str>,
