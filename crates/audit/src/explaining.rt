@@ -1,8 +1,8 @@
 //! Printing causes and warnings, in separate lines.
 use crate::command::Asked;
-use crate::notes::Notes;
 use audit_cli_base::Status;
 use audit_cli_daemon::Request as Daemon;
+use audit_cli_host::Notes;
 use audit_cli_serve::Request as Serving;
 use audit_cli_store::Request;
 use std::fs::{self, Files};

@@ -4,23 +4,16 @@
 mod command;
 mod explaining;
 mod forms;
-mod host;
-mod noted_file;
-mod notes;
 mod program;
-mod progress;
 mod remote_command;
 mod remote_forms;
 mod streams;
 mod words;
 
 use audit_cli_base::{CommandError, Status, report};
+use audit_cli_host::{Host, Messages, NotedFile, Notes, Progress, Subject};
 use audit_store::StoreError;
-use host::Host;
-use noted_file::NotedFile;
-use notes::{Notes, Subject};
 use program::run;
-use progress::{Messages, Progress};
 use std::env::Args;
 use std::io::{self, BufWriter, ErrorKind, IsTerminal};
 use std::process::ExitCode;

@@ -1,9 +1,9 @@
 use crate::command::{Asked, request_of};
 use crate::explaining::explain;
-use crate::notes::{Extent, Notes, Subject};
 use audit_cli_base::{CommandError, Status, report};
 use audit_cli_daemon::{Request as Daemon, Settings};
-use audit_cli_remote::{Dial, Request as Remote};
+use audit_cli_host::{Dial, Extent, Notes, Subject};
+use audit_cli_remote::Request as Remote;
 use audit_cli_serve::Request as Serving;
 use audit_cli_store::Request;
 use audit_disk::SystemFile;
@@ -40,7 +40,27 @@ where
     if line.shows_progress {
         show_progress(line.asked, notes);
     }
-    let status = match line.asked {
+    let status = carry_out(rt, alloc, line.asked, explains, input, output, messages);
+    if explains {
+        let _ = explain(rt, line.asked, status, notes, messages);
+    }
+    status
+}
+
+// Carries out what a command line asks for.
+fn carry_out<F: Files + Net + Clock + Dial, R: Read, W: Write, M: Write>(
+    rt: &F,
+    alloc: Global,
+    asked: Asked<'_>,
+    explains: bool,
+    input: &mut R,
+    output: &mut W,
+    messages: &mut M,
+) -> Status
+where
+    F::File: SystemFile,
+{
+    match asked {
         Asked::Plain(request) => audit_cli_store::run(rt, alloc, request, input, output, messages),
         Asked::Lines(request) => {
             audit_cli_follow::run(rt, alloc, request, input, output, messages)
@@ -55,11 +75,7 @@ where
         Asked::Daemon(request) => {
             audit_cli_daemon::run(rt, alloc, request, explains, output, messages)
         }
-    };
-    if explains {
-        let _ = explain(rt, line.asked, status, notes, messages);
     }
-    status
 }
 
 // Shows how far a command is that may take long, by the file that it reads or writes most.

@@ -1,6 +1,6 @@
 //! Questions to a server, whose answers are written to files.
 use crate::arguments::{Item, Question};
-use crate::connection::{Dial, connect, socket_identity};
+use crate::connection::{connect, socket_identity};
 use crate::fault::RemoteError;
 use crate::out::{OutFile, is_standard_output};
 use audit_cli_base::{CommandError, ProofRequest, write_exported, write_number};
@@ -8,6 +8,7 @@ use audit_cli_client::{
     AskError, ClientError, Export, Out, close_log, newest_commitment, put_entry, put_export,
     put_increment, put_member,
 };
+use audit_cli_host::Dial;
 use audit_disk::FileIdentity;
 use audit_proof::Commitment;
 use audit_text::{put_line, write_whole};

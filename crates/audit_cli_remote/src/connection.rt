@@ -3,19 +3,13 @@ ghost use Rattle.std.specs.Prelude.{◌≡◌, ◌⊎◌, IfErr};
 
 use crate::fault::RemoteError;
 use audit_cli_client::ClientError;
+use audit_cli_host::Dial;
 use audit_disk::FileIdentity;
 use std::fs::{self, Files};
 use std::io::{self, ErrorKind};
 use std::os::unix::net::UnixStream;
 use std::thread;
 use std::time::{Clock, Duration, Instant};
-
-/// Connections that are made at once or not at all.
-pub trait Dial {
-    /// Connects to a Unix socket, without waiting. If no more clients can wait for the server there, the error is
-    /// `WouldBlock`.
-    fn dial(&self, path: &str) -> io::Result<UnixStream>;
-}
 
 // After which time a socket is tried again at which no more clients can wait.
 fn retry_time() -> Duration {

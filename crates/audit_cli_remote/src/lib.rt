@@ -12,6 +12,5 @@ mod sending;
 mod state_file;
 mod watching;
 
-pub use connection::Dial;
 pub use fault::RemoteError;
 pub use request::{Request, run};

@@ -11,11 +11,11 @@ ghost use Rattle.audit_cli_remote.specs.Arguments.{IsPause, seconds_or_default, 
 
 use crate::arguments::{Question, QuestionWords, question_asked, seconds_asked, window_asked};
 use crate::asking::ask_socket;
-use crate::connection::Dial;
 use crate::fault::RemoteError;
 use crate::sending::{Task, send_to_socket};
 use crate::watching::{Post, watch_for_ever, watch_once};
 use audit_cli_base::{CommandError, Status, report_flush};
+use audit_cli_host::Dial;
 use audit_text::write_whole;
 use audit_text_plain::{LineForm, form_asked};
 use std::alloc::Global;

@@ -2,10 +2,11 @@
 ghost use Rattle.std.specs.Prelude.{◌≡◌};
 ghost use Rattle.audit_cli_remote.specs.Sent.{status_of_sent};
 
-use crate::connection::{Dial, connect};
+use crate::connection::connect;
 use crate::fault::RemoteError;
 use audit_cli_base::Status;
 use audit_cli_client::{SendEnd, send_events};
+use audit_cli_host::Dial;
 use audit_text_plain::LineForm;
 use std::alloc::Global;
 use std::io::{BufReader, Read, Write};

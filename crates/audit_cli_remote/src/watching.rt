@@ -1,8 +1,9 @@
 //! A witness of a log, which keeps what it sees in a file.
-use crate::connection::{Dial, connect, socket_identity};
+use crate::connection::{connect, socket_identity};
 use crate::fault::RemoteError;
 use crate::state_file::{StateFile, push_commitment_line};
 use audit_cli_client::{Kept, Sight, WatchError, watch_and_keep};
+use audit_cli_host::Dial;
 use audit_proof::Commitment;
 use audit_text::write_whole;
 use std::alloc::Global;

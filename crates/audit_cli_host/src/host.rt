@@ -1,6 +1,6 @@
+use crate::dial::Dial;
 use crate::noted_file::NotedFile;
 use crate::notes::Notes;
-use audit_cli_remote::Dial;
 use mio::net::UnixStream as Dialed;
 use std::alloc::Allocator;
 use std::fs::{Files, Metadata, OpenFile, OpenOptions, Permissions};
