@@ -4,7 +4,7 @@ use audit_disk::{
 };
 use std::alloc::Global;
 use std::env;
-use std::fs::{self, OpenOptions};
+use std::fs::{self, File, OpenOptions};
 use std::os::unix::fs::PermissionsExt;
 use std::path::PathBuf;
 use std::process::{self, Abort};
@@ -15,16 +15,16 @@ mod system_files;
 
 /// Writes a sector of equal bytes, and returns whether that succeeded.
 fn put<D: Sectors>(rt: &impl Abort, disk: &mut D, at: u64, byte: u8) -> bool {
-    assert!(rt; at < disk.size());
+    check!(rt; at < disk.size());
     disk.write(at, &[byte; SECTOR_SIZE]).is_ok()
 }
 
 /// Reads a sector of equal bytes, and returns the byte.
 fn found<D: Sectors>(rt: &impl Abort, disk: &mut D, at: u64) -> Result<u8, DeviceFault> {
-    assert!(rt; at < disk.size());
+    check!(rt; at < disk.size());
     let mut into = [0; SECTOR_SIZE];
     disk.read(at, &mut into)?;
-    assert!(rt; into.iter().all(|byte| *byte == into[0]));
+    check!(rt; into == [into[0]; SECTOR_SIZE]);
     Ok(into[0])
 }
 
@@ -57,7 +57,7 @@ fn takes<D: Sectors>(rt: &impl Abort, disk: &mut D, step: Step) -> bool {
 
 fn expect<D: Sectors>(rt: &impl Abort, disk: &mut D, steps: &[Step]) {
     for (place, step) in steps.iter().enumerate() {
-        assert!(rt; takes(rt, disk, *step), "step {place}");
+        check!(rt; takes(rt, disk, *step), place);
     }
 }
 
@@ -327,7 +327,7 @@ fn expect_as_model(rt: &impl Abort, alloc: Global, seed: &mut u64) {
         .expect(rt, "a device");
     for (at, pick) in picks.iter().enumerate() {
         let byte = model.left(at, *pick);
-        assert!(rt; takes(rt, &mut left, Step::Found(at as u64, byte)));
+        check!(rt; takes(rt, &mut left, Step::Found(at as u64, byte)));
     }
 }
 
@@ -343,7 +343,7 @@ fn random_scripts_crash_as_a_plain_model_says(rt: HostRuntime) {
 fn ten_thousand_writes_and_a_crash(rt: HostRuntime) {
     let mut disk = MemDisk::new(rt.alloc(), 70).expect(&rt, "a device");
     for at in 0..10_000 {
-        assert!(rt; put(&rt, &mut disk, at % 70, (at % 256) as u8));
+        check!(&rt; put(&rt, &mut disk, at % 70, (at % 256) as u8));
     }
     expect(&rt, &mut disk, &[Step::Calls(10_000)]);
     let picks = vec![in rt.alloc(); 200; 70].expect(&rt, "memory");
@@ -361,7 +361,7 @@ fn window(rt: &impl Abort, alloc: Global) -> Vec<[u8; SECTOR_SIZE]> {
 
 /// Publishes the window at sector 2, marked by a 9 in sector 0, and returns whether that succeeded.
 fn publishes<D: Sectors>(rt: &impl Abort, disk: &mut D, window: &[[u8; SECTOR_SIZE]]) -> bool {
-    assert!(rt; disk.size() == 4 && window.len() == 2);
+    check!(rt; disk.size() == 4 && window.len() == 2);
     publish(disk, 2, window, 0, &[9; SECTOR_SIZE]).is_ok()
 }
 
@@ -388,7 +388,7 @@ fn a_window_is_published_whole_or_not_at_all(rt: HostRuntime) {
     let window = window(&rt, rt.alloc());
     for (calls, done, left) in &PUBLISHED {
         let mut disk = Fuse::new(MemDisk::new(rt.alloc(), 4).expect(&rt, "a device"), *calls);
-        assert!(rt; publishes(&rt, &mut disk, &window) == *done);
+        check!(&rt; publishes(&rt, &mut disk, &window) == *done);
         expect_left(&rt, rt.alloc(), &disk.into_inner(), &[1, 1, 1, 1], left);
     }
 }
@@ -397,7 +397,7 @@ fn a_window_is_published_whole_or_not_at_all(rt: HostRuntime) {
 fn sectors_are_written_in_a_row(rt: HostRuntime) {
     let window = window(&rt, rt.alloc());
     let mut disk = MemDisk::new(rt.alloc(), 4).expect(&rt, "a device");
-    assert!(rt; disk.size() == 4 && window.len() == 2);
+    check!(&rt; disk.size() == 4 && window.len() == 2);
     write_sectors(&mut disk, 1, &window).expect(&rt, "a write");
     let written = [Step::Found(1, 1), Step::Found(2, 2), Step::Calls(2)];
     expect(&rt, &mut disk, &written);
@@ -431,29 +431,37 @@ fn fresh_path(rt: &HostRuntime, judge: &impl Abort, name: &str) -> PathBuf {
     path
 }
 
-/// Makes a file of `sectors` sectors, and takes the steps on it.
-fn expect_created(rt: &HostRuntime, judge: &impl Abort, path: &str, sectors: u64, steps: &[Step]) {
+/// How a device is made of a real file: a new file of so many sectors, one that is opened whole, the first sectors of
+/// one, or one that is only read.
+#[derive(Clone, Copy)]
+enum Way {
+    Create(u64),
+    Open,
+    InPlace(u64),
+    ReadOnly,
+}
+
+fn made(rt: &HostRuntime, path: &str, way: Way) -> Result<FileDisk<OsFile<File>>, FileFault> {
+    match way {
+        Way::Create(sectors) => FileDisk::create(rt, rt.alloc(), path, sectors),
+        Way::Open => FileDisk::open(rt, rt.alloc(), path),
+        Way::InPlace(sectors) => FileDisk::open_in_place(rt, rt.alloc(), path, sectors),
+        Way::ReadOnly => FileDisk::open_read_only(rt, rt.alloc(), path),
+    }
+}
+
+/// Makes a device of the file, and takes the steps on it.
+fn expect_made(rt: &HostRuntime, judge: &impl Abort, path: &str, way: Way, steps: &[Step]) {
     expect(
         judge,
-        &mut FileDisk::create(rt, rt.alloc(), path, sectors).expect(judge, "a new device"),
+        &mut made(rt, path, way).expect(judge, "a device"),
         steps,
     );
 }
 
-fn expect_uncreated(
-    rt: &HostRuntime,
-    judge: &impl Abort,
-    path: &str,
-    sectors: u64,
-    fault: FileFault,
-) {
-    let created = FileDisk::create(rt, rt.alloc(), path, sectors);
-    assert!(judge; created.err() == Some(fault));
-}
-
-fn expect_unopened(rt: &HostRuntime, judge: &impl Abort, path: &str, fault: FileFault) {
-    let opened = FileDisk::open(rt, rt.alloc(), path);
-    assert!(judge; opened.err() == Some(fault));
+/// Expects that no device is made of the file.
+fn expect_unmade(rt: &HostRuntime, judge: &impl Abort, path: &str, way: Way, fault: FileFault) {
+    check!(judge; made(rt, path, way).err() == Some(fault));
 }
 
 #[test]
@@ -466,13 +474,13 @@ fn a_real_file_keeps_its_sectors(rt: HostRuntime) {
         Step::Syncs,
         Step::Calls(2),
     ];
-    expect_created(&rt, &rt, path, 3, &written);
-    expect_uncreated(&rt, &rt, path, 3, FileFault::Io);
+    expect_made(&rt, &rt, path, Way::Create(3), &written);
+    expect_unmade(&rt, &rt, path, Way::Create(3), FileFault::Io);
     expect_cut(&rt, &rt, path);
-    expect_uncreated(&rt, &rt, path, u64::MAX, FileFault::Length);
+    expect_unmade(&rt, &rt, path, Way::Create(u64::MAX), FileFault::Length);
     fs::remove_file(&rt, path).expect(&rt, "a removal");
-    expect_unopened(&rt, &rt, path, FileFault::Io);
-    expect_unopened(&rt, &rt, "/", FileFault::Io);
+    expect_unmade(&rt, &rt, path, Way::Open, FileFault::Io);
+    expect_unmade(&rt, &rt, "/", Way::Open, FileFault::Io);
 }
 
 /// Reads 300 sectors, of which those from `end` on are gone.
@@ -489,7 +497,7 @@ fn expect_rows<D: Sectors>(rt: &impl Abort, disk: &mut D, end: u64) {
 fn a_real_file_is_read_in_rows(rt: HostRuntime) {
     let path = fresh_path(&rt, &rt, "audit_disk_rows");
     let path = path.as_str();
-    let mut disk = FileDisk::create(&rt, rt.alloc(), path, 300).expect(&rt, "a new device");
+    let mut disk = made(&rt, path, Way::Create(300)).expect(&rt, "a new device");
     for at in 0..300 {
         expect(&rt, &mut disk, &[Step::Put(at, (at % 251) as u8)]);
     }
@@ -504,17 +512,13 @@ fn a_real_file_is_read_in_rows(rt: HostRuntime) {
 fn expect_cut(rt: &HostRuntime, judge: &impl Abort, path: &str) {
     expect_cut_while_open(rt, judge, path);
     set_len(rt, judge, path, 1025);
-    expect_unopened(rt, judge, path, FileFault::Length);
+    expect_unmade(rt, judge, path, Way::Open, FileFault::Length);
     set_len(rt, judge, path, 1024);
-    expect(
-        judge,
-        &mut FileDisk::open(rt, rt.alloc(), path).expect(judge, "a device"),
-        &[Step::Size(2)],
-    );
+    expect_made(rt, judge, path, Way::Open, &[Step::Size(2)]);
 }
 
 fn expect_cut_while_open(rt: &HostRuntime, judge: &impl Abort, path: &str) {
-    let mut disk = FileDisk::open(rt, rt.alloc(), path).expect(judge, "a device");
+    let mut disk = made(rt, path, Way::Open).expect(judge, "a device");
     let kept = [
         Step::Size(3),
         Step::Calls(0),
@@ -538,9 +542,9 @@ fn set_len(rt: &HostRuntime, judge: &impl Abort, path: &str, len: u64) {
 fn a_file_that_cant_be_laid_out_leaves_nothing(rt: HostRuntime) {
     let path = fresh_path(&rt, &rt, "audit_disk_too_long");
     let path = path.as_str();
-    expect_uncreated(&rt, &rt, path, 1 << 54, FileFault::Io);
-    expect_unopened(&rt, &rt, path, FileFault::Io);
-    expect_created(&rt, &rt, path, 1, &[Step::Size(1)]);
+    expect_unmade(&rt, &rt, path, Way::Create(1 << 54), FileFault::Io);
+    expect_unmade(&rt, &rt, path, Way::Open, FileFault::Io);
+    expect_made(&rt, &rt, path, Way::Create(1), &[Step::Size(1)]);
     fs::remove_file(&rt, path).expect(&rt, "a removal");
 }
 
@@ -567,7 +571,7 @@ fn after_a_failed_sync_a_file_takes_no_call(rt: HostRuntime) {
 fn a_file_that_may_only_be_read_takes_no_write(rt: HostRuntime) {
     let path = fresh_path(&rt, &rt, "audit_disk_read_only");
     let path = path.as_str();
-    expect_created(&rt, &rt, path, 1, &[]);
+    expect_made(&rt, &rt, path, Way::Create(1), &[]);
     expect_unwritten(&rt, &rt, path);
     expect_opened_as_allowed(&rt, &rt, path);
     fs::remove_file(&rt, path).expect(&rt, "a removal");
@@ -588,6 +592,6 @@ fn expect_unwritten(rt: &HostRuntime, judge: &impl Abort, path: &str) {
 fn expect_opened_as_allowed(rt: &HostRuntime, judge: &impl Abort, path: &str) {
     fs::set_permissions(rt, path, fs::Permissions::from_mode(0o444)).expect(judge, "permissions");
     let writable = OpenOptions::new().write(true).open(rt, path).is_ok();
-    let fault = FileDisk::open(rt, rt.alloc(), path).err();
-    assert_eq!(judge; fault, if writable { None } else { Some(FileFault::Io) });
+    let fault = if writable { None } else { Some(FileFault::Io) };
+    check!(judge; made(rt, path, Way::Open).err() == fault);
 }

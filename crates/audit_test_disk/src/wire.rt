@@ -55,10 +55,7 @@ fn gives(decoder: &mut Decoder, piece: &[u8], request: &RequestView) -> bool {
 fn check_cuts(rt: &impl Abort, decoder: &mut Decoder, frame: &[u8], request: &RequestView) {
     for cut in 1..frame.len() {
         let (front, back) = frame.split_at(cut);
-        assert!(rt;
-            waits(decoder, front) && gives(decoder, back, request),
-            "cut after {cut}"
-        );
+        check!(rt; waits(decoder, front) && gives(decoder, back, request), cut);
     }
 }
 
@@ -66,15 +63,15 @@ fn check_bytes(rt: &impl Abort, decoder: &mut Decoder, frame: &[u8], request: &R
     let mut bodies = 0u8;
     for byte in frame {
         if decoder.feed(&[*byte]) != Fed::More {
-            assert!(rt; read_request(decoder.body()) == Ok(*request));
+            check!(rt; read_request(decoder.body()) == Ok(*request));
             bodies = bodies.saturating_add(1);
         }
     }
-    assert!(rt; bodies == 1 && !decoder.pending());
+    check!(rt; bodies == 1 && !decoder.pending());
 }
 
 fn check_request(rt: &impl Abort, decoder: &mut Decoder, frame: &[u8], request: &RequestView) {
-    assert!(rt; gives(decoder, frame, request));
+    check!(rt; gives(decoder, frame, request));
     check_cuts(rt, decoder, frame, request);
     check_bytes(rt, decoder, frame, request);
 }
@@ -121,17 +118,17 @@ fn view_of(request: &Request) -> RequestView<'_> {
 #[test]
 fn an_owned_request_is_what_its_view_shows(rt: HostRuntime) {
     for (_, request) in &REQUESTS {
-        assert!(rt; view_of(&request.own(rt.alloc()).expect(&rt, "memory")) == *request);
+        check!(&rt; view_of(&request.own(rt.alloc()).expect(&rt, "memory")) == *request);
     }
 }
 
 #[test]
 fn a_list_is_the_vector_that_it_was_made_of(rt: HostRuntime) {
     let payload = ByteList::from_vec(Vec::from_slice(rt.alloc(), b"hi").expect(&rt, "memory"));
-    assert!(rt; payload.into_vec().as_slice() == b"hi".as_slice());
+    check!(&rt; payload.into_vec().as_slice() == b"hi".as_slice());
     let hashes = HashList::from_vec(Vec::from_slice(rt.alloc(), &[ROOT]).expect(&rt, "memory"));
-    assert!(rt; hashes.as_slice() == [ROOT].as_slice());
-    assert!(rt; hashes.into_vec().len() == 1);
+    check!(&rt; hashes.as_slice() == [ROOT].as_slice());
+    check!(&rt; hashes.into_vec().len() == 1);
 }
 
 // Lengths, and whether a frame may have them.
@@ -171,7 +168,7 @@ fn a_length_is_judged_at_its_second_byte(rt: HostRuntime) {
             judges(&mut decoder, first, second, allowed),
             "length {first} {second}"
         );
-        assert!(rt; allowed || drops_all(&mut decoder));
+        check!(&rt; allowed || drops_all(&mut decoder));
     }
 }
 
@@ -194,15 +191,15 @@ fn is_append_of(body: &[u8], len: usize) -> bool {
 fn the_longest_frame_is_read(rt: HostRuntime) {
     let frame = frame_of(&rt, rt.alloc(), MAX_FRAME);
     let mut decoder = Decoder::new(rt.alloc()).expect(&rt, "memory");
-    assert!(rt; decoder.feed(&frame) == Fed::Body { taken: 32_707 });
-    assert!(rt; is_append_of(decoder.body(), 32_696));
+    check!(&rt; decoder.feed(&frame) == Fed::Body { taken: 32_707 });
+    check!(&rt; is_append_of(decoder.body(), 32_696));
 }
 
 #[test]
 fn the_longest_body_and_one_byte_more_is_not_read(rt: HostRuntime) {
     let frame = frame_of(&rt, rt.alloc(), MAX_FRAME + 1);
-    assert!(rt; frame.len() == MAX_FRAME + 1);
-    assert!(rt; read_request(&frame[2..]) == Err(Malformed));
+    check!(&rt; frame.len() == MAX_FRAME + 1);
+    check!(&rt; read_request(&frame[2..]) == Err(Malformed));
 }
 
 const NO_REQUESTS: [&[u8]; 18] = [
@@ -229,19 +226,16 @@ const NO_REQUESTS: [&[u8]; 18] = [
 #[test]
 fn bodies_that_are_no_requests(rt: HostRuntime) {
     for (place, body) in NO_REQUESTS.iter().enumerate() {
-        assert!(rt; read_request(body) == Err(Malformed), "body {place}");
+        check!(&rt; read_request(body) == Err(Malformed), place);
     }
 }
 
 #[test]
 fn a_close_that_is_cut_short_is_no_request(rt: HostRuntime) {
     let (_, body) = CLOSE.split_at(2);
-    assert!(rt; read_request(body) == Ok(RequestView::Close { tag: 3 }));
+    check!(&rt; read_request(body) == Ok(RequestView::Close { tag: 3 }));
     for size in 0..body.len() {
-        assert!(rt;
-            read_request(&body[..size]) == Err(Malformed),
-            "size {size}"
-        );
+        check!(&rt; read_request(&body[..size]) == Err(Malformed), size);
     }
 }
 
@@ -252,7 +246,7 @@ fn an_append_of_the_greatest_kind_and_no_payload(rt: HostRuntime) {
         kind: 0xFFFF_FFFE,
         payload: b"",
     };
-    assert!(rt; read_request(b"\x01\x00\x00\x00\x07\xff\xff\xff\xfe") == Ok(append));
+    check!(&rt; read_request(b"\x01\x00\x00\x00\x07\xff\xff\xff\xfe") == Ok(append));
 }
 
 // Whether a last byte completes the request, and can be put back as if it had never arrived.
@@ -269,9 +263,9 @@ fn gives_and_puts_back(decoder: &mut Decoder, last: &[u8], request: &RequestView
 
 fn check_again(rt: &impl Abort, decoder: &mut Decoder, frame: &[u8], request: &RequestView) {
     let (front, last) = frame.split_at(frame.len().saturating_sub(1));
-    assert!(rt; decoder.feed(front) == Fed::More);
+    check!(rt; decoder.feed(front) == Fed::More);
     for _ in 0..3 {
-        assert!(rt; gives_and_puts_back(decoder, last, request));
+        check!(rt; gives_and_puts_back(decoder, last, request));
     }
 }
 
@@ -302,8 +296,8 @@ fn puts_back_length(decoder: &mut Decoder) -> bool {
 #[test]
 fn a_malformed_length_that_is_put_back_comes_again(rt: HostRuntime) {
     let mut decoder = Decoder::new(rt.alloc()).expect(&rt, "memory");
-    assert!(rt; puts_back_length(&mut decoder));
-    assert!(rt; waits(&mut decoder, b"\xc1"));
+    check!(&rt; puts_back_length(&mut decoder));
+    check!(&rt; waits(&mut decoder, b"\xc1"));
 }
 
 /// The frame of a reply after these bytes, in a vector with capacity for `room` bytes.
@@ -322,9 +316,9 @@ fn check_reply(rt: &impl Abort, alloc: Global, reply: &Reply, frame: &[u8])
 {
     let room = frame.len().saturating_add(1);
     let after = written(rt, alloc, reply, &[0xaa], room);
-    assert!(rt; after.capacity() == room && is_after_a_byte(&after, frame));
+    check!(rt; after.capacity() == room && is_after_a_byte(&after, frame));
     let out = written(rt, alloc, reply, &[], 0);
-    assert!(rt; out.as_slice() == frame && is_read_back(alloc, &out));
+    check!(rt; out.as_slice() == frame && is_read_back(alloc, &out));
 }
 
 fn is_after_a_byte(out: &[u8], frame: &[u8]) -> bool {
@@ -355,8 +349,8 @@ fn is_malformed(alloc: Global, body: &[u8]) -> bool {
 
 #[test]
 fn bodies_that_are_no_replies(rt: HostRuntime) {
-    assert!(rt; is_malformed(rt.alloc(), b""));
-    assert!(rt; is_malformed(rt.alloc(), b"\x80\0\0\0\0"));
+    check!(&rt; is_malformed(rt.alloc(), b""));
+    check!(&rt; is_malformed(rt.alloc(), b"\x80\0\0\0\0"));
 }
 
 #[test]
@@ -407,7 +401,7 @@ fn check_longest(rt: &impl Abort, alloc: Global, reply: &Reply, len: usize, begi
     requires { IsReply reply.now }
 {
     let out = written(rt, alloc, reply, &[], 0);
-    assert!(rt; out.len() == len && out.starts_with(begins) && out.ends_with(&[7; 32]));
+    check!(rt; out.len() == len && out.starts_with(begins) && out.ends_with(&[7; 32]));
 }
 
 #[test]

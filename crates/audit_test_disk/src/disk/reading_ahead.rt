@@ -3,8 +3,8 @@
 ghost use Rattle.std.specs.Prelude.{◌<◌};
 ghost use Rattle.audit_disk.specs.OsFile.{unknown_file};
 
-use super::next;
-use audit_disk::{DeviceFault, FileDisk, SECTOR_SIZE, SectorFile, Sectors, counted};
+use super::{Step, expect, next};
+use audit_disk::{DeviceFault, FileDisk, SECTOR_SIZE, SectorFile, counted};
 use std::alloc::Global;
 use std::process::Abort;
 
@@ -96,29 +96,16 @@ fn new_disk(rt: &impl Abort, alloc: Global, bad: usize) -> Disk {
     FileDisk::over(alloc, file, SECTORS as u64).expect(rt, "a device")
 }
 
-fn found(rt: &impl Abort, disk: &mut Disk, at: usize) -> Option<u8> {
-    assert!(rt; (at as u64) < disk.size());
-    let mut into = [0; SECTOR_SIZE];
-    disk.read(at as u64, &mut into).ok()?;
-    assert!(rt; into.iter().all(|byte| *byte == into[0]));
-    Some(into[0])
-}
-
-fn write(rt: &impl Abort, disk: &mut Disk, at: usize, byte: u8) {
-    assert!(rt; (at as u64) < disk.size());
-    assert!(rt; disk.write(at as u64, &[byte; SECTOR_SIZE]).is_ok());
-}
-
 /// Reads the sectors and expects the file's contents.
 fn expect_read(rt: &impl Abort, disk: &mut Disk, places: &[usize]) {
     for at in places {
-        assert_eq!(rt; found(rt, disk, *at), Some((*at % 251) as u8));
+        expect(rt, disk, &[Step::Found(*at as u64, (*at % 251) as u8)]);
     }
 }
 
 fn expect_calls(rt: &impl Abort, disk: Disk, reads: u64, rows: u64) {
     let file = disk.into_file();
-    assert_eq!(rt; (file.reads, file.rows), (reads, rows));
+    check!(rt; (file.reads, file.rows) == (reads, rows));
 }
 
 // The first two sectors are always read one by one; then rows of 2, 4, .. 128 sectors, another 128, and the last 16.
@@ -162,29 +149,29 @@ fn sectors_that_were_read_are_given_again(rt: HostRuntime) {
 fn a_write_and_a_sync_drop_what_was_read(rt: HostRuntime) {
     let mut disk = new_disk(&rt, rt.alloc(), SECTORS);
     expect_read(&rt, &mut disk, &[1, 2]);
-    write(&rt, &mut disk, 3, b'w');
-    assert_eq!(&rt; found(&rt, &mut disk, 3), Some(b'w'));
-    assert!(&rt; disk.sync().is_ok());
-    assert_eq!(&rt; found(&rt, &mut disk, 3), Some(SYNCED));
+    let changes = [
+        Step::Put(3, b'w'),
+        Step::Found(3, b'w'),
+        Step::Syncs,
+        Step::Found(3, SYNCED),
+    ];
+    expect(&rt, &mut disk, &changes);
 }
 
 #[test]
 fn a_bad_sector_spoils_no_other(rt: HostRuntime) {
     let mut disk = new_disk(&rt, rt.alloc(), 100);
-    for at in 0..SECTORS {
-        let wanted = if at == 100 {
-            None
-        } else {
-            Some((at % 251) as u8)
-        };
-        assert_eq!(&rt; found(&rt, &mut disk, at), wanted);
+    for at in 0..SECTORS as u64 {
+        let found = Step::Found(at, (at % 251) as u8);
+        let fails = Step::FindFails(at);
+        expect(&rt, &mut disk, &[if at == 100 { fails } else { found }]);
     }
 }
 
 /// Reads from sector `at` up to, but not including, `end`.
 fn expect_model(rt: &impl Abort, disk: &mut Disk, model: &[u8; SECTORS], at: usize, end: usize) {
     for (place, byte) in model.iter().enumerate().take(end).skip(at) {
-        assert_eq!(rt; found(rt, disk, place), Some(*byte));
+        expect(rt, disk, &[Step::Found(place as u64, *byte)]);
     }
 }
 
@@ -194,11 +181,11 @@ fn play(rt: &impl Abort, disk: &mut Disk, model: &mut [u8; SECTORS], seed: &mut 
     match next(seed) % 8 {
         0 => {
             let byte = (next(seed) % 256) as u8;
-            write(rt, disk, at, byte);
+            expect(rt, disk, &[Step::Put(at as u64, byte)]);
             model[at] = byte;
         }
         1 => {
-            assert!(rt; disk.sync().is_ok());
+            expect(rt, disk, &[Step::Syncs]);
             model[3] = SYNCED;
         }
         _ => {

@@ -64,10 +64,7 @@ fn new_disk(rt: &impl Abort, alloc: Global, refuses_rows: bool, bad: u64) -> Fil
 /// Expects these numbers of rows, of sectors in the longest one, and of writes of one sector.
 fn expect_writes(rt: &impl Abort, disk: FileDisk<Tally>, rows: u64, longest: usize, alone: u64) {
     let file = disk.into_file();
-    assert_eq!(rt;
-        (file.rows, file.longest, file.alone),
-        (rows, longest, alone)
-    );
+    check!(rt; (file.rows, file.longest, file.alone) == (rows, longest, alone));
 }
 
 /// Writes `count` sectors from `first` on.

@@ -2,7 +2,7 @@
 
 ghost use Rattle.audit_disk.specs.Positioned.{unknown_positioned};
 
-use super::{Step, expect, fresh_path, put, set_len};
+use super::{Step, Way, expect, expect_made, expect_unmade, fresh_path, made, put, set_len};
 use audit_disk::{
     FileDisk, FileFault, FileIdentity, MemDisk, MemFile, OsFile, PositionedFile, SECTOR_SIZE,
     Sectors,
@@ -27,7 +27,7 @@ fn expect_measured(rt: &impl Abort, alloc: Global) {
         Step::Calls(3),
     ];
     expect(rt, &mut whole, &steps);
-    assert!(rt; whole.size() == 3);
+    check!(rt; whole.size() == 3);
     let mut first = whole.with_sectors(2);
     let steps = [Step::Size(2), Step::Found(1, b'x'), Step::Calls(3)];
     expect(rt, &mut first, &steps);
@@ -45,7 +45,7 @@ fn a_file_in_memory_is_measured_and_keeps_its_sectors(rt: HostRuntime) {
     expect_front(&rt, rt.alloc());
     let disk = MemDisk::new(rt.alloc(), 3).expect(&rt, "a device");
     let beyond = FileDisk::over_front(rt.alloc(), MemFile { disk }, 4).err();
-    assert_eq!(&rt; beyond, Some(FileFault::TooSmall { sectors: 3 }));
+    check!(&rt; beyond == Some(FileFault::TooSmall { sectors: 3 }));
 }
 
 /// A file of zero bytes. Writes, syncs, and reads at offset 1024 or later fail.
@@ -96,11 +96,7 @@ fn a_failed_call_of_a_file_is_a_fault_of_its_device(rt: HostRuntime) {
     ];
     expect(&rt, &mut disk, &steps);
     let ragged = FileDisk::over_whole(rt.alloc(), Faulty { bytes: 2049 }).err();
-    assert_eq!(&rt; ragged, Some(FileFault::Length));
-}
-
-fn fault_of(opened: Result<FileDisk<OsFile<File>>, FileFault>) -> Option<FileFault> {
-    opened.err()
+    check!(&rt; ragged == Some(FileFault::Length));
 }
 
 // The result of another open of the file while one is held.
@@ -109,36 +105,35 @@ fn one_device_at_a_time_may_write_a_file(rt: HostRuntime) {
     let path = fresh_path(&rt, &rt, "audit_disk_lock");
     let path = path.as_str();
     let in_use = Some(FileFault::InUse);
-    let made = FileDisk::create(&rt, rt.alloc(), path, 2).expect(&rt, "a new device");
-    expect_shut_out(&rt, &rt, made, path, in_use);
-    let opened = FileDisk::open(&rt, rt.alloc(), path).expect(&rt, "a device");
-    expect_shut_out(&rt, &rt, opened, path, in_use);
-    let placed = FileDisk::open_in_place(&rt, rt.alloc(), path, 1).expect(&rt, "a device");
-    expect_shut_out(&rt, &rt, placed, path, in_use);
-    let reading = FileDisk::open_read_only(&rt, rt.alloc(), path).expect(&rt, "a device");
-    expect_shut_out(&rt, &rt, reading, path, None);
-    assert_eq!(&rt; fault_of(FileDisk::open(&rt, rt.alloc(), path)), None);
+    for (holder, reader) in [
+        (Way::Create(2), in_use),
+        (Way::Open, in_use),
+        (Way::InPlace(1), in_use),
+        (Way::ReadOnly, None),
+    ] {
+        expect_shut_out(&rt, &rt, path, holder, reader);
+    }
+    expect_made(&rt, &rt, path, Way::Open, &[]);
     fs::remove_file(&rt, path).expect(&rt, "a removal");
 }
 
-/// Opens the file while this device holds it, and drops the device.
+/// Opens the file while a device that was made of it in this way holds it.
 fn expect_shut_out(
     rt: &HostRuntime,
     judge: &impl Abort,
-    holder: FileDisk<OsFile<File>>,
     path: &str,
+    holder: Way,
     reader: Option<FileFault>,
 ) {
     let in_use = Some(FileFault::InUse);
-    assert_eq!(judge; fault_of(FileDisk::open(rt, rt.alloc(), path)), in_use);
-    assert_eq!(judge;
-        fault_of(FileDisk::open_in_place(rt, rt.alloc(), path, 1)),
-        in_use
-    );
-    assert_eq!(judge;
-        fault_of(FileDisk::open_read_only(rt, rt.alloc(), path)),
-        reader
-    );
+    let holder = made(rt, path, holder).expect(judge, "a device");
+    for (way, fault) in [
+        (Way::Open, in_use),
+        (Way::InPlace(1), in_use),
+        (Way::ReadOnly, reader),
+    ] {
+        check!(judge; made(rt, path, way).err() == fault);
+    }
     drop(holder);
 }
 
@@ -155,11 +150,11 @@ fn a_new_file_has_its_mode(rt: HostRuntime) {
 
 /// Makes a file with the usual mode.
 fn expect_identity(rt: &HostRuntime, judge: &impl Abort, path: &str) {
-    let disk = FileDisk::create(rt, rt.alloc(), path, 1).expect(judge, "a new device");
-    assert_eq!(judge; mode_of(rt, judge, path), 0o600);
+    let disk = made(rt, path, Way::Create(1)).expect(judge, "a new device");
+    check!(judge; mode_of(rt, judge, path) == 0o600);
     let identity = disk.identity().expect(judge, "its identity");
-    assert_eq!(judge; identity, identity_of(rt, judge, path));
-    assert!(judge; identity != identity_of(rt, judge, "/"));
+    check!(judge; identity == identity_of(rt, judge, path));
+    check!(judge; identity != identity_of(rt, judge, "/"));
 }
 
 fn mode_of(rt: &HostRuntime, judge: &impl Abort, path: &str) -> u32 {
@@ -175,7 +170,7 @@ fn identity_of(rt: &HostRuntime, judge: &impl Abort, path: &str) -> FileIdentity
 fn expect_mode(rt: &HostRuntime, judge: &impl Abort, path: &str, mode: u32) {
     let disk = FileDisk::create_with_mode(rt, rt.alloc(), path, 1, mode);
     drop(disk.expect(judge, "a new device"));
-    assert_eq!(judge; mode_of(rt, judge, path), mode);
+    check!(judge; mode_of(rt, judge, path) == mode);
     fs::remove_file(rt, path).expect(judge, "a removal");
 }
 
@@ -183,28 +178,27 @@ fn expect_mode(rt: &HostRuntime, judge: &impl Abort, path: &str, mode: u32) {
 fn a_file_is_opened_in_place_and_only_to_be_read(rt: HostRuntime) {
     let path = fresh_path(&rt, &rt, "audit_disk_place");
     let path = path.as_str();
-    drop(FileDisk::create(&rt, rt.alloc(), path, 3).expect(&rt, "a new device"));
+    expect_made(&rt, &rt, path, Way::Create(3), &[]);
     set_len(&rt, &rt, path, 1700);
     expect_placed(&rt, &rt, path);
     let metadata = fs::metadata(&rt, path).expect(&rt, "its metadata");
-    assert_eq!(&rt; metadata.len(), 1700);
+    check!(&rt; metadata.len() == 1700);
     set_len(&rt, &rt, path, 1536);
     expect_only_read(&rt, &rt, path);
-    expect_unreadable(&rt, &rt, path);
-    expect_unreadable(&rt, &rt, "/");
+    expect_unmade(&rt, &rt, path, Way::ReadOnly, FileFault::Io);
+    expect_unmade(&rt, &rt, "/", Way::ReadOnly, FileFault::Io);
 }
 
 fn expect_placed(rt: &HostRuntime, judge: &impl Abort, path: &str) {
-    let beyond = FileDisk::open_in_place(rt, rt.alloc(), path, 4);
-    assert_eq!(judge; fault_of(beyond), Some(FileFault::TooSmall { sectors: 3 }));
-    let mut placed = FileDisk::open_in_place(rt, rt.alloc(), path, 2).expect(judge, "a device");
+    let beyond = FileFault::TooSmall { sectors: 3 };
+    expect_unmade(rt, judge, path, Way::InPlace(4), beyond);
     let steps = [Step::Size(2), Step::Put(1, b'x'), Step::Syncs];
-    expect(judge, &mut placed, &steps);
+    expect_made(rt, judge, path, Way::InPlace(2), &steps);
 }
 
 /// The file is removed while the device is there.
 fn expect_only_read(rt: &HostRuntime, judge: &impl Abort, path: &str) {
-    let mut reading = FileDisk::open_read_only(rt, rt.alloc(), path).expect(judge, "a device");
+    let mut reading = made(rt, path, Way::ReadOnly).expect(judge, "a device");
     let steps = [
         Step::Size(3),
         Step::Found(1, b'x'),
@@ -213,9 +207,4 @@ fn expect_only_read(rt: &HostRuntime, judge: &impl Abort, path: &str) {
     ];
     expect(judge, &mut reading, &steps);
     fs::remove_file(rt, path).expect(judge, "a removal");
-}
-
-fn expect_unreadable(rt: &HostRuntime, judge: &impl Abort, path: &str) {
-    let opened = FileDisk::open_read_only(rt, rt.alloc(), path);
-    assert_eq!(judge; fault_of(opened), Some(FileFault::Io));
 }

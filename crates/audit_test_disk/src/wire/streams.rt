@@ -281,7 +281,7 @@ fn read_both_ways(rt: &impl Abort, alloc: Global, number: u64) -> Reading {
     };
     let stream = stream_of(rt, alloc, &mut dice);
     let reading = decoded(rt, alloc, &stream, &mut dice);
-    assert_eq!(rt; reading, plain(&stream), "stream {number}");
+    check!(rt; reading == plain(&stream), number);
     reading
 }
 
@@ -294,5 +294,5 @@ fn ten_thousand_streams_in_any_cuts(rt: HostRuntime) {
         total.add(reading.malformed as u64);
         total.add(reading.begun as u64);
     }
-    assert_eq!(rt; total.digest, EXPECTED);
+    check!(&rt; total.digest == EXPECTED);
 }
