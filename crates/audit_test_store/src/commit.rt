@@ -21,193 +21,264 @@ fn formatted<D: Sectors + Drop>(rt: &impl Abort, alloc: Global, disk: D) -> Stor
     }
 }
 
-// A committer over a new store on this device.
-fn committer_on<D: Sectors + Drop>(rt: &impl Abort, alloc: Global, disk: D) -> Committer<D> {
-    match Committer::new(alloc, formatted(rt, alloc, disk)) {
+// A committer over a new store on this device, which keeps a reserve if it isn't 0.
+fn committer_on<D: Sectors + Drop>(
+    rt: &impl Abort,
+    alloc: Global,
+    disk: D,
+    reserve: u64,
+) -> Committer<D> {
+    let store = formatted(rt, alloc, disk);
+    let made = if reserve == 0 {
+        Committer::new(alloc, store)
+    } else {
+        Committer::with_reserve(alloc, store, reserve)
+    };
+    match made {
         Ok(committer) => committer,
         Err(_) => panic!(rt; "no memory"),
     }
 }
 
-fn append<D: Sectors>(
-    rt: &impl Abort,
-    alloc: Global,
-    committer: &mut Committer<D>,
-    tag: u32,
-    payload: &[u8],
-) {
-    let event = Event::new(alloc, 1, payload).expect(rt, "an event");
-    committer.append(2, tag, event).expect(rt, "an append");
+// A call of a committer. Session 2 appends and closes, and session 1 asks. The output of a session is taken, and must
+// be these pieces of hex digits.
+#[derive(Clone, Copy)]
+enum Step<'a> {
+    Append(u32, &'a [u8]),
+    Close(u32),
+    Ask(Query),
+    Flush,
+    FlushFails(StoreError),
+    Says(usize, &'a [&'a str]),
 }
 
-fn ask<D: Sectors>(rt: &impl Abort, committer: &mut Committer<D>, query: Query) {
-    committer
-        .ask(Question { session: 1, query })
-        .expect(rt, "a question");
-}
-
-// Takes the output of a session, and returns whether it is these bytes, given in hex digits.
 fn says<D: Sectors>(
     rt: &impl Abort,
     alloc: Global,
     committer: &mut Committer<D>,
     session: usize,
-    digits: &str,
+    pieces: &[&str],
 ) -> bool {
     let output = committer.take_output(session % 16);
     let text: String = output.encode_hex(alloc).expect(rt, "memory");
-    text.as_str() == digits
+    is_all(text.as_str(), pieces)
+}
+
+// Whether a text is these pieces in a row.
+fn is_all(text: &str, pieces: &[&str]) -> bool {
+    let mut rest = text;
+    for piece in pieces {
+        match rest.strip_prefix(*piece) {
+            Some(after) => rest = after,
+            None => return false,
+        }
+    }
+    rest.is_empty()
+}
+
+// Makes the call, and returns whether the result was as expected.
+fn takes<D: Sectors>(
+    rt: &impl Abort,
+    alloc: Global,
+    committer: &mut Committer<D>,
+    step: &Step,
+) -> bool {
+    match step {
+        Step::Append(tag, payload) => {
+            let event = Event::new(alloc, 1, payload).expect(rt, "an event");
+            committer.append(2, *tag, event).is_ok()
+        }
+        Step::Close(tag) => committer.append(2, *tag, Event::closing(alloc)).is_ok(),
+        Step::Ask(query) => {
+            let (session, query) = (1, *query);
+            committer.ask(Question { session, query }).is_ok()
+        }
+        Step::Flush => committer.flush().is_ok(),
+        Step::FlushFails(fault) => committer.flush() == Err(*fault),
+        Step::Says(session, pieces) => says(rt, alloc, committer, *session, pieces),
+    }
+}
+
+fn expect<D: Sectors>(
+    rt: &impl Abort,
+    alloc: Global,
+    committer: &mut Committer<D>,
+    steps: &[Step],
+) {
+    for (place, step) in steps.iter().enumerate() {
+        check!(rt; takes(rt, alloc, committer, step), place);
+    }
+}
+
+// The store after these calls of a committer over a new one on this device.
+fn after<D: Sectors + Drop>(
+    rt: &impl Abort,
+    alloc: Global,
+    disk: D,
+    reserve: u64,
+    steps: &[Step],
+) -> Store<D> {
+    let mut committer = committer_on(rt, alloc, disk, reserve);
+    expect(rt, alloc, &mut committer, steps);
+    committer.into_store()
+}
+
+// Makes the calls over a device of `sectors` sectors. Afterwards its log must end at `end`.
+fn expect_end(
+    rt: &impl Abort,
+    alloc: Global,
+    sectors: u64,
+    reserve: u64,
+    steps: &[Step],
+    end: u64,
+) {
+    let store = after(rt, alloc, device(rt, alloc, sectors), reserve, steps);
+    check!(rt; store.end() == end);
 }
 
 const ROOT: &str = "1adb768b1a8442d111228c6b4ee67325246d75c87ac4a45dce6d4ed7a0cba265";
 
+const COUNTED: [Step; 6] = [
+    Step::Ask(Query::Commitment { tag: 9 }),
+    Step::Append(7, b"hi"),
+    Step::Flush,
+    Step::Says(1, &["002d82000000090000000000000001", ROOT]),
+    Step::Says(2, &["0035810000000700000000000000000000000000000001", ROOT]),
+    Step::Says(2, &[]),
+];
+
 #[test]
 fn a_commitment_beside_an_append_counts_it(rt: HostRuntime) {
-    let alloc = rt.alloc();
-    let mut committer = committer_on(&rt, alloc, device(&rt, alloc, 16));
-    ask(&rt, &mut committer, Query::Commitment { tag: 9 });
-    append(&rt, alloc, &mut committer, 7, b"hi");
-    committer.flush().expect(&rt, "a flush");
-    let asked = "002d82000000090000000000000001";
-    let acked = "0035810000000700000000000000000000000000000001";
-    assert!(rt;
-        says(
-            &rt,
-            alloc,
-            &mut committer,
-            1,
-            &format!(in alloc; "{asked}{ROOT}").expect(&rt, "memory")
-        )
-    );
-    assert!(rt;
-        says(
-            &rt,
-            alloc,
-            &mut committer,
-            2,
-            &format!(in alloc; "{acked}{ROOT}").expect(&rt, "memory")
-        )
-    );
-    assert!(rt; says(&rt, alloc, &mut committer, 2, ""));
+    expect_end(&rt, rt.alloc(), 16, 0, &COUNTED, 3);
 }
 
 // The replies to three appends if three sectors are left for them: the second one needs two, and doesn't fit.
 const TWO_OF_THREE: &str =
     "00358100000001000000000000000000000000000000025130bd5ac59f2c5cb0d225c79ff5f96bd12035a8dd7dd988fd51402eabb71a6c0006ff000000020700358100000003000000000000000100000000000000025130bd5ac59f2c5cb0d225c79ff5f96bd12035a8dd7dd988fd51402eabb71a6c";
 
-fn append_three<D: Sectors>(rt: &impl Abort, alloc: Global, committer: &mut Committer<D>) {
-    append(rt, alloc, committer, 1, &[0; 441]);
-    append(rt, alloc, committer, 2, &[0; 441]);
-    append(rt, alloc, committer, 3, &[]);
-    committer.flush().expect(rt, "a flush");
-}
+const THREE: [Step; 5] = [
+    Step::Append(1, &[0; 441]),
+    Step::Append(2, &[0; 441]),
+    Step::Append(3, &[]),
+    Step::Flush,
+    Step::Says(2, &[TWO_OF_THREE]),
+];
 
 #[test]
 fn an_append_after_one_that_does_not_fit(rt: HostRuntime) {
-    let alloc = rt.alloc();
-    let mut committer = committer_on(&rt, alloc, device(&rt, alloc, 5));
-    append_three(&rt, alloc, &mut committer);
-    assert!(rt; says(&rt, alloc, &mut committer, 2, TWO_OF_THREE));
-    assert!(rt; committer.into_store().end() == 5);
+    expect_end(&rt, rt.alloc(), 5, 0, &THREE, 5);
 }
+
+// The replies to the closing and to an append after it.
+const CLOSED: &str =
+    "0035810000000400000000000000020000000000000003056b7cbdebe1527c089a6d04f89eeaf40728ca97b2c3bed08684cba7aec18e3a0006ff000000050d";
+
+const CLOSING: [Step; 9] = [
+    Step::Append(1, &[0; 441]),
+    Step::Append(2, &[0; 441]),
+    Step::Append(3, &[]),
+    Step::Flush,
+    Step::Says(2, &[TWO_OF_THREE]),
+    Step::Close(4),
+    Step::Append(5, &[]),
+    Step::Flush,
+    Step::Says(2, &[CLOSED]),
+];
 
 // A reserve is for the events as if the device were so much smaller. A close may use it.
 #[test]
 fn a_close_uses_the_reserve(rt: HostRuntime) {
-    let alloc = rt.alloc();
-    let store = formatted(&rt, alloc, device(&rt, alloc, 6));
-    let Ok(mut committer) = Committer::with_reserve(alloc, store, 1) else {
-        panic!(&rt; "no memory");
-    };
-    append_three(&rt, alloc, &mut committer);
-    assert!(rt; says(&rt, alloc, &mut committer, 2, TWO_OF_THREE));
-    committer
-        .append(2, 4, Event::closing(alloc))
-        .expect(&rt, "an append");
-    append(&rt, alloc, &mut committer, 5, &[]);
-    committer.flush().expect(&rt, "a flush");
-    let replies =
-        "0035810000000400000000000000020000000000000003056b7cbdebe1527c089a6d04f89eeaf40728ca97b2c3bed08684cba7aec18e3a0006ff000000050d";
-    assert!(rt; says(&rt, alloc, &mut committer, 2, replies));
-    assert!(rt; committer.into_store().end() == 6);
+    expect_end(&rt, rt.alloc(), 6, 1, &CLOSING, 6);
 }
+
+const ENTRY: &str =
+    "0000000100000002b8879f1e0e12b5bff2e04073ae77cd7220863b2a5d3c10c71940136430292b3a08eea5a823836da22bd11e8e5f9c6e0141ef0a27786dfce7f9366ab4d990cf7c071d";
+
+const ANSWERED: [Step; 9] = [
+    Step::Append(7, b"hi"),
+    Step::Flush,
+    Step::Ask(Query::Entry { tag: 5, index: 0 }),
+    Step::Ask(Query::Membership {
+        tag: 5,
+        index: 0,
+        count: 1,
+    }),
+    Step::Ask(Query::Incremental {
+        tag: 6,
+        older: 1,
+        newer: 1,
+    }),
+    Step::Ask(Query::Entry { tag: 8, index: 1 }),
+    Step::Ask(Query::Malformed),
+    Step::Flush,
+    Step::Says(
+        1,
+        &[
+            "004f8500000005",
+            ENTRY,
+            "0050830000000500",
+            ENTRY,
+            "0026840000000601",
+            ROOT,
+            "0006ff00000008080006ff0000000014",
+        ],
+    ),
+];
 
 #[test]
 fn every_question_is_answered(rt: HostRuntime) {
-    let alloc = rt.alloc();
-    let (index, count, older, newer) = (0, 1, 1, 1);
-    let mut committer = committer_on(&rt, alloc, device(&rt, alloc, 16));
-    append(&rt, alloc, &mut committer, 7, b"hi");
-    committer.flush().expect(&rt, "a flush");
-    ask(&rt, &mut committer, Query::Entry { tag: 5, index });
-    ask(
-        &rt,
-        &mut committer,
-        Query::Membership {
-            tag: 5,
-            index,
-            count,
-        },
-    );
-    ask(
-        &rt,
-        &mut committer,
-        Query::Incremental {
-            tag: 6,
-            older,
-            newer,
-        },
-    );
-    ask(&rt, &mut committer, Query::Entry { tag: 8, index: 1 });
-    ask(&rt, &mut committer, Query::Malformed);
-    committer.flush().expect(&rt, "a flush");
-    let entry =
-        "0000000100000002b8879f1e0e12b5bff2e04073ae77cd7220863b2a5d3c10c71940136430292b3a08eea5a823836da22bd11e8e5f9c6e0141ef0a27786dfce7f9366ab4d990cf7c071d";
-    let replies = format!(in alloc;
-        "004f8500000005{entry}0050830000000500{entry}0026840000000601{ROOT}0006ff00000008080006ff0000000014"
-    ).expect(&rt, "memory");
-    assert!(rt; says(&rt, alloc, &mut committer, 1, &replies));
+    expect_end(&rt, rt.alloc(), 16, 0, &ANSWERED, 3);
 }
 
 #[test]
 fn the_65th_sector_forces_a_flush(rt: HostRuntime) {
     let alloc = rt.alloc();
-    let mut committer = committer_on(&rt, alloc, device(&rt, alloc, 100));
+    let mut committer = committer_on(&rt, alloc, device(&rt, alloc, 100), 0);
     for tag in 0..65u32 {
-        append(&rt, alloc, &mut committer, tag, &[]);
+        expect(&rt, alloc, &mut committer, &[Step::Append(tag, &[])]);
     }
     let digest: [u8; 32] = Sha256::digest(&committer.take_output(2));
     let text: String = digest.encode_hex(alloc).expect(&rt, "memory");
-    assert!(rt;
+    check!(&rt;
         text.as_str() == "fe853354ae92d66c78394a99ea220459b7d0cc4f6173c92b718db472360de928"
     );
     let store = committer.into_store();
-    assert!(rt; store.commitment().count == 64 && store.generation() == 4);
+    check!(&rt; store.commitment().count == 64 && store.generation() == 4);
 }
 
 #[test]
 fn the_257th_item_forces_a_flush(rt: HostRuntime) {
     let alloc = rt.alloc();
-    let mut committer = committer_on(&rt, alloc, device(&rt, alloc, 16));
+    let mut committer = committer_on(&rt, alloc, device(&rt, alloc, 16), 0);
     for tag in 0..257u32 {
-        ask(&rt, &mut committer, Query::Commitment { tag });
+        expect(
+            &rt,
+            alloc,
+            &mut committer,
+            &[Step::Ask(Query::Commitment { tag })],
+        );
     }
-    assert!(rt; committer.take_output(1).len() == 256 * 47);
-    committer.flush().expect(&rt, "a flush");
-    assert!(rt; committer.take_output(1).len() == 47);
+    check!(&rt; committer.take_output(1).len() == 256 * 47);
+    expect(&rt, alloc, &mut committer, &[Step::Flush]);
+    check!(&rt; committer.take_output(1).len() == 47);
 }
 
-// The device after a flush of a question and an append during which it failed from some call on. What waited is
-// dropped, nothing is answered, and no more calls are made.
+// A flush of a question and an append during which the device fails. What waited is dropped, nothing is answered, and
+// no more calls are made.
+const FAILED: [Step; 7] = [
+    Step::Ask(Query::Commitment { tag: 9 }),
+    Step::Append(7, b"hi"),
+    Step::FlushFails(StoreError::Device),
+    Step::FlushFails(StoreError::Broken),
+    Step::FlushFails(StoreError::Broken),
+    Step::Says(1, &[]),
+    Step::Says(2, &[]),
+];
+
+// The device after that, if it fails from some call on.
 fn after_a_fault(rt: &impl Abort, alloc: Global, calls: u64) -> MemDisk {
-    let mut committer = committer_on(rt, alloc, Fuse::new(device(rt, alloc, 16), calls));
-    ask(rt, &mut committer, Query::Commitment { tag: 9 });
-    append(rt, alloc, &mut committer, 7, b"hi");
-    assert!(rt; committer.flush() == Err(StoreError::Device));
-    assert!(rt; committer.flush() == Err(StoreError::Broken));
-    assert!(rt; committer.flush() == Err(StoreError::Broken));
-    assert!(rt; says(rt, alloc, &mut committer, 1, "") && says(rt, alloc, &mut committer, 2, ""));
-    committer.into_store().into_disk().into_inner()
+    let fuse = Fuse::new(device(rt, alloc, 16), calls);
+    after(rt, alloc, fuse, 0, &FAILED).into_disk().into_inner()
 }
 
 // Either the header isn't written, or it is written and the sync after it fails.
@@ -218,6 +289,6 @@ fn a_fault_in_the_commit_drops_what_waits(rt: HostRuntime) {
         let Ok(store) = Store::open(alloc, after_a_fault(&rt, alloc, calls)) else {
             panic!(&rt; "not opened");
         };
-        assert!(rt; store.commitment().count == count, "{calls} calls");
+        check!(&rt; store.commitment().count == count, calls);
     }
 }

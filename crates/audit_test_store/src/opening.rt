@@ -32,7 +32,7 @@ fn header(generation: u64, sectors: u64, some: bool) -> Header {
 fn with_headers(rt: &impl Abort, alloc: Global, size: u64, headers: &[Header]) -> MemDisk {
     let mut disk = device(rt, alloc, size);
     for header in headers {
-        assert!(rt; disk.size() >= 2 && header.meets_rules(header.generation % 2));
+        check!(rt; disk.size() >= 2 && header.meets_rules(header.generation % 2));
         write_header(&mut disk, header).expect(rt, "a header");
     }
     disk
@@ -71,14 +71,14 @@ fn headers_found(rt: HostRuntime) {
         (LAST, false, false),
     ] {
         let mut disk = with_two(&rt, rt.alloc(), 16, generation - 1, generation, some);
-        assert!(rt; is_found(find_header(&mut disk), generation, differ) && disk.calls() == 3);
+        check!(&rt; is_found(find_header(&mut disk), generation, differ) && disk.calls() == 3);
     }
 }
 
 #[test]
 fn the_only_header_found(rt: HostRuntime) {
     let mut disk = with_headers(&rt, rt.alloc(), 3, &[header(1, 3, false)]);
-    assert!(rt; is_found(find_header(&mut disk), 1, true));
+    check!(&rt; is_found(find_header(&mut disk), 1, true));
 }
 
 fn refusal_of<D: Sectors>(disk: &mut D) -> Option<HeaderRefusal> {
@@ -88,17 +88,17 @@ fn refusal_of<D: Sectors>(disk: &mut D) -> Option<HeaderRefusal> {
 #[test]
 fn devices_of_no_store(rt: HostRuntime) {
     let mut small = device(&rt, rt.alloc(), 1);
-    assert!(rt; refusal_of(&mut small) == Some(HeaderRefusal::NotAStore) && small.calls() == 1);
+    check!(&rt; refusal_of(&mut small) == Some(HeaderRefusal::NotAStore) && small.calls() == 1);
     let mut zeros = device(&rt, rt.alloc(), 16);
-    assert!(rt; refusal_of(&mut zeros) == Some(HeaderRefusal::NotAStore));
+    check!(&rt; refusal_of(&mut zeros) == Some(HeaderRefusal::NotAStore));
 }
 
 #[test]
 fn a_header_refused_beside_a_damaged_one(rt: HostRuntime) {
     let mut damaged = with_headers(&rt, rt.alloc(), 16, &[header(9, 16, true)]);
-    assert!(rt; damaged.size() == 16);
+    check!(&rt; damaged.size() == 16);
     damaged.write(0, &[1; 512]).expect(&rt, "a write");
-    assert!(rt; refusal_of(&mut damaged) == Some(HeaderRefusal::DamagedHeader));
+    check!(&rt; refusal_of(&mut damaged) == Some(HeaderRefusal::DamagedHeader));
 }
 
 #[test]
@@ -110,7 +110,7 @@ fn headers_refused(rt: HostRuntime) {
         (LAST - 1, LAST, 16, HeaderRefusal::Worn),
     ] {
         let mut disk = with_two(&rt, rt.alloc(), size, older, newer, true);
-        assert!(rt; refusal_of(&mut disk) == Some(refusal));
+        check!(&rt; refusal_of(&mut disk) == Some(refusal));
     }
 }
 
@@ -119,8 +119,8 @@ fn headers_refused(rt: HostRuntime) {
 fn a_header_refused_by_a_failing_device(rt: HostRuntime) {
     let disk = with_headers(&rt, rt.alloc(), 16, &[header(1, 16, false)]);
     let mut failing = FailOnce::new(disk, 0);
-    assert!(rt; refusal_of(&mut failing) == Some(HeaderRefusal::Device));
-    assert!(rt; is_found(find_header(&mut failing), 1, true));
+    check!(&rt; refusal_of(&mut failing) == Some(HeaderRefusal::Device));
+    check!(&rt; is_found(find_header(&mut failing), 1, true));
 }
 
 // The entry of kind 1 with the payload `hi`, under a key of zeros.
@@ -141,7 +141,7 @@ fn sector_of(bytes: &[u8]) -> [u8; 512] {
 // A device with this entry in its first log sector.
 fn with_entry(rt: &impl Abort, alloc: Global, bytes: &[u8]) -> MemDisk {
     let mut disk = device(rt, alloc, 16);
-    assert!(rt; disk.size() == 16);
+    check!(rt; disk.size() == 16);
     disk.write(2, &sector_of(bytes)).expect(rt, "a write");
     disk
 }
@@ -167,7 +167,7 @@ fn scanned(
     disk: &mut MemDisk,
     header: &Header,
 ) -> Result<LogIndex, LogError> {
-    assert!(rt; header.meets_rules(header.generation % 2) && disk.size() == header.sectors);
+    check!(rt; header.meets_rules(header.generation % 2) && disk.size() == header.sectors);
     scan(alloc, disk, header)
 }
 
@@ -180,7 +180,7 @@ fn log_scanned(rt: HostRuntime) {
     let sealed = seal_hi(&rt, rt.alloc());
     let mut disk = with_entry(&rt, rt.alloc(), &sealed.bytes);
     let index = scanned(&rt, rt.alloc(), &mut disk, &header_after(&sealed)).expect(&rt, "an index");
-    assert!(rt; index.count() == 1 && index.first_sector(0) == Some(2));
+    check!(&rt; index.count() == 1 && index.first_sector(0) == Some(2));
 }
 
 // First the header states another last link, then also one more entry.
@@ -190,8 +190,8 @@ fn log_refused(rt: HostRuntime) {
     let mut disk = with_entry(&rt, rt.alloc(), &sealed.bytes);
     let mut header = header_after(&sealed);
     header.last_link = [1; 32];
-    assert!(rt; is_damaged(scanned(&rt, rt.alloc(), &mut disk, &header)));
+    check!(&rt; is_damaged(scanned(&rt, rt.alloc(), &mut disk, &header)));
     header.count = 2;
     header.end = 4;
-    assert!(rt; is_damaged(scanned(&rt, rt.alloc(), &mut disk, &header)));
+    check!(&rt; is_damaged(scanned(&rt, rt.alloc(), &mut disk, &header)));
 }

@@ -82,8 +82,8 @@ fn a_store_of_more_than_2_to_the_20_events(rt: HostRuntime) {
     );
     let mut store = formatted(&rt, alloc, device(&rt, alloc, SECTORS));
     fill(&rt, alloc, &mut store, COUNT);
-    assert!(rt; store.append(&empty_events(&rt, alloc, COUNT, 1)).err() == Some(StoreError::Full));
-    assert!(rt; asked_at_places(&rt, &mut store) == answers);
+    check!(&rt; store.append(&empty_events(&rt, alloc, COUNT, 1)).err() == Some(StoreError::Full));
+    check!(&rt; asked_at_places(&rt, &mut store) == answers);
     let mut again = opened(&rt, alloc, store.into_disk());
-    assert!(rt; asked_at_places(&rt, &mut again) == answers);
+    check!(&rt; asked_at_places(&rt, &mut again) == answers);
 }

@@ -34,12 +34,8 @@ fn a_run_stopped_after_each_call_read_only(rt: HostRuntime) {
         let (disk, _) = run_to(&rt, alloc, calls);
         let left = crashed(&rt, alloc, &disk, mask);
         let batches = batches_in(&rt, opened_read_only(&rt, alloc, &left));
-        assert_eq!(rt;
-            batches,
-            passed(calls + mask / 2 % 2, [6, 13, 21]),
-            "{calls}, {mask}"
-        );
-        assert!(rt; left.calls() == 0);
+        check!(&rt; batches == passed(calls + mask / 2 % 2, [6, 13, 21]), calls, mask);
+        check!(&rt; left.calls() == 0);
     }
 }
 
@@ -49,17 +45,13 @@ fn an_append_that_is_not_kept(rt: HostRuntime) {
     let alloc = rt.alloc();
     let disk = store_of(&rt, alloc, 16, &[0, 5]).into_disk();
     let mut store = opened_read_only(&rt, alloc, &disk);
-    assert!(rt;
-        store
+    check!(&rt; store
             .append(&batch(&rt, alloc, 2, &[441]))
             .expect(&rt, "an append")
             .count
-            == 3
-    );
-    assert!(rt;
-        answers(&rt, &mut store) == answers(&rt, &mut store_of(&rt, alloc, 16, &[0, 5, 441]))
-    );
-    assert!(rt; opened_read_only(&rt, alloc, &disk).commitment().count == 2);
+            == 3);
+    check!(&rt; answers(&rt, &mut store) == answers(&rt, &mut store_of(&rt, alloc, 16, &[0, 5, 441])));
+    check!(&rt; opened_read_only(&rt, alloc, &disk).commitment().count == 2);
 }
 
 // Sectors of which one can't be read. They are never honest.
@@ -99,10 +91,7 @@ fn a_sector_that_cannot_be_read(rt: HostRuntime) {
         } else {
             None
         };
-        assert!(rt;
-            refusal(alloc, &Unreadable { disk, at }) == expected,
-            "{at}"
-        );
+        check!(&rt; refusal(alloc, &Unreadable { disk, at }) == expected, at);
     }
 }
 
@@ -113,5 +102,5 @@ fn a_growth_that_is_refused_read_only(rt: HostRuntime) {
     let alloc = rt.alloc();
     let (disk, _) = run_to(&rt, alloc, 6);
     let error = refusal(alloc, &disk);
-    assert!(rt; matches!(error, None | Some(StoreError::Memory)));
+    check!(&rt; matches!(error, None | Some(StoreError::Memory)));
 }

@@ -165,8 +165,8 @@ const RUN: [Call; 18] = [
 #[test]
 fn a_batch_is_a_row_and_two_headers(rt: HostRuntime) {
     let (file, acknowledged) = run_in_rows(&rt, rt.alloc(), u64::MAX, NONE);
-    assert!(rt; acknowledged == 3);
-    assert!(rt; file.made.get(FORMATTED as usize..) == Some(&RUN));
+    check!(&rt; acknowledged == 3);
+    check!(&rt; file.made.get(FORMATTED as usize..) == Some(&RUN));
 }
 
 // Rows that are torn, none and that of each batch. Then the calls after which each batch is held, since its first
@@ -196,26 +196,32 @@ const ROOTS: [&str; 4] = [
     "53bdf1e8c20f53af0b053b7552c51d3ad4d0f14d28af9100f6f4a8e99343ebf1",
 ];
 
+// Whether what a crash left opens with the events of so many batches, and with their whole state if that is asked.
+fn holds(rt: &impl Abort, alloc: Global, left: MemDisk, batches: u64, whole: bool) -> bool {
+    let store = opened_in_rows(rt, alloc, left);
+    let same = store.commitment() == commitment_to(rt, batches);
+    let found = if whole {
+        batches_in(rt, store)
+    } else {
+        batches
+    };
+    same && found == batches
+}
+
 // Crashes with each pick of the sectors, and expects the batches that have their header. A header that isn't synced is
 // in the second bit of the mask.
 fn expect_held(rt: &impl Abort, alloc: Global, disk: &MemDisk, calls: u64, held: [u64; 3]) {
     for mask in 0..8 {
-        let store = opened_in_rows(rt, alloc, crashed(rt, alloc, disk, mask));
+        let left = crashed(rt, alloc, disk, mask);
         let batches = passed(calls.saturating_add(mask / 2 % 2), held);
-        assert!(rt;
-            store.commitment() == commitment_to(rt, batches),
-            "{calls}, {mask}"
-        );
-        if mask == calls % 8 {
-            assert_eq!(rt; batches_in(rt, store), batches, "{calls}, {mask}");
-        }
+        check!(rt; holds(rt, alloc, left, batches, mask == calls % 8), calls, mask);
     }
 }
 
 fn expect_stopped(rt: &impl Abort, alloc: Global, torn: u64, held: [u64; 3], ends: [u64; 3]) {
     for calls in 0..=ends[2] {
         let (file, acknowledged) = run_in_rows(rt, alloc, calls, torn);
-        assert_eq!(rt; acknowledged, passed(calls, ends), "{calls} of {torn}");
+        check!(rt; acknowledged == passed(calls, ends), calls, torn);
         expect_held(rt, alloc, &file.disk, calls, held);
     }
 }
@@ -231,7 +237,7 @@ fn a_run_in_rows_stopped_after_each_call(rt: HostRuntime) {
 fn expect_left(rt: &impl Abort, alloc: Global, disk: &MemDisk, wanted: &Commitment) {
     for mask in 0..8 {
         let store = opened_in_rows(rt, alloc, crashed(rt, alloc, disk, mask));
-        assert!(rt; store.commitment() == *wanted, "{mask}");
+        check!(rt; store.commitment() == *wanted, mask);
     }
 }
 
@@ -288,7 +294,7 @@ fn an_opening_in_rows_stopped_after_each_call(rt: HostRuntime) {
         let wanted = commitment_to(&rt, *batches);
         let made = expect_repaired(&rt, alloc, &left, NONE, &wanted);
         let again = expect_repaired(&rt, alloc, &left, 0, &wanted);
-        assert_eq!(rt; (made, again), (*whole, *torn), "{calls}, {mask}");
+        check!(&rt; (made, again) == (*whole, *torn), *calls, *mask);
     }
 }
 
@@ -324,9 +330,9 @@ fn each_sector_of_a_long_row(rt: HostRuntime) {
     let disk = disk_over(alloc, device(&rt, alloc, 70), FORMATTED + 1, NONE).expect(&rt, "a disk");
     let mut store = formatted(&rt, alloc, disk);
     let batch = batch(&rt, alloc, 0, &[0; 64]);
-    assert!(rt; store.append(&batch).err() == Some(StoreError::Device));
+    check!(&rt; store.append(&batch).err() == Some(StoreError::Device));
     let file = store.into_disk().into_file().tape;
-    assert!(rt; file.made.get(FORMATTED as usize..) == Some(&[Call::Row(2, 64)]));
+    check!(&rt; file.made.get(FORMATTED as usize..) == Some(&[Call::Row(2, 64)]));
     for round in 0..2 * 65 {
         let picks = picks_of(&rt, alloc, round / 2 + 2, round % 2 == 1);
         let left = opened_in_rows(
@@ -334,9 +340,6 @@ fn each_sector_of_a_long_row(rt: HostRuntime) {
             alloc,
             file.disk.crash(alloc, &picks).expect(&rt, "a device"),
         );
-        assert!(rt;
-            left.commitment().count == 0 && takes_all(&rt, alloc, left),
-            "{round}"
-        );
+        check!(&rt; left.commitment().count == 0 && takes_all(&rt, alloc, left), round);
     }
 }

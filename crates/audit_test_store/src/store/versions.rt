@@ -12,7 +12,7 @@ fn rewritten(rt: &impl Abort, sector: &[u8; 512], version: u16, generation: u64)
     };
     header.version = version;
     header.generation = generation;
-    assert!(rt; header.meets_rules(header.generation % 2));
+    check!(rt; header.meets_rules(header.generation % 2));
     header.encode()
 }
 
@@ -24,7 +24,7 @@ fn as_versions(
     versions: [u16; 2],
 ) -> Vec<[u8; 512]> {
     let mut sectors = sectors_of(rt, alloc, store.into_disk());
-    assert!(rt; sectors.len() > 2);
+    check!(rt; sectors.len() > 2);
     sectors[0] = rewritten(rt, &sectors[0], versions[0], 4);
     sectors[1] = rewritten(rt, &sectors[1], versions[1], 3);
     sectors
@@ -54,14 +54,14 @@ fn more(rt: &impl Abort, alloc: Global) -> Vec<Event> {
 #[test]
 fn a_store_of_the_first_version(rt: HostRuntime) {
     let alloc = rt.alloc();
-    assert!(rt; image_of(&rt, first_of_hi(&rt, alloc)) == hash(&rt, FIRST_IMAGE));
+    check!(&rt; image_of(&rt, first_of_hi(&rt, alloc)) == hash(&rt, FIRST_IMAGE));
     let mut store = opened(&rt, alloc, first_of_hi(&rt, alloc));
     store.append(&[]).expect(&rt, "an append");
-    assert!(rt; store.version() == 1 && store.generation() == 4 && store.calls() == 15);
-    assert!(rt; state_of(&rt, opened(&rt, alloc, first_of_hi(&rt, alloc))) == hash(&rt, FIRST));
+    check!(&rt; store.version() == 1 && store.generation() == 4 && store.calls() == 15);
+    check!(&rt; state_of(&rt, opened(&rt, alloc, first_of_hi(&rt, alloc))) == hash(&rt, FIRST));
     store.append(&more(&rt, alloc)).expect(&rt, "an append");
-    assert!(rt; store.version() == 2 && store.generation() == 6 && store.calls() == 15 + 6);
-    assert!(rt; store.end() == 4 && state_of(&rt, store) == hash(&rt, UPGRADED));
+    check!(&rt; store.version() == 2 && store.generation() == 6 && store.calls() == 15 + 6);
+    check!(&rt; store.end() == 4 && state_of(&rt, store) == hash(&rt, UPGRADED));
 }
 
 // The device of the append, stopped after `calls` calls, after a crash that left none or all of what was pending.
@@ -69,8 +69,8 @@ fn stopped(rt: &impl Abort, alloc: Global, calls: u64, pick: u64) -> MemDisk {
     let fuse = Fuse::new(first_of_hi(rt, alloc), calls.saturating_add(15));
     let mut store = opened(rt, alloc, fuse);
     let refusal = store.append(&more(rt, alloc)).err();
-    assert!(rt; refusal.is_none() == (calls == 6));
-    assert!(rt; store.version() == if calls == 6 { VERSION } else { FIRST_VERSION });
+    check!(rt; refusal.is_none() == (calls == 6));
+    check!(rt; store.version() == if calls == 6 { VERSION } else { FIRST_VERSION });
     let picks = vec![in alloc; pick; 16].expect(rt, "memory");
     store
         .into_disk()
@@ -93,8 +93,8 @@ const STOPPED: [[(u16, u64); 2]; 7] = [
 
 fn expect_opened(rt: &impl Abort, alloc: Global, disk: MemDisk, (version, calls): (u16, u64)) {
     let store = opened(rt, alloc, disk);
-    assert!(rt; store.version() == version && store.calls() == calls);
-    assert!(rt; store.commitment().count == u64::from(version));
+    check!(rt; store.version() == version && store.calls() == calls);
+    check!(rt; store.commitment().count == u64::from(version));
     let state = hash(
         rt,
         if version == FIRST_VERSION {
@@ -103,7 +103,7 @@ fn expect_opened(rt: &impl Abort, alloc: Global, disk: MemDisk, (version, calls)
             UPGRADED
         },
     );
-    assert!(rt; state_of(rt, store) == state);
+    check!(rt; state_of(rt, store) == state);
 }
 
 #[test]
@@ -132,11 +132,11 @@ const MOST: u64 = FIRST_MAX_PAYLOAD as u64;
 #[test]
 fn payloads_under_each_version(rt: HostRuntime) {
     let alloc = rt.alloc();
-    assert!(rt; outcome_of(&rt, alloc, &[MOST + 1, 0], FIRST_VERSION) == 0x40);
-    assert!(rt; outcome_of(&rt, alloc, &[MOST, 0], FIRST_VERSION) == 0);
-    assert!(rt; outcome_of(&rt, alloc, &[MOST + 1, 0], VERSION) == 0);
+    check!(&rt; outcome_of(&rt, alloc, &[MOST + 1, 0], FIRST_VERSION) == 0x40);
+    check!(&rt; outcome_of(&rt, alloc, &[MOST, 0], FIRST_VERSION) == 0);
+    check!(&rt; outcome_of(&rt, alloc, &[MOST + 1, 0], VERSION) == 0);
     let longer = vec![in alloc; 0; MAX_PAYLOAD + 1].expect(&rt, "memory");
-    assert!(rt; Event::new(alloc, 1, &longer).err() == Some(ChainError::TooLong));
+    check!(&rt; Event::new(alloc, 1, &longer).err() == Some(ChainError::TooLong));
 }
 
 // The headers of generation 4 over one event and of generation 3 over none, in these versions.
@@ -148,7 +148,7 @@ fn over_one_and_none(rt: &impl Abort, alloc: Global, versions: [u16; 2]) -> MemD
         alloc,
         formatted(rt, alloc, device(rt, alloc, 16)).into_disk(),
     );
-    assert!(rt; sectors.len() > 2 && none.len() > 2);
+    check!(rt; sectors.len() > 2 && none.len() > 2);
     sectors[1] = rewritten(rt, &none[1], versions[1], 3);
     MemDisk::from_sectors(alloc, &sectors).expect(rt, "a device")
 }
@@ -158,11 +158,11 @@ fn over_one_and_none(rt: &impl Abort, alloc: Global, versions: [u16; 2]) -> MemD
 fn headers_of_two_versions(rt: HostRuntime) {
     let alloc = rt.alloc();
     let refused = over_one_and_none(&rt, alloc, [FIRST_VERSION, VERSION]);
-    assert!(rt; outcome(alloc, refused) == 0x30);
+    check!(&rt; outcome(alloc, refused) == 0x30);
     let upgraded = over_one_and_none(&rt, alloc, [VERSION, FIRST_VERSION]);
     let state = hash(
         &rt,
         "bd5e271e0fa1f3e791a6655e2cb311abdd284727ca9bc12d294bc54687c15ed8",
     );
-    assert!(rt; state_of(&rt, opened(&rt, alloc, upgraded)) == state);
+    check!(&rt; state_of(&rt, opened(&rt, alloc, upgraded)) == state);
 }
