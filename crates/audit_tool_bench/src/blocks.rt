@@ -1,18 +1,25 @@
+use crate::figures::print_figures;
+use crate::times::Stopwatch;
 use sha2::{Digest, Sha256};
-use std::io;
 use std::rt::Clock;
-use std::time::Instant;
 
 // The lengths of the messages hashed for an event with a payload of two bytes: entry key, link, the two halves of the
 // MAC, next key, leaf, and an inner node. They have 11 blocks.
 const MESSAGE_LENS: [usize; 7] = [50, 38, 96, 96, 46, 75, 65];
 
 /// Times just the SHA-256 of `events` small events.
-pub fn measure(rt: &(impl Clock + Eprint), events: u32) -> io::Result<()> {
-    let start = Instant::now(rt)?;
+pub fn measure(rt: &(impl Clock + Eprint), events: u32) -> anyhow::Result<()> {
+    let watch = Stopwatch::start(rt);
     let seen = hash_events(events);
-    let nanoseconds = start.elapsed(rt)?.as_nanos();
-    eprintln!(rt; "events {events} nanoseconds {nanoseconds} seen {seen}")
+    let nanoseconds = watch.nanoseconds(rt)?;
+    print_figures(
+        rt,
+        &[
+            ("events", u128::from(events)),
+            ("nanoseconds", nanoseconds),
+            ("seen", u128::from(seen)),
+        ],
+    )
 }
 
 /// Hashes what `events` small events require: seven messages with 11 blocks for each.

@@ -1,6 +1,7 @@
 //! The cost of verifying an export in a file, compared with the SHA-256 blocks that it can't avoid.
 use crate::blocks::hash_events;
-use crate::times::{Times, since};
+use crate::figures::print_figures;
+use crate::times::{Stopwatch, Times};
 use anyhow::bail;
 use audit_chain::{Event, FIRST_LINK, Key, seal};
 use audit_proof::Commitment;
@@ -10,7 +11,6 @@ use std::alloc::Global;
 use std::fs::{self, Files};
 use std::io::{BufWriter, Read, Write};
 use std::rt::Clock;
-use std::time::Instant;
 
 // How often each is timed. Runs alternate, so that both minima come from the same period.
 const ROUNDS: u32 = 7;
@@ -26,17 +26,26 @@ pub fn measure<R: Files + AllocGlobal + Clock + Eprint>(
     events: u32,
 ) -> anyhow::Result<()> {
     let commitment = write_export(rt, file, events)?;
-    let mut least = time_verifying(rt, file, events, &commitment)?;
-    let mut twice = time_passes(rt, file, &commitment)?;
-    for _ in 1..ROUNDS {
+    let mut least = Times::LONGEST;
+    let mut twice = u128::MAX;
+    for _ in 0..ROUNDS {
         least = least.least(time_verifying(rt, file, events, &commitment)?);
         twice = twice.min(time_passes(rt, file, &commitment)?);
     }
-    let Times { whole, bare, seen } = least;
-    eprintln!(rt;
-        "verifying {events} nanoseconds {whole} blocks {bare} twice {twice} seen {seen}"
-    )?;
-    Ok(())
+    print_times(rt, events, least, twice)
+}
+
+fn print_times<R: Eprint>(rt: &R, events: u32, times: Times, twice: u128) -> anyhow::Result<()> {
+    print_figures(
+        rt,
+        &[
+            ("verifying", u128::from(events)),
+            ("nanoseconds", times.whole),
+            ("blocks", times.bare),
+            ("twice", twice),
+            ("seen", u128::from(times.seen)),
+        ],
+    )
 }
 
 fn first_key() -> Key {
@@ -84,13 +93,13 @@ fn time_verifying<R: Files + AllocGlobal + Clock>(
     events: u32,
     commitment: &Commitment,
 ) -> anyhow::Result<Times> {
-    let start = Instant::now(rt)?;
+    let watch = Stopwatch::start(rt);
     let seen = hash_events(events);
-    let bare = since(rt, start)?;
+    let bare = watch.nanoseconds(rt)?;
     let mut export = fs::open(rt, file)?;
-    let start = Instant::now(rt)?;
+    let watch = Stopwatch::start(rt);
     let verified = verify_events(rt.alloc(), &mut export, commitment)?;
-    let whole = since(rt, start)?;
+    let whole = watch.nanoseconds(rt)?;
     if verified.len() as u64 != commitment.count {
         bail!("other events are verified");
     }
@@ -117,9 +126,9 @@ fn time_passes<R: Files + AllocGlobal + Clock>(
 ) -> anyhow::Result<u128> {
     let mut first = fs::open(rt, file)?;
     let mut second = fs::open(rt, file)?;
-    let start = Instant::now(rt)?;
+    let watch = Stopwatch::start(rt);
     go_over_twice(rt.alloc(), &mut first, &mut second, commitment)?;
-    Ok(since(rt, start)?)
+    watch.nanoseconds(rt)
 }
 
 // Judges the export, and then reads its events while it judges them again.

@@ -1,9 +1,10 @@
 //! Group commit of small events from sessions, compared with the file calls and the SHA-256 messages that it can't
 //! avoid.
 use crate::bare::BareFile;
+use crate::figures::print_figures;
 use crate::sessions::{ROUNDS, started, time_frames};
 use crate::stores::hash_messages;
-use crate::times::{Rounds, Times, since};
+use crate::times::{Rounds, Stopwatch, Times};
 use audit_disk::Sectors;
 use audit_log::LOG_START;
 use audit_server::Core;
@@ -12,7 +13,6 @@ use std::alloc::Global;
 use std::fs::OpenFile;
 use std::os::unix::fs::FileExt;
 use std::rt::Clock;
-use std::time::Instant;
 
 // The frame of an append of an event with a payload of two bytes.
 const APPEND_LEN: usize = 13;
@@ -42,35 +42,56 @@ pub fn time_flushes<R: AllocGlobal + Clock + Eprint, D: Sectors + Drop, F: FileE
     size: u32,
 ) -> anyhow::Result<Store<D>> {
     let count = store.commitment().count;
-    let sectors = u64::from(size).saturating_mul(u64::from(ROUNDS));
-    bare.write_batch(LOG_START.saturating_add(count), sectors)?;
     let mut core = started(rt.alloc(), store)?;
-    let rounds = time_rounds(rt, &mut core, bare, count, size)?;
-    let mean = rounds.mean();
-    let times = rounds.low()?;
-    eprintln!(rt;
-        "flushes {size} nanoseconds {} bare {} mean {mean} seen {}",
-        times.whole, times.bare, times.seen
-    )?;
+    time_core(rt, &mut core, bare, count, size)?;
     Ok(core.into_store())
 }
 
-// The times of flushes of this many appends to a store of this many events.
+// Times flushes of this many appends to a store of this many events.
+fn time_core<R: AllocGlobal + Clock + Eprint, D: Sectors, F: FileExt + OpenFile>(
+    rt: &R,
+    core: &mut Core<D>,
+    bare: &BareFile<F>,
+    count: u64,
+    size: u32,
+) -> anyhow::Result<()> {
+    let sectors = u64::from(size).saturating_mul(u64::from(ROUNDS));
+    bare.write_batch(LOG_START.saturating_add(count), sectors)?;
+    let frames = append_frames(rt.alloc(), size)?;
+    let mut rounds = Rounds::new(rt.alloc());
+    time_rounds(rt, core, bare, count, &frames, &mut rounds)?;
+    print_rounds(rt, size, rounds)
+}
+
 fn time_rounds<R: AllocGlobal + Clock, D: Sectors, F: FileExt + OpenFile>(
     rt: &R,
     core: &mut Core<D>,
     bare: &BareFile<F>,
     before: u64,
-    size: u32,
-) -> anyhow::Result<Rounds> {
-    let frames = append_frames(rt.alloc(), size)?;
-    let mut rounds = Rounds::new(rt.alloc());
+    frames: &[[u8; APPEND_LEN]],
+    rounds: &mut Rounds,
+) -> anyhow::Result<()> {
     let mut count = before;
     for _ in 0..ROUNDS {
-        rounds.push(time_flush(rt, core, bare, count, &frames)?)?;
-        count = count.saturating_add(u64::from(size));
+        rounds.push(time_flush(rt, core, bare, count, frames)?)?;
+        count = count.saturating_add(frames.len() as u64);
     }
-    Ok(rounds)
+    Ok(())
+}
+
+fn print_rounds<R: Eprint>(rt: &R, size: u32, rounds: Rounds) -> anyhow::Result<()> {
+    let mean = rounds.mean();
+    let times = rounds.low()?;
+    print_figures(
+        rt,
+        &[
+            ("flushes", u128::from(size)),
+            ("nanoseconds", times.whole),
+            ("bare", times.bare),
+            ("mean", mean),
+            ("seen", u128::from(times.seen)),
+        ],
+    )
 }
 
 fn time_flush<R: AllocGlobal + Clock, D: Sectors, F: FileExt + OpenFile>(
@@ -80,10 +101,10 @@ fn time_flush<R: AllocGlobal + Clock, D: Sectors, F: FileExt + OpenFile>(
     count: u64,
     frames: &[[u8; APPEND_LEN]],
 ) -> anyhow::Result<Times> {
-    let start = Instant::now(rt)?;
+    let watch = Stopwatch::start(rt);
     let seen = hash_batch(count, frames.len() as u64);
     bare.write_batch(LOG_START.saturating_add(count), frames.len() as u64)?;
-    let alone = since(rt, start)?;
+    let alone = watch.nanoseconds(rt)?;
     Ok(Times {
         whole: time_frames(rt, core, frames, ACKNOWLEDGEMENT)?,
         bare: alone,

@@ -1,8 +1,8 @@
-use crate::times::since;
+use crate::figures::print_figures;
+use crate::times::Stopwatch;
 use audit_wire::{Decoder, Fed, read_request};
 use std::alloc::{AllocError, Global};
 use std::rt::Clock;
-use std::time::Instant;
 
 // The size in bytes of the pieces that a decoder is fed.
 const PIECE_LEN: usize = 4096;
@@ -13,12 +13,17 @@ const BODY_LEN: usize = 109;
 /// Times `frames` appends of 100 bytes through a decoder, in pieces.
 pub fn measure(rt: &(impl Clock + Eprint + AllocGlobal), frames: u32) -> anyhow::Result<()> {
     let stream = stream_of(rt.alloc(), frames)?;
-    let start = Instant::now(rt)?;
+    let watch = Stopwatch::start(rt);
     let requests = decode(rt.alloc(), &stream)?;
-    let time = since(rt, start)?;
-    let bytes = stream.len();
-    eprintln!(rt; "frames {requests} bytes {bytes} nanoseconds {time}")?;
-    Ok(())
+    let nanoseconds = watch.nanoseconds(rt)?;
+    print_figures(
+        rt,
+        &[
+            ("frames", u128::from(requests)),
+            ("bytes", stream.len() as u128),
+            ("nanoseconds", nanoseconds),
+        ],
+    )
 }
 
 // A stream of `frames` appends.

@@ -1,9 +1,10 @@
 //! The cost of events with the longest payload, compared with the SHA-256, the ChaCha20 and the file calls that they
 //! can't avoid.
 use crate::bare::{BareFile, open_bare};
+use crate::figures::print_figures;
 use crate::stores::{BATCH_LENS, hash_messages, new_store};
 use crate::streams::keystream_of;
-use crate::times::{Times, since};
+use crate::times::{Stopwatch, Times};
 use anyhow::bail;
 use audit_base::{MAX_ENTRY, MAX_ENTRY_SECTORS, MAX_PAYLOAD};
 use audit_chain::{Event, Key};
@@ -16,7 +17,6 @@ use std::alloc::{AllocError, Global};
 use std::fs::{Files, OpenFile};
 use std::os::unix::fs::FileExt;
 use std::rt::Clock;
-use std::time::Instant;
 
 // How often verification is timed, alternating with the work that it can't avoid. The minima are reported.
 const ROUNDS: u32 = 7;
@@ -38,20 +38,34 @@ where
     R::File: SystemFile + FileExt,
 {
     let mut store = new_store(rt, file, MAX_ENTRY_SECTORS * u64::from(events) + 2)?;
-    let bare = open_bare(rt, file)?;
-    print_times(
-        rt,
-        "appending",
-        events,
-        time_appends(rt, &mut store, &bare, events)?,
-    )?;
-    print_times(rt, "verifying", events, time_verifying(rt, &mut store)?)
+    time_store(rt, file, &mut store, events)
+}
+
+fn time_store<R: Files + AllocGlobal + Clock + Eprint, D: Sectors>(
+    rt: &R,
+    file: &str,
+    store: &mut Store<D>,
+    events: u32,
+) -> anyhow::Result<()>
+where
+    R::File: FileExt,
+{
+    let appending = time_appends(rt, store, &open_bare(rt, file)?, events)?;
+    print_times(rt, "appending", events, appending)?;
+    let verifying = time_verifying(rt, store)?;
+    print_times(rt, "verifying", events, verifying)
 }
 
 fn print_times<R: Eprint>(rt: &R, name: &str, events: u32, times: Times) -> anyhow::Result<()> {
-    let Times { whole, bare, seen } = times;
-    eprintln!(rt; "{name} {events} nanoseconds {whole} bare {bare} seen {seen}")?;
-    Ok(())
+    print_figures(
+        rt,
+        &[
+            (name, u128::from(events)),
+            ("nanoseconds", times.whole),
+            ("bare", times.bare),
+            ("seen", u128::from(times.seen)),
+        ],
+    )
 }
 
 // The total time of this many appends.
@@ -79,14 +93,14 @@ fn time_append<R: AllocGlobal + Clock, D: Sectors, F: FileExt + OpenFile>(
     number: u64,
 ) -> anyhow::Result<Times> {
     let batch = large_event(rt.alloc(), number)?;
-    let start = Instant::now(rt)?;
+    let watch = Stopwatch::start(rt);
     let seen = work_of_event(text, number) ^ hash_messages(&BATCH_LENS, number);
     bare.write_batch(store.end(), MAX_ENTRY_SECTORS)?;
-    let alone = since(rt, start)?;
-    let start = Instant::now(rt)?;
+    let alone = watch.nanoseconds(rt)?;
+    let watch = Stopwatch::start(rt);
     store.append(&batch)?;
     Ok(Times {
-        whole: since(rt, start)?,
+        whole: watch.nanoseconds(rt)?,
         bare: alone,
         seen,
     })
@@ -124,8 +138,8 @@ fn time_verifying<R: AllocGlobal + Clock, D: Sectors>(
 ) -> anyhow::Result<Times> {
     let commitment = store.commitment();
     let export = export_of(rt.alloc(), store)?;
-    let mut least = time_export(rt, &export, &commitment)?;
-    for _ in 1..ROUNDS {
+    let mut least = Times::LONGEST;
+    for _ in 0..ROUNDS {
         least = least.least(time_export(rt, &export, &commitment)?);
     }
     Ok(least)
@@ -137,13 +151,13 @@ fn time_export<R: AllocGlobal + Clock>(
     export: &[u8],
     commitment: &Commitment,
 ) -> anyhow::Result<Times> {
-    let start = Instant::now(rt)?;
+    let watch = Stopwatch::start(rt);
     let seen = work_of_events(rt.alloc(), commitment.count)?;
-    let bare = since(rt, start)?;
-    let start = Instant::now(rt)?;
+    let bare = watch.nanoseconds(rt)?;
+    let watch = Stopwatch::start(rt);
     check_export(rt.alloc(), export, commitment)?;
     Ok(Times {
-        whole: since(rt, start)?,
+        whole: watch.nanoseconds(rt)?,
         bare,
         seen,
     })

@@ -1,7 +1,7 @@
-use crate::times::since;
+use crate::figures::print_figures;
+use crate::times::Stopwatch;
 use audit_tree::{Tree, leaf_hash};
 use std::rt::Clock;
-use std::time::Instant;
 
 // How often a root and a proof are requested.
 const REPEATS: u64 = 100_000;
@@ -9,12 +9,19 @@ const REPEATS: u64 = 100_000;
 /// Times pushing `leaves` leaves of 74 bytes, and roots and membership proofs over them.
 pub fn measure(rt: &(impl Clock + Eprint + AllocGlobal), leaves: u32) -> anyhow::Result<()> {
     let mut tree = Tree::new(rt.alloc());
-    let start = Instant::now(rt)?;
-    push_leaves(&mut tree, leaves)?;
-    let pushes = since(rt, start)?;
-    eprintln!(rt; "pushes {leaves} nanoseconds {pushes}")?;
+    time_pushes(rt, &mut tree, leaves)?;
     time_roots(rt, &tree)?;
     time_proofs(rt, &tree)
+}
+
+fn time_pushes(rt: &(impl Clock + Eprint), tree: &mut Tree, leaves: u32) -> anyhow::Result<()> {
+    let watch = Stopwatch::start(rt);
+    push_leaves(tree, leaves)?;
+    let pushes = watch.nanoseconds(rt)?;
+    print_figures(
+        rt,
+        &[("pushes", u128::from(leaves)), ("nanoseconds", pushes)],
+    )
 }
 
 fn push_leaves(tree: &mut Tree, leaves: u32) -> anyhow::Result<()> {
@@ -27,23 +34,38 @@ fn push_leaves(tree: &mut Tree, leaves: u32) -> anyhow::Result<()> {
 }
 
 fn time_roots(rt: &(impl Clock + Eprint), tree: &Tree) -> anyhow::Result<()> {
-    let start = Instant::now(rt)?;
+    let watch = Stopwatch::start(rt);
     let mut seen = 0;
     for _ in 0..REPEATS {
         seen ^= tree.root()[0];
     }
-    let roots = since(rt, start)?;
-    eprintln!(rt; "roots {REPEATS} nanoseconds {roots} seen {seen}")?;
-    Ok(())
+    let roots = watch.nanoseconds(rt)?;
+    print_requests(rt, "roots", REPEATS, roots, u128::from(seen))
 }
 
 fn time_proofs(rt: &(impl Clock + Eprint), tree: &Tree) -> anyhow::Result<()> {
     let repeats = REPEATS.min(tree.count());
-    let start = Instant::now(rt)?;
+    let watch = Stopwatch::start(rt);
     let hashes = make_proofs(tree, repeats)?;
-    let proofs = since(rt, start)?;
-    eprintln!(rt; "proofs {repeats} nanoseconds {proofs} seen {hashes}")?;
-    Ok(())
+    let proofs = watch.nanoseconds(rt)?;
+    print_requests(rt, "proofs", repeats, proofs, hashes as u128)
+}
+
+fn print_requests<R: Eprint>(
+    rt: &R,
+    name: &str,
+    repeats: u64,
+    nanoseconds: u128,
+    seen: u128,
+) -> anyhow::Result<()> {
+    print_figures(
+        rt,
+        &[
+            (name, u128::from(repeats)),
+            ("nanoseconds", nanoseconds),
+            ("seen", seen),
+        ],
+    )
 }
 
 // Makes `repeats` proofs, and returns a value that depends on them.

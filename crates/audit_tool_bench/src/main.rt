@@ -13,6 +13,7 @@
 mod bare;
 mod blocks;
 mod exports;
+mod figures;
 mod flushes;
 mod frames;
 mod large;
@@ -38,23 +39,25 @@ fn main(rt: HostRuntime) -> anyhow::Result<()> {
 }
 
 fn measure_layer(rt: &HostRuntime, name: &str, size: u32) -> anyhow::Result<()> {
-    match name {
-        "blocks" => blocks::measure(rt, size)?,
-        "leaves" => leaves::measure(rt, size)?,
-        _ => frames::measure(rt, size)?,
-    }
+    let measured = match name {
+        "blocks" => blocks::measure(rt, size),
+        "leaves" => leaves::measure(rt, size),
+        _ => frames::measure(rt, size),
+    };
+    measured?;
     println!(rt; "{name} measured")?;
     Ok(())
 }
 
 fn measure_file(rt: &HostRuntime, name: &str, file: &str, events: u32) -> anyhow::Result<()> {
-    match name {
-        "store" => stores::measure(rt, file, events)?,
-        "sessions" => sessions::measure(rt, file, events)?,
-        "export" => exports::measure(rt, file, events)?,
-        "large" => large::measure(rt, file, events)?,
+    let measured = match name {
+        "store" => stores::measure(rt, file, events),
+        "sessions" => sessions::measure(rt, file, events),
+        "export" => exports::measure(rt, file, events),
+        "large" => large::measure(rt, file, events),
         _ => bail!("a store, sessions, an export or large events are wanted"),
-    }
+    };
+    measured?;
     println!(rt; "{name} measured")?;
     Ok(())
 }

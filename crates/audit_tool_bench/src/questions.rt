@@ -1,15 +1,16 @@
 //! Replies to questions for membership proofs, compared with the proof, the reads of the entry's sectors and its leaf
 //! hash.
+use crate::figures::print_figures;
 use crate::sessions::{ROUNDS, started, time_frames};
-use crate::times::{Rounds, Times, since};
+use crate::times::{Rounds, Stopwatch, Times};
 use anyhow::bail;
 use audit_disk::{SECTOR_SIZE, Sectors};
 use audit_log::LOG_START;
+use audit_server::Core;
 use audit_store::Store;
 use audit_tree::leaf_hash;
 use std::alloc::Global;
 use std::rt::Clock;
-use std::time::Instant;
 
 // The number of questions in a batch.
 const QUESTIONS: u32 = 64;
@@ -29,57 +30,99 @@ const ENTRY_LEN: usize = 74;
 
 /// Times replies to questions for membership proofs of entries all over the log, under the full count; and as many
 /// proofs, reads and leaf hashes alone, for other entries, through a second handle of the file.
-pub fn time_questions<R: AllocGlobal + Clock + Eprint, D: Sectors + Drop>(
+pub fn time_questions<R: AllocGlobal + Clock + Eprint, D: Sectors + Drop, B: Sectors>(
     rt: &R,
     store: Store<D>,
-    bare: &mut D,
+    bare: &mut B,
+) -> anyhow::Result<()> {
+    let count = store.commitment().count;
+    let mut rounds = Rounds::new(rt.alloc());
+    time_rounds(rt, store, bare, &mut rounds)?;
+    print_rounds(rt, count, rounds)
+}
+
+fn time_rounds<R: AllocGlobal + Clock, D: Sectors + Drop, B: Sectors>(
+    rt: &R,
+    store: Store<D>,
+    bare: &mut B,
+    rounds: &mut Rounds,
 ) -> anyhow::Result<()> {
     let mut store = store;
-    let mut rounds = Rounds::new(rt.alloc());
     for round in 0..ROUNDS {
-        let timed = time_bare(rt, &store, bare, round.saturating_mul(2))?;
-        let (whole, after) = time_replies(rt, store, round.saturating_mul(2).saturating_add(1))?;
-        rounds.push(Times { whole, ..timed })?;
-        store = after;
+        let alone = time_bare(rt, &store, bare, round.saturating_mul(2))?;
+        store = time_core(rt, store, round, alone, rounds)?;
     }
-    let count = store.commitment().count;
-    let times = rounds.low()?;
-    eprintln!(rt;
-        "replies {QUESTIONS} nanoseconds {} bare {} events {count} seen {}",
-        times.whole, times.bare, times.seen
-    )?;
     Ok(())
 }
 
+fn print_rounds<R: Eprint>(rt: &R, count: u64, rounds: Rounds) -> anyhow::Result<()> {
+    let times = rounds.low()?;
+    print_figures(
+        rt,
+        &[
+            ("replies", u128::from(QUESTIONS)),
+            ("nanoseconds", times.whole),
+            ("bare", times.bare),
+            ("events", u128::from(count)),
+            ("seen", u128::from(times.seen)),
+        ],
+    )
+}
+
 // Times the work that replies to a batch of questions can't avoid.
-fn time_bare<R: AllocGlobal + Clock, D: Sectors>(
+fn time_bare<R: AllocGlobal + Clock, D: Sectors, B: Sectors>(
     rt: &R,
     store: &Store<D>,
-    bare: &mut D,
+    bare: &mut B,
     batch: u32,
 ) -> anyhow::Result<Times> {
     let indices = some_indices(rt.alloc(), batch, store.commitment().count)?;
-    let start = Instant::now(rt)?;
+    let watch = Stopwatch::start(rt);
     let seen = bare_replies(store, bare, &indices)?;
     Ok(Times {
         whole: 0,
-        bare: since(rt, start)?,
+        bare: watch.nanoseconds(rt)?,
         seen,
     })
 }
 
-// Times the replies to a batch of questions, and returns the store.
-fn time_replies<R: AllocGlobal + Clock, D: Sectors + Drop>(
+// Times the replies of a round, adds it with the work that was timed alone, and returns the store.
+fn time_core<R: AllocGlobal + Clock, D: Sectors + Drop>(
     rt: &R,
     store: Store<D>,
-    batch: u32,
-) -> anyhow::Result<(u128, Store<D>)> {
+    round: u32,
+    alone: Times,
+    rounds: &mut Rounds,
+) -> anyhow::Result<Store<D>> {
     let count = store.commitment().count;
+    let mut core = started(rt.alloc(), store)?;
+    add_round(rt, &mut core, round, count, alone, rounds)?;
+    Ok(core.into_store())
+}
+
+fn add_round<R: AllocGlobal + Clock, D: Sectors>(
+    rt: &R,
+    core: &mut Core<D>,
+    round: u32,
+    count: u64,
+    alone: Times,
+    rounds: &mut Rounds,
+) -> anyhow::Result<()> {
+    let batch = round.saturating_mul(2).saturating_add(1);
+    let whole = time_replies(rt, core, batch, count)?;
+    Ok(rounds.push(Times { whole, ..alone })?)
+}
+
+// Times the replies to a batch of questions about this many events.
+fn time_replies<R: AllocGlobal + Clock, D: Sectors>(
+    rt: &R,
+    core: &mut Core<D>,
+    batch: u32,
+    count: u64,
+) -> anyhow::Result<u128> {
     let indices = some_indices(rt.alloc(), batch, count)?;
     let frames = question_frames(rt.alloc(), &indices, count)?;
-    let mut core = started(rt.alloc(), store)?;
-    let time = time_frames(rt, &mut core, &frames, MEMBERSHIP)?;
-    Ok((time, core.into_store()))
+    time_frames(rt, core, &frames, MEMBERSHIP)
 }
 
 // Numbers below the count, spread over its range and different for each batch.
@@ -114,7 +157,11 @@ fn question_frames(
 }
 
 // Does the work that replies to these questions can't avoid.
-fn bare_replies<D: Sectors>(store: &Store<D>, bare: &mut D, indices: &[u64]) -> anyhow::Result<u8> {
+fn bare_replies<D: Sectors, B: Sectors>(
+    store: &Store<D>,
+    bare: &mut B,
+    indices: &[u64],
+) -> anyhow::Result<u8> {
     let mut seen = 0;
     for index in indices {
         seen ^= bare_reply(store, bare, *index)?;
@@ -123,7 +170,11 @@ fn bare_replies<D: Sectors>(store: &Store<D>, bare: &mut D, indices: &[u64]) -> 
 }
 
 // Makes a proof, reads the entry's one sector, and computes its leaf hash.
-fn bare_reply<D: Sectors>(store: &Store<D>, bare: &mut D, index: u64) -> anyhow::Result<u8> {
+fn bare_reply<D: Sectors, B: Sectors>(
+    store: &Store<D>,
+    bare: &mut B,
+    index: u64,
+) -> anyhow::Result<u8> {
     let hashes = store.membership(index, store.commitment().count)?;
     let at = LOG_START.saturating_add(index);
     if at >= bare.size() {

@@ -1,9 +1,9 @@
 //! The cost of sessions over a store in a file: group commit of small events, and replies to questions.
-use crate::bare::{BareFile, open_bare};
+use crate::bare::open_bare;
 use crate::flushes::time_flushes;
 use crate::questions::time_questions;
 use crate::stores::{LARGE_BATCH, append_large, bare_disk, new_store, small_events};
-use crate::times::since;
+use crate::times::Stopwatch;
 use anyhow::{Context, bail};
 use audit_base::SESSIONS;
 use audit_disk::{Sectors, SystemFile};
@@ -11,10 +11,9 @@ use audit_server::Core;
 use audit_store::Store;
 use audit_wire::first_frame;
 use std::alloc::Global;
-use std::fs::{Files, OpenFile};
+use std::fs::Files;
 use std::os::unix::fs::FileExt;
 use std::rt::Clock;
-use std::time::Instant;
 
 // How many flushes of each size, and how many batches of questions, are timed.
 pub const ROUNDS: u32 = 300;
@@ -38,20 +37,38 @@ where
 {
     let events = u64::from(events);
     let store = new_store(rt, file, SPARE_SECTORS + events)?;
-    let mut store = time_sizes(rt, store, &open_bare(rt, file)?)?;
-    fill(rt.alloc(), &mut store, events)?;
+    time_store(rt, file, store, events)
+}
+
+fn time_store<R: Files + AllocGlobal + Clock + Eprint, D: Sectors + Drop>(
+    rt: &R,
+    file: &str,
+    store: Store<D>,
+    events: u64,
+) -> anyhow::Result<()>
+where
+    R::File: SystemFile + FileExt,
+{
+    let store = time_sizes(rt, file, store, events)?;
     time_questions(rt, store, &mut bare_disk(rt, file)?)
 }
 
-fn time_sizes<R: AllocGlobal + Clock + Eprint, D: Sectors + Drop, F: FileExt + OpenFile>(
+// Times flushes of each size, and returns the store with as many more events as it needs to hold `events`.
+fn time_sizes<R: Files + AllocGlobal + Clock + Eprint, D: Sectors + Drop>(
     rt: &R,
+    file: &str,
     store: Store<D>,
-    bare: &BareFile<F>,
-) -> anyhow::Result<Store<D>> {
+    events: u64,
+) -> anyhow::Result<Store<D>>
+where
+    R::File: FileExt,
+{
+    let bare = open_bare(rt, file)?;
     let mut store = store;
     for size in FLUSH_SIZES {
-        store = time_flushes(rt, store, bare, size)?;
+        store = time_flushes(rt, store, &bare, size)?;
     }
+    fill(rt.alloc(), &mut store, events)?;
     Ok(store)
 }
 
@@ -78,9 +95,9 @@ pub fn time_frames<R: AllocGlobal + Clock, D: Sectors, const N: usize>(
     first: u8,
 ) -> anyhow::Result<u128> {
     let mut outputs = Vec::with_capacity(rt.alloc(), SESSIONS)?;
-    let start = Instant::now(rt)?;
+    let watch = Stopwatch::start(rt);
     answer_frames(core, frames, &mut outputs)?;
-    let time = since(rt, start)?;
+    let time = watch.nanoseconds(rt)?;
     judge_replies(&outputs, first, frames.len())?;
     Ok(time)
 }
@@ -99,8 +116,8 @@ fn feed_frames<D: Sectors, const N: usize>(
     core: &mut Core<D>,
     frames: &[[u8; N]],
 ) -> anyhow::Result<()> {
-    for number in 0..frames.len() {
-        if let Err(fault) = core.feed(number % SESSIONS, &frames[number]) {
+    for (number, frame) in frames.iter().enumerate() {
+        if let Err(fault) = core.feed(number % SESSIONS, frame) {
             return Err(fault.error.into());
         }
     }

@@ -1,7 +1,8 @@
 //! The cost of a store in a file, compared with the file calls, the SHA-256 blocks and the ChaCha20 that it can't avoid.
 use crate::bare::{BareFile, open_bare};
+use crate::figures::print_figures;
 use crate::streams::keystream_of;
-use crate::times::{Times, since};
+use crate::times::{Stopwatch, Times};
 use anyhow::{Context, bail};
 use audit_chain::{Event, Key};
 use audit_disk::{FileDisk, OsFile, SECTOR_SIZE, Sectors, SystemFile};
@@ -11,7 +12,6 @@ use std::alloc::Global;
 use std::fs::{self, Files, OpenFile, OpenOptions};
 use std::os::unix::fs::FileExt;
 use std::rt::Clock;
-use std::time::Instant;
 
 /// The small events in a large batch. Each occupies one sector, and a store accepts no more sectors at once.
 pub const LARGE_BATCH: u32 = 64;
@@ -62,10 +62,29 @@ where
     R::File: SystemFile + FileExt,
 {
     let mut store = new_store(rt, file, SPARE_SECTORS + u64::from(events))?;
-    let bare = open_bare(rt, file)?;
-    time_batches(rt, &mut store, &bare, 1)?;
-    time_batches(rt, &mut store, &bare, LARGE_BATCH)?;
-    append_large(rt.alloc(), &mut store, u64::from(events / LARGE_BATCH))
+    fill(rt, file, &mut store, events)
+}
+
+fn fill<R: Files + AllocGlobal + Clock + Eprint, D: Sectors>(
+    rt: &R,
+    file: &str,
+    store: &mut Store<D>,
+    events: u32,
+) -> anyhow::Result<()>
+where
+    R::File: FileExt,
+{
+    time_sizes(rt, store, &open_bare(rt, file)?)?;
+    append_large(rt.alloc(), store, u64::from(events / LARGE_BATCH))
+}
+
+fn time_sizes<R: AllocGlobal + Clock + Eprint, D: Sectors, F: FileExt + OpenFile>(
+    rt: &R,
+    store: &mut Store<D>,
+    bare: &BareFile<F>,
+) -> anyhow::Result<()> {
+    time_batches(rt, store, bare, 1)?;
+    time_batches(rt, store, bare, LARGE_BATCH)
 }
 
 /// Opens the file as a device without a lock, beside the open store, which keeps its own.
@@ -120,6 +139,19 @@ pub fn small_events(alloc: Global, count: u32) -> anyhow::Result<Vec<Event>> {
     Ok(events)
 }
 
+/// The events of a batch, and a row of bytes as long as their sectors.
+#[derive(Drop)]
+struct Batch {
+    events: Vec<Event>,
+    row: Vec<u8>,
+}
+
+fn batch_of(alloc: Global, size: u32) -> anyhow::Result<Batch> {
+    let row = vec![in alloc; 0x5a; SECTOR_SIZE.saturating_mul(size as usize)]?;
+    let events = small_events(alloc, size)?;
+    Ok(Batch { events, row })
+}
+
 // The times of a batch: its append, the work that it can't avoid if each sector is written by itself, and the same work
 // with one write for all sectors and the entries' keystreams.
 #[derive(Clone, Copy)]
@@ -129,6 +161,12 @@ struct BatchTimes {
 }
 
 impl BatchTimes {
+    // Longer than any time that is measured.
+    const LONGEST: BatchTimes = BatchTimes {
+        times: Times::LONGEST,
+        in_a_row: u128::MAX,
+    };
+
     // The shorter of each time.
     fn least(self, other: BatchTimes) -> BatchTimes {
         BatchTimes {
@@ -145,20 +183,26 @@ fn time_batches<R: AllocGlobal + Clock + Eprint, D: Sectors, F: FileExt + OpenFi
     bare: &BareFile<F>,
     size: u32,
 ) -> anyhow::Result<()> {
-    let batch = small_events(rt.alloc(), size)?;
-    let row = vec![in rt.alloc(); 0x5a; SECTOR_SIZE.saturating_mul(batch.len())]?;
-    let mut least = time_batch(rt, store, bare, &batch, &row, 0)?;
-    for round in 1..ROUNDS {
-        least = least.least(time_batch(rt, store, bare, &batch, &row, round)?);
+    let batch = batch_of(rt.alloc(), size)?;
+    let mut least = BatchTimes::LONGEST;
+    for round in 0..ROUNDS {
+        least = least.least(time_batch(rt, store, bare, &batch, round)?);
     }
+    print_batches(rt, size, least)
+}
+
+fn print_batches<R: Eprint>(rt: &R, size: u32, least: BatchTimes) -> anyhow::Result<()> {
     let BatchTimes { times, in_a_row } = least;
-    let Times {
-        whole,
-        bare: alone,
-        seen,
-    } = times;
-    eprintln!(rt; "batches {size} nanoseconds {whole} bare {alone} row {in_a_row} seen {seen}")?;
-    Ok(())
+    print_figures(
+        rt,
+        &[
+            ("batches", u128::from(size)),
+            ("nanoseconds", times.whole),
+            ("bare", times.bare),
+            ("row", in_a_row),
+            ("seen", u128::from(times.seen)),
+        ],
+    )
 }
 
 // Times the work that the append of a batch can't avoid: the SHA-256 blocks, and the writes and syncs of the same
@@ -168,23 +212,23 @@ fn time_batch<R: Clock, D: Sectors, F: FileExt + OpenFile>(
     rt: &R,
     store: &mut Store<D>,
     bare: &BareFile<F>,
-    batch: &[Event],
-    row: &[u8],
+    batch: &Batch,
     round: u32,
 ) -> anyhow::Result<BatchTimes> {
-    bare.write_row(store.end(), row)?;
-    let start = Instant::now(rt)?;
-    let hashed = hash_batch(batch.len() as u64, round);
-    bare.write_batch(store.end(), batch.len() as u64)?;
-    let alone = since(rt, start)?;
-    let start = Instant::now(rt)?;
-    let encrypted = hash_batch(batch.len() as u64, round) ^ small_streams(batch.len() as u64);
-    bare.write_row(store.end(), row)?;
-    let in_a_row = since(rt, start)?;
-    let start = Instant::now(rt)?;
-    store.append(batch)?;
+    let size = batch.events.len() as u64;
+    bare.write_row(store.end(), &batch.row)?;
+    let watch = Stopwatch::start(rt);
+    let hashed = hash_batch(size, round);
+    bare.write_batch(store.end(), size)?;
+    let alone = watch.nanoseconds(rt)?;
+    let watch = Stopwatch::start(rt);
+    let encrypted = hash_batch(size, round) ^ small_streams(size);
+    bare.write_row(store.end(), &batch.row)?;
+    let in_a_row = watch.nanoseconds(rt)?;
+    let watch = Stopwatch::start(rt);
+    store.append(&batch.events)?;
     let times = Times {
-        whole: since(rt, start)?,
+        whole: watch.nanoseconds(rt)?,
         bare: alone,
         seen: hashed ^ encrypted,
     };
@@ -234,17 +278,20 @@ where
     for _ in 1..OPENINGS {
         least = least.least(time_opening(rt, file)?);
     }
-    let OpeningTimes {
-        count,
-        opening,
-        calls,
-        blocks,
-        seen,
-    } = least;
-    eprintln!(rt;
-        "opening {count} nanoseconds {opening} calls {calls} blocks {blocks} seen {seen}"
-    )?;
-    Ok(())
+    print_opening(rt, least)
+}
+
+fn print_opening<R: Eprint>(rt: &R, times: OpeningTimes) -> anyhow::Result<()> {
+    print_figures(
+        rt,
+        &[
+            ("opening", u128::from(times.count)),
+            ("nanoseconds", times.opening),
+            ("calls", times.calls),
+            ("blocks", times.blocks),
+            ("seen", u128::from(times.seen)),
+        ],
+    )
 }
 
 // Prints the peak memory of the process.
@@ -296,13 +343,13 @@ where
 {
     let opened = open_once(rt, file)?;
     let calls = time_reads(rt, file, opened.end)?;
-    let start = Instant::now(rt)?;
+    let watch = Stopwatch::start(rt);
     let seen = hash_events(&READ_LENS, opened.count);
     Ok(OpeningTimes {
         count: opened.count,
         opening: opened.nanoseconds,
         calls,
-        blocks: since(rt, start)?,
+        blocks: watch.nanoseconds(rt)?,
         seen,
     })
 }
@@ -312,10 +359,14 @@ where
     R::File: SystemFile,
 {
     let disk = FileDisk::open(rt, rt.alloc(), file)?;
-    let start = Instant::now(rt)?;
+    open_disk(rt, disk)
+}
+
+fn open_disk<R: AllocGlobal + Clock, D: Sectors + Drop>(rt: &R, disk: D) -> anyhow::Result<Opened> {
+    let watch = Stopwatch::start(rt);
     let store = made(Store::open(rt.alloc(), disk))?;
     Ok(Opened {
-        nanoseconds: since(rt, start)?,
+        nanoseconds: watch.nanoseconds(rt)?,
         count: store.commitment().count,
         end: store.end(),
     })
@@ -327,9 +378,13 @@ where
     R::File: SystemFile,
 {
     let mut bare = FileDisk::open(rt, rt.alloc(), file)?;
-    let start = Instant::now(rt)?;
-    read_bare(&mut bare, end)?;
-    Ok(since(rt, start)?)
+    time_bare_reads(rt, &mut bare, end)
+}
+
+fn time_bare_reads<R: Clock, D: Sectors>(rt: &R, disk: &mut D, end: u64) -> anyhow::Result<u128> {
+    let watch = Stopwatch::start(rt);
+    read_bare(disk, end)?;
+    watch.nanoseconds(rt)
 }
 
 // Reads every sector below `end`.

@@ -5,6 +5,25 @@ use std::io;
 use std::rt::Clock;
 use std::time::Instant;
 
+/// A stopwatch that was started. A clock that can't be read is an error when the time is taken.
+#[derive(Clone, Copy)]
+pub struct Stopwatch {
+    start: io::Result<Instant>,
+}
+
+impl Stopwatch {
+    pub fn start<R: Clock>(rt: &R) -> Stopwatch {
+        Stopwatch {
+            start: Instant::now(rt),
+        }
+    }
+
+    /// The nanoseconds since its start.
+    pub fn nanoseconds<R: Clock>(self, rt: &R) -> anyhow::Result<u128> {
+        Ok(self.start?.elapsed(rt)?.as_nanos())
+    }
+}
+
 /// The nanoseconds of the whole work and of the unavoidable part alone, and a value that depends on the latter.
 #[derive(Clone, Copy)]
 pub struct Times {
@@ -14,6 +33,13 @@ pub struct Times {
 }
 
 impl Times {
+    /// Longer than any time that is measured.
+    pub const LONGEST: Times = Times {
+        whole: u128::MAX,
+        bare: u128::MAX,
+        seen: 0,
+    };
+
     /// No time at all.
     pub const ZERO: Times = Times {
         whole: 0,
@@ -38,11 +64,6 @@ impl Times {
             seen: self.seen ^ other.seen,
         }
     }
-}
-
-/// The nanoseconds since a start.
-pub fn since<R: Clock>(rt: &R, start: Instant) -> io::Result<u128> {
-    Ok(start.elapsed(rt)?.as_nanos())
 }
 
 /// The times of some rounds.
