@@ -5,7 +5,7 @@ ghost use Rattle.audit_base.specs.declared.limits.TheConstants.{SESSIONS};
 use crate::lists::add_store;
 use crate::random::Random;
 use crate::random_door::RandomDoor;
-use crate::stores::{Device, new_core, worn_core};
+use crate::stores::{Start, start_core};
 use crate::subject::Core;
 use crate::texts::{digest_text, two_numbers};
 use crate::visitor::Visitor;
@@ -30,11 +30,22 @@ pub fn play_clients<R: AllocGlobal + Print>(rt: &R, rest: &str) -> anyhow::Resul
     Ok(())
 }
 
-// Plays a run, and returns the digest of what the door was told, of what the clients that were left have received, and
-// of the store.
+// Plays a run over a store of 3 to 82 sectors. Returns the digest of what the door was told, of what the clients that
+// were left have received, and of the store.
 fn play_run(alloc: Global, number: u64) -> anyhow::Result<[u8; 32]> {
     let mut random = Random::new(number);
-    let mut core = some_core(alloc, &mut random)?;
+    let sectors = random.below(80).saturating_add(3);
+    let core = start_core(alloc, sectors, some_start(&mut random))?;
+    play_core(alloc, number, core, random)
+}
+
+fn play_core<D: Sectors + Drop>(
+    alloc: Global,
+    number: u64,
+    core: Core<D>,
+    random: Random,
+) -> anyhow::Result<[u8; 32]> {
+    let mut core = core;
     let mut hasher = hasher_of(number, serve_run(alloc, &mut core, random)?)?;
     add_store(core.into_store(), &mut hasher)?;
     Ok(hasher.finalize())
@@ -88,12 +99,11 @@ fn add_left(slots: &[Slot<Visitor>], hasher: &mut Sha256) {
     }
 }
 
-// A core over a store of 3 to 82 sectors. One store in eight has a generation left for one commit.
-fn some_core(alloc: Global, random: &mut Random) -> anyhow::Result<Core<Device>> {
-    let sectors = random.below(80).saturating_add(3);
+// One store in eight has a generation left for one commit.
+fn some_start(random: &mut Random) -> Start {
     match random.below(8) {
-        0 => worn_core(alloc, sectors, 1),
-        _ => new_core(alloc, sectors, u64::MAX),
+        0 => Start::Worn(1),
+        _ => Start::WHOLE,
     }
 }
 

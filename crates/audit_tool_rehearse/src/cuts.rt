@@ -66,24 +66,33 @@ fn is_answered(alloc: Global, pieces: &[&[u8]], whole: &[u8]) -> anyhow::Result<
 // The answers to the pieces, from a store of one event; whether the session has ended; and the number of events
 // afterwards.
 fn answers(alloc: Global, pieces: &[&[u8]]) -> anyhow::Result<Vec<u8>> {
-    answers_of(new_core(alloc, 16, u64::MAX)?, pieces)
-}
-
-fn answers_of<D: Sectors + Drop>(core: Core<D>, pieces: &[&[u8]]) -> anyhow::Result<Vec<u8>> {
-    let mut core = core;
-    feed_pieces(&mut core, pieces)?;
-    let mut outcome = core.take_output(0);
-    outcome.push(u8::from(core.ended(0)))?;
-    let commitment = core.into_store().commitment();
-    outcome.extend_from_slice(&commitment.count.to_be_bytes())?;
+    let mut outcome = Vec::new(alloc);
+    add_answers(new_core(alloc, 16, u64::MAX)?, pieces, &mut outcome)?;
     Ok(outcome)
 }
 
-// Appends an event, whose answer is dropped, and feeds the pieces.
-fn feed_pieces<D: Sectors>(core: &mut Core<D>, pieces: &[&[u8]]) -> anyhow::Result<()> {
+fn add_answers<D: Sectors + Drop>(
+    core: Core<D>,
+    pieces: &[&[u8]],
+    outcome: &mut Vec<u8>,
+) -> anyhow::Result<()> {
+    let mut core = core;
+    add_session(&mut core, pieces, outcome)?;
+    let count = core.into_store().commitment().count;
+    Ok(outcome.extend_from_slice(&count.to_be_bytes())?)
+}
+
+// Appends an event, whose answer is dropped, and adds the answers to the pieces and whether the session has ended.
+fn add_session<D: Sectors>(
+    core: &mut Core<D>,
+    pieces: &[&[u8]],
+    outcome: &mut Vec<u8>,
+) -> anyhow::Result<()> {
     feed(core, &[APPEND])?;
     core.take_output(0);
-    feed(core, pieces)
+    feed(core, pieces)?;
+    outcome.extend_from_slice(&core.take_output(0))?;
+    Ok(outcome.push(u8::from(core.ended(0)))?)
 }
 
 /// Feeds pieces to the first session, and flushes the core.

@@ -1,8 +1,8 @@
 //! Randomly damaged devices, and the outcomes of opening them.
 use crate::cuts::feed;
-use crate::lists::{add_device, random_core};
+use crate::lists::{add_device, random_start};
 use crate::random::Random;
-use crate::stores::{Device, blocks_of, open_core};
+use crate::stores::{Device, blocks_of, open_core, start_core};
 use crate::streams::stream_of;
 use crate::subject::{Core, Store};
 use crate::texts::{digest_text, two_numbers};
@@ -65,7 +65,8 @@ fn print_refused<R: Print>(rt: &R, refused: &[u64; 16]) -> anyhow::Result<()> {
 
 fn play_device(alloc: Global, number: u64, outcomes: &mut Outcomes) -> anyhow::Result<()> {
     let mut random = Random::new(number);
-    let core = random_core(alloc, &mut random)?;
+    let (sectors, start) = random_start(&mut random);
+    let core = start_core(alloc, sectors, start)?;
     let mut disk = with_events(alloc, core, &mut random)?;
     let older = blocks_of(alloc, &mut disk)?;
     let content = hurt_later(alloc, disk, &mut random, &older)?;

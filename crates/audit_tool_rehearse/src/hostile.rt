@@ -2,11 +2,9 @@
 use crate::lists::play_plan;
 use crate::plan::Plan;
 use crate::random::Random;
-use crate::stores::{Device, first_core, new_core};
+use crate::stores::{Start, start_core};
 use crate::streams::{add_append, add_head, cut_off};
-use crate::subject::Core;
 use crate::texts::{digest_text, two_numbers};
-use audit_disk::Sectors;
 use audit_wire::MAX_BODY;
 use sha2::{Digest, Sha256};
 use std::alloc::{AllocError, Global};
@@ -49,6 +47,7 @@ pub fn play_hostile<R: AllocGlobal + Print>(rt: &R, rest: &str) -> anyhow::Resul
     Ok(())
 }
 
+// Plays a batch over a store of 3 to 32 sectors.
 fn play_batch(
     alloc: Global,
     number: u64,
@@ -56,28 +55,18 @@ fn play_batch(
     hasher: &mut Sha256,
 ) -> anyhow::Result<()> {
     let mut random = Random::new(number);
-    let core = small_core(alloc, &mut random)?;
-    play_core(alloc, core, random, tally, hasher)
-}
-
-fn play_core<D: Sectors + Drop>(
-    alloc: Global,
-    core: Core<D>,
-    random: Random,
-    tally: &mut Tally,
-    hasher: &mut Sha256,
-) -> anyhow::Result<()> {
-    let mut random = random;
+    let sectors = random.below(30).saturating_add(3);
+    let start = some_start(&mut random);
     let streams = hostile_streams(alloc, &mut random, tally)?;
+    let core = start_core(alloc, sectors, start)?;
     play_plan(alloc, core, Plan::new(random, &streams, 12), GROUPS, hasher)
 }
 
-// A core over a store of 3 to 32 sectors. One store in four is of the first version of the format.
-fn small_core(alloc: Global, random: &mut Random) -> anyhow::Result<Core<Device>> {
-    let sectors = random.below(30).saturating_add(3);
+// One store in four is of the first version of the format.
+fn some_start(random: &mut Random) -> Start {
     match random.below(4) {
-        0 => first_core(alloc, sectors),
-        _ => new_core(alloc, sectors, u64::MAX),
+        0 => Start::First,
+        _ => Start::WHOLE,
     }
 }
 

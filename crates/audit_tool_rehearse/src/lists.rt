@@ -1,7 +1,7 @@
 //! Random lists of steps, and a digest of everything they produce.
 use crate::plan::Plan;
 use crate::random::Random;
-use crate::stores::{Device, first_core, new_core, worn_core};
+use crate::stores::{Start, start_core};
 use crate::streams::stream_of;
 use crate::subject::{Core, Store};
 use crate::texts::digest_text;
@@ -29,18 +29,9 @@ pub fn play_lists<R: AllocGlobal + Print>(rt: &R, first: u64) -> anyhow::Result<
 
 fn play_list(alloc: Global, number: u64, hasher: &mut Sha256) -> anyhow::Result<()> {
     let mut random = Random::new(number);
-    let core = random_core(alloc, &mut random)?;
-    play_core(alloc, core, random, hasher)
-}
-
-fn play_core<D: Sectors + Drop>(
-    alloc: Global,
-    core: Core<D>,
-    random: Random,
-    hasher: &mut Sha256,
-) -> anyhow::Result<()> {
-    let mut random = random;
+    let (sectors, start) = random_start(&mut random);
     let streams = random_streams(alloc, &mut random)?;
+    let core = start_core(alloc, sectors, start)?;
     play_plan(alloc, core, random_plan(random, &streams), GROUPS, hasher)
 }
 
@@ -53,9 +44,20 @@ pub fn play_plan<D: Sectors + Drop>(
     hasher: &mut Sha256,
 ) -> anyhow::Result<()> {
     let mut core = core;
-    let outputs = outputs_of(alloc, &mut core, plan, groups)?;
-    add_sessions(&core, &outputs, hasher);
+    play_sessions(alloc, &mut core, plan, groups, hasher)?;
     add_store(core.into_store(), hasher)
+}
+
+fn play_sessions<D: Sectors>(
+    alloc: Global,
+    core: &mut Core<D>,
+    plan: Plan,
+    groups: usize,
+    hasher: &mut Sha256,
+) -> anyhow::Result<()> {
+    let outputs = outputs_of(alloc, core, plan, groups)?;
+    add_sessions(core, &outputs, hasher);
+    Ok(())
 }
 
 /// The plan of a list: one step in 4, 12 or 60 is a flush.
@@ -99,20 +101,21 @@ fn drive_groups<D: Sectors>(
     Ok(())
 }
 
-/// A core over a store of 3 to 119 sectors. One store in eight is worn, one wears out with its first commit, and one
-/// is of the first version of the format.
-pub fn random_core(alloc: Global, random: &mut Random) -> anyhow::Result<Core<Device>> {
+/// The sectors of a store, 3 to 119, and how it begins. One store in eight is worn, one wears out with its first
+/// commit, and one is of the first version of the format.
+pub fn random_start(random: &mut Random) -> (u64, Start) {
     let sectors = match random.below(3) {
         0 => random.below(6).saturating_add(3),
         1 => random.below(30).saturating_add(10),
         _ => random.below(80).saturating_add(40),
     };
-    match random.below(8) {
-        0 => worn_core(alloc, sectors, 0),
-        1 => worn_core(alloc, sectors, 1),
-        2 => first_core(alloc, sectors),
-        _ => new_core(alloc, sectors, u64::MAX),
-    }
+    let start = match random.below(8) {
+        0 => Start::Worn(0),
+        1 => Start::Worn(1),
+        2 => Start::First,
+        _ => Start::WHOLE,
+    };
+    (sectors, start)
 }
 
 /// The streams of 1 to 16 sessions.

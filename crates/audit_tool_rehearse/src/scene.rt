@@ -7,7 +7,7 @@ use crate::hostile::play_hostile;
 use crate::lengths::try_lengths;
 use crate::lists::play_lists;
 use crate::serving::serve_scene;
-use crate::stores::{Device, TRIES, first_core, new_core, open_core, worn_core};
+use crate::stores::{Device, Start, TRIES, first_core, open_core, start_core};
 use crate::subject::{Core, Store};
 use crate::sweep::play_sweep;
 use crate::texts::{bytes_of, number_of, text_of, two_numbers};
@@ -32,67 +32,89 @@ impl Scene {
     pub fn play<R: AllocGlobal + Print>(&mut self, rt: &R, line: &str) -> anyhow::Result<()> {
         let (task, rest) = line.split_once(' ').unwrap_or((line, ""));
         match task {
-            "#" => self.title(rt, line),
-            "store" | "worn" => self.begin(rt, task, rest),
-            "open" => self.open(rt),
-            "first" => self.begin_first(rt, rest),
-            "feed" | "end" | "drive" | "show" | "flush" => self.step(rt, task, rest),
+            "#" => title(rt, line),
+            "store" | "worn" | "first" | "open" => self.replace(rt, task, rest),
+            "feed" | "end" | "drive" | "show" | "flush" => {
+                step(
+                    rt,
+                    self.core.as_mut().context("there is no store")?,
+                    task,
+                    rest,
+                )
+            }
             _ => play_apart(rt, task, rest),
         }
     }
 
-    fn title<R: Print>(&self, rt: &R, line: &str) -> anyhow::Result<()> {
-        println!(rt; "{line}")?;
-        Ok(())
-    }
-
-    fn begin<R: AllocGlobal + Print>(
+    // Puts another core into place.
+    fn replace<R: AllocGlobal + Print>(
         &mut self,
         rt: &R,
         task: &str,
         rest: &str,
     ) -> anyhow::Result<()> {
-        let (sectors, number) = two_numbers(rest)?;
-        println!(rt; "{task} {sectors} {number}")?;
-        let core = if task == "store" {
-            new_core(rt.alloc(), sectors, number)
-        } else {
-            worn_core(rt.alloc(), sectors, number)
+        let core = match task {
+            "open" => open(rt, self.core.take()),
+            "first" => begin_first(rt, rest),
+            _ => begin(rt, task, rest),
         };
         self.core = Some(core?);
         Ok(())
     }
+}
 
-    fn begin_first<R: AllocGlobal + Print>(&mut self, rt: &R, rest: &str) -> anyhow::Result<()> {
-        println!(rt; "first {rest}")?;
-        self.core = Some(first_core(rt.alloc(), number_of(rest)?)?);
-        Ok(())
-    }
+fn title<R: Print>(rt: &R, line: &str) -> anyhow::Result<()> {
+    println!(rt; "{line}")?;
+    Ok(())
+}
 
-    fn open<R: AllocGlobal + Print>(&mut self, rt: &R) -> anyhow::Result<()> {
-        let core = self.core.take().context("there is no store")?;
-        let held = show_store(rt, "held", core)?;
-        let core = open_core(rt.alloc(), held.into_inner())?;
-        let opened = show_store(rt, "opened", core)?;
-        self.core = Some(open_core(rt.alloc(), opened.into_inner())?);
-        Ok(())
-    }
+fn begin<R: AllocGlobal + Print>(rt: &R, task: &str, rest: &str) -> anyhow::Result<Core<Device>> {
+    let (sectors, number) = two_numbers(rest)?;
+    println!(rt; "{task} {sectors} {number}")?;
+    let start = match task {
+        "store" => Start::Failing(number),
+        _ => Start::Worn(number),
+    };
+    start_core(rt.alloc(), sectors, start)
+}
 
-    fn step<R: AllocGlobal + Print>(
-        &mut self,
-        rt: &R,
-        task: &str,
-        rest: &str,
-    ) -> anyhow::Result<()> {
-        let core = self.core.as_mut().context("there is no store")?;
-        if task == "flush" {
-            return flush(rt, core);
-        }
-        let (session, digits) = rest.split_once(' ').unwrap_or((rest, ""));
-        let session = session_of(session)?;
-        let piece = bytes_of(rt.alloc(), digits)?;
-        step_session(rt, core, task, session, &piece)
+fn begin_first<R: AllocGlobal + Print>(rt: &R, rest: &str) -> anyhow::Result<Core<Device>> {
+    println!(rt; "first {rest}")?;
+    first_core(rt.alloc(), number_of(rest)?)
+}
+
+// Prints what the store holds, and what it holds after its device is opened again. Then opens it once more.
+fn open<R: AllocGlobal + Print>(
+    rt: &R,
+    core: Option<Core<Device>>,
+) -> anyhow::Result<Core<Device>> {
+    let core = reopened(rt, "held", core.context("there is no store")?)?;
+    reopened(rt, "opened", core)
+}
+
+// Prints what the store of a core holds, and opens its device again.
+fn reopened<R: AllocGlobal + Print>(
+    rt: &R,
+    name: &str,
+    core: Core<Device>,
+) -> anyhow::Result<Core<Device>> {
+    let disk = show_store(rt, name, core)?;
+    open_core(rt.alloc(), disk.into_inner())
+}
+
+fn step<R: AllocGlobal + Print, D: Sectors>(
+    rt: &R,
+    core: &mut Core<D>,
+    task: &str,
+    rest: &str,
+) -> anyhow::Result<()> {
+    if task == "flush" {
+        return flush(rt, core);
     }
+    let (session, digits) = rest.split_once(' ').unwrap_or((rest, ""));
+    let session = session_of(session)?;
+    let piece = bytes_of(rt.alloc(), digits)?;
+    step_session(rt, core, task, session, &piece)
 }
 
 // Plays a task that needs no store of the scene.

@@ -16,6 +16,31 @@ const LAST_GENERATION: u64 = (1 << 62) - 1;
 // How often a call is tried if memory is refused.
 pub const TRIES: u64 = 3;
 
+/// How a store without events begins.
+#[derive(Clone, Copy)]
+pub enum Start {
+    /// On a device that fails once, after this many calls.
+    Failing(u64),
+    /// With generations left for this many commits.
+    Worn(u64),
+    /// In the first version of the format.
+    First,
+}
+
+impl Start {
+    /// On a device that doesn't fail.
+    pub const WHOLE: Start = Start::Failing(u64::MAX);
+}
+
+/// A core over a store of this many sectors without events.
+pub fn start_core(alloc: Global, sectors: u64, start: Start) -> anyhow::Result<Core<Device>> {
+    match start {
+        Start::Failing(calls) => new_core(alloc, sectors, calls),
+        Start::Worn(commits) => worn_core(alloc, sectors, commits),
+        Start::First => first_core(alloc, sectors),
+    }
+}
+
 /// A core over a new store on a device that fails once, after `calls` calls.
 pub fn new_core(alloc: Global, sectors: u64, calls: u64) -> anyhow::Result<Core<Device>> {
     let disk = FailOnce::new(MemDisk::new(alloc, sectors)?, calls);
@@ -23,8 +48,8 @@ pub fn new_core(alloc: Global, sectors: u64, calls: u64) -> anyhow::Result<Core<
     core_of(alloc, Store::format(alloc, disk, key))
 }
 
-/// A core over a store without events that has generations left for `commits` commits.
-pub fn worn_core(alloc: Global, sectors: u64, commits: u64) -> anyhow::Result<Core<Device>> {
+// A core over a store without events that has generations left for `commits` commits.
+fn worn_core(alloc: Global, sectors: u64, commits: u64) -> anyhow::Result<Core<Device>> {
     let last = LAST_GENERATION.saturating_sub(commits.saturating_mul(2));
     core_of_no_events(alloc, sectors, VERSION, [last.saturating_sub(1), last])
 }

@@ -1,5 +1,6 @@
 //! The large sweep: lists of steps drawn by a cipher, whose stores are reopened, exported, verified and replayed.
 use crate::lists::{outputs_of, random_plan, random_streams};
+use crate::plan::Plan;
 use crate::random::Random;
 use crate::replays::is_replayed;
 use crate::stores::{made, new_core};
@@ -67,6 +68,10 @@ fn print_sums<R: AllocGlobal + Print>(rt: &R, first: u64, sums: Sums) -> anyhow:
     let (replayed, too_long) = (sums.replayed, sums.too_long);
     let text = digest_text(rt.alloc(), sums.hasher)?;
     println!(rt; "sweep from {first} events {events} acknowledged {acknowledged} roots {text}")?;
+    print_replayed(rt, replayed, too_long)
+}
+
+fn print_replayed<R: Print>(rt: &R, replayed: u64, too_long: u64) -> anyhow::Result<()> {
     println!(rt; "replayed {replayed} lists, {too_long} were too long")?;
     Ok(())
 }
@@ -74,20 +79,21 @@ fn print_sums<R: AllocGlobal + Print>(rt: &R, first: u64, sums: Sums) -> anyhow:
 fn sweep_list(alloc: Global, number: u64, sums: &mut Sums) -> anyhow::Result<()> {
     let mut random = Random::of_cipher(number);
     let sectors = random.below(298).saturating_add(3);
+    let streams = random_streams(alloc, &mut random)?;
     let core = new_core(alloc, sectors, u64::MAX)?;
-    sweep_core(alloc, core, random, sums)
+    sweep_core(alloc, core, random_plan(random, &streams), &streams, sums)
 }
 
 fn sweep_core<D: Sectors + Drop>(
     alloc: Global,
     core: Core<D>,
-    random: Random,
+    plan: Plan,
+    streams: &[Vec<u8>],
     sums: &mut Sums,
 ) -> anyhow::Result<()> {
-    let (mut core, mut random) = (core, random);
-    let streams = random_streams(alloc, &mut random)?;
-    let outputs = outputs_of(alloc, &mut core, random_plan(random, &streams), GROUPS)?;
-    sweep_store(alloc, core.into_store(), &streams, &outputs, sums)
+    let mut core = core;
+    let outputs = outputs_of(alloc, &mut core, plan, GROUPS)?;
+    sweep_store(alloc, core.into_store(), streams, &outputs, sums)
 }
 
 // Adds a store after reopening it. Its events must be those that were appended.
@@ -160,10 +166,7 @@ fn acknowledged_appends<'a>(
     outputs: &[Vec<u8>],
     sums: &mut Sums,
 ) -> anyhow::Result<Vec<Option<&'a [u8]>>> {
-    let mut appended = Vec::new(alloc);
-    for _ in 0..count {
-        appended.push(None)?;
-    }
+    let mut appended = vec![in alloc; None; count as usize]?;
     for (stream, output) in streams.iter().zip(outputs) {
         add_session(stream, output, &mut appended, sums)?;
     }
@@ -235,10 +238,15 @@ fn check_events(events: &[Event], appended: &[Option<&[u8]>]) -> anyhow::Result<
     }
     for (event, append) in events.iter().zip(appended) {
         let append = append.context("an event wasn't acknowledged")?;
-        let kind = event.kind().to_be_bytes();
-        if append.get(..4) != Some(kind.as_slice()) || append.get(4..) != Some(event.payload()) {
+        if !is_event_of(event, append) {
             bail!("an event isn't the one that was appended");
         }
     }
     Ok(())
+}
+
+// Whether the kind and payload of an append are those of the event.
+fn is_event_of(event: &Event, append: &[u8]) -> bool {
+    let kind = event.kind().to_be_bytes();
+    append.get(..4) == Some(kind.as_slice()) && append.get(4..) == Some(event.payload())
 }
