@@ -164,10 +164,7 @@ fn drops_all(decoder: &mut Decoder) -> bool {
 fn a_length_is_judged_at_its_second_byte(rt: HostRuntime) {
     for ([first, second], allowed) in LENGTHS {
         let mut decoder = Decoder::new(rt.alloc()).expect(&rt, "memory");
-        assert!(rt;
-            judges(&mut decoder, first, second, allowed),
-            "length {first} {second}"
-        );
+        check!(&rt; judges(&mut decoder, first, second, allowed), first, second);
         check!(&rt; allowed || drops_all(&mut decoder));
     }
 }

@@ -21,7 +21,7 @@ fn formatted<D: Sectors + Drop>(rt: &impl Abort, alloc: Global, disk: D) -> Stor
     }
 }
 
-// A committer over a new store on this device, which keeps a reserve if it isn't 0.
+// A committer over a new store on this device, with a reserve unless `reserve` is 0.
 fn committer_on<D: Sectors + Drop>(
     rt: &impl Abort,
     alloc: Global,
@@ -52,6 +52,7 @@ enum Step<'a> {
     Says(usize, &'a [&'a str]),
 }
 
+// Takes the output of a session, and returns whether it is these pieces of hex digits in a row.
 fn says<D: Sectors>(
     rt: &impl Abort,
     alloc: Global,
@@ -110,7 +111,7 @@ fn expect<D: Sectors>(
     }
 }
 
-// The store after these calls of a committer over a new one on this device.
+// The store after these calls of a committer over a new store on this device.
 fn after<D: Sectors + Drop>(
     rt: &impl Abort,
     alloc: Global,
@@ -235,7 +236,7 @@ fn the_65th_sector_forces_a_flush(rt: HostRuntime) {
     let alloc = rt.alloc();
     let mut committer = committer_on(&rt, alloc, device(&rt, alloc, 100), 0);
     for tag in 0..65u32 {
-        expect(&rt, alloc, &mut committer, &[Step::Append(tag, &[])]);
+        check!(&rt; takes(&rt, alloc, &mut committer, &Step::Append(tag, &[])), tag);
     }
     let digest: [u8; 32] = Sha256::digest(&committer.take_output(2));
     let text: String = digest.encode_hex(alloc).expect(&rt, "memory");
@@ -251,12 +252,8 @@ fn the_257th_item_forces_a_flush(rt: HostRuntime) {
     let alloc = rt.alloc();
     let mut committer = committer_on(&rt, alloc, device(&rt, alloc, 16), 0);
     for tag in 0..257u32 {
-        expect(
-            &rt,
-            alloc,
-            &mut committer,
-            &[Step::Ask(Query::Commitment { tag })],
-        );
+        let step = Step::Ask(Query::Commitment { tag });
+        check!(&rt; takes(&rt, alloc, &mut committer, &step), tag);
     }
     check!(&rt; committer.take_output(1).len() == 256 * 47);
     expect(&rt, alloc, &mut committer, &[Step::Flush]);
@@ -275,7 +272,7 @@ const FAILED: [Step; 7] = [
     Step::Says(2, &[]),
 ];
 
-// The device after that, if it fails from some call on.
+// The device after these calls of a committer, if it fails after its first `calls` calls.
 fn after_a_fault(rt: &impl Abort, alloc: Global, calls: u64) -> MemDisk {
     let fuse = Fuse::new(device(rt, alloc, 16), calls);
     after(rt, alloc, fuse, 0, &FAILED).into_disk().into_inner()

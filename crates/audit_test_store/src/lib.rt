@@ -7,8 +7,8 @@ ghost use Rattle.std.specs.Prelude.{IsTrue};
 #[cfg(test)]
 use std::process::Abort;
 
-/// Stops a test unless a condition holds, and prints the condition. Numbers of the case and of its part may be given,
-/// to be printed too. The branch that stops is in a function of its own, so that it isn't proved for each condition.
+/// Stops a test unless a condition holds, and prints the condition. A number of the case, and one of its part, may be
+/// given, to be printed too. The branch that stops is in a function, so that it isn't proved again for each condition.
 #[cfg(test)]
 macro_rules! check {
     ($rt:expr; $condition:expr $(,)?) => {
@@ -26,21 +26,21 @@ macro_rules! check {
 fn check(rt: &impl Abort, holds: bool, condition: &str)
     ensures { IsTrue holds }
 {
-    assert!(rt; holds, "{condition}");
+    assert!(rt; holds, "assertion failed: {condition}");
 }
 
 #[cfg(test)]
 fn check_case(rt: &impl Abort, holds: bool, condition: &str, case: u64)
     ensures { IsTrue holds }
 {
-    assert!(rt; holds, "{condition} in case {case}");
+    assert!(rt; holds, "assertion failed: {condition} in case {case}");
 }
 
 #[cfg(test)]
 fn check_part(rt: &impl Abort, holds: bool, condition: &str, case: u64, part: u64)
     ensures { IsTrue holds }
 {
-    assert!(rt; holds, "{condition} in case {case}, {part}");
+    assert!(rt; holds, "assertion failed: {condition} in case {case}, {part}");
 }
 
 #[cfg(test)]

@@ -3,7 +3,7 @@
 ghost use Rattle.std.specs.Prelude.{◌<◌};
 ghost use Rattle.audit_disk.specs.OsFile.{unknown_file};
 
-use super::{Step, expect, next};
+use super::{Step, expect, next, takes};
 use audit_disk::{DeviceFault, FileDisk, SECTOR_SIZE, SectorFile, counted};
 use std::alloc::Global;
 use std::process::Abort;
@@ -99,7 +99,7 @@ fn new_disk(rt: &impl Abort, alloc: Global, bad: usize) -> Disk {
 /// Reads the sectors and expects the file's contents.
 fn expect_read(rt: &impl Abort, disk: &mut Disk, places: &[usize]) {
     for at in places {
-        expect(rt, disk, &[Step::Found(*at as u64, (*at % 251) as u8)]);
+        check!(rt; takes(rt, disk, Step::Found(*at as u64, (*at % 251) as u8)), *at);
     }
 }
 
@@ -164,14 +164,14 @@ fn a_bad_sector_spoils_no_other(rt: HostRuntime) {
     for at in 0..SECTORS as u64 {
         let found = Step::Found(at, (at % 251) as u8);
         let fails = Step::FindFails(at);
-        expect(&rt, &mut disk, &[if at == 100 { fails } else { found }]);
+        check!(&rt; takes(&rt, &mut disk, if at == 100 { fails } else { found }), at);
     }
 }
 
 /// Reads from sector `at` up to, but not including, `end`.
 fn expect_model(rt: &impl Abort, disk: &mut Disk, model: &[u8; SECTORS], at: usize, end: usize) {
     for (place, byte) in model.iter().enumerate().take(end).skip(at) {
-        expect(rt, disk, &[Step::Found(place as u64, *byte)]);
+        check!(rt; takes(rt, disk, Step::Found(place as u64, *byte)), place);
     }
 }
 
@@ -181,11 +181,11 @@ fn play(rt: &impl Abort, disk: &mut Disk, model: &mut [u8; SECTORS], seed: &mut 
     match next(seed) % 8 {
         0 => {
             let byte = (next(seed) % 256) as u8;
-            expect(rt, disk, &[Step::Put(at as u64, byte)]);
+            check!(rt; takes(rt, disk, Step::Put(at as u64, byte)), at);
             model[at] = byte;
         }
         1 => {
-            expect(rt, disk, &[Step::Syncs]);
+            check!(rt; takes(rt, disk, Step::Syncs));
             model[3] = SYNCED;
         }
         _ => {

@@ -2,13 +2,12 @@
 
 ghost use Rattle.audit_disk.specs.Positioned.{unknown_positioned};
 
-use super::{Step, Way, expect, expect_made, expect_unmade, fresh_path, made, put, set_len};
+use super::{Step, Way, expect, expect_made, expect_unmade, fresh_path, made, set_len};
 use audit_disk::{
-    FileDisk, FileFault, FileIdentity, MemDisk, MemFile, OsFile, PositionedFile, SECTOR_SIZE,
-    Sectors,
+    FileDisk, FileFault, FileIdentity, MemDisk, MemFile, PositionedFile, SECTOR_SIZE, Sectors,
 };
 use std::alloc::Global;
-use std::fs::{self, File, OpenOptions};
+use std::fs;
 use std::io::{self, ErrorKind};
 use std::os::unix::fs::PermissionsExt;
 use std::process::Abort;
@@ -99,7 +98,7 @@ fn a_failed_call_of_a_file_is_a_fault_of_its_device(rt: HostRuntime) {
     check!(&rt; ragged == Some(FileFault::Length));
 }
 
-// The result of another open of the file while one is held.
+// How the file is held, and the fault of opening it only to be read meanwhile. The other ways find it in use.
 #[test]
 fn one_device_at_a_time_may_write_a_file(rt: HostRuntime) {
     let path = fresh_path(&rt, &rt, "audit_disk_lock");
@@ -127,12 +126,13 @@ fn expect_shut_out(
 ) {
     let in_use = Some(FileFault::InUse);
     let holder = made(rt, path, holder).expect(judge, "a device");
-    for (way, fault) in [
+    let others = [
         (Way::Open, in_use),
         (Way::InPlace(1), in_use),
         (Way::ReadOnly, reader),
-    ] {
-        check!(judge; made(rt, path, way).err() == fault);
+    ];
+    for (place, (way, fault)) in others.iter().enumerate() {
+        check!(judge; made(rt, path, *way).err() == *fault, place);
     }
     drop(holder);
 }

@@ -34,7 +34,7 @@ impl Dice {
 }
 
 /// The result of a reading: a digest of the requests, and how it ended.
-#[derive(Clone, Copy, Debug, PartialEq, Eq)]
+#[derive(Clone, Copy, PartialEq, Eq)]
 struct Reading {
     digest: u64,
     malformed: bool,

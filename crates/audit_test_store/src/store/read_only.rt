@@ -45,11 +45,10 @@ fn an_append_that_is_not_kept(rt: HostRuntime) {
     let alloc = rt.alloc();
     let disk = store_of(&rt, alloc, 16, &[0, 5]).into_disk();
     let mut store = opened_read_only(&rt, alloc, &disk);
-    check!(&rt; store
-            .append(&batch(&rt, alloc, 2, &[441]))
-            .expect(&rt, "an append")
-            .count
-            == 3);
+    let receipt = store
+        .append(&batch(&rt, alloc, 2, &[441]))
+        .expect(&rt, "an append");
+    check!(&rt; receipt.count == 3);
     check!(&rt; answers(&rt, &mut store) == answers(&rt, &mut store_of(&rt, alloc, 16, &[0, 5, 441])));
     check!(&rt; opened_read_only(&rt, alloc, &disk).commitment().count == 2);
 }

@@ -7,7 +7,7 @@ use audit_disk::{DeviceFault, FileDisk, SECTOR_SIZE, SectorFile, counted};
 use std::alloc::AllocError;
 
 // A call of the file that changes it. Writes have the number of their first sector, and how many they are.
-#[derive(Clone, Copy, Debug, PartialEq, Eq)]
+#[derive(Clone, Copy, PartialEq, Eq)]
 enum Call {
     Row(u64, u64),
     Write(u64),
