@@ -86,7 +86,7 @@ fn time_bare<R: AllocGlobal + Clock, D: Sectors, B: Sectors>(
     })
 }
 
-// Times the replies of a round, adds it with the work that was timed alone, and returns the store.
+// Times the replies of a round, records both of its times, and returns the store.
 fn time_core<R: AllocGlobal + Clock, D: Sectors + Drop>(
     rt: &R,
     store: Store<D>,

@@ -49,12 +49,12 @@ fn time_store<R: Files + AllocGlobal + Clock + Eprint, D: Sectors + Drop>(
 where
     R::File: SystemFile + FileExt,
 {
-    let store = time_sizes(rt, file, store, events)?;
+    let store = time_flushes_and_fill(rt, file, store, events)?;
     time_questions(rt, store, &mut bare_disk(rt, file)?)
 }
 
-// Times flushes of each size, and returns the store with as many more events as it needs to hold `events`.
-fn time_sizes<R: Files + AllocGlobal + Clock + Eprint, D: Sectors + Drop>(
+// Times flushes of each size, then appends events until the store holds `events`, and returns it.
+fn time_flushes_and_fill<R: Files + AllocGlobal + Clock + Eprint, D: Sectors + Drop>(
     rt: &R,
     file: &str,
     store: Store<D>,

@@ -1,4 +1,5 @@
-//! The cost of a store in a file, compared with the file calls, the SHA-256 blocks and the ChaCha20 that it can't avoid.
+//! The cost of a store in a file, compared with the file calls, the SHA-256 blocks and the ChaCha20 that it can't
+//! avoid.
 use crate::bare::{BareFile, open_bare};
 use crate::figures::print_figures;
 use crate::streams::keystream_of;
@@ -62,10 +63,11 @@ where
     R::File: SystemFile + FileExt,
 {
     let mut store = new_store(rt, file, SPARE_SECTORS + u64::from(events))?;
-    fill(rt, file, &mut store, events)
+    time_and_fill(rt, file, &mut store, events)
 }
 
-fn fill<R: Files + AllocGlobal + Clock + Eprint, D: Sectors>(
+// Times batches of both sizes, then appends large batches of some `events` events.
+fn time_and_fill<R: Files + AllocGlobal + Clock + Eprint, D: Sectors>(
     rt: &R,
     file: &str,
     store: &mut Store<D>,

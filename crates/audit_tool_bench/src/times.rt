@@ -5,20 +5,21 @@ use std::io;
 use std::rt::Clock;
 use std::time::Instant;
 
-/// A stopwatch that was started. A clock that can't be read is an error when the time is taken.
+/// A running stopwatch.
 #[derive(Clone, Copy)]
 pub struct Stopwatch {
     start: io::Result<Instant>,
 }
 
 impl Stopwatch {
+    /// Starts a stopwatch. If the clock can't be read, `nanoseconds` returns the error.
     pub fn start<R: Clock>(rt: &R) -> Stopwatch {
         Stopwatch {
             start: Instant::now(rt),
         }
     }
 
-    /// The nanoseconds since its start.
+    /// The nanoseconds since the start.
     pub fn nanoseconds<R: Clock>(self, rt: &R) -> anyhow::Result<u128> {
         Ok(self.start?.elapsed(rt)?.as_nanos())
     }

@@ -99,11 +99,11 @@ fn add_left(slots: &[Slot<Visitor>], hasher: &mut Sha256) {
     }
 }
 
-// One store in eight has a generation left for one commit.
+// How a run's store begins: one in eight has generations left for one commit.
 fn some_start(random: &mut Random) -> Start {
     match random.below(8) {
         0 => Start::Worn(1),
-        _ => Start::WHOLE,
+        _ => Start::SOUND,
     }
 }
 

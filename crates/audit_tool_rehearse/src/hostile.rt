@@ -62,11 +62,11 @@ fn play_batch(
     play_plan(alloc, core, Plan::new(random, &streams, 12), GROUPS, hasher)
 }
 
-// One store in four is of the first version of the format.
+// How a batch's store begins: one in four is of the first version of the format.
 fn some_start(random: &mut Random) -> Start {
     match random.below(4) {
         0 => Start::First,
-        _ => Start::WHOLE,
+        _ => Start::SOUND,
     }
 }
 

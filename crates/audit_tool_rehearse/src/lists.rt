@@ -113,7 +113,7 @@ pub fn random_start(random: &mut Random) -> (u64, Start) {
         0 => Start::Worn(0),
         1 => Start::Worn(1),
         2 => Start::First,
-        _ => Start::WHOLE,
+        _ => Start::SOUND,
     };
     (sectors, start)
 }

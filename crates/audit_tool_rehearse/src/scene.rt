@@ -7,7 +7,7 @@ use crate::hostile::play_hostile;
 use crate::lengths::try_lengths;
 use crate::lists::play_lists;
 use crate::serving::serve_scene;
-use crate::stores::{Device, Start, TRIES, first_core, open_core, start_core};
+use crate::stores::{Device, Start, TRIES, open_core, start_core};
 use crate::subject::{Core, Store};
 use crate::sweep::play_sweep;
 use crate::texts::{bytes_of, number_of, text_of, two_numbers};
@@ -35,18 +35,14 @@ impl Scene {
             "#" => title(rt, line),
             "store" | "worn" | "first" | "open" => self.replace(rt, task, rest),
             "feed" | "end" | "drive" | "show" | "flush" => {
-                step(
-                    rt,
-                    self.core.as_mut().context("there is no store")?,
-                    task,
-                    rest,
-                )
+                let core = self.core.as_mut().context("there is no store")?;
+                step(rt, core, task, rest)
             }
             _ => play_apart(rt, task, rest),
         }
     }
 
-    // Puts another core into place.
+    // Replaces the scene's core.
     fn replace<R: AllocGlobal + Print>(
         &mut self,
         rt: &R,
@@ -80,10 +76,10 @@ fn begin<R: AllocGlobal + Print>(rt: &R, task: &str, rest: &str) -> anyhow::Resu
 
 fn begin_first<R: AllocGlobal + Print>(rt: &R, rest: &str) -> anyhow::Result<Core<Device>> {
     println!(rt; "first {rest}")?;
-    first_core(rt.alloc(), number_of(rest)?)
+    start_core(rt.alloc(), number_of(rest)?, Start::First)
 }
 
-// Prints what the store holds, and what it holds after its device is opened again. Then opens it once more.
+// Prints what the store holds now and after reopening, and reopens it once more.
 fn open<R: AllocGlobal + Print>(
     rt: &R,
     core: Option<Core<Device>>,

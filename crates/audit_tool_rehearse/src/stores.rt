@@ -29,7 +29,7 @@ pub enum Start {
 
 impl Start {
     /// On a device that doesn't fail.
-    pub const WHOLE: Start = Start::Failing(u64::MAX);
+    pub const SOUND: Start = Start::Failing(u64::MAX);
 }
 
 /// A core over a store of this many sectors without events.
@@ -54,8 +54,8 @@ fn worn_core(alloc: Global, sectors: u64, commits: u64) -> anyhow::Result<Core<D
     core_of_no_events(alloc, sectors, VERSION, [last.saturating_sub(1), last])
 }
 
-/// A core over a new store of the first version of the format.
-pub fn first_core(alloc: Global, sectors: u64) -> anyhow::Result<Core<Device>> {
+// A core over a new store of the first version of the format.
+fn first_core(alloc: Global, sectors: u64) -> anyhow::Result<Core<Device>> {
     core_of_no_events(alloc, sectors, FIRST_VERSION, [2, 1])
 }
 
