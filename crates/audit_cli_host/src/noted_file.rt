@@ -33,7 +33,7 @@ impl<'n, 'w, F> NotedFile<'n, 'w, F> {
     }
 
     /// Sets the length of the file, if it is known.
-    pub fn with_total(self, total: Option<u64>) -> NotedFile<'n, 'w, F> {
+    pub(crate) fn with_total(self, total: Option<u64>) -> NotedFile<'n, 'w, F> {
         self.total.set(total);
         self
     }

@@ -65,7 +65,7 @@ impl<'a> Notes<'a> {
 
     /// Notes that a store is open, since it is served or input for it is read. If only its opening is shown, that is
     /// erased, and nothing is shown from now on.
-    pub fn end_opening(&self) {
+    pub(crate) fn end_opening(&self) {
         if self.extent.get() == Extent::Opening {
             self.main.set(None);
             self.progress.erase();
@@ -73,17 +73,17 @@ impl<'a> Notes<'a> {
     }
 
     /// Whether it is shown how far this file is.
-    pub fn is_shown(&self, subject: Subject) -> bool {
+    pub(crate) fn is_shown(&self, subject: Subject) -> bool {
         self.progress.is_shown() && self.main.get() == Some(subject)
     }
 
     /// Whether the length of this file is shown.
-    pub fn is_length_shown(&self, subject: Subject) -> bool {
+    pub(crate) fn is_length_shown(&self, subject: Subject) -> bool {
         self.is_shown(subject) && self.extent.get() == Extent::Whole
     }
 
     /// Notes that a file is read or written up to a place. `total` is where it ends, if that is known.
-    pub fn moved(&self, motion: Motion, subject: Subject, place: u64, total: Option<u64>) {
+    pub(crate) fn moved(&self, motion: Motion, subject: Subject, place: u64, total: Option<u64>) {
         if self.is_shown(subject) {
             self.progress
                 .moved(motion, self.name(subject), place, total);
@@ -91,7 +91,7 @@ impl<'a> Notes<'a> {
     }
 
     /// Erases what is shown, so that something else can be printed.
-    pub fn erase_progress(&self) {
+    pub(crate) fn erase_progress(&self) {
         self.progress.erase();
     }
 
@@ -102,7 +102,7 @@ impl<'a> Notes<'a> {
     }
 
     /// Notes the error of a failed call.
-    pub fn watch<T>(&self, subject: Subject, outcome: &io::Result<T>) {
+    pub(crate) fn watch<T>(&self, subject: Subject, outcome: &io::Result<T>) {
         if let Err(error) = outcome {
             self.last.set(Some(Note {
                 subject,
@@ -112,7 +112,7 @@ impl<'a> Notes<'a> {
     }
 
     /// Forgets the last failure. It wasn't a fault, because the program continued.
-    pub fn forget(&self) {
+    pub(crate) fn forget(&self) {
         self.last.set(None);
     }
 

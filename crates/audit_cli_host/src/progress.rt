@@ -15,7 +15,7 @@ const ERASE: &str = "\r\x1b[K";
 
 /// What is done with a file.
 #[derive(Clone, Copy, PartialEq, Eq)]
-pub enum Motion {
+pub(crate) enum Motion {
     /// It is read.
     Reading,
     /// It is written.
@@ -56,17 +56,17 @@ impl<'r> Progress<'r> {
     }
 
     /// Shows the line from now on, if standard error is a terminal.
-    pub fn show(&self) {
+    pub(crate) fn show(&self) {
         self.is_shown.set(self.rt.stderr().is_terminal());
     }
 
     /// Whether the line is shown.
-    pub fn is_shown(&self) -> bool {
+    pub(crate) fn is_shown(&self) -> bool {
         self.is_shown.get()
     }
 
     /// Notes that the file with this name is read or written up to a place. `total` is where it ends, if that is known.
-    pub fn moved(&self, motion: Motion, name: &str, place: u64, total: Option<u64>) {
+    pub(crate) fn moved(&self, motion: Motion, name: &str, place: u64, total: Option<u64>) {
         let Ok(now) = self.rt.monotonic() else {
             return;
         };
