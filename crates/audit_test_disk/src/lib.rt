@@ -40,7 +40,10 @@ fn check_case(rt: &impl Abort, holds: bool, condition: &str, case: u64)
 fn check_part(rt: &impl Abort, holds: bool, condition: &str, case: u64, part: u64)
     ensures { IsTrue holds }
 {
-    assert!(rt; holds, "assertion failed: {condition} in case {case}, {part}");
+    assert!(rt;
+        holds,
+        "assertion failed: {condition} in case {case}, {part}"
+    );
 }
 
 #[cfg(test)]
