@@ -431,8 +431,8 @@ fn fresh_path(rt: &HostRuntime, judge: &impl Abort, name: &str) -> PathBuf {
     path
 }
 
-/// How a device is made of a real file: a new file of so many sectors, one that is opened whole, the first sectors of
-/// one, or one that is only read.
+/// How a device is made from a real file: by creating a file with a number of sectors, opening a whole file, opening
+/// the first sectors of a file, or opening a file only to read it.
 #[derive(Clone, Copy)]
 enum Way {
     Create(u64),

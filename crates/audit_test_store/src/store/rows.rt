@@ -196,7 +196,8 @@ const ROOTS: [&str; 4] = [
     "53bdf1e8c20f53af0b053b7552c51d3ad4d0f14d28af9100f6f4a8e99343ebf1",
 ];
 
-// Whether what a crash left opens with the events of so many batches, and with their whole state if that is asked.
+// Whether the device that a crash left opens as a store of the first `batches` batches. If `whole` is set, its whole
+// state is compared, too.
 fn holds(rt: &impl Abort, alloc: Global, left: MemDisk, batches: u64, whole: bool) -> bool {
     let store = opened_in_rows(rt, alloc, left);
     let same = store.commitment() == commitment_to(rt, batches);
