@@ -1,13 +1,13 @@
 -- The calls of a file have the effects of device calls.
-use Rattle.std.proofs.Common.{◌≡◌, ◌⊎◌, inl, inr, ⊎_elim, ℕ, ◌+◌, ◌*◌, ◌^◌, ◌<◌, ◌≤◌, Ok, Err, Result, IsErr, OnOk, OnErr, List, [], ◌∷◌, ◌++◌, length, take, drop, refl, sym, ◌∙◌, ap, subst, arith}
+use Rattle.std.proofs.Common.{◌≡◌, ◌⊎◌, inl, inr, ⊎_elim, ℕ, ◌+◌, ◌*◌, ◌^◌, ◌<◌, ◌≤◌, Ok, Err, IsErr, OnOk, OnErr, List, [], ◌∷◌, ◌++◌, length, take, drop, refl, sym, ◌∙◌, ap, subst, arith}
 use Rattle.std.proofs.lemmas.Bool.{false≢true}
 use Rattle.audit_disk_model.specs.Image.{Sector, Image, sector_at, with_sector}
 use Rattle.audit_disk_model.specs.View.{View, last_count}
-use Rattle.audit_disk_model.specs.Calls.{Outcome, Continues, CountsFailure, HasRisen, Ticks, IsWritten, MayBeWritten, IsRead, IsWrite, IsSync}
+use Rattle.audit_disk_model.specs.Calls.{Outcome, Continues, CountsFailure, HasRisen, Ticks, IsRead, IsWrite, IsSync}
 use Rattle.audit_disk.specs.File.{overlaid, sectors_of, FileView, FileContinues, IsReadThrough, IsFileWrite, IsFileSync}
 use Rattle.audit_disk.specs.FileView.{with_row, MayHaveRow, IsWholeRow, LeftWithRow, row_view, IsSameDevice, IsCallRefused}
 use Rattle.audit_base.specs.declared.limits.TheConstants.{SECTOR_SIZE}
-use Rattle.audit_disk.proofs.FileSectors.{length-overlaid, sectors_of-overlaid, sector_at-sectors_of}
+use Rattle.audit_disk.proofs.FileSectors.{sectors_of-overlaid, sector_at-sectors_of}
 use Rattle.audit_disk.proofs.KeptRows.{row_nothing, nothing_row, row_push_old, row_push_new, row_pop, with_row-push, with_row-other}
 use Rattle.audit_disk_model.proofs.Moments.{continues_trans}
 
@@ -79,7 +79,7 @@ module _ (old new : FileView) (sectors start start' : ℕ) (moment_of moment_of'
           ⊎_elim
           (λ (without : MayHaveRow start' (row_of clock) (sectors_of sectors last.1.0) image). record { either = inl (now_out image (last.0, (last.1.0, last.1.1, without))) })
           (λ (over : (start_image : Image) × MayHaveRow start' (row_of clock) (sectors_of sectors last.1.0) start_image × (image ≡ with_sector start_image at bytes)).
-          record { either = inr (record { before = over.0; was_left = now_out over.0 (last.0, (last.1.0, last.1.1, over.1)); is = over.2 }) })
+          record { either = inr (over.0, now_out over.0 (last.0, (last.1.0, last.1.1, over.1)), over.2) })
           (row_pop start' (row_of clock) bytes (sectors_of sectors last.1.0) image at here last.1.2);
       unwritten = λ honest image left.
           let was = now_in image left in next_out image (was.0, (was.1.0, was.1.1, row_push_old start' (row_of clock) bytes (sectors_of sectors was.1.0) image was.1.2));
@@ -154,11 +154,11 @@ module _ (old new : FileView) (sectors start start' : ℕ) (moment_of moment_of'
               (λ (same : old.left_at old.moment last.1.0). record { either = inl (now_out image (honest, (last.1.0, same, last.1.2))) })
               (λ (over : (first : List ℕ) × old.left_at old.moment first × (last.1.0 ≡ overlaid first (SECTOR_SIZE * at) bytes)).
               record {
-                either = inr (record {
-                  before = sectors_of sectors over.0;
-                  was_left = now_out (sectors_of sectors over.0) (honest, (over.0, over.1, refl));
-                  is = last.1.2 ∙ ap (λ (file : List ℕ). sectors_of sectors file) over.2 ∙ placed over.0 (omega (arith, old.same_length honest old.moment over.0 over.1, sized honest));
-                });
+                either = inr (
+                  sectors_of sectors over.0,
+                  now_out (sectors_of sectors over.0) (honest, (over.0, over.1, refl)),
+                  last.1.2 ∙ ap (λ (file : List ℕ). sectors_of sectors file) over.2 ∙ placed over.0 (omega (arith, old.same_length honest old.moment over.0 over.1, sized honest)),
+                );
               })
               (write.images honest last.1.0 last.1.1);
           unwritten = λ honest image left.
@@ -263,7 +263,7 @@ module _ (old mid new : View) (same : IsSameDevice old mid) where
     images = λ honest image left.
         ⊎_elim
         (λ (was : mid.left_at mid.clock image). record { either = inl (now_was image was) })
-        (λ (over : IsWritten (mid.left_at mid.clock) at bytes image). record { either = inr (record { before = over.before; was_left = now_was over.before over.was_left; is = over.is }) })
+        (λ (over : (before : Image) × mid.left_at mid.clock before × (image ≡ with_sector before at bytes)). record { either = inr (over.0, now_was over.0 over.1, over.2) })
         (write.images (same.continues.honest honest) image left).either;
     unwritten = λ honest image left. write.unwritten (same.continues.honest honest) image (now_then image left);
     written = λ honest. written result (write.written (same.continues.honest honest));

@@ -1,5 +1,5 @@
 -- Handing a row to the file leaves the device as it looked.
-use Rattle.std.proofs.Common.{inl, inr, ⊎_elim, ◌≡◌, ◌⊎◌, ℕ, ◌+◌, ◌-◌, ◌*◌, ◌^◌, ◌<◌, ◌≤◌, min, Ok, Err, Result, is_ok, true, false, List, [], length, take, refl, sym, ◌∙◌, ap, subst, arith}
+use Rattle.std.proofs.Common.{⊎_elim, ◌≡◌, ◌⊎◌, ℕ, ◌+◌, ◌-◌, ◌*◌, ◌^◌, ◌<◌, ◌≤◌, min, Ok, Err, Result, is_ok, true, false, List, [], length, take, refl, sym, ◌∙◌, ap, subst, arith}
 use Rattle.std.proofs.lemmas.List.{take_all}
 use Rattle.std.proofs.lemmas.Bool.{cases_lt, false≢true}
 use Rattle.audit_disk_model.specs.Image.{Sector, Image}
@@ -7,7 +7,7 @@ use Rattle.audit_disk_model.specs.View.{View, last_count}
 use Rattle.audit_disk_model.specs.Calls.{HasRisen}
 use Rattle.audit_disk_model.specs.declared.fault.DeviceFault.{DeviceFault}
 use Rattle.audit_disk.specs.File.{FileView, FileContinues, sectors_of, IsRowWrite}
-use Rattle.audit_disk.specs.FileView.{with_row, IsWholeRow, LeftWithRow, file_moment, row_at, file_view, row_view, IsSameDevice}
+use Rattle.audit_disk.specs.FileView.{with_row, IsWholeRow, LeftWithRow, file_moment, row_at, file_view, IsSameDevice}
 use Rattle.audit_disk.proofs.RowTries.{IsTried, left_kept, left_no_other, left_nothing, left_at_same, row_reached, row_came, row_content, row_lost, row_lost_only, row_lost_content, each_reached, each_came}
 use Rattle.audit_disk.proofs.RowTries.{moment_below, moment_above, row_below, row_above, moment_rows, row_rows, not_tried}
 use Rattle.audit_base.specs.declared.limits.TheConstants.{SECTOR_SIZE}

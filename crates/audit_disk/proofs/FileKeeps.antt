@@ -1,6 +1,6 @@
 -- One more write is kept.
-use Rattle.std.proofs.Common.{inl, inr, ⊎_elim, ◌≡◌, ◌⊎◌, ℕ, ◌+◌, ◌-◌, ◌<◌, ◌≤◌, min, List, [], ◌∷◌, ◌++◌, length, take, refl, sym, ◌∙◌, ap, subst, arith}
-use Rattle.std.proofs.lemmas.List.{length-append, take-append-le, take_all}
+use Rattle.std.proofs.Common.{⊎_elim, ◌≡◌, ◌⊎◌, ℕ, ◌+◌, ◌-◌, ◌≤◌, min, List, [], ◌∷◌, ◌++◌, length, take, refl, sym, ◌∙◌, ap, subst, arith}
+use Rattle.std.proofs.lemmas.List.{take-append-le, take_all}
 use Rattle.audit_disk_model.specs.Image.{Sector, Image}
 use Rattle.audit_disk.specs.File.{FileView, sectors_of}
 use Rattle.audit_disk.specs.FileView.{with_row, LeftWithRow, file_moment, row_at}

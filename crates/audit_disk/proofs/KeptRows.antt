@@ -1,11 +1,11 @@
 -- Images in which some sectors of a row may be written.
-use Rattle.std.proofs.Common.{inl, inr, ⊎_elim, ◌≡◌, ◌≢◌, ◌⊎◌, ℕ, zero, suc, ◌+◌, ◌-◌, ◌*◌, ◌<◌, ◌≤◌, List, [], ◌∷◌, ◌++◌, length, take, drop, set, get_or, refl, sym, ◌∙◌, ap, subst, arith}
+use Rattle.std.proofs.Common.{inl, inr, ⊎_elim, ◌≡◌, ◌≢◌, ◌⊎◌, ℕ, suc, ◌+◌, ◌-◌, ◌*◌, ◌<◌, ◌≤◌, List, [], ◌∷◌, ◌++◌, length, take, drop, refl, sym, ◌∙◌, ap, subst, arith}
 use Rattle.std.proofs.lemmas.List.{ext_get_or, length-append, length-set, length-take, length-drop, get_or-set_same, get_or-set_other, get_or_past, get_or-take, get_or-drop, get_or_append_left, get_or-append_right, get_or_push, take-set-le, length-take-le, take_at}
 use Rattle.std.proofs.Math.Seq.{take-set-lt}
 use Rattle.std.proofs.lemmas.Bool.{cases_eq, cases_lt}
-use Rattle.audit_disk_model.specs.Image.{Sector, Image, IsWhole, sector_at, with_sector}
-use Rattle.audit_disk.specs.File.{FileView, overlaid, overlaid_row, sectors_of, SomeWritten}
-use Rattle.audit_disk.specs.FileView.{with_row, StandsInRow, IsWholeRow, MayHaveRow, row_cons, length-sectors_of, length-with_row}
+use Rattle.audit_disk_model.specs.Image.{Sector, Image, sector_at, with_sector}
+use Rattle.audit_disk.specs.File.{overlaid, overlaid_row, sectors_of, SomeWritten}
+use Rattle.audit_disk.specs.FileView.{with_row, StandsInRow, IsWholeRow, MayHaveRow, row_cons}
 use Rattle.audit_disk.proofs.FileSectors.{length-overlaid, sectors_of-overlaid}
 use Rattle.audit_base.specs.declared.limits.TheConstants.{SECTOR_SIZE}
 

@@ -4,7 +4,7 @@ use Rattle.std.proofs.Math.Seq.{take-append-add, drop-append-add}
 use Rattle.std.proofs.lemmas.List.{take_at, drop_at, append_assoc, get_or-set_other}
 use Rattle.audit_disk_model.specs.Image.{Sector, Image, IsWhole, sector_at, with_sector}
 use Rattle.audit_disk_model.specs.View.{View}
-use Rattle.audit_disk_model.specs.Calls.{Outcome, Continues, IsWritten, IsRead, IsWrite, IsSync}
+use Rattle.audit_disk_model.specs.Calls.{Outcome, Continues, IsRead, IsWrite, IsSync}
 use Rattle.audit_disk.specs.File.{IsUnusedFile, overlaid, FileContinues, IsFileRead, IsFileWrite, IsFileSync}
 use Rattle.audit_disk.specs.MemFile.{bytes_of_image, length-joined, joined_view}
 use Rattle.audit_disk.specs.MemDisk.{IsFresh}
@@ -106,8 +106,8 @@ module _ (old new : View) where
     images = λ honest file left.
         ⊎_elim
         (λ (same : old.left_at old.clock left.1.0). inl (honest, (left.1.0, same, left.1.2)))
-        (λ (over : IsWritten (old.left_at old.clock) at bytes left.1.0).
-        inr (bytes_of_image over.before, (honest, (over.before, over.was_left, refl)), left.1.2 ∙ ap bytes_of_image over.is ∙ placed over.before (old.whole honest old.clock over.before over.was_left)))
+        (λ (over : (before : Image) × old.left_at old.clock before × (left.1.0 ≡ with_sector before at bytes)).
+        inr (bytes_of_image over.0, (honest, (over.0, over.1, refl)), left.1.2 ∙ ap bytes_of_image over.2 ∙ placed over.0 (old.whole honest old.clock over.0 over.1)))
         (write.images honest left.1.0 left.1.1).either;
     unwritten = λ honest file left. (write.continues.honest honest, (left.1.0, write.unwritten honest left.1.0 left.1.1, left.1.2));
     written = λ honest. written result honest (write.written honest);

@@ -1,8 +1,8 @@
 -- The calls of a device that records them follow the crash model.
-use Rattle.std.proofs.Common.{◌≡◌, ◌⊎◌, inl, inr, ⊎_elim, ℕ, ◌+◌, ◌<◌, ◌≤◌, Ok, Err, List, [], ◌∷◌, ◌++◌, map, set, refl, sym, ◌∙◌, ap, subst, arith, ◌^◌, length}
+use Rattle.std.proofs.Common.{◌≡◌, inl, ℕ, ◌+◌, ◌<◌, ◌≤◌, Ok, Err, List, [], ◌∷◌, ◌++◌, map, set, refl, sym, ◌∙◌, ap, subst, arith, ◌^◌, length}
 use Rattle.audit_disk_model.specs.Image.{Sector, Image, sector_at}
 use Rattle.audit_disk_model.specs.View.{View, last_count}
-use Rattle.audit_disk_model.specs.Calls.{Continues, HasRisen, Ticks, IsWritten, IsRead, IsWrite, IsSync}
+use Rattle.audit_disk_model.specs.Calls.{Continues, HasRisen, Ticks, IsRead, IsWrite, IsSync}
 use Rattle.audit_disk.specs.Held.{Held, settled, content_of, IsImageOf}
 use Rattle.audit_disk.specs.Memory.{after_call, after_calls, held_at, latest, memory_view}
 use Rattle.audit_disk.specs.declared.block.Block.{Block}
@@ -139,20 +139,12 @@ module _ (start : List Block) (content content' : Image) (calls calls' : List Ca
         failures = none;
         content = λ honest. changed;
         content_err = λ honest. tt;
-        images = λ honest image left. record { either = written_over image (written_image (held_at start calls clock) at block image (subst (λ (held : List Held). IsImageOf held image) now left)) };
+        images = λ honest image left. record { either = written_image (held_at start calls clock) at block image (subst (λ (held : List Held). IsImageOf held image) now left) };
         unwritten = λ honest image left. subst (λ (held : List Held). IsImageOf held image) (sym now) (unwritten_image (held_at start calls clock) at block image left);
         written = λ honest image left. subst (λ (held : List Held). IsImageOf held (set image at block.bytes)) (sym now) (image_written (held_at start calls clock) at block image left);
         at_end = λ end. absurd (omega arith);
         at_end_same = λ end honest. absurd (omega arith);
       }
-    where
-      written_over : (image : Image) → IsImageOf (held_at start calls clock) image ⊎ ((before : Image) × IsImageOf (held_at start calls clock) before × (image ≡ set before at block.bytes))
-          → IsImageOf (held_at start calls clock) image ⊎ IsWritten (old.left_at clock) at block.bytes image
-      written_over image either =
-          ⊎_elim
-          (λ (same : IsImageOf (held_at start calls clock) image). inl same)
-          (λ (over : (before : Image) × IsImageOf (held_at start calls clock) before × (image ≡ set before at block.bytes)). inr (record { before = over.0; was_left = over.1; is = over.2 }))
-          either
 
   pub sync_done : calls' ≡ calls ++ record { moment = clock'; effect = Sync } ∷ [] → clock < last_count → clock' ≡ clock + 1 → failures' ≡ failures → content' ≡ content → IsSync old new (Ok tt)
   sync_done noted free next none same =

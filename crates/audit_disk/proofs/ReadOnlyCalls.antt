@@ -215,7 +215,7 @@ module _ (source : SourceView) (log log' : CallLog) where
     content_err = λ honest. tt;
     images = λ honest image is. into_next (Write at block) notes image is;
     unwritten = λ honest image is. out_next (Write at block) notes image (record { either = inl is });
-    written = λ honest image is. out_next (Write at block) notes (with_sector image at block.bytes) (record { either = inr (record { before = image; was_left = is; is = refl }) });
+    written = λ honest image is. out_next (Write at block) notes (with_sector image at block.bytes) (record { either = inr (image, is, refl) });
     at_end = λ end. absurd (omega (arith, notes.free));
     at_end_same = λ end honest. absurd (omega (arith, notes.free));
   }

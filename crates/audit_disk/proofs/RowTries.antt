@@ -1,11 +1,11 @@
 -- A row that is handed to a file, and what a crash then leaves of the device.
-use Rattle.std.proofs.Common.{inl, inr, ⊎_elim, ◌≡◌, ◌⊎◌, ℕ, ◌+◌, ◌-◌, ◌*◌, ◌<◌, ◌≤◌, min, cond, nat_lt, Ok, Err, Result, OnOk, OnErr, List, [], ◌∷◌, length, take, refl, sym, ◌∙◌, ap, subst, arith}
+use Rattle.std.proofs.Common.{⊎_elim, ◌≡◌, ◌⊎◌, ℕ, ◌+◌, ◌-◌, ◌*◌, ◌<◌, ◌≤◌, min, Ok, Err, Result, List, [], length, take, refl, sym, ◌∙◌, ap, subst, arith}
 use Rattle.std.proofs.lemmas.List.{take_all, length-take}
 use Rattle.std.proofs.lemmas.Bool.{cases_lt, cond_below, cond_above}
 use Rattle.audit_disk_model.specs.Image.{Sector, Image}
 use Rattle.audit_disk_model.specs.View.{last_count}
 use Rattle.audit_disk_model.specs.declared.fault.DeviceFault.{DeviceFault}
-use Rattle.audit_disk.specs.File.{FileView, FileContinues, SomeWritten, sectors_of, overlaid_row, MayLeaveRow, IsRowWrite}
+use Rattle.audit_disk.specs.File.{FileView, FileContinues, SomeWritten, sectors_of, IsRowWrite}
 use Rattle.audit_disk.specs.FileView.{with_row, MayHaveRow, IsWholeRow, LeftWithRow, file_moment, row_at, whole_take}
 use Rattle.audit_disk.proofs.KeptRows.{row_same, row_nothing, nothing_row, row_trans, row_of_some, some_of_row, sectors_of-overlaid_row, with_row-over}
 use Rattle.audit_disk.proofs.RowWrites.{some_all, goes_then, same_length_after}

@@ -3,7 +3,7 @@ use Rattle.std.proofs.Common.{◌≡◌, inl, inr, ⊎_elim, ℕ, ◌+◌, ◌^�
 use Rattle.std.proofs.lemmas.Bool.{false≢true, cases_lt}
 use Rattle.audit_disk_model.specs.Image.{Sector, Image, with_sector}
 use Rattle.audit_disk_model.specs.View.{View, last_count}
-use Rattle.audit_disk_model.specs.Calls.{Outcome, Continues, CountsFailure, HasRisen, Ticks, IsWritten, IsRead, IsWrite, IsSync}
+use Rattle.audit_disk_model.specs.Calls.{Outcome, Continues, CountsFailure, HasRisen, Ticks, IsRead, IsWrite, IsSync}
 use Rattle.audit_disk.specs.Shifted.{inner_moment, inner_moment_now, shifted, MayMiss}
 
 -- an image now is one of the inner device now
@@ -55,8 +55,8 @@ module _ (old new : View) (place missed refused : ℕ) (in_step : place ≤ old.
     images = λ honest image left.
         ⊎_elim
         (λ (same : old.left_at old.clock image). record { either = inl (now_out old place missed image in_step same) })
-        (λ (over : IsWritten (old.left_at old.clock) at bytes image).
-        record { either = inr (record { before = over.before; was_left = now_out old place missed over.before in_step over.was_left; is = over.is }) })
+        (λ (over : (before : Image) × old.left_at old.clock before × (image ≡ with_sector before at bytes)).
+        record { either = inr (over.0, now_out old place missed over.0 in_step over.1, over.2) })
         (write.images honest image (now_in new place missed image in_step' left)).either;
     unwritten = λ honest image left. now_out new place missed image in_step' (write.unwritten honest image (now_in old place missed image in_step left));
     written = λ honest. written result (write.written honest);

@@ -134,7 +134,8 @@ pub record IsRowWrite {E : Type 0} (old new : FileView) (offset : ℕ) (row : Li
   pub stands_err : old.honest → OnErr result (SomeWritten old.bytes offset row new.bytes)
   pub images : old.honest → (file : List ℕ) → new.left_at new.moment file → MayLeaveRow old offset row file
   pub unwritten : old.honest → (file : List ℕ) → old.left_at old.moment file → new.left_at new.moment file
-  pub pending : old.honest → OnOk result ((file : List ℕ) → MayLeaveRow old offset row file → new.left_at new.moment file)
+  pub pending : old.honest
+      → OnOk result ((file : List ℕ) → MayLeaveRow old offset row file → new.left_at new.moment file)
   -- if the row succeeded: at each moment some of the sectors so far are written, and nothing else
   pub written : old.honest → old.moment + length row ≤ last_count
       → OnOk result ((count : ℕ) (file : List ℕ) → count ≤ length row → MayLeaveRow old offset (take count row) file

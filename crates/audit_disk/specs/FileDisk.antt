@@ -41,8 +41,8 @@ module _ {F : Type 0} {g : files.Ghosts F} where
       file_view (g.file disk.file.inner) disk.sectors disk.kept.start (kept_sectors disk.kept)
       (active_row disk.single_from (kept_sectors disk.kept))
       (unwrap_or disk.single_from (unwrap_or disk.failed_at disk.clock) - disk.kept.count)
-      (unwrap_or disk.single_from (unwrap_or disk.failed_at disk.clock)) (unwrap_or disk.failed_at disk.clock) disk.clock
-      disk.failures (sectors_fit disk.sectors disk.fits) disk.in_range disk.split_in_order disk.in_order
+      (unwrap_or disk.single_from (unwrap_or disk.failed_at disk.clock)) (unwrap_or disk.failed_at disk.clock)
+      disk.clock disk.failures (sectors_fit disk.sectors disk.fits) disk.in_range disk.split_in_order disk.in_order
       (whole_kept disk.kept) (whole_active disk.single_from (kept_sectors disk.kept) (whole_kept disk.kept)) disk.sized
 
   -- its file

@@ -24,7 +24,8 @@ length-after_sync (sector ∷ rest) = ap suc (length-after_sync rest)
 pub content_image : (held : List Held) → IsImageOf held (content_of held)
 content_image [] = tt
 content_image (sector ∷ rest) =
-    let last = chosen_last sector.synced sector.since in ((last.0, ap (λ (b : Block). b.bytes) (sym last.1)), content_image rest)
+    let last = chosen_last sector.synced sector.since in
+    ((last.0, ap (λ (b : Block). b.bytes) (sym last.1)), content_image rest)
 
 -- each image is a whole device
 pub whole_image : (held : List Held) (image : Image) → IsImageOf held image → IsWhole (length held) image

@@ -5,7 +5,7 @@ use Rattle.std.proofs.lemmas.Bool.{cases_eq}
 use Rattle.std.proofs.lemmas.List.{length-set, get_or-set_same, get_or-set_other}
 use Rattle.audit_disk_model.specs.Image.{Sector, Image, IsWhole, sector_at, with_sector}
 use Rattle.audit_disk_model.specs.View.{View}
-use Rattle.audit_disk_model.specs.Calls.{Outcome, IsWritten, MayBeWritten}
+use Rattle.audit_disk_model.specs.Calls.{Outcome, MayBeWritten}
 use Rattle.audit_disk.specs.Memory.{latest, calls_until, calls_until_all}
 use Rattle.audit_disk.specs.SectorSource.{SourceView}
 use Rattle.audit_disk.specs.declared.block.Block.{Block}
@@ -43,7 +43,7 @@ content_is_left (call ∷ older) start =
     by_effect : (effect : Effect) (content : Image) (left : Image → Type 0) → left content
         → images_after effect content left (content_by effect content)
     by_effect (Write at block) content left is =
-        record { either = inr (record { before = content; was_left = is; is = refl }) }
+        record { either = inr (content, is, refl) }
     by_effect Sync content left is = refl
 
 -- an image is still a whole device after a whole sector was written
@@ -85,8 +85,8 @@ whole_left size (call ∷ older) start image whole left =
     by_effect (Write at block) content earlier is each may =
         ⊎_elim
         (λ (before : earlier image). each image before)
-        (λ (over : IsWritten earlier at block.bytes image). subst (IsWhole size) (sym over.is)
-        (whole_with_sector size over.before at block (each over.before over.was_left)))
+        (λ (over : (before : Image) × earlier before × (image ≡ with_sector before at block.bytes)).
+        subst (IsWhole size) (sym over.2) (whole_with_sector size over.0 at block (each over.0 over.1)))
         may.either
     by_effect Sync content earlier is each same = subst (IsWhole size) (sym same) is
 

@@ -319,8 +319,8 @@ impl<F: SectorFile> Sectors for FileDisk<F> {
 
     /// Keeps the write, or writes to the file at offset 512 * `at` and returns its result. An error means that a call
     /// of the file failed, or that the device refuses calls: after a failed sync or row, or at the end of the clock
-    /// (after a row that failed, 128 calls before it). If nothing is kept before and after it, the call is the file's. An
-    /// error stops the device only if a row failed, and then one of its sectors by itself.
+    /// (after a row that failed, 128 calls before it). If nothing is kept before and after it, the call is the file's.
+    /// An error stops the device only if a row failed, and then one of its sectors by itself.
     fn write(&mut self, at: u64, bytes: &[u8; SECTOR_SIZE]) -> Result<(), DeviceFault>
         requires { at < (file_disk_view self.old).size }
         ensures write { IsWrite (file_disk_view self.old) (file_disk_view self.new) at bytes.now result }

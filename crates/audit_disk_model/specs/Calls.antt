@@ -38,15 +38,9 @@ pub record IsRead (old new : View) (at : ℕ) (into : Sector) (result : Outcome)
   pub content : old.honest → new.content ≡ old.content
   pub bytes : old.honest → OnOk result (into ≡ sector_at old.content at)
 
--- the image was possible before, except that this sector has been written
-pub record IsWritten (left : Image → Type 0) (at : ℕ) (bytes : Sector) (image : Image) : Type 0 where
-  pub before : Image
-  pub was_left : left before
-  pub is : image ≡ with_sector before at bytes
-
 -- an image that was possible before, or one with this sector written
 pub record MayBeWritten (left : Image → Type 0) (at : ℕ) (bytes : Sector) (image : Image) : Type 0 where
-  pub either : left image ⊎ IsWritten left at bytes image
+  pub either : left image ⊎ ((before : Image) × left before × (image ≡ with_sector before at bytes))
 
 pub record IsWrite (old new : View) (at : ℕ) (bytes : Sector) (result : Outcome) : Type 0 where
   pub continues : Continues old new

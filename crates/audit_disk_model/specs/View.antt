@@ -6,19 +6,19 @@ use Rattle.audit_disk_model.specs.Image.{Image, IsWhole}
 abbrev pub last_count : ℕ
 last_count = 2 ^ 64 - 1
 
--- A crash leaves in each sector its last synced content or any content written to it since, each sector independently.
+-- What is known of a device. `IsWrite` and `IsSync` say how the images arise that a crash may leave.
 pub record View : Type 1 where
   -- the number of its sectors
   pub size : ℕ
   -- what successful reads return, sector by sector
   pub content : Image
-  -- how many writes and syncs were requested, including failed ones
+  -- how many writes and syncs have returned, including failed ones; a crash during one is before or after it
   pub clock : ℕ
   -- the images that a crash at this moment of the clock may leave
   pub left_at : ℕ → Image → Type 0
-  -- how many calls have failed
+  -- it rises at each failed call, and at no other
   pub failures : ℕ
-  -- the device behaves as described here
+  -- the device behaves as the clauses about content and images say
   pub honest : Type 0
   pub size_fits : size < 2 ^ 64
   pub clock_fits : clock < 2 ^ 64

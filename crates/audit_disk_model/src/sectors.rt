@@ -23,7 +23,7 @@ pub trait Sectors {
     fn size(&self) -> u64
         ensures { result ≡ (view self.now).size };
 
-    /// Returns the clock: how many writes and syncs were requested, including failed ones, up to 2^64 - 1.
+    /// Returns the clock: how many writes and syncs have returned, including failed ones, up to 2^64 - 1.
     fn calls(&self) -> u64
         ensures { result ≡ (view self.now).clock };
 

@@ -2,17 +2,11 @@
 use Rattle.std.specs.Prelude.{ℕ, ◌-◌, List, ◌++◌, length, map, replicate, bit_xor, nat_lt, if◌then◌else◌}
 use Rattle.sha2.specs.Sha256.{sha256}
 
--- the length of a block of SHA-256, B in the RFC
-abbrev pub block_len : ℕ
-block_len = 64
-
--- a key longer than a block is replaced by its digest
-abbrev pub short_key : List ℕ → List ℕ
-short_key key = if nat_lt block_len (length key) then sha256 key else key
-
--- the key, padded with zeros to a block
+-- the key, or its digest if it is longer than a block of 64 bytes (B in the RFC), padded with zeros to a block
 abbrev pub key_block : List ℕ → List ℕ
-key_block key = short_key key ++ replicate (block_len - length (short_key key)) 0
+key_block key =
+    let short = if nat_lt 64 (length key) then sha256 key else key in
+    short ++ replicate (64 - length short) 0
 
 -- each byte of the key's block, xored with a padding byte
 abbrev pub masked_key : List ℕ → ℕ → List ℕ

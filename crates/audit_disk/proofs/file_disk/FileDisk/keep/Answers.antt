@@ -1,5 +1,4 @@
-use Rattle.std.proofs.Common.{◌+◌, ◌-◌, ◌*◌, ◌<◌, ◌≤◌, ◌≡◌, ◌⊎◌, ℕ, Option, List, length, inl, inr, ⊎_elim, min, is_some, true, false, unwrap_or, refl, sym, ◌∙◌, ap, arith}
-use Rattle.audit_disk_model.specs.Image.{Sector, Image}
+use Rattle.std.proofs.Common.{◌+◌, ◌-◌, ◌≡◌, ◌⊎◌, ℕ, Option, length, inl, inr, ⊎_elim, min, is_some, false, unwrap_or, refl, ap, arith}
 use Rattle.audit_disk.specs.FileView.{file_moment, row_at, active_row}
 use Rattle.audit_disk.specs.KeptRow.{kept_sectors, length-kept}
 use Rattle.audit_disk.proofs.FileCalls.{write_kept}

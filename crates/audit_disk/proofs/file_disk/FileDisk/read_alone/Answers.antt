@@ -1,5 +1,5 @@
-use Rattle.std.proofs.Common.{◌+◌, ◌-◌, ◌*◌, ◌<◌, ◌≤◌, ◌≡◌, ◌⊎◌, ℕ, List, [], length, inl, inr, ⊎_elim, min, is_some, true, false, unwrap_or, refl, sym, ◌∙◌, ap, subst, arith}
-use Rattle.audit_disk_model.specs.Image.{Sector, Image}
+use Rattle.std.proofs.Common.{◌+◌, ◌-◌, ◌<◌, ◌≤◌, ◌≡◌, ◌⊎◌, ℕ, List, length, min, is_some, true, false, unwrap_or, refl, sym, ap, subst, arith}
+use Rattle.audit_disk_model.specs.Image.{Sector}
 use Rattle.audit_disk.specs.FileView.{file_moment, row_at, active_row}
 use Rattle.audit_disk.specs.KeptRow.{kept_sectors, length-kept}
 use Rattle.audit_disk.proofs.FileCalls.{read_file}

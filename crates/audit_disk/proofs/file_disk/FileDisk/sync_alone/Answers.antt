@@ -1,9 +1,8 @@
-use Rattle.std.proofs.Common.{Ok, Err, ◌+◌, ◌-◌, ◌*◌, ◌<◌, ◌≤◌, ◌≡◌, ℕ, List, inl, inr, ⊎_elim, min, is_some, is_err, true, false, unwrap_or, refl, sym, ◌∙◌, ap, arith}
-use Rattle.audit_disk_model.specs.Image.{Sector, Image}
-use Rattle.audit_disk.specs.FileView.{file_moment, row_at, active_row, LeftWithRow}
+use Rattle.std.proofs.Common.{Ok, Err, ◌+◌, ◌-◌, ◌≤◌, ◌≡◌, ℕ, min, is_some, true, false, unwrap_or, refl, arith}
+use Rattle.audit_disk.specs.FileView.{file_moment, row_at, active_row}
 use Rattle.audit_disk.specs.KeptRow.{kept_sectors, length-kept}
 use Rattle.audit_disk.proofs.FileCalls.{sync_counted}
-use Rattle.audit_disk.proofs.FileTimes.{moment_kept, row_kept, moment_most, row_none, row_active, earlier_then, earlier_was, below_last, below_end, split_up}
+use Rattle.audit_disk.proofs.FileTimes.{moment_kept, row_kept, moment_most, row_none, earlier_then, earlier_was, below_last, below_end, split_up}
 use Rattle.audit_disk.proofs.Reached.{reached_now, none_of}
 use Rattle.audit_disk.proofs.file_disk.FileDisk.sync_alone.Goals as goal
 

@@ -1,5 +1,5 @@
-use Rattle.std.proofs.Common.{◌≡◌, ◌-◌, ◌<◌, ◌≤◌, ℕ, List, [], inl, inr, min, refl, sym, ◌∙◌, ap, subst, arith}
-use Rattle.audit_disk_model.specs.Image.{Sector, Image}
+use Rattle.std.proofs.Common.{◌≡◌, ◌-◌, ℕ, List, [], refl, sym, ◌∙◌, ap, subst, arith}
+use Rattle.audit_disk_model.specs.Image.{Sector}
 use Rattle.audit_disk.specs.File.{sectors_of}
 use Rattle.audit_disk.specs.FileView.{with_row, MayHaveRow, row_at, file_moment}
 use Rattle.audit_disk.specs.KeptRow.{kept_sectors}

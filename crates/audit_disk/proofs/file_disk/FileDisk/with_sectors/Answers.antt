@@ -1,5 +1,5 @@
-use Rattle.std.proofs.Common.{ℕ, List, ◌≤◌, refl, sym, ◌∙◌, ap, subst, take, length, min, unwrap_or, ◌-◌, arith}
-use Rattle.audit_disk_model.specs.Image.{Sector, Image}
+use Rattle.std.proofs.Common.{ℕ, refl, sym, ◌∙◌, ap, subst, take, min, unwrap_or, ◌-◌, arith}
+use Rattle.audit_disk_model.specs.Image.{Image}
 use Rattle.audit_disk.specs.File.{sectors_of}
 use Rattle.audit_disk.specs.FileView.{with_row, MayHaveRow, row_at, active_row, length-sectors_of}
 use Rattle.audit_disk.specs.KeptRow.{kept_sectors}

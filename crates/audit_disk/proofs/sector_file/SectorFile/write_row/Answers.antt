@@ -1,4 +1,4 @@
-use Rattle.std.proofs.Common.{◌≡◌, ◌+◌, ◌*◌, List, ◌∷◌, [], ◌++◌, Ok, Result, length, take, slice_index_or, ◌∙◌, subst, sym, arith}
+use Rattle.std.proofs.Common.{◌≡◌, ◌+◌, ◌*◌, List, ◌∷◌, [], ◌++◌, Result, length, take, slice_index_or, ◌∙◌, subst, sym, arith}
 use Rattle.std.proofs.lemmas.List.{take_more, length-take-le}
 use Rattle.audit_disk_model.specs.Image.{Sector}
 use Rattle.audit_disk_model.specs.declared.fault.DeviceFault.{DeviceFault}
