@@ -16,9 +16,9 @@ use Rattle.audit_cli_offline.specs.declared.fault.OfflineError.TheVariants as au
 use Rattle.audit_cli_base.specs.declared.status.Status.{Status}
 use Rattle.audit_cli_base.specs.declared.status.Status.TheVariants as ends
 use Rattle.audit_cli_base.specs.declared.fault.CommandError.{CommandError}
-use Rattle.audit_cli_base.specs.declared.fault.CommandError.TheVariants.{BadArgument, FileExists, File, InUse}
-use Rattle.audit_cli_base.specs.declared.fault.CommandError.TheVariants.{TooSmall, Salvaged, Lines, Refused, Export}
-use Rattle.audit_cli_base.specs.declared.fault.CommandError.TheVariants.{BadProof, NotAccepted}
+use Rattle.audit_cli_base.specs.declared.fault.CommandError.TheVariants.{BadArgument, File, InUse}
+use Rattle.audit_cli_base.specs.declared.fault.CommandError.TheVariants.{TooSmall, Lines, Refused, Export}
+use Rattle.audit_cli_base.specs.declared.fault.CommandError.TheVariants.{BadProof}
 
 -- the status as a number
 abbrev pub exit_status_of : Status → ℕ
@@ -38,44 +38,24 @@ status_of_lines lines.Memory = ends.Memory
 
 -- the status for a store's error
 abbrev pub status_of_refusal : StoreError → Status
-status_of_refusal store.NotAStore = ends.Refused
-status_of_refusal store.DamagedHeader = ends.Refused
-status_of_refusal store.HeadersDisagree = ends.Refused
-status_of_refusal (store.DamagedLog index) = ends.Refused
-status_of_refusal store.BatchTooLarge = ends.Refused
-status_of_refusal store.Full = ends.Refused
-status_of_refusal store.NoSuchVersion = ends.Refused
-status_of_refusal store.Worn = ends.Refused
-status_of_refusal store.Broken = ends.Refused
 status_of_refusal store.Device = ends.Device
 status_of_refusal store.Memory = ends.Memory
-status_of_refusal store.Closed = ends.Refused
-status_of_refusal store.BadSize = ends.Refused
-status_of_refusal store.ReservedKind = ends.Refused
+status_of_refusal _ = ends.Refused
 
 -- the status for an export that can't be verified
 abbrev pub status_of_cause : Cause → Status
-status_of_cause cause.Short = ends.Refused
-status_of_cause cause.BadLength = ends.Refused
-status_of_cause cause.BadLink = ends.Refused
-status_of_cause cause.BadMac = ends.Refused
-status_of_cause cause.WrongCommitment = ends.Refused
 status_of_cause cause.ReadFault = ends.Device
-status_of_cause cause.BadClose = ends.Refused
 status_of_cause cause.Memory = ends.Memory
+status_of_cause _ = ends.Refused
 
 abbrev pub status_of : CommandError → Status
 status_of BadArgument = ends.Usage
-status_of FileExists = ends.Refused
 status_of File = ends.Device
 status_of InUse = ends.Device
-status_of (TooSmall sectors) = ends.Refused
-status_of Salvaged = ends.Refused
 status_of (Lines cause) = status_of_lines cause
 status_of (Refused error) = status_of_refusal error
 status_of (Export fault) = status_of_cause fault.cause
-status_of BadProof = ends.Refused
-status_of NotAccepted = ends.Refused
+status_of _ = ends.Refused
 
 -- the status if the output was written completely
 abbrev pub status_of_end : Result (Unit {0}) CommandError → Status

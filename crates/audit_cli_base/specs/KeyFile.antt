@@ -5,9 +5,8 @@ use Rattle.std.specs.Result.{result_ok}
 use Rattle.hex.specs.Hex.{decode_sized}
 use Rattle.audit_text.specs.declared.fault.LinesError.TheVariants.{Read, Memory}
 use Rattle.audit_cli_base.specs.declared.fault.CommandError.{CommandError}
-use Rattle.audit_cli_base.specs.declared.fault.CommandError.TheVariants.{BadArgument, FileExists, File, InUse}
-use Rattle.audit_cli_base.specs.declared.fault.CommandError.TheVariants.{TooSmall, Salvaged, Lines, Refused, Export}
-use Rattle.audit_cli_base.specs.declared.fault.CommandError.TheVariants.{BadProof, NotAccepted}
+use Rattle.audit_cli_base.specs.declared.fault.CommandError.TheVariants.{BadArgument}
+use Rattle.audit_cli_base.specs.declared.fault.CommandError.TheVariants.{Lines}
 
 -- the text without a line feed at its end
 abbrev pub without_line_feed : List ℕ → List ℕ
@@ -21,12 +20,4 @@ key_of_file text = result_ok (decode_sized (without_line_feed text) 32)
 abbrev pub IsKeyFault : Option (List ℕ) → CommandError → Type 0
 IsKeyFault known BadArgument = IfSome known (λ text. key_of_file text ≡ None)
 IsKeyFault known (Lines cause) = (cause ≡ Read) ⊎ (cause ≡ Memory)
-IsKeyFault known FileExists = ⊥
-IsKeyFault known File = ⊥
-IsKeyFault known InUse = ⊥
-IsKeyFault known (TooSmall sectors) = ⊥
-IsKeyFault known Salvaged = ⊥
-IsKeyFault known (Refused error) = ⊥
-IsKeyFault known (Export fault) = ⊥
-IsKeyFault known BadProof = ⊥
-IsKeyFault known NotAccepted = ⊥
+IsKeyFault known _ = ⊥

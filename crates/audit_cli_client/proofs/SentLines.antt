@@ -4,7 +4,6 @@ use Rattle.std.specs.Io.KnownBytes.{Appends}
 use Rattle.std.proofs.Common.{◌≡◌, ℕ, ◌+◌, ◌≤◌, Option, Some, None, List, [], ◌++◌, length, length-append, append-nil, sym, ap, subst, refl, inl, inr, ◌∙◌, arith}
 use Rattle.std.proofs.lemmas.Option.{none-some}
 use Rattle.std.proofs.lemmas.Bool.{true≢false, false≢true}
-use Rattle.audit_chain.specs.EventData.{EventData}
 use Rattle.audit_text.specs.Writing.{WritesInPart}
 use Rattle.audit_text.specs.declared.fault.LinesError.{LinesError}
 use Rattle.audit_text_plain.specs.declared.line_form.LineForm.{LineForm}

@@ -17,11 +17,7 @@ use Rattle.audit_cli_client.specs.Joined.{IsVouchedFor}
 -- the error for a reply that isn't the answer that is due: the server's refusal of this request, or else a bad reply
 abbrev pub not_due : ℕ → Reply → ClientError
 not_due tag (reply.Refused given code) = if given == tag then Refused code else BadReply
-not_due tag (reply.Acknowledgement given index count root) = BadReply
-not_due tag (reply.Commitment given count root) = BadReply
-not_due tag (reply.Membership given hashes entry) = BadReply
-not_due tag (reply.Incremental given hashes) = BadReply
-not_due tag (reply.Entry given entry) = BadReply
+not_due tag _ = BadReply
 
 -- The first request was for the newest commitment, and this is what the server gave.
 pub record OpensWithNewest (newest : Commitment) (asked : List Request) (given : List Reply) : Type 0 where

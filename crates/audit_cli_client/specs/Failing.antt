@@ -27,15 +27,10 @@ use Rattle.audit_cli_client.specs.Exporting.{entry_tag, entry_requests, entry_re
 
 -- the connection ended or was silent, or memory ran out, which may be at any time
 abbrev pub IsLost : ClientError → Type 0
-IsLost (client.Refused code) = ⊥
-IsLost client.BadReply = ⊥
 IsLost client.Ended = Unit {0}
 IsLost client.TimedOut = Unit {0}
-IsLost client.NotAccepted = ⊥
-IsLost client.Shorter = ⊥
-IsLost client.OtherRoot = ⊥
-IsLost client.Output = ⊥
 IsLost client.Memory = Unit {0}
+IsLost _ = ⊥
 
 -- the next frame was read, and this is the reply that its body is, if it is one
 pub record Hears (old new : Option (List ℕ)) (said : Option Reply) : Type 0 where

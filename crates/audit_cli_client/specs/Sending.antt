@@ -77,27 +77,17 @@ refusal_line line code =
 abbrev pub answer_line : ℕ → Reply → List ℕ
 answer_line line (reply.Acknowledgement tag index count root) = acknowledgement_line index count root
 answer_line line (reply.Refused tag code) = refusal_line line code
-answer_line line (reply.Commitment tag count root) = []
-answer_line line (reply.Membership tag hashes entry) = []
-answer_line line (reply.Incremental tag hashes) = []
-answer_line line (reply.Entry tag entry) = []
+answer_line line _ = []
 
 abbrev pub is_refusal : Reply → Bool
-is_refusal (reply.Acknowledgement tag index count root) = false
 is_refusal (reply.Refused tag code) = true
-is_refusal (reply.Commitment tag count root) = false
-is_refusal (reply.Membership tag hashes entry) = false
-is_refusal (reply.Incremental tag hashes) = false
-is_refusal (reply.Entry tag entry) = false
+is_refusal _ = false
 
 -- an acknowledgement or a refusal with the tag of the request for the event of this line
 abbrev pub AnswersLine : ℕ → Reply → Type 0
 AnswersLine line (reply.Acknowledgement tag index count root) = tag ≡ line_tag line
 AnswersLine line (reply.Refused tag code) = tag ≡ line_tag line
-AnswersLine line (reply.Commitment tag count root) = ⊥
-AnswersLine line (reply.Membership tag hashes entry) = ⊥
-AnswersLine line (reply.Incremental tag hashes) = ⊥
-AnswersLine line (reply.Entry tag entry) = ⊥
+AnswersLine line _ = ⊥
 
 -- each answers its own line, from the line after the first `before` on
 abbrev pub AreAnswers : ℕ → List Reply → Type 0
@@ -138,11 +128,9 @@ TakesAll form old events = IfSome old (λ input. AreEventsOf form (lines_of inpu
 
 -- why a line has no event: its own fault, or memory ran out
 abbrev pub IsEventFault : LineForm → ℕ → List ℕ → LinesError → Type 0
-IsEventFault form number line lines.InputTooLong = ⊥
 IsEventFault form number line (lines.Line at cause) = (at ≡ number) × (event_in_line form line ≡ Err cause)
-IsEventFault form number line lines.Read = ⊥
-IsEventFault form number line lines.Write = ⊥
 IsEventFault form number line lines.Memory = Unit {0}
+IsEventFault form number line _ = ⊥
 
 -- The first line of an input has no event, for this cause; or it is longer than the line of any event, and its
 -- payload is too long.
@@ -152,11 +140,9 @@ IsBadFirst form cause input = (line : List ℕ) × (later : List (List ℕ)) × 
 
 -- why the next line, of this number, wasn't taken
 abbrev pub IsTakingFault : LineForm → Option (List ℕ) → ℕ → LinesError → Type 0
-IsTakingFault form old number lines.InputTooLong = Unit {0}
 IsTakingFault form old number (lines.Line at cause) = (at ≡ number) × IfSome old (IsBadFirst form cause)
-IsTakingFault form old number lines.Read = Unit {0}
 IsTakingFault form old number lines.Write = ⊥
-IsTakingFault form old number lines.Memory = Unit {0}
+IsTakingFault form old number _ = Unit {0}
 
 -- the next line was taken and the request of its event added to the frames; or no line is left
 abbrev pub TakesNext : LineForm → Option (List ℕ) → Option (List ℕ) → ℕ → List ℕ → List ℕ → Bool → Type 0

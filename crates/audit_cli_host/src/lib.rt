@@ -1,5 +1,5 @@
-//! The operating system as the program `audit` uses it: failed calls are noted, and a line shows how far a file has been
-//! read or written.
+//! The operating system as the program `audit` uses it: failed calls are noted, and a line shows how far a file has
+//! been read or written.
 #![tactic(auto)]
 
 mod dial;

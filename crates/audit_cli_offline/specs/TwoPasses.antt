@@ -79,9 +79,7 @@ IsFaultAgain form (Export fault) first_key accepted again old new =
     StopsAgain form first_key accepted again old new fault
 IsFaultAgain form (Lines lines.Write) first_key accepted again old new = WritesPartAgain form first_key again old new
 IsFaultAgain form (Lines lines.Memory) first_key accepted again old new = WritesLinesAgain form first_key again old new
-IsFaultAgain form (Lines lines.Read) first_key accepted again old new = ⊥
-IsFaultAgain form (Lines lines.InputTooLong) first_key accepted again old new = ⊥
-IsFaultAgain form (Lines (lines.Line line cause)) first_key accepted again old new = ⊥
+IsFaultAgain form _ first_key accepted again old new = ⊥
 
 -- Both passes. The first bytes are verified. The second ones are the same, or some link of both logs is the SHA-256 of
 -- two texts. The lines of the second bytes were written.
@@ -118,9 +116,7 @@ IsTwoPassFault form (Lines fault) first_key commitment bytes again old new =
 abbrev pub IsLineUnwritten : LinesError → Option (List ℕ) → Option (List ℕ) → List ℕ → Type 0
 IsLineUnwritten lines.Write old new line = WritesInPart old new line
 IsLineUnwritten lines.Memory old new line = Keeps old new
-IsLineUnwritten lines.Read old new line = ⊥
-IsLineUnwritten lines.InputTooLong old new line = ⊥
-IsLineUnwritten (lines.Line number cause) old new line = ⊥
+IsLineUnwritten _ old new line = ⊥
 
 -- the same in the second pass
 abbrev pub IsSecondFault : OfflineError → List ℕ → Option (List ℕ) → Option (List ℕ) → Type 0

@@ -23,25 +23,17 @@ no_memory = Command (Refused store.Memory)
 
 -- a refusal of the server's device is a device's; every other refusal is one of the log
 abbrev pub status_of_answer : Refusal → Status
-status_of_answer refusal.DamagedLog = ends.Refused
-status_of_answer refusal.Full = ends.Refused
-status_of_answer refusal.NoSuchVersion = ends.Refused
-status_of_answer refusal.Worn = ends.Refused
 status_of_answer refusal.Device = ends.Device
-status_of_answer refusal.Closed = ends.Refused
-status_of_answer refusal.Malformed = ends.Refused
+status_of_answer _ = ends.Refused
 
 -- An answer that isn't due or isn't accepted is refused; one that never comes, or can't be written, is a failed file.
 abbrev pub status_of_server : ClientError → Status
 status_of_server (client.Refused code) = status_of_answer code
-status_of_server client.BadReply = ends.Refused
 status_of_server client.Ended = ends.Device
 status_of_server client.TimedOut = ends.Device
-status_of_server client.NotAccepted = ends.Refused
-status_of_server client.Shorter = ends.Refused
-status_of_server client.OtherRoot = ends.Refused
 status_of_server client.Output = ends.Device
 status_of_server client.Memory = ends.Memory
+status_of_server _ = ends.Refused
 
 abbrev pub remote_status : RemoteError → Status
 remote_status (Command fault) = commands.status_of fault
@@ -62,22 +54,14 @@ of_asking (asking.Out error) = error
 
 -- the line of the output that judges the log, if the error is a judgment
 abbrev pub judgment_in : ClientError → Option (List ℕ)
-judgment_in (client.Refused code) = None
-judgment_in client.BadReply = None
-judgment_in client.Ended = None
-judgment_in client.TimedOut = None
 judgment_in client.NotAccepted = Some (codes "not accepted\n")
 judgment_in client.Shorter = Some (codes "shorter\n")
 judgment_in client.OtherRoot = Some (codes "other root\n")
-judgment_in client.Output = None
-judgment_in client.Memory = None
+judgment_in _ = None
 
 abbrev pub judgment_of : RemoteError → Option (List ℕ)
-judgment_of (Command fault) = None
-judgment_of NoConnection = None
 judgment_of (Server error) = judgment_in error
-judgment_of (BadStateLine line) = None
-judgment_of (NotAcknowledged lines first) = None
+judgment_of _ = None
 
 -- the error isn't a judgment of the log
 abbrev pub IsNoJudgment : Result Status RemoteError → Type 0

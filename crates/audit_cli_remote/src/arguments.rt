@@ -18,7 +18,7 @@ pub enum Question<'a> {
     /// The newest commitment.
     Commitment,
     /// An entry or a proof, and the file for it.
-    Item(Item, &'a str),
+    Evidence(Evidence, &'a str),
     /// All entries, and the file for them.
     Export(&'a str),
     /// To close the log.
@@ -27,7 +27,7 @@ pub enum Question<'a> {
 
 /// What a server sends in one reply.
 #[derive(Clone, Copy)]
-pub enum Item {
+pub enum Evidence {
     /// The entry of this index.
     Entry(u64),
     /// A proof.
@@ -56,11 +56,11 @@ fn question_in<'a>(words: QuestionWords<'a>) -> Option<Question<'a>> {
         (Some(out), None, None) if name == "export" => Some(Question::Export(out)),
         (Some(index), Some(out), None) if name == "entry" => {
             let index = number_in_text(index.as_bytes())?;
-            Some(Question::Item(Item::Entry(index), out))
+            Some(Question::Evidence(Evidence::Entry(index), out))
         }
         (Some(first), Some(second), Some(out)) => {
             let proof = proof_request(name, first, second)?;
-            Some(Question::Item(Item::Proof(proof), out))
+            Some(Question::Evidence(Evidence::Proof(proof), out))
         }
         _ => None,
     }

@@ -1,5 +1,5 @@
 //! Questions to a server, whose answers are written to files.
-use crate::arguments::{Item, Question};
+use crate::arguments::{Evidence, Question};
 use crate::connection::{connect, socket_identity};
 use crate::fault::RemoteError;
 use crate::out::{OutFile, is_standard_output};
@@ -51,10 +51,10 @@ fn answer<F: Files, A: Write, B: Read, W: Write>(
             let last = close_log(alloc, to, from);
             print_commitment(alloc, b"closed ", last, output)
         }
-        Question::Item(item, out) => {
+        Question::Evidence(evidence, out) => {
             let mut file = OutFile::new(rt, alloc, socket, out);
-            let put = put_item(alloc, to, from, item, &mut file);
-            print_item(alloc, item, put, &file, output)
+            let put = put_evidence(alloc, to, from, evidence, &mut file);
+            print_evidence(alloc, evidence, put, &file, output)
         }
         Question::Export(out) => {
             let export = export_to(rt, alloc, socket, to, from, out);
@@ -77,28 +77,28 @@ fn print_commitment<W: Write>(
     Ok(())
 }
 
-fn put_item<A: Write, B: Read, O: Out>(
+fn put_evidence<A: Write, B: Read, O: Out>(
     alloc: Global,
     to: &mut A,
     from: &mut B,
-    item: Item,
+    evidence: Evidence,
     file: &mut O,
 ) -> Result<u64, AskError<O::Error>> {
-    match item {
-        Item::Entry(index) => put_entry(alloc, to, from, index, file),
-        Item::Proof(ProofRequest::Member { index, count }) => {
+    match evidence {
+        Evidence::Entry(index) => put_entry(alloc, to, from, index, file),
+        Evidence::Proof(ProofRequest::Member { index, count }) => {
             put_member(alloc, to, from, index, count, file)
         }
-        Item::Proof(ProofRequest::Increment { older, newer }) => {
+        Evidence::Proof(ProofRequest::Increment { older, newer }) => {
             put_increment(alloc, to, from, older, newer, file)
         }
     }
 }
 
 // Prints what was put: its bytes if they go to standard output, and its line unless OUT is `-`.
-fn print_item<F: Files, W: Write>(
+fn print_evidence<F: Files, W: Write>(
     alloc: Global,
-    item: Item,
+    evidence: Evidence,
     put: Result<u64, AskError<RemoteError>>,
     file: &OutFile<'_, F>,
     output: &mut W,
@@ -110,9 +110,9 @@ fn print_item<F: Files, W: Write>(
     if !file.takes_line() {
         return Ok(());
     }
-    match item {
-        Item::Entry(_) => write_exported(alloc, 1, size, output)?,
-        Item::Proof(_) => write_number(alloc, b"proof ", size, output)?,
+    match evidence {
+        Evidence::Entry(_) => write_exported(alloc, 1, size, output)?,
+        Evidence::Proof(_) => write_number(alloc, b"proof ", size, output)?,
     }
     Ok(())
 }

@@ -14,8 +14,8 @@ use Rattle.audit_cli_offline.specs.Judgment.{SpellsProof}
 use Rattle.audit_cli_offline.specs.ProofLines.{member_line, increment_line}
 use Rattle.audit_store.specs.declared.store_error.StoreError.TheVariants as store
 use Rattle.audit_cli_base.specs.declared.fault.CommandError.{CommandError}
-use Rattle.audit_cli_base.specs.declared.fault.CommandError.TheVariants.{BadArgument, FileExists, File, InUse}
-use Rattle.audit_cli_base.specs.declared.fault.CommandError.TheVariants.{TooSmall, Salvaged, Lines, Refused, Export}
+use Rattle.audit_cli_base.specs.declared.fault.CommandError.TheVariants.{BadArgument}
+use Rattle.audit_cli_base.specs.declared.fault.CommandError.TheVariants.{Lines, Refused}
 use Rattle.audit_cli_base.specs.declared.fault.CommandError.TheVariants.{BadProof, NotAccepted}
 use Rattle.audit_cli_store.specs.declared.checking.Judged.{Judged}
 
@@ -64,14 +64,7 @@ abbrev pub IsUnread : CommandError → List ℕ → Type 0
 IsUnread BadProof bytes = IsNoProof bytes
 IsUnread (Lines cause) bytes = (cause ≡ lines.Read) ⊎ (cause ≡ lines.Memory)
 IsUnread (Refused error) bytes = error ≡ store.Memory
-IsUnread BadArgument bytes = ⊥
-IsUnread FileExists bytes = ⊥
-IsUnread File bytes = ⊥
-IsUnread InUse bytes = ⊥
-IsUnread (TooSmall sectors) bytes = ⊥
-IsUnread Salvaged bytes = ⊥
-IsUnread (Export fault) bytes = ⊥
-IsUnread NotAccepted bytes = ⊥
+IsUnread _ bytes = ⊥
 
 -- what the judgment states about the bytes
 abbrev pub IsProofJudged : Result Bool CommandError → List ℕ → Commitment → Option Commitment → Type 0
@@ -116,26 +109,11 @@ IsChecked form (Err (Lines lines.Read)) bytes older newer old new = Keeps old ne
 IsChecked form (Err (Lines lines.Memory)) bytes older newer old new = Keeps old new
 IsChecked form (Err (Lines lines.Write)) bytes older newer old new =
     WritesLinesInPart form bytes older newer old new
-IsChecked form (Err (Lines lines.InputTooLong)) bytes older newer old new = ⊥
-IsChecked form (Err (Lines (lines.Line line cause))) bytes older newer old new = ⊥
 IsChecked form (Err (Refused error)) bytes older newer old new = (error ≡ store.Memory) × Keeps old new
-IsChecked form (Err FileExists) bytes older newer old new = ⊥
-IsChecked form (Err File) bytes older newer old new = ⊥
-IsChecked form (Err InUse) bytes older newer old new = ⊥
-IsChecked form (Err (TooSmall sectors)) bytes older newer old new = ⊥
-IsChecked form (Err Salvaged) bytes older newer old new = ⊥
-IsChecked form (Err (Export fault)) bytes older newer old new = ⊥
+IsChecked form _ bytes older newer old new = ⊥
 
 -- the fault isn't in the bytes: reading or writing failed, or memory was refused
 abbrev pub IsFailure : CommandError → Type 0
 IsFailure (Lines cause) = (cause ≡ lines.Read) ⊎ ((cause ≡ lines.Write) ⊎ (cause ≡ lines.Memory))
 IsFailure (Refused error) = error ≡ store.Memory
-IsFailure BadArgument = ⊥
-IsFailure FileExists = ⊥
-IsFailure File = ⊥
-IsFailure InUse = ⊥
-IsFailure (TooSmall sectors) = ⊥
-IsFailure Salvaged = ⊥
-IsFailure (Export fault) = ⊥
-IsFailure BadProof = ⊥
-IsFailure NotAccepted = ⊥
+IsFailure _ = ⊥

@@ -10,9 +10,7 @@ use Rattle.audit_store.specs.Recovered.{IsOfDeviceOrMemory}
 use Rattle.audit_cli_base.specs.declared.arguments.ProofRequest.{ProofRequest}
 use Rattle.audit_cli_base.specs.declared.arguments.ProofRequest.TheVariants as asked
 use Rattle.audit_cli_base.specs.declared.fault.CommandError.{CommandError}
-use Rattle.audit_cli_base.specs.declared.fault.CommandError.TheVariants.{BadArgument, FileExists, File, InUse}
-use Rattle.audit_cli_base.specs.declared.fault.CommandError.TheVariants.{TooSmall, Salvaged, Lines, Refused, Export}
-use Rattle.audit_cli_base.specs.declared.fault.CommandError.TheVariants.{BadProof, NotAccepted}
+use Rattle.audit_cli_base.specs.declared.fault.CommandError.TheVariants.{Refused}
 
 -- that an event is one of the first `count`: the siblings on its path to their root, and its entry
 abbrev pub member_of_log : List ℕ → List EventData → ℕ → ℕ → Member
@@ -45,13 +43,4 @@ AsksOutside (asked.Increment older newer) held = (older ≡ 0) ⊎ (newer < olde
 -- the device failed, or memory was refused
 abbrev pub IsDeviceOrMemory : CommandError → Type 0
 IsDeviceOrMemory (Refused error) = IsOfDeviceOrMemory error
-IsDeviceOrMemory (Lines cause) = ⊥
-IsDeviceOrMemory BadArgument = ⊥
-IsDeviceOrMemory FileExists = ⊥
-IsDeviceOrMemory File = ⊥
-IsDeviceOrMemory InUse = ⊥
-IsDeviceOrMemory (TooSmall sectors) = ⊥
-IsDeviceOrMemory Salvaged = ⊥
-IsDeviceOrMemory (Export fault) = ⊥
-IsDeviceOrMemory BadProof = ⊥
-IsDeviceOrMemory NotAccepted = ⊥
+IsDeviceOrMemory _ = ⊥

@@ -1,5 +1,5 @@
 -- The effect of carrying out a request, apart from its files.
-use Rattle.std.specs.Prelude.{◌≡◌, ◌⊎◌, ℕ, Option, Some, None, Result, Ok, Err, List, IfSome, IfOk, IsOkAnd}
+use Rattle.std.specs.Prelude.{◌≡◌, ◌⊎◌, ℕ, Option, None, Result, Ok, Err, List, IfSome, IfOk, IsOkAnd}
 use Rattle.std.specs.Io.KnownBytes.{Keeps, Appends}
 use Rattle.audit_text.specs.declared.fault.LinesError.{LinesError}
 use Rattle.audit_text.specs.Answers.{IsFaultOf, IsBeforeWriting}
@@ -14,8 +14,8 @@ use Rattle.audit_cli_store.specs.Replay.{replay_output}
 use Rattle.audit_cli_store.specs.declared.request.Site.{Site}
 use Rattle.audit_cli_store.specs.declared.request.Site.TheVariants.{NewFile, InPlace}
 use Rattle.audit_cli_store.specs.declared.request.Request.{Request}
-use Rattle.audit_cli_store.specs.declared.request.Request.TheVariants.{Replay, Format, Append, Close, Show, Check}
-use Rattle.audit_cli_store.specs.declared.request.Request.TheVariants.{Export, Verify, Prove}
+use Rattle.audit_cli_store.specs.declared.request.Request.TheVariants.{Replay, Format, Check}
+use Rattle.audit_cli_store.specs.declared.request.Request.TheVariants.{Prove}
 
 -- ---- words
 
@@ -25,16 +25,11 @@ IsFormatFault (InPlace erase) sectors fault = sectors_asked sectors ≡ Err faul
 
 -- the first fault of the words that are checked before any file is opened
 abbrev pub IsWordFault : Request → CommandError → Type 0
-IsWordFault Replay fault = ⊥
 IsWordFault (Format file site sectors key_file) fault = IsFormatFault site sectors.now fault
-IsWordFault (Append file) fault = ⊥
-IsWordFault (Close file) fault = ⊥
-IsWordFault (Show file access form) fault = ⊥
 IsWordFault (Check proof older newer form) fault = AreNoCommitments older.now newer × (fault ≡ BadArgument)
-IsWordFault (Export file out access) fault = ⊥
-IsWordFault (Verify export key_file commitment form) fault = ⊥
 IsWordFault (Prove file kind first second out access) fault =
     (proof_asked kind.now first.now second.now ≡ None) × (fault ≡ BadArgument)
+IsWordFault _ fault = ⊥
 
 -- ---- a replay
 
@@ -56,14 +51,7 @@ IsReplayed input before after (Err fault) = StopsReplay input before after fault
 abbrev pub IsReplayOf : Request → Option (List ℕ) → Option (List ℕ) → Option (List ℕ) → Result Unit CommandError
     → Type 0
 IsReplayOf Replay input before after result = IsReplayed input before after result
-IsReplayOf (Format file site sectors key_file) input before after result = Unit {0}
-IsReplayOf (Append file) input before after result = Unit {0}
-IsReplayOf (Close file) input before after result = Unit {0}
-IsReplayOf (Show file access form) input before after result = Unit {0}
-IsReplayOf (Check proof older newer form) input before after result = Unit {0}
-IsReplayOf (Export file out access) input before after result = Unit {0}
-IsReplayOf (Verify export key_file commitment form) input before after result = Unit {0}
-IsReplayOf (Prove file kind first second out access) input before after result = Unit {0}
+IsReplayOf _ input before after result = Unit {0}
 
 -- A request was carried out with this result, and the output was then flushed. The program's status is that of the
 -- result, or that of an output that couldn't be flushed.

@@ -136,7 +136,8 @@ pub fn run<F: Files, R: Read, W: Write, M: Write>(
 ) -> Status
 where
     F::File: SystemFile,
-    ensures { IsCarriedOut request.entry (R.remaining input.old) (W.contents output.old) (W.contents output.new) result }
+    ensures { IsCarriedOut request.entry (R.remaining input.old)
+        (W.contents output.old) (W.contents output.new) result }
 {
     let done = perform(rt, alloc, request, input, output, messages);
     report_end(done, output.flush(), messages)

@@ -1,7 +1,7 @@
 -- A count of the calls of a stream that moved bytes.
 use Rattle.std.specs.Prelude.{◌≡◌, ℕ, zero, suc, ◌+◌, ◌%◌, ◌^◌, List, [], ◌∷◌, ◌++◌}
 use Rattle.std.proofs.Common.{refl, sym, ap, ◌∙◌}
-use Rattle.audit_serve_passes.specs.Streams.{StreamCall, a_read, a_failed_read, a_write, a_failed_write}
+use Rattle.audit_serve_passes.specs.Streams.{StreamCall, a_read, a_write}
 
 -- the count goes round at 2^64
 abbrev pub one_more : ℕ → ℕ
@@ -14,12 +14,9 @@ count_after count (suc bytes) = one_more count
 
 -- the count after a call, and after calls
 abbrev pub count_after_call : ℕ → StreamCall → ℕ
-count_after_call count (a_read []) = count
 count_after_call count (a_read (byte ∷ bytes)) = one_more count
-count_after_call count a_failed_read = count
-count_after_call count (a_write []) = count
 count_after_call count (a_write (byte ∷ bytes)) = one_more count
-count_after_call count (a_failed_write bytes) = count
+count_after_call count _ = count
 
 abbrev pub count_after_calls : ℕ → List StreamCall → ℕ
 count_after_calls count [] = count

@@ -1,16 +1,13 @@
 -- What calls do to a reader's remaining bytes and to the bytes written to a writer, if these are known.
 use Rattle.std.specs.Prelude.{◌≡◌, ℕ, Bool, true, false, ◌||◌, Option, Some, None, List, [], ◌∷◌, ◌++◌}
 use Rattle.std.specs.Io.KnownBytes.{Appends}
-use Rattle.audit_serve_passes.specs.Streams.{StreamCall, a_read, a_failed_read, a_write, a_failed_write}
+use Rattle.audit_serve_passes.specs.Streams.{StreamCall, a_read}
 use Rattle.audit_serve_passes.specs.Streams.{bytes_read, bytes_sent, has_failed_write}
 
 -- a read found the end
 abbrev pub is_read_at_end : StreamCall → Bool
 is_read_at_end (a_read []) = true
-is_read_at_end (a_read (byte ∷ bytes)) = false
-is_read_at_end a_failed_read = false
-is_read_at_end (a_write bytes) = false
-is_read_at_end (a_failed_write bytes) = false
+is_read_at_end _ = false
 
 abbrev pub has_read_at_end : List StreamCall → Bool
 has_read_at_end [] = false

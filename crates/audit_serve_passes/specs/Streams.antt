@@ -26,9 +26,7 @@ write_call (Err fault) bytes = a_failed_write bytes
 -- the bytes that a call, or a list of calls, read; a failed read returns none
 abbrev pub bytes_given : StreamCall → List ℕ
 bytes_given (a_read bytes) = bytes
-bytes_given a_failed_read = []
-bytes_given (a_write bytes) = []
-bytes_given (a_failed_write bytes) = []
+bytes_given _ = []
 
 abbrev pub bytes_read : List StreamCall → List ℕ
 bytes_read [] = []
@@ -47,10 +45,8 @@ bytes_sent (call ∷ calls) = bytes_asked call ++ bytes_sent calls
 
 -- a write failed
 abbrev pub is_failed_write : StreamCall → Bool
-is_failed_write (a_read bytes) = false
-is_failed_write a_failed_read = false
-is_failed_write (a_write bytes) = false
 is_failed_write (a_failed_write bytes) = true
+is_failed_write _ = false
 
 abbrev pub has_failed_write : List StreamCall → Bool
 has_failed_write [] = false
@@ -58,11 +54,9 @@ has_failed_write (call ∷ calls) = is_failed_write call || has_failed_write cal
 
 -- how many times calls end a session: once for each read at the end of the stream and for each failed call
 abbrev pub ends_of_call : StreamCall → ℕ
-ends_of_call (a_read []) = 1
 ends_of_call (a_read (byte ∷ bytes)) = 0
-ends_of_call a_failed_read = 1
 ends_of_call (a_write bytes) = 0
-ends_of_call (a_failed_write bytes) = 1
+ends_of_call _ = 1
 
 abbrev pub ends_of_calls : List StreamCall → ℕ
 ends_of_calls [] = 0

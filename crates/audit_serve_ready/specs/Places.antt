@@ -2,7 +2,7 @@
 use Rattle.std.specs.Prelude.{◌≡◌, ◌⊎◌, ℕ, ◌<◌, ◌≤◌, Bool, true, false, ◌||◌, List, [], ◌∷◌, ◌++◌, length, slice_index_or}
 use Rattle.audit_serve_passes.specs.declared.limits.TheConstants.{MAX_PIECE}
 use Rattle.audit_serve_passes.specs.Steps.{StepData, AreAbout, bytes_fed, ends_in}
-use Rattle.audit_serve_passes.specs.Streams.{StreamCall, a_read, a_failed_read, a_write, a_failed_write, CallModel}
+use Rattle.audit_serve_passes.specs.Streams.{StreamCall, a_read, a_failed_read, CallModel}
 use Rattle.audit_serve_passes.specs.Streams.{bytes_read}
 use Rattle.audit_serve_passes.specs.Core.{bytes_for}
 use Rattle.audit_serve_ready.specs.Slot.{SlotData, vacant, is_shut, IsAccounted}
@@ -14,10 +14,8 @@ slot_at k slots = slice_index_or slots k vacant
 -- a read that found the end of the stream or failed, and whether one of several calls did
 abbrev pub is_last_read : StreamCall → Bool
 is_last_read (a_read []) = true
-is_last_read (a_read (byte ∷ bytes)) = false
 is_last_read a_failed_read = true
-is_last_read (a_write bytes) = false
-is_last_read (a_failed_write bytes) = false
+is_last_read _ = false
 
 abbrev pub has_last_read : List StreamCall → Bool
 has_last_read [] = false

@@ -16,11 +16,11 @@ use audit_serve_passes::{MAX_PIECE, SessionCore};
 /// Serves clients as they come and go, until the door says to stop or the core refuses a step. The first place is that
 /// of session 0; a session whose place has no client is ended first.
 ///
-/// A pass reads one piece from each client, at most [`MAX_PIECE`] bytes, and feeds it to its session. So that one commit
-/// has what comes meanwhile, the door may have clients that have sent nothing asked again ([`Door::asks_again`]). Then
-/// the core flushes, and each client is sent what waits for it: what it doesn't take is kept for it. A client whose
-/// session has ended goes when it has taken everything, and the next client gets its place and a session that begins
-/// anew.
+/// A pass reads one piece from each client, at most [`MAX_PIECE`] bytes, and feeds it to its session. So that one
+/// commit has what comes meanwhile, the door may have clients that have sent nothing asked again
+/// ([`Door::asks_again`]). Then the core flushes, and each client is sent what waits for it: what it doesn't take is
+/// kept for it. A client whose session has ended goes when it has taken everything, and the next client gets its place
+/// and a session that begins anew.
 ///
 /// If the core refuses a step, serving stops at once, and the clients keep their places. Whatever happens, what was
 /// fed to a client's session is what was read from its stream, except for a piece that a refused step may have lost.

@@ -1,6 +1,6 @@
 -- What is given of what a stream gave.
-use Rattle.std.specs.Prelude.{◌≡◌, ℕ, ◌≤◌, Bool, true, false, ◌||◌, Ok, Err, List, [], ◌∷◌, ◌++◌, length}
-use Rattle.audit_serve_passes.specs.Streams.{StreamCall, a_read, a_failed_read, a_write, a_failed_write}
+use Rattle.std.specs.Prelude.{◌≡◌, ℕ, ◌≤◌, Bool, true, false, ◌||◌, Ok, List, [], ◌∷◌, ◌++◌, length}
+use Rattle.audit_serve_passes.specs.Streams.{StreamCall, a_failed_read}
 use Rattle.audit_serve_passes.specs.Streams.{bytes_read, read_call}
 use Rattle.audit_serve_ready.specs.Places.{has_last_read}
 use Rattle.audit_serve_rights.specs.declared.rights.Rights.{Rights}
@@ -23,10 +23,8 @@ is_given (passed.Given given) = true
 
 -- a read failed, and whether one of several calls did
 abbrev pub is_failed_read : StreamCall → Bool
-is_failed_read (a_read bytes) = false
 is_failed_read a_failed_read = true
-is_failed_read (a_write bytes) = false
-is_failed_read (a_failed_write bytes) = false
+is_failed_read _ = false
 
 abbrev pub has_failed_read : List StreamCall → Bool
 has_failed_read [] = false
@@ -34,10 +32,8 @@ has_failed_read (call ∷ calls) = is_failed_read call || has_failed_read calls
 
 -- at most `most` bytes are given
 abbrev pub IsGivenWithin : Passed → ℕ → Type 0
-IsGivenWithin passed.Nothing most = Unit {0}
-IsGivenWithin passed.Held most = Unit {0}
 IsGivenWithin (passed.Given (Ok count)) most = count ≤ most
-IsGivenWithin (passed.Given (Err fault)) most = Unit {0}
+IsGivenWithin _ most = Unit {0}
 
 -- In a frame that is let through, of which `left` bytes are still to come, this is given of these bytes. The end is
 -- given only at a frame that isn't allowed.

@@ -10,54 +10,32 @@ use Rattle.audit_serve_rights.specs.Front.{allowed_front}
 
 -- the bytes that are held back
 abbrev pub held_back_at : Position → List ℕ
-held_back_at position.Start = []
 held_back_at (position.High high) = high ∷ []
 held_back_at (position.Length high low) = high ∷ low ∷ []
-held_back_at (position.Inside left) = []
-held_back_at position.Ended = []
-held_back_at position.CutOff = []
+held_back_at _ = []
 
 -- how many bytes follow of a frame that is let through
 abbrev pub left_at : Position → ℕ
-left_at position.Start = 0
-left_at (position.High high) = 0
-left_at (position.Length high low) = 0
 left_at (position.Inside left) = left
-left_at position.Ended = 0
-left_at position.CutOff = 0
+left_at _ = 0
 
 abbrev pub is_ended : Position → Bool
-is_ended position.Start = false
-is_ended (position.High high) = false
-is_ended (position.Length high low) = false
-is_ended (position.Inside left) = false
 is_ended position.Ended = true
-is_ended position.CutOff = false
+is_ended _ = false
 
 abbrev pub is_cut : Position → Bool
-is_cut position.Start = false
-is_cut (position.High high) = false
-is_cut (position.Length high low) = false
-is_cut (position.Inside left) = false
-is_cut position.Ended = false
 is_cut position.CutOff = true
+is_cut _ = false
 
 abbrev pub is_over : Position → Bool
-is_over position.Start = false
-is_over (position.High high) = false
-is_over (position.Length high low) = false
-is_over (position.Inside left) = false
 is_over position.Ended = true
 is_over position.CutOff = true
+is_over _ = false
 
 -- a length that is held back is that of a frame with a body
 abbrev pub is_proper : Position → Bool
-is_proper position.Start = true
-is_proper (position.High high) = true
 is_proper (position.Length high low) = not (size_of high low == 0)
-is_proper (position.Inside left) = true
-is_proper position.Ended = true
-is_proper position.CutOff = true
+is_proper _ = true
 
 -- what is let through from here on, if these bytes come
 abbrev pub front_from : Position → Rights → Bool → List ℕ → List ℕ
@@ -82,21 +60,13 @@ position_of rights (high ∷ low ∷ kind ∷ body) =
 
 -- the bytes after those that the position has taken in: these and those after them if a frame is let through
 abbrev pub ahead : Position → List ℕ → List ℕ → List ℕ
-ahead position.Start bytes later = later
-ahead (position.High high) bytes later = later
-ahead (position.Length high low) bytes later = later
 ahead (position.Inside left) bytes later = bytes ++ later
-ahead position.Ended bytes later = later
-ahead position.CutOff bytes later = later
+ahead _ bytes later = later
 
 -- a frame that is let through has bytes
 abbrev pub HasBytes : Position → Type 0
-HasBytes position.Start = Unit {0}
-HasBytes (position.High high) = Unit {0}
-HasBytes (position.Length high low) = Unit {0}
 HasBytes (position.Inside left) = 0 < left
-HasBytes position.Ended = Unit {0}
-HasBytes position.CutOff = Unit {0}
+HasBytes _ = Unit {0}
 
 -- from a frame that is let through, of which `left` bytes are still to come, these bytes lead to this position
 pub record LeadsTo (rights : Rights) (left : ℕ) (bytes : List ℕ) (new : Position) : Type 0 where

@@ -2,7 +2,7 @@
 use Rattle.audit_serve_sockets.specs.declared.loop_fault.RelayError.{RelayError}
 use Rattle.audit_serve_sockets.specs.declared.loop_fault.RelayError.TheVariants as reply
 use Rattle.audit_serve_sockets.specs.declared.loop_fault.LoopError.{LoopError}
-use Rattle.audit_serve_sockets.specs.declared.loop_fault.LoopError.TheVariants.{Connection, Lines, BadLine, Core}
+use Rattle.audit_serve_sockets.specs.declared.loop_fault.LoopError.TheVariants.{Connection, Lines, BadLine}
 
 -- the error of the same name
 abbrev pub of_reply : {E : Type 0} → RelayError → LoopError E
@@ -11,7 +11,5 @@ of_reply (reply.Lines fault) = Lines fault
 
 -- the error isn't about a line that spells no bytes
 abbrev pub IsNoLinesError : {E : Type 0} → LoopError E → Type 0
-IsNoLinesError Connection = Unit {0}
-IsNoLinesError (Lines fault) = Unit {0}
 IsNoLinesError (BadLine number) = ⊥
-IsNoLinesError (Core error) = Unit {0}
+IsNoLinesError _ = Unit {0}

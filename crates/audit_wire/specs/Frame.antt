@@ -26,7 +26,5 @@ IsPartial (high ∷ low ∷ body) = IsBodySize (size_of high low) × (length bod
 
 -- a length that no request has, and nothing after it
 abbrev pub IsBadLength : List ℕ → Type 0
-IsBadLength [] = ⊥
-IsBadLength (high ∷ []) = ⊥
 IsBadLength (high ∷ low ∷ []) = ¬ IsBodySize (size_of high low)
-IsBadLength (high ∷ low ∷ next ∷ body) = ⊥
+IsBadLength _ = ⊥

@@ -20,9 +20,7 @@ pub data DecoderProgress : Type 0 where
 -- what is held back: the bytes so far of the next frame
 abbrev pub rest_of : DecoderProgress → List ℕ
 rest_of (reading bytes) = bytes
-rest_of (whole body) = []
-rest_of (malformed bytes) = []
-rest_of closed = []
+rest_of _ = []
 
 -- the bytes since the end of the previous frame
 abbrev pub taken_of : DecoderProgress → List ℕ
@@ -33,10 +31,8 @@ taken_of closed = []
 
 -- the body that is lent
 abbrev pub body_of : DecoderProgress → List ℕ
-body_of (reading bytes) = []
 body_of (whole body) = body
-body_of (malformed bytes) = []
-body_of closed = []
+body_of _ = []
 
 -- a malformed length was read
 abbrev pub is_spoiled : DecoderProgress → Bool
@@ -108,10 +104,8 @@ untaken (fed.Malformed taken) piece = drop taken piece
 
 -- the body that was just returned, if any
 abbrev pub handed_out : DecoderProgress → List (List ℕ)
-handed_out (reading bytes) = []
 handed_out (whole body) = body ∷ []
-handed_out (malformed bytes) = []
-handed_out closed = []
+handed_out _ = []
 
 -- the requests in the stream from here on, if these bytes come
 abbrev pub requests_ahead : DecoderProgress → List ℕ → Framed Request

@@ -53,12 +53,10 @@ reply_body (reply.Refused tag code) = reply_byte kind.Refused ∷ (to_be_bytes w
 
 -- a reply that has a frame
 abbrev pub IsReply : Reply → Type 0
-IsReply (reply.Acknowledgement tag index count root) = Unit {0}
-IsReply (reply.Commitment tag count root) = Unit {0}
 IsReply (reply.Membership tag hashes entry) = (length hashes ≤ MAX_MEMBER_HASHES) × (length entry ≤ MAX_ENTRY)
 IsReply (reply.Incremental tag hashes) = length hashes ≤ MAX_INCREMENT_HASHES
 IsReply (reply.Entry tag entry) = length entry ≤ MAX_ENTRY
-IsReply (reply.Refused tag code) = Unit {0}
+IsReply _ = Unit {0}
 
 -- the parts of a reply fit their fields: numbers within their widths, and hashes of full length
 abbrev pub HasReplyFields : Reply → Type 0
@@ -158,12 +156,10 @@ reply_in (first ∷ fields) = reply_fields_in (reply_kind_at first) fields
 
 -- a reply with hashes or an entry, which are allocated
 abbrev pub HasParts : Reply → Type 0
-HasParts (reply.Acknowledgement tag index count root) = ⊥
-HasParts (reply.Commitment tag count root) = ⊥
 HasParts (reply.Membership tag hashes entry) = Unit {0}
 HasParts (reply.Incremental tag hashes) = Unit {0}
 HasParts (reply.Entry tag entry) = Unit {0}
-HasParts (reply.Refused tag code) = ⊥
+HasParts _ = ⊥
 
 -- the result of reading a body: its reply, or none if it has none, or memory was refused for its parts
 abbrev pub IsReadAs : Option Reply → Result Reply ReplyError → Type 0

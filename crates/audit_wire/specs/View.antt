@@ -18,11 +18,7 @@ request_shown (view.Close tag) = request.Close tag
 -- a request without a payload
 abbrev pub IsQuery : RequestView → Type 0
 IsQuery (view.Append tag kind payload) = ⊥
-IsQuery (view.Commitment tag) = Unit {0}
-IsQuery (view.Membership tag index count) = Unit {0}
-IsQuery (view.Incremental tag older newer) = Unit {0}
-IsQuery (view.Entry tag index) = Unit {0}
-IsQuery (view.Close tag) = Unit {0}
+IsQuery _ = Unit {0}
 
 -- the request that was read, if any
 abbrev pub request_read : Result RequestView Malformed → Option Request
