@@ -1,6 +1,8 @@
 //! Arguments that are judged here rather than by the parser of the command line.
-ghost use Rattle.std.specs.Prelude.{◌≡◌, ◌≤◌, Err, IfOk, IfErr};
+ghost use Rattle.std.specs.Prelude.{◌≡◌, ◌≤◌, None, Ok, Err, IfSome, IfOk, IfErr};
 ghost use Rattle.audit_serve_ready.specs.declared.limits.TheConstants.{MAX_BACKLOG};
+ghost use Rattle.audit_cli_base.specs.Mode.{IsMode};
+ghost use Rattle.audit_cli_base.specs.declared.mode.TheConstants.{OWNER_ONLY};
 ghost use Rattle.audit_cli_daemon.specs.Words.{backlog_asked, IsNoMode};
 
 use audit_cli_base::{CommandError, OWNER_ONLY, mode_asked};
@@ -30,10 +32,12 @@ pub fn backlog_asked(word: Option<&str>) -> Result<usize, CommandError>
 }
 
 /// Returns the permissions of the sockets' files that a word asks for. Without a word only the owner has access. The
-/// only error is `BadArgument`.
+/// only error is `BadArgument`, exactly if the word gives no permissions.
 pub fn socket_mode_asked(word: Option<&str>) -> Result<u32, CommandError>
+    ensures none { word.entry ≡ None → result ≡ Ok OWNER_ONLY }
+    ensures mode { IfOk result (λ mode. IfSome word.entry (λ word. IsMode word.now mode)) }
     ensures wrong { IsNoMode word.entry → result ≡ Err CommandError.BadArgument }
-    ensures fault { IfErr result (λ fault. fault ≡ CommandError.BadArgument) }
+    ensures fault { IfErr result (λ fault. (fault ≡ CommandError.BadArgument) × IsNoMode word.entry) }
 {
     match word {
         Some(word) => mode_asked(word),

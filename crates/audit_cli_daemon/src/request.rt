@@ -1,8 +1,10 @@
 //! The requests to run a daemon and to stop it, and how they are carried out.
-ghost use Rattle.std.specs.Prelude.{◌≡◌, ◌⊎◌, ◌≤◌, Ok, Err, IfOk};
+ghost use Rattle.std.specs.Prelude.{◌≡◌, ◌⊎◌, ◌≤◌, true, false, None, Ok, Err, IfSome, IfOk};
 ghost use Rattle.std.specs.Io.KnownBytes.{Keeps};
 ghost use Rattle.audit_serve_ready.specs.declared.limits.TheConstants.{MAX_BACKLOG};
 ghost use Rattle.audit_cli_base.specs.Arguments.{number_asked};
+ghost use Rattle.audit_cli_base.specs.Mode.{IsMode};
+ghost use Rattle.audit_cli_base.specs.declared.mode.TheConstants.{OWNER_ONLY};
 ghost use Rattle.audit_cli_daemon.specs.declared.arguments.TheConstants.{DEFAULT_IDLE, DEFAULT_RESERVE};
 ghost use Rattle.audit_cli_daemon.specs.Words.{HasBadSetting, HasBadWord, backlog_asked};
 
@@ -145,6 +147,10 @@ fn judge(settings: Settings<'_>) -> Result<Judged, CommandError>
     ensures reserve { IfOk result (λ judged. number_asked settings.entry.reserve DEFAULT_RESERVE ≡ Ok judged.reserve) }
     ensures backlog { IfOk result (λ judged. backlog_asked settings.entry.backlog ≡ Ok judged.most) }
     ensures most { IfOk result (λ judged. judged.most ≤ MAX_BACKLOG) }
+    ensures owner { settings.entry.socket_mode ≡ None → IfOk result (λ judged. judged.mode ≡ OWNER_ONLY) }
+    ensures mode { IfOk result (λ judged. IfSome settings.entry.socket_mode (λ word. IsMode word.now judged.mode)) }
+    ensures closing { IfOk result (λ judged. settings.entry.may_close ≡ true → judged.rights ≡ Rights.Close) }
+    ensures appending { IfOk result (λ judged. settings.entry.may_close ≡ false → judged.rights ≡ Rights.Append) }
 {
     Ok(Judged {
         idle: number_asked(settings.idle, DEFAULT_IDLE)?,

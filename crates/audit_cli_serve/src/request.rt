@@ -1,7 +1,9 @@
 //! The requests to serve sessions, and how they are carried out.
-ghost use Rattle.std.specs.Prelude.{◌≡◌, ◌⊎◌, ◌≤◌, Err, IfOk, IfErr};
+ghost use Rattle.std.specs.Prelude.{◌≡◌, ◌⊎◌, ◌≤◌, None, Ok, Err, IfSome, IfOk, IfErr};
 ghost use Rattle.std.specs.Io.KnownBytes.{Keeps};
 ghost use Rattle.audit_base.specs.declared.limits.TheConstants.{SESSIONS};
+ghost use Rattle.audit_cli_base.specs.Mode.{IsMode};
+ghost use Rattle.audit_cli_base.specs.declared.mode.TheConstants.{OWNER_ONLY};
 ghost use Rattle.audit_cli_serve.specs.Words.{IsWrongNumber, IsWrongMode, HasWrongWord};
 
 use crate::arguments::{rounds_asked, sessions_asked};
@@ -130,8 +132,10 @@ fn sessions_or_one(word: Option<&str>) -> Result<usize, CommandError>
 }
 
 fn socket_mode_asked(word: Option<&str>) -> Result<u32, CommandError>
+    ensures none { word.entry ≡ None → result ≡ Ok OWNER_ONLY }
+    ensures mode { IfOk result (λ mode. IfSome word.entry (λ word. IsMode word.now mode)) }
     ensures wrong { IsWrongMode word.entry → result ≡ Err CommandError.BadArgument }
-    ensures fault { IfErr result (λ fault. fault ≡ CommandError.BadArgument) }
+    ensures fault { IfErr result (λ fault. (fault ≡ CommandError.BadArgument) × IsWrongMode word.entry) }
 {
     match word {
         Some(word) => mode_asked(word),
