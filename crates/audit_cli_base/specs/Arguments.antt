@@ -67,6 +67,11 @@ abbrev pub AreNoCommitments : List ℕ → Option (Bor (List ℕ)) → Type 0
 AreNoCommitments older None = commitment_in_word older ≡ None
 AreNoCommitments older (Some newer) = (commitment_in_word older ≡ None) ⊎ (commitment_in_word newer.now ≡ None)
 
+-- the commitment in a word; without a word, none
+abbrev pub IsCommitmentAsked : Option (Bor (List ℕ)) → Option Commitment → Type 0
+IsCommitmentAsked None asked = asked ≡ None
+IsCommitmentAsked (Some word) asked = asked ≡ commitment_in_word word.now
+
 -- a fault of the words is returned, and nothing is written
 abbrev pub RefusesWords : (CommandError → Type 0) → Option (List ℕ) → Option (List ℕ) → Result Unit CommandError
     → Type 0

@@ -57,6 +57,11 @@ status_of (Refused error) = status_of_refusal error
 status_of (Export fault) = status_of_cause fault.cause
 status_of _ = ends.Refused
 
+-- not a wrong argument
+abbrev pub IsNoWordFault : CommandError → Type 0
+IsNoWordFault BadArgument = ⊥
+IsNoWordFault _ = Unit {0}
+
 -- the status if the output was written completely
 abbrev pub status_of_end : Result (Unit {0}) CommandError → Status
 status_of_end (Ok done) = ends.Done

@@ -1,7 +1,10 @@
 //! Arguments that are checked here, not by the command line's parser.
-ghost use Rattle.std.specs.Prelude.{◌≡◌, Err, IfErr};
+ghost use Rattle.std.specs.Prelude.{◌≡◌, Some, None, Ok, Err, IfSome, IfOk, IfErr};
+ghost use Rattle.audit_cli_offline.specs.CommitmentWord.{commitment_in_word};
 ghost use Rattle.audit_cli_base.specs.Arguments.{number_asked, sectors_asked, proof_asked, commitment_asked};
-ghost use Rattle.audit_cli_base.specs.Arguments.{IsNewFileFault, AreNoCommitments};
+ghost use Rattle.audit_cli_base.specs.Arguments.{IsNewFileFault, AreNoCommitments, IsCommitmentAsked};
+ghost use Rattle.audit_cli_base.specs.Mode.{IsMode};
+ghost use Rattle.audit_cli_base.specs.declared.mode.TheConstants.{OWNER_ONLY};
 
 use crate::fault::CommandError;
 use crate::mode::{OWNER_ONLY, mode_asked};
@@ -95,7 +98,11 @@ pub fn commitment_asked(word: &str) -> Result<Commitment, CommandError>
 /// Parses the permissions and the number of sectors for a new file. The permissions are checked first. Without a word
 /// for them only the owner has access.
 pub fn new_file_asked(mode: Option<&str>, sectors: &str) -> Result<(u32, u64), CommandError>
-    ensures { (fault : CommandError) → IsNewFileFault mode.entry sectors.now fault → result ≡ Err fault }
+    ensures wrong { (fault : CommandError) → IsNewFileFault mode.entry sectors.now fault → result ≡ Err fault }
+    ensures owner { mode.entry ≡ None → IfOk result (λ asked. asked.0 ≡ OWNER_ONLY) }
+    ensures mode { IfOk result (λ asked. IfSome mode.entry (λ word. IsMode word.now asked.0)) }
+    ensures sectors { IfOk result (λ asked. sectors_asked sectors.now ≡ Ok asked.1) }
+    ensures fault { IfErr result (λ fault. IsNewFileFault mode.entry sectors.now fault) }
 {
     let mode = match mode {
         Some(word) => mode_asked(word)?,
@@ -109,7 +116,11 @@ pub fn commitments_asked(
     older: &str,
     newer: Option<&str>,
 ) -> Result<(Commitment, Option<Commitment>), CommandError>
-    ensures { AreNoCommitments older.now newer.entry → result ≡ Err CommandError.BadArgument }
+    ensures wrong { AreNoCommitments older.now newer.entry → result ≡ Err CommandError.BadArgument }
+    ensures older { IfOk result (λ asked. commitment_in_word older.now ≡ Some asked.0) }
+    ensures newer { IfOk result (λ asked. IsCommitmentAsked newer.entry asked.1) }
+    ensures fault { IfErr result (λ fault. (fault ≡ CommandError.BadArgument)
+        × AreNoCommitments older.now newer.entry) }
 {
     let older = commitment_asked(older)?;
     let newer = match newer {

@@ -1,4 +1,7 @@
 //! Stores in files.
+ghost use Rattle.std.specs.Prelude.{IfErr};
+ghost use Rattle.audit_cli_base.specs.Faults.{IsNoWordFault};
+
 use crate::fault::CommandError;
 use audit_disk::{FileDisk, FileIdentity, OsFile, ReadOnly, SectorSource, SystemFile};
 use audit_disk_model::{DeviceFault, Sectors};
@@ -32,6 +35,7 @@ pub fn open_store<F: Files>(
 ) -> Result<Opened<FileStore<F::File>>, CommandError>
 where
     F::File: SystemFile,
+    ensures { IfErr result IsNoWordFault }
 {
     let opened = repaired(alloc, open_bounded(rt, alloc, file)?)?;
     opened.content.wipe_stack();
@@ -45,7 +49,9 @@ where
 fn repaired<D: Sectors + Drop>(
     alloc: Global,
     opened: Opened<D>,
-) -> Result<Opened<Store<D>>, CommandError> {
+) -> Result<Opened<Store<D>>, CommandError>
+    ensures { IfErr result IsNoWordFault }
+{
     let Opened { content, identity } = opened;
     match Store::open(alloc, content) {
         Ok(store) => Ok(Opened {
@@ -137,12 +143,15 @@ fn open_bounded<F: Files>(
 ) -> Result<Opened<FileDevice<F::File>>, CommandError>
 where
     F::File: SystemFile,
+    ensures { IfErr result IsNoWordFault }
 {
     identified(FileDisk::open(rt, alloc, file)?)
 }
 
 // A device with the identity of its file, limited to the sectors that a store can have.
-fn identified<F: SystemFile>(disk: FileDevice<F>) -> Result<Opened<FileDevice<F>>, CommandError> {
+fn identified<F: SystemFile>(disk: FileDevice<F>) -> Result<Opened<FileDevice<F>>, CommandError>
+    ensures { IfErr result IsNoWordFault }
+{
     let identity = disk.identity()?;
     Ok(Opened {
         content: bounded(disk, identity),

@@ -4,6 +4,8 @@ ghost use Rattle.audit_cli_client.specs.declared.fault.ClientError.{ClientError}
 ghost use Rattle.audit_cli_client.specs.Failing.{FailsEntry, FailsMember, FailsIncrement, FailsExport, FailsPutting};
 ghost use Rattle.audit_cli_client.specs.Putting.{IsFile, PutsOnly, IsGivenEntry, IsGivenMember, IsGivenIncrement};
 ghost use Rattle.audit_cli_client.specs.Putting.{AreGivenEntries};
+ghost use Rattle.audit_cli_client.specs.Exporting.{GivesExport};
+ghost use Rattle.std.specs.List.{concat};
 
 use crate::asking::{entry_of, increment_proof, member_proof};
 use crate::exporting::{Export, export_entries};
@@ -153,9 +155,9 @@ pub fn put_export<W: Write, R: Read, O: Out>(
 ) -> Result<Export, AskError<O::Error>>
     ensures only { PutsOnly (O.file out.old) (O.file out.new) (AreGivenEntries (W.contents to.old) (W.contents to.new)
         (R.remaining from.old) (R.remaining from.new)) }
-    ensures done { IfOk result (λ export. (bytes : List ℕ) × (export.size ≡ length bytes)
-        × IsFile (O.file out.new) bytes × AreGivenEntries (W.contents to.old) (W.contents to.new)
-        (R.remaining from.old) (R.remaining from.new) bytes) }
+    ensures done { IfOk result (λ export. (entries : List (List ℕ)) × (export.count ≡ length entries)
+        × (export.size ≡ length (concat entries)) × IsFile (O.file out.new) (concat entries)
+        × GivesExport (W.contents to.old) (W.contents to.new) (R.remaining from.old) (R.remaining from.new) entries) }
     ensures fault { IfErr result (FailsPutting (FailsExport (W.contents to.old) (W.contents to.new)
         (R.remaining from.old) (R.remaining from.new))) }
     ensures untouched { (error : ClientError) → result ≡ Err (AskError.Client error) → O.file out.new ≡ O.file out.old }

@@ -3,6 +3,7 @@
 
 mod arguments;
 mod client_journal;
+pub mod laws;
 mod request;
 mod running;
 mod sockets;

@@ -1,9 +1,11 @@
 //! The requests to run a daemon and to stop it, and how they are carried out.
-ghost use Rattle.std.specs.Prelude.{◌≡◌, ◌⊎◌, ◌≤◌, true, false, None, Ok, Err, IfSome, IfOk};
+ghost use Rattle.std.specs.Prelude.{◌≡◌, ◌⊎◌, ◌≤◌, true, false, None, Ok, Err, IfSome, IfOk, IfErr};
 ghost use Rattle.std.specs.Io.KnownBytes.{Keeps};
 ghost use Rattle.audit_serve_ready.specs.declared.limits.TheConstants.{MAX_BACKLOG};
 ghost use Rattle.audit_cli_base.specs.Arguments.{number_asked};
+ghost use Rattle.audit_cli_base.specs.Faults.{IsNoWordFault};
 ghost use Rattle.audit_cli_base.specs.Mode.{IsMode};
+ghost use Rattle.audit_cli_daemon.specs.declared.request.Settings.{Settings};
 ghost use Rattle.audit_cli_base.specs.declared.mode.TheConstants.{OWNER_ONLY};
 ghost use Rattle.audit_cli_daemon.specs.declared.arguments.TheConstants.{DEFAULT_IDLE, DEFAULT_RESERVE};
 ghost use Rattle.audit_cli_daemon.specs.Words.{HasBadSetting, HasBadWord, backlog_asked};
@@ -85,6 +87,8 @@ where
     F::File: SystemFile,
     // A wrong word ends the program before anything is written; an output that can't be flushed is another fault.
     ensures words { HasBadWord request.entry → (result ≡ Status.Usage) ⊎ (result ≡ Status.Device) }
+    ensures only { (settings : Settings) → request.entry ≡ Request.Run settings → result ≡ Status.Usage
+        → HasBadSetting settings }
     ensures unwritten { HasBadWord request.entry → Keeps (W.contents output.old) (W.contents output.new) }
 {
     match request {
@@ -108,6 +112,7 @@ fn run_daemon<F: Files + Net + Clock, W: Write, M: Write>(
 where
     F::File: SystemFile,
     ensures words { HasBadSetting settings.entry → (result ≡ Status.Usage) ⊎ (result ≡ Status.Device) }
+    ensures only { result ≡ Status.Usage → HasBadSetting settings.entry }
     ensures unwritten { HasBadSetting settings.entry → Keeps (W.contents output.old) (W.contents output.new) }
 {
     let mut orders = None;
@@ -132,6 +137,7 @@ fn perform<F: Files + Net + Clock, W: Write, M: Write>(
 where
     F::File: SystemFile,
     ensures words { HasBadSetting settings.entry → result ≡ Err CommandError.BadArgument }
+    ensures only { result ≡ Err CommandError.BadArgument → HasBadSetting settings.entry }
     ensures unwritten { HasBadSetting settings.entry → Keeps (W.contents output.old) (W.contents output.new) }
 {
     let judged = judge(settings)?;
@@ -143,6 +149,7 @@ where
 
 fn judge(settings: Settings<'_>) -> Result<Judged, CommandError>
     ensures wrong { HasBadSetting settings.entry → result ≡ Err CommandError.BadArgument }
+    ensures fault { IfErr result (λ _. HasBadSetting settings.entry) }
     ensures idle { IfOk result (λ judged. number_asked settings.entry.idle DEFAULT_IDLE ≡ Ok judged.idle) }
     ensures reserve { IfOk result (λ judged. number_asked settings.entry.reserve DEFAULT_RESERVE ≡ Ok judged.reserve) }
     ensures backlog { IfOk result (λ judged. backlog_asked settings.entry.backlog ≡ Ok judged.most) }
@@ -170,7 +177,9 @@ fn time_of(seconds: u64) -> Option<Duration> {
     (seconds > 0).then_some(Duration::from_secs(seconds))
 }
 
-fn fault_of(kind: ErrorKind) -> CommandError {
+fn fault_of(kind: ErrorKind) -> CommandError
+    ensures { IsNoWordFault result }
+{
     if kind == ErrorKind::OutOfMemory {
         CommandError::Refused(StoreError::Memory)
     } else {
@@ -190,6 +199,7 @@ fn serve_store<F: Files + Net + Clock, D: Sectors + Drop, W: Write, M: Write>(
     orders: &mut Option<StopOrders>,
 ) -> Result<(), CommandError>
     requires { judged.most ≤ MAX_BACKLOG }
+    ensures cause { IfErr result IsNoWordFault }
 {
     let listening = sockets.bind(rt, alloc, judged.mode, judged.rights)?;
     let (store, served) = serve_listening(
@@ -205,7 +215,9 @@ fn report_stopped<D: Sectors, W: Write>(
     removed: io::Result<()>,
     store: &Store<D>,
     output: &mut W,
-) -> Result<(), CommandError> {
+) -> Result<(), CommandError>
+    ensures { IfErr served IsNoWordFault → IfErr result IsNoWordFault }
+{
     served?;
     removed?;
     write_state(alloc, b"stopped ", &store.commitment(), output)
@@ -222,6 +234,7 @@ fn serve_listening<F: Net + Clock, D: Sectors + Drop, W: Write, M: Write>(
     orders: &mut Option<StopOrders>,
 ) -> (Store<D>, Result<(), CommandError>)
     requires { judged.most ≤ MAX_BACKLOG }
+    ensures cause { IfErr result.1 IsNoWordFault }
 {
     let mut door = match open_door(rt, alloc, listening, time_of(judged.idle), journal) {
         Ok(door) => door,
@@ -245,7 +258,9 @@ fn open_door<'a, 'b, F: Net + Clock, M: Write>(
     listening: Listening,
     idle: Option<Duration>,
     journal: ClientJournal<'b, M>,
-) -> Result<SocketDoor<'a, F, ClientJournal<'b, M>>, CommandError> {
+) -> Result<SocketDoor<'a, F, ClientJournal<'b, M>>, CommandError>
+    ensures cause { IfErr result IsNoWordFault }
+{
     let Listening { entrances, orders } = listening;
     match SocketDoor::new(rt, rt, alloc, entrances, orders, idle, journal) {
         Ok(door) => Ok(door),
@@ -257,7 +272,9 @@ fn open_door<'a, 'b, F: Net + Clock, M: Write>(
 fn close_door<F: Clock, M: Write>(
     door: SocketDoor<'_, F, ClientJournal<'_, M>>,
     orders: &mut Option<StopOrders>,
-) -> Result<(), CommandError> {
+) -> Result<(), CommandError>
+    ensures cause { IfErr result IsNoWordFault }
+{
     let has_failed = door.has_failed();
     let (given, mut journal) = door.close();
     *orders = Some(given);

@@ -1,3 +1,6 @@
+ghost use Rattle.std.specs.Prelude.{IfErr};
+ghost use Rattle.audit_cli_base.specs.Faults.{IsNoWordFault};
+
 use audit_cli_base::{CommandError, OWNER_ONLY};
 use audit_serve_door::{Entrance, StopOrders};
 use audit_serve_rights::Rights;
@@ -54,7 +57,9 @@ impl<'a> Sockets<'a> {
         alloc: Global,
         mode: u32,
         rights: Rights,
-    ) -> Result<Listening, CommandError> {
+    ) -> Result<Listening, CommandError>
+        ensures { IfErr result IsNoWordFault }
+    {
         let clients = SocketFile::bind(rt, alloc, self.clients, mode)?;
         let bound = match self.bind_stop(rt, alloc, mode) {
             Ok((orders, readers)) => listen(alloc, clients, readers, orders, rights),
@@ -71,7 +76,9 @@ impl<'a> Sockets<'a> {
         rt: &F,
         alloc: Global,
         mode: u32,
-    ) -> Result<(SocketFile, Option<SocketFile>), CommandError> {
+    ) -> Result<(SocketFile, Option<SocketFile>), CommandError>
+        ensures { IfErr result IsNoWordFault }
+    {
         let stop = SocketFile::bind(rt, alloc, self.stop.as_str(), OWNER_ONLY)?;
         match self.bind_readers(rt, alloc, mode) {
             Ok(readers) => Ok((stop, readers)),
@@ -112,7 +119,9 @@ fn listen(
     readers: Option<SocketFile>,
     orders: SocketFile,
     rights: Rights,
-) -> Result<Listening, CommandError> {
+) -> Result<Listening, CommandError>
+    ensures { IfErr result IsNoWordFault }
+{
     let mut entrances = Vec::with_capacity(alloc, 2)?;
     entrances.push_reserved(Entrance::new(clients.into_listener(), rights)?);
     if let Some(readers) = readers {

@@ -6,6 +6,7 @@ mod asking;
 mod fault;
 mod following;
 mod input;
+pub mod laws;
 mod request;
 mod reserving;
 mod taking;

@@ -1,11 +1,18 @@
 -- The words of requests to a server.
 use denote.Ref.{Bor}
-use Rattle.std.specs.Prelude.{◌≡◌, ◌⊎◌, ℕ, nat_le, ◌&&◌, Option, Some, None, Result, Ok, Err, List, if◌then◌else◌}
+use Rattle.std.specs.Prelude.{◌≡◌, ◌⊎◌, ℕ, nat_le, ◌&&◌, Option, Some, None, Result, Ok, Err, List, codes}
+use Rattle.std.specs.Prelude.{if◌then◌else◌}
+use Rattle.std.specs.Str.{bytes_eq}
 use Rattle.audit_text.specs.Number.{number_in_text}
 use Rattle.audit_text_plain.specs.LineEvents.{form_asked}
+use Rattle.audit_cli_base.specs.Arguments.{proof_asked}
+use Rattle.audit_cli_base.specs.declared.arguments.ProofRequest.{ProofRequest}
 use Rattle.audit_cli_base.specs.declared.fault.CommandError.{CommandError}
 use Rattle.audit_cli_base.specs.declared.fault.CommandError.TheVariants.{BadArgument}
 use Rattle.audit_cli_remote.specs.declared.arguments.TheConstants.{MAX_SECONDS, MAX_WINDOW}
+use Rattle.audit_cli_remote.specs.declared.arguments.Question.{Question}
+use Rattle.audit_cli_remote.specs.declared.arguments.Question.TheVariants as question
+use Rattle.audit_cli_remote.specs.declared.arguments.Evidence.TheVariants as evidence
 use Rattle.audit_cli_remote.specs.declared.request.TheConstants.{TIMEOUT, WINDOW}
 use Rattle.audit_cli_remote.specs.declared.request.Request.{Request}
 use Rattle.audit_cli_remote.specs.declared.request.Request.TheVariants.{Ask, Send, Watch}
@@ -48,6 +55,35 @@ abbrev pub IsNoWindow : Option (Bor (List ℕ)) → Type 0
 IsNoWindow None = ⊥
 IsNoWindow (Some word) = window_asked word.now ≡ Err BadArgument
 
+-- the entry of an index, and a proof, with the file for it
+abbrev pub entry_question : Bor (List ℕ) → Option ℕ → Option Question
+entry_question out None = None
+entry_question out (Some index) = Some (question.Evidence (evidence.Entry index) out)
+
+abbrev pub proof_question : Bor (List ℕ) → Option ProofRequest → Option Question
+proof_question out None = None
+proof_question out (Some proof) = Some (question.Evidence (evidence.Proof proof) out)
+
+-- the question in a name and up to three words; the last one names the file for the answer
+abbrev pub question_in : List ℕ → Option (Bor (List ℕ)) → Option (Bor (List ℕ)) → Option (Bor (List ℕ))
+    → Option Question
+question_in name None None None =
+    if bytes_eq name (codes "commitment") then Some question.Commitment
+    else if bytes_eq name (codes "close") then Some question.Close else None
+question_in name (Some out) None None = if bytes_eq name (codes "export") then Some (question.Export out) else None
+question_in name (Some index) (Some out) None =
+    if bytes_eq name (codes "entry") then entry_question out (number_in_text index.now) else None
+question_in name (Some first) (Some second) (Some out) =
+    proof_question out (proof_asked name first.now second.now)
+question_in name None (Some second) third = None
+question_in name None None (Some third) = None
+question_in name (Some first) None (Some third) = None
+
+-- another name or number of words, or a number of another form, is a wrong argument
+abbrev pub judged_question : Option Question → Result Question CommandError
+judged_question None = Err BadArgument
+judged_question (Some asked) = Ok asked
+
 -- one of the words that are checked before the socket is opened is a wrong number
 abbrev pub HasWrongNumber : Request → Type 0
 HasWrongNumber (Ask socket question timeout) = AreNoSeconds timeout
@@ -59,9 +95,10 @@ abbrev pub HasTaskNumbers : Option (Bor (List ℕ)) → Option (Bor (List ℕ)) 
 HasTaskNumbers text window timeout task = (form_asked text ≡ Some task.form)
     × (window_or_default window ≡ Ok task.window) × (seconds_or_default timeout ≡ Ok task.seconds)
 
--- what is ordered has the numbers of the words
+-- what is ordered has the question and the numbers of the words
 abbrev pub HasNumbersOf : Request → Order → Type 0
-HasNumbersOf (Ask socket question timeout) (order.Ask path asked seconds) = seconds_or_default timeout ≡ Ok seconds
+HasNumbersOf (Ask socket words timeout) (order.Ask path asked seconds) =
+    (question_in words.0.now words.1 words.2 words.3 ≡ Some asked) × (seconds_or_default timeout ≡ Ok seconds)
 HasNumbersOf (Send socket text window timeout) (order.Send path task) = HasTaskNumbers text window timeout task
 HasNumbersOf (Watch socket state every timeout) (order.Watch post pause) =
     IsPause every pause × (seconds_or_default timeout ≡ Ok post.seconds)

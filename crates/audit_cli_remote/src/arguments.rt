@@ -1,6 +1,7 @@
 //! Arguments that are checked here, not by the command line's parser.
 ghost use Rattle.std.specs.Prelude.{◌≡◌, IfErr};
 ghost use Rattle.audit_cli_remote.specs.Arguments.{judged_number, seconds_asked, window_asked};
+ghost use Rattle.audit_cli_remote.specs.Arguments.{question_in, judged_question};
 ghost use Rattle.audit_text.specs.Number.{number_in_text};
 
 use audit_cli_base::{CommandError, ProofRequest, proof_request};
@@ -40,7 +41,8 @@ pub type QuestionWords<'a> = (&'a str, Option<&'a str>, Option<&'a str>, Option<
 /// Parses a question. If its name or the number of its words is another, or a number has another form, the error is
 /// `BadArgument`. The numbers themselves are judged by the server.
 pub fn question_asked<'a>(words: QuestionWords<'a>) -> Result<Question<'a>, CommandError>
-    ensures { IfErr result (λ fault. fault ≡ CommandError.BadArgument) }
+    ensures asked { result ≡ judged_question (question_in words.entry.0.now words.entry.1 words.entry.2 words.entry.3) }
+    ensures fault { IfErr result (λ fault. fault ≡ CommandError.BadArgument) }
 {
     match question_in(words) {
         Some(question) => Ok(question),
@@ -48,7 +50,9 @@ pub fn question_asked<'a>(words: QuestionWords<'a>) -> Result<Question<'a>, Comm
     }
 }
 
-fn question_in<'a>(words: QuestionWords<'a>) -> Option<Question<'a>> {
+fn question_in<'a>(words: QuestionWords<'a>) -> Option<Question<'a>>
+    ensures { result ≡ question_in words.entry.0.now words.entry.1 words.entry.2 words.entry.3 }
+{
     let (name, first, second, third) = words;
     match (first, second, third) {
         (None, None, None) if name == "commitment" => Some(Question::Commitment),

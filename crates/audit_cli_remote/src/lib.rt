@@ -6,6 +6,7 @@ mod asking;
 mod connection;
 mod draft;
 mod fault;
+pub mod laws;
 mod out;
 mod request;
 mod sending;

@@ -27,3 +27,8 @@ of_loop looping.Connection = Command File
 of_loop (looping.Lines fault) = Command (Lines fault)
 of_loop (looping.BadLine line) = BadFrameLine line
 of_loop (looping.Core error) = Command (Refused error)
+
+-- not a wrong argument
+abbrev pub IsNoWordError : ServingError → Type 0
+IsNoWordError (Command fault) = commands.IsNoWordFault fault
+IsNoWordError _ = Unit {0}

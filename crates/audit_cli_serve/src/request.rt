@@ -4,6 +4,7 @@ ghost use Rattle.std.specs.Io.KnownBytes.{Keeps};
 ghost use Rattle.audit_base.specs.declared.limits.TheConstants.{SESSIONS};
 ghost use Rattle.audit_cli_base.specs.Mode.{IsMode};
 ghost use Rattle.audit_cli_base.specs.declared.mode.TheConstants.{OWNER_ONLY};
+ghost use Rattle.audit_cli_serve.specs.Faults.{IsNoWordError};
 ghost use Rattle.audit_cli_serve.specs.Words.{IsWrongNumber, IsWrongMode, HasWrongWord};
 
 use crate::arguments::{rounds_asked, sessions_asked};
@@ -71,6 +72,7 @@ where
     F::File: SystemFile,
     // A wrong word ends the program before anything is written. An output that can't be flushed is another fault.
     ensures words { HasWrongWord request.entry → (result ≡ Status.Usage) ⊎ (result ≡ Status.Device) }
+    ensures only { result ≡ Status.Usage → HasWrongWord request.entry }
     ensures unwritten { HasWrongWord request.entry → Keeps (W.contents output.old) (W.contents output.new) }
 {
     let done = perform(rt, alloc, request, input, output);
@@ -94,6 +96,7 @@ fn perform<F: Files + Net, R: Read, W: Write>(
 where
     F::File: SystemFile,
     ensures words { HasWrongWord request.entry → result ≡ Err (ServingError.Command CommandError.BadArgument) }
+    ensures only { result ≡ Err (ServingError.Command CommandError.BadArgument) → HasWrongWord request.entry }
     ensures unwritten { HasWrongWord request.entry → Keeps (W.contents output.old) (W.contents output.new) }
 {
     match request {
@@ -122,7 +125,7 @@ where
 
 fn sessions_or_one(word: Option<&str>) -> Result<usize, CommandError>
     ensures wrong { IsWrongNumber word.entry → result ≡ Err CommandError.BadArgument }
-    ensures fault { IfErr result (λ fault. fault ≡ CommandError.BadArgument) }
+    ensures fault { IfErr result (λ fault. (fault ≡ CommandError.BadArgument) × IsWrongNumber word.entry) }
     ensures few { IfOk result (λ sessions. sessions ≤ SESSIONS) }
 {
     match word {
@@ -156,6 +159,7 @@ fn serve_file<F: Files + Net, W: Write>(
 where
     F::File: SystemFile,
     requires { sessions ≤ SESSIONS }
+    ensures words { IfErr result IsNoWordError }
 {
     let store = open_store(rt, alloc, file)?.content;
     serve_store(rt, alloc, store, socket, mode, rounds, sessions, output)
@@ -172,6 +176,7 @@ fn serve_store<F: Files + Net, D: Sectors + Drop, W: Write>(
     output: &mut W,
 ) -> Result<(), ServingError>
     requires { sessions ≤ SESSIONS }
+    ensures words { IfErr result IsNoWordError }
 {
     let bound = SocketFile::bind(rt, alloc, socket, mode)?;
     // The store stays locked until the socket's file is removed.
@@ -183,7 +188,9 @@ fn serve_store<F: Files + Net, D: Sectors + Drop, W: Write>(
 fn after_removing(
     served: Result<(), ServingError>,
     removed: io::Result<()>,
-) -> Result<(), ServingError> {
+) -> Result<(), ServingError>
+    ensures { IfErr served IsNoWordError → IfErr result IsNoWordError }
+{
     served?;
     Ok(removed?)
 }
@@ -199,6 +206,7 @@ fn loop_file<F: Files + Net, R: Read, W: Write>(
 ) -> Result<(), ServingError>
 where
     F::File: SystemFile,
+    ensures words { IfErr result IsNoWordError }
 {
     let store = open_store(rt, alloc, file)?.content;
     loop_store(rt, alloc, store, socket, mode, input, output)
@@ -212,7 +220,9 @@ fn loop_store<F: Files + Net, D: Sectors + Drop, R: Read, W: Write>(
     mode: u32,
     input: &mut R,
     output: &mut W,
-) -> Result<(), ServingError> {
+) -> Result<(), ServingError>
+    ensures words { IfErr result IsNoWordError }
+{
     // The input's buffer is allocated before the socket's file is made, so that the file is removed whatever is
     // refused later.
     let Ok(mut reader) = BufReader::new(alloc, input) else {
@@ -232,7 +242,9 @@ fn loop_bound<F: Files + Net, D: Sectors + Drop, R: BufRead, W: Write>(
     socket: &str,
     reader: &mut R,
     output: &mut W,
-) -> (Store<D>, Result<(), ServingError>) {
+) -> (Store<D>, Result<(), ServingError>)
+    ensures words { IfErr result.1 IsNoWordError }
+{
     match connect(rt, bound, socket) {
         Ok(mut link) => loop_over(alloc, store, &mut link, reader, output),
         Err(fault) => (store, Err(fault)),
@@ -245,7 +257,9 @@ fn connect<F: Files + Net>(
     rt: &F,
     bound: &SocketFile,
     socket: &str,
-) -> Result<Link<UnixStream, UnixStream>, ServingError> {
+) -> Result<Link<UnixStream, UnixStream>, ServingError>
+    ensures words { IfErr result IsNoWordError }
+{
     let mut client = UnixStream::connect(rt, socket)?;
     let text = random_text(rt)?;
     client.write_all(&text)?;

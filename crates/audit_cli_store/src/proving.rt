@@ -1,14 +1,16 @@
 //! Proofs about a store's history, as bytes.
-ghost use Rattle.std.specs.Prelude.{◌≡◌, ◌⊎◌, ◌<◌, ◌≤◌, true, false, Err, List, length, vec_len, MatchResult, IfOk};
+ghost use Rattle.std.specs.Prelude.{◌≡◌, ◌≢◌, ◌⊎◌, ◌<◌, ◌≤◌, true, false, Err, List, length, vec_len, MatchResult, IfOk};
 ghost use Rattle.std.specs.Prelude.{IfErr};
 ghost use Rattle.audit_chain.specs.Event.{EventData};
 ghost use Rattle.audit_store_images.specs.Origin.{Origin};
 ghost use Rattle.audit_proof.specs.ProofBytes.{member_in, increment_in};
 ghost use Rattle.audit_store.specs.Recovered.{IsOfDeviceOrMemory};
-ghost use Rattle.audit_store.specs.Queries.{IsProofOf};
-ghost use Rattle.audit_store.specs.Store.{active_header, is_broken, Holds};
+ghost use Rattle.audit_store.specs.Queries.{IsProofOf, OnlyRead};
+ghost use Rattle.audit_store.specs.Store.{device, active_header, is_broken, Holds};
 ghost use Rattle.audit_cli_store.specs.Proofs.{member_of_log, increment_of_log, proof_of_log, AsksOutside};
 ghost use Rattle.audit_cli_store.specs.Proofs.{IsDeviceOrMemory};
+ghost use Rattle.audit_cli_store.specs.Salvaged.{CountsRefusal};
+ghost use Rattle.audit_disk_model.specs.Calls.{HasRisen};
 ghost use Rattle.audit_base.specs.declared.limits.TheConstants.{MAX_ENTRY, MAX_MEMBER_HASHES, MAX_INCREMENT_HASHES};
 
 use audit_cli_base::{CommandError, ProofRequest};
@@ -31,6 +33,10 @@ pub fn proof_bytes<D: Sectors>(
     ensures log { (origin : Origin) (events : List EventData) → Holds store.old origin events
         → (AsksOutside asked (length events) → ⊥)
         → MatchResult result (λ bytes. bytes.items ≡ proof_of_log origin.first_key events asked) IsDeviceOrMemory }
+    ensures holds { (origin : Origin) (events : List EventData) → Holds store.old origin events
+        → Holds store.new origin events }
+    ensures cause { CountsRefusal (device store.old).failures (device store.new).failures result }
+    ensures reads { OnlyRead store.old store.new }
 {
     match asked {
         ProofRequest::Member { index, count } => {
@@ -59,6 +65,12 @@ fn member_proof<D: Sectors>(
         → IfOk result (λ proof. member_in proof ≡ member_of_log origin.first_key events index count) }
     ensures fault { (origin : Origin) (events : List EventData) → Holds store.old origin events
         → index < count → count ≤ length events → IfErr result IsOfDeviceOrMemory }
+    ensures holds { (origin : Origin) (events : List EventData) → Holds store.old origin events
+        → Holds store.new origin events }
+    ensures cause { result ≢ Err StoreError.Device → (device store.new).failures ≡ (device store.old).failures }
+    ensures counted { result ≡ Err StoreError.Device
+        → HasRisen (device store.old).failures (device store.new).failures }
+    ensures reads { OnlyRead store.old store.new }
 {
     let hashes = store.membership(index, count)?;
     let entry = store.entry(index)?;
