@@ -3,8 +3,11 @@ pub mod Refusals
 pub mod Replies
 pub mod Runs
 pub mod Fronts
+pub mod Limits
 pub mod Pieces
 pub mod Steps
 pub mod Durably
+pub mod Allowed
 pub mod Acknowledged
 pub mod Serving
+pub mod Owing

@@ -1,6 +1,6 @@
 -- Pieces of a session's stream.
 use Rattle.std.proofs.Common.{◌≡◌, ◌≢◌, ◌↔◌, ◌∙◌, IsTrue, ℕ, ◌+◌, ◌-◌, ◌≤◌, Bool, true, false, if◌then◌else◌, Option, Some, None, Result, Ok, Err, List, [], ◌∷◌, ◌++◌, length, map, take, drop, refl, sym, ap, subst, append_assoc, arith, length-drop}
-use Rattle.std.proofs.lemmas.List.{append-nil, take-append-drop, map-append}
+use Rattle.std.proofs.lemmas.List.{append-nil, take-append-drop, take_all, map-append}
 use Rattle.std.proofs.Math.Seq.{take-add}
 use Rattle.audit_disk_model.specs.declared.sectors.Sectors as sectors
 use Rattle.audit_wire.specs.declared.request.Request.{Request}
@@ -21,7 +21,10 @@ use Rattle.audit_server.specs.declared.feed_fault.FeedFault.{FeedFault}
 use Rattle.audit_server_model.specs.Sessions.{SessionData, ended_session, framed_after, session_after, with_piece, arrivals_by_piece, arrivals_of_rest, arrivals_by_end}
 use Rattle.audit_server.specs.Running.{HaveEntered, IsRefusedAfter, Run}
 use Rattle.audit_server.specs.Entering.{arrival_by, Enters}
-use Rattle.audit_server.specs.Feeding.{session_view, IsLive, place_after, IsPart, IsWholeFeed, IsSpoiled, IsUntaken, IsFedWhole, IsFedInPart}
+use Rattle.audit_server.specs.declared.limit.Limit.{Limit}
+use Rattle.audit_server.specs.Limit.{IsNotAdmitted, AreAdmitted}
+use Rattle.audit_server.specs.Feeding.{session_view, IsLive, place_after, IsHeldBack, IsPart, IsWholeFeed, IsSpoiled, IsUntaken, IsWithheld, IsFedWhole, IsFedUpTo, IsFedUpToRefusal}
+use Rattle.audit_server.proofs.Limits.{taken_append, taken_as}
 use Rattle.audit_server.proofs.Sound.{entered_sound, arrival_not_broken, request_not_broken}
 use Rattle.audit_server.proofs.Runs.{run_none, run_more, run_as, run_refused}
 use Rattle.audit_server.proofs.Fronts.{no_request, StaysPart, front_more, EndsFrame, GoesBack, front_undone}
@@ -109,20 +112,45 @@ by_end k session live = ap (λ (b : Bool). if b then [] else arrivals_of_rest k 
 begun_arrives : {progress : DecoderProgress} {ended : Bool} {session : SessionData} (k : ℕ) → Shows progress ended session → rest_of progress ≢ [] → arrivals_by_end k session ≡ malformed_from k ∷ []
 begun_arrives {progress = progress} {session = session} k shows some = by_end k session shows.live ∙ ap (arrivals_of_rest k) (rest_is shows) ∙ some_rest k (rest_of progress) some
 
+held_back : {old : DecoderProgress} {ended : Bool} {session : SessionData} (k : ℕ) (mid new : DecoderProgress) (piece : List ℕ) (answer : Fed) (taken : ℕ) → Shows old ended session → EndsFrame old mid piece taken
+    → IsDecoderFed old piece answer mid → place_after answer ≡ Some taken → PutsBack mid new
+    → IsHeldBack k piece (taken - 1) (arrival_by k (request_in (body_of mid))) session (session_view new ended)
+held_back {old = old} {ended = ended} {session = session} k mid new piece answer taken shows ends h is back =
+    let undone : GoesBack old new piece taken = front_undone old mid new piece answer taken (unspoiled shows) h is ends.just back in
+    let one_more : 1 + (taken - 1) ≡ taken = omega (arith, ends.some) in
+    record {
+      within = omega (arith, ends.some, ends.within);
+      live = not_ended shows;
+      framed = λ later. framed_shown (take (taken - 1) piece ++ later) shows ∙ undone.framed later ∙ sym (framed_by new ended later (not_ended shows));
+      partial =
+          framed_by new ended [] (not_ended shows)
+          ∙ ap framed_requests (append-nil (rest_of new))
+          ∙ undone.partial
+          ∙ ap rest_alone (sym (rest_shown new ended (not_ended shows)));
+      next =
+          ap (λ (n : ℕ). arrivals_by_piece k (take n piece) session) one_more
+          ∙ ap (λ (b : Bool). if b then [] else arrivals_in k (framed_after session (take taken piece))) shows.live
+          ∙ ap (λ (bytes : List ℕ). arrivals_in k (framed_after session bytes)) (sym (append-nil (take taken piece)))
+          ∙ ap (arrivals_in k) (framed_shown (take taken piece ++ []) shows ∙ ends.framed [])
+          ∙ ap (λ (later : Framed Request). arrivals_in k (read_first (request_in (body_of mid)) later)) (requests_partial [] tt)
+          ∙ arrivals_first k (request_in (body_of mid));
+    }
+
 module _ {D : Type 0} {g : sectors.Ghosts D} where
-  pub part_done : {old : DecoderProgress} {ended : Bool} {session : SessionData} (new : DecoderProgress) (piece : List ℕ) (answer : Fed) (committer : Committer D g) → Shows old ended session → IsDecoderFed old piece answer new → place_after answer ≡ None
-      → IsPart piece session (session_view new ended) committer committer
-  part_done {old = old} {ended = ended} new piece answer committer shows h is =
+  pub part_done : {old : DecoderProgress} {ended : Bool} {session : SessionData} (new : DecoderProgress) (piece : List ℕ) (answer : Fed) (committer : Committer D g) (bound : Limit) → Shows old ended session → IsDecoderFed old piece answer new → place_after answer ≡ None
+      → IsPart piece session (session_view new ended) committer committer bound bound
+  part_done {old = old} {ended = ended} new piece answer committer bound shows h is =
       let part : StaysPart old new piece = front_more old new piece (unspoiled shows) (subst (λ (a : Fed). IsDecoderFed old piece a new) (part_more answer is) h) in
       record {
         live = not_ended shows;
         framed = framed_shown piece shows ∙ part.framed ∙ ap rest_alone (sym (rest_shown new ended (not_ended shows)));
         same = refl;
+        unspent = refl;
       }
 
   pub whole_done : {old : DecoderProgress} {ended : Bool} {session : SessionData} (k : ℕ) (new : DecoderProgress) (piece : List ℕ) (taken : ℕ) (before after : Committer D g) (request : Request) → Shows old ended session → EndsFrame old new piece taken
-      → request_in (body_of new) ≡ Some request → Enters (arrival_of k request) before after (Ok tt) → IsWholeFeed k piece taken session (session_view new ended) before after
-  whole_done {old = old} {ended = ended} k new piece taken before after request shows ends is enters = record {
+      → request_in (body_of new) ≡ Some request → Enters (arrival_of k request) before after (Ok tt) → {bound left : Limit} → AreAdmitted (arrival_of k request ∷ []) bound left → IsWholeFeed k piece taken session (session_view new ended) before after bound left
+  whole_done {old = old} {ended = ended} k new piece taken before after request shows ends is enters spent = record {
     some = ends.some;
     within = ends.within;
     live = not_ended shows;
@@ -134,11 +162,12 @@ module _ {D : Type 0} {g : sectors.Ghosts D} where
         ∙ ap (λ (rest : List ℕ). in_front request (framed_requests (rest ++ later))) (sym ends.rest)
         ∙ ap (in_front request) (sym (framed_by new ended later (not_ended shows)));
     enters = enters;
+    spent = spent;
   }
 
   pub spoiled_done : {old : DecoderProgress} {ended : Bool} {session : SessionData} (k : ℕ) (new : DecoderProgress) (piece : List ℕ) (taken : ℕ) (before after : Committer D g) → Shows old ended session → EndsFrame old new piece taken
-      → request_in (body_of new) ≡ None → Enters (malformed_from k) before after (Ok tt) → IsSpoiled k piece session ended_session before after
-  spoiled_done {session = session} k new piece taken before after shows ends is enters = record {
+      → request_in (body_of new) ≡ None → Enters (malformed_from k) before after (Ok tt) → {bound left : Limit} → AreAdmitted (malformed_from k ∷ []) bound left → IsSpoiled k piece session ended_session before after bound left
+  spoiled_done {session = session} k new piece taken before after shows ends is enters spent = record {
     ended = refl;
     framed =
         ap (framed_after session) (sym (take-append-drop taken piece))
@@ -146,38 +175,25 @@ module _ {D : Type 0} {g : sectors.Ghosts D} where
         ∙ ends.framed (drop taken piece)
         ∙ ap (λ (read : Option Request). read_first read (framed_requests (drop taken piece))) is;
     enters = enters;
+    spent = spent;
   }
 
   pub untaken_done : {old : DecoderProgress} {ended : Bool} {session : SessionData} (k : ℕ) (mid new : DecoderProgress) (piece : List ℕ) (answer : Fed) (taken : ℕ) (before after : Committer D g) (error : StoreError) → Shows old ended session → EndsFrame old mid piece taken
-      → IsDecoderFed old piece answer mid → place_after answer ≡ Some taken → PutsBack mid new → Enters (arrival_by k (request_in (body_of mid))) before after (Err error)
-      → IsUntaken k piece (record { taken = taken - 1; error = error }) session (session_view new ended) before after
-  untaken_done {old = old} {ended = ended} {session = session} k mid new piece answer taken before after error shows ends h is back enters =
-      let undone : GoesBack old new piece taken = front_undone old mid new piece answer taken (unspoiled shows) h is ends.just back in
-      let one_more : 1 + (taken - 1) ≡ taken = omega (arith, ends.some) in
-      record {
-        within = omega (arith, ends.some, ends.within);
-        live = not_ended shows;
-        framed = λ later. framed_shown (take (taken - 1) piece ++ later) shows ∙ undone.framed later ∙ sym (framed_by new ended later (not_ended shows));
-        partial =
-            framed_by new ended [] (not_ended shows)
-            ∙ ap framed_requests (append-nil (rest_of new))
-            ∙ undone.partial
-            ∙ ap rest_alone (sym (rest_shown new ended (not_ended shows)));
-        arrival = arrival_by k (request_in (body_of mid));
-        next =
-            ap (λ (n : ℕ). arrivals_by_piece k (take n piece) session) one_more
-            ∙ ap (λ (b : Bool). if b then [] else arrivals_in k (framed_after session (take taken piece))) shows.live
-            ∙ ap (λ (bytes : List ℕ). arrivals_in k (framed_after session bytes)) (sym (append-nil (take taken piece)))
-            ∙ ap (arrivals_in k) (framed_shown (take taken piece ++ []) shows ∙ ends.framed [])
-            ∙ ap (λ (later : Framed Request). arrivals_in k (read_first (request_in (body_of mid)) later)) (requests_partial [] tt)
-            ∙ arrivals_first k (request_in (body_of mid));
-        enters = enters;
-      }
+      → IsDecoderFed old piece answer mid → place_after answer ≡ Some taken → PutsBack mid new → Enters (arrival_by k (request_in (body_of mid))) before after (Err error) → {bound left : Limit} → left ≡ bound
+      → IsUntaken k piece (record { taken = taken - 1; error = error }) session (session_view new ended) before after bound left
+  untaken_done k mid new piece answer taken before after error shows ends h is back enters unspent =
+      record { arrival = arrival_by k (request_in (body_of mid)); held = held_back k mid new piece answer taken shows ends h is back; enters = enters; unspent = unspent }
+
+  pub withheld_done : {old : DecoderProgress} {ended : Bool} {session : SessionData} (k : ℕ) (mid new : DecoderProgress) (piece : List ℕ) (answer : Fed) (taken : ℕ) (before after : Committer D g) → Shows old ended session → EndsFrame old mid piece taken
+      → IsDecoderFed old piece answer mid → place_after answer ≡ Some taken → PutsBack mid new → after ≡ before → {bound left : Limit} → left ≡ bound → IsNotAdmitted (arrival_by k (request_in (body_of mid))) bound
+      → IsWithheld k piece (taken - 1) session (session_view new ended) before after bound left
+  withheld_done k mid new piece answer taken before after shows ends h is back same unspent over =
+      record { arrival = arrival_by k (request_in (body_of mid)); held = held_back k mid new piece answer taken shows ends h is back; same = same; unspent = unspent; over = over }
 
   -- ---- a whole piece, frame by frame
 
   -- the requests in the first bytes have entered, and the session is live
-  pub record HasFed (k : ℕ) (piece : List ℕ) (taken : ℕ) (old now : SessionData) (before after : Committer D g) : Type 0 where
+  pub record HasFed (k : ℕ) (piece : List ℕ) (taken : ℕ) (old now : SessionData) (before after : Committer D g) (bound left : Limit) : Type 0 where
     pub within : taken ≤ length piece
     pub was_live : old.ended ≡ false
     pub live : now.ended ≡ false
@@ -185,8 +201,21 @@ module _ {D : Type 0} {g : sectors.Ghosts D} where
     pub items : List Request
     pub ahead : (later : List ℕ) → framed_after old (take taken piece ++ later) ≡ all_in_front items (framed_after now later)
     pub run : Run (map (arrival_of k) items) before after
+    pub spent : AreAdmitted (map (arrival_of k) items) bound left
 
-  module _ (k : ℕ) (piece : List ℕ) (taken : ℕ) (old now new : SessionData) (before mid after : Committer D g) (fed : HasFed k piece taken old now before mid) where
+  -- a whole piece was taken
+  all_taken : (k : ℕ) (piece : List ℕ) (old new : SessionData) (before after : Committer D g) (bound left : Limit) → IsFedWhole k piece old new before after → AreAdmitted (arrivals_by_piece k piece old) bound left
+      → IsFedUpTo k piece (length piece) old new before after bound left
+  all_taken k piece old new before after bound left fed spent =
+      let all : piece ≡ take (length piece) piece = sym (take_all (length piece) piece (omega (arith))) in
+      record {
+        within = omega (arith);
+        whole = subst (λ (bytes : List ℕ). IsFedWhole k bytes old new before after) all fed;
+        spent = subst (λ (bytes : List ℕ). AreAdmitted (arrivals_by_piece k bytes old) bound left) all spent;
+        stops = λ less. absurd (omega (arith, less));
+      }
+
+  module _ (k : ℕ) (piece : List ℕ) (taken : ℕ) (old now new : SessionData) (before mid after : Committer D g) (bound left later_left : Limit) (fed : HasFed k piece taken old now before mid bound left) where
     -- the arrivals in the whole piece
     all_framed : (framed : Framed Request) → framed_after now (drop taken piece) ≡ framed → framed_after old piece ≡ all_in_front fed.items framed
     all_framed framed is = ap (framed_after old) (sym (take-append-drop taken piece)) ∙ fed.ahead (drop taken piece) ∙ ap (all_in_front fed.items) is
@@ -194,22 +223,24 @@ module _ {D : Type 0} {g : sectors.Ghosts D} where
     all_arrivals : (framed : Framed Request) → framed_after now (drop taken piece) ≡ framed → arrivals_by_piece k piece old ≡ map (arrival_of k) fed.items ++ arrivals_in k framed
     all_arrivals framed is = by_piece k piece old fed.was_live ∙ ap (arrivals_in k) (all_framed framed is) ∙ arrivals_all k fed.items framed
 
-    pub fed_part : IsPart (drop taken piece) now new mid after → IsFedWhole k piece old new before after
-    fed_part part = record {
-      session =
-          sym (with_live piece old fed.was_live ∙ ap session_after (all_framed (rest_alone new.rest) part.framed) ∙ ap (λ (b : Bool). record { rest = new.rest; ended = b }) (sym part.live));
-      run =
-          subst (λ (c : Committer D g). Run (arrivals_by_piece k piece old) before c) (sym part.same)
-          (run_as (sym (all_arrivals (rest_alone new.rest) part.framed ∙ append-nil (map (arrival_of k) fed.items))) fed.run);
-    }
+    pub fed_part : IsPart (drop taken piece) now new mid after left later_left → IsFedUpTo k piece (length piece) old new before after bound later_left
+    fed_part part =
+        let arrivals : arrivals_by_piece k piece old ≡ map (arrival_of k) fed.items = all_arrivals (rest_alone new.rest) part.framed ∙ append-nil (map (arrival_of k) fed.items) in
+        all_taken k piece old new before after bound later_left (record {
+          session =
+              sym (with_live piece old fed.was_live ∙ ap session_after (all_framed (rest_alone new.rest) part.framed) ∙ ap (λ (b : Bool). record { rest = new.rest; ended = b }) (sym part.live));
+          run = subst (λ (c : Committer D g). Run (arrivals_by_piece k piece old) before c) (sym part.same) (run_as (sym arrivals) fed.run);
+        }) (taken_as bound later_left (sym arrivals) (subst (λ (l : Limit). AreAdmitted (map (arrival_of k) fed.items) bound l) (sym part.unspent) fed.spent))
 
-    pub fed_spoiled : IsSpoiled k (drop taken piece) now new mid after → IsFedWhole k piece old new before after
-    fed_spoiled bad = record {
-      session = bad.ended ∙ sym (with_live piece old fed.was_live ∙ ap session_after (all_framed spoiled bad.framed));
-      run = run_as (sym (all_arrivals spoiled bad.framed)) (run_more (malformed_from k) fed.run bad.enters);
-    }
+    pub fed_spoiled : IsSpoiled k (drop taken piece) now new mid after left later_left → IsFedUpTo k piece (length piece) old new before after bound later_left
+    fed_spoiled bad =
+        let arrivals : arrivals_by_piece k piece old ≡ map (arrival_of k) fed.items ++ malformed_from k ∷ [] = all_arrivals spoiled bad.framed in
+        all_taken k piece old new before after bound later_left (record {
+          session = bad.ended ∙ sym (with_live piece old fed.was_live ∙ ap session_after (all_framed spoiled bad.framed));
+          run = run_as (sym arrivals) (run_more (malformed_from k) fed.run bad.enters);
+        }) (taken_as bound later_left (sym arrivals) (taken_append (map (arrival_of k) fed.items) (malformed_from k ∷ []) bound left later_left fed.spent bad.spent))
 
-    pub fed_more : (more : ℕ) → IsWholeFeed k (drop taken piece) more now new mid after → HasFed k piece (taken + more) old new before after
+    pub fed_more : (more : ℕ) → IsWholeFeed k (drop taken piece) more now new mid after left later_left → HasFed k piece (taken + more) old new before after bound later_left
     fed_more more front = record {
       within = omega (arith, fed.within, front.within, length-drop taken piece);
       was_live = fed.was_live;
@@ -224,47 +255,80 @@ module _ {D : Type 0} {g : sectors.Ghosts D} where
           ∙ ap (all_in_front fed.items) (front.framed later)
           ∙ ap (λ (items : List Request). record { items = items; malformed = next.malformed; rest = next.rest }) (sym (append_assoc fed.items (front.request ∷ []) next.items));
       run = run_as (sym (map-append (arrival_of k) fed.items (front.request ∷ []))) (run_more (arrival_of k front.request) fed.run front.enters);
+      spent = taken_as bound later_left (sym (map-append (arrival_of k) fed.items (front.request ∷ []))) (taken_append (map (arrival_of k) fed.items) (arrival_of k front.request ∷ []) bound left later_left fed.spent front.spent);
     }
 
-    pub fed_err : (fault : FeedFault) → IsUntaken k (drop taken piece) fault now new mid after → IsFedInPart k piece (record { taken = taken + fault.taken; error = fault.error }) old new before after
-    fed_err fault untaken =
-        let first : ℕ = fault.taken in
-        let rest : List ℕ = drop taken piece in
-        let framed : framed_after old (take (taken + first) piece) ≡ all_in_front fed.items (rest_alone new.rest) =
-        ap (framed_after old) (take-add taken first piece ∙ ap (λ (bytes : List ℕ). take taken piece ++ bytes) (sym (append-nil (take first rest))))
-        ∙ fed.ahead (take first rest ++ [])
-        ∙ ap (all_in_front fed.items) (untaken.framed [] ∙ untaken.partial) in
-        let arrivals : arrivals_by_piece k (take (taken + first) piece) old ≡ map (arrival_of k) fed.items =
-        by_piece k (take (taken + first) piece) old fed.was_live
-        ∙ ap (arrivals_in k) framed
-        ∙ arrivals_all k fed.items (rest_alone new.rest)
-        ∙ append-nil (map (arrival_of k) fed.items) in
-        let one_more : 1 + (taken + first) ≡ taken + (1 + first) = omega (arith) in
-        record {
-          within = omega (arith, fed.within, untaken.within, length-drop taken piece);
-          session =
-              sym (with_live (take (taken + first) piece) old fed.was_live ∙ ap session_after framed ∙ ap (λ (b : Bool). record { rest = new.rest; ended = b }) (sym untaken.live));
-          mid = mid;
-          entered = subst (λ (all : List Arrival). HaveEntered all before mid) (sym arrivals) fed.run.entered;
-          arrival = untaken.arrival;
-          next =
-              ap (λ (n : ℕ). arrivals_by_piece k (take n piece) old) one_more
-              ∙ by_piece k (take (taken + (1 + first)) piece) old fed.was_live
-              ∙ ap (λ (bytes : List ℕ). arrivals_in k (framed_after old bytes)) (take-add taken (1 + first) piece)
-              ∙ ap (arrivals_in k) (fed_ahead_by (take (1 + first) rest))
-              ∙ arrivals_all k fed.items (framed_after now (take (1 + first) rest))
-              ∙ ap (λ (later : List Arrival). map (arrival_of k) fed.items ++ later) (sym (by_piece k (take (1 + first) rest) now fed.live) ∙ untaken.next)
-              ∙ ap (λ (all : List Arrival). all ++ untaken.arrival ∷ []) (sym arrivals);
-          end = untaken.enters.end;
-          not_broken = request_not_broken untaken.arrival mid after fault.error untaken.enters.end fed.sound;
-          refused = subst (λ (all : List Arrival). IsRefusedAfter all fault.error before after) (sym arrivals) (run_refused untaken.arrival fault.error fed.run untaken.enters);
-        }
-      where
-        fed_ahead_by : (bytes : List ℕ) → framed_after old (take taken piece ++ bytes) ≡ all_in_front fed.items (framed_after now bytes)
-        fed_ahead_by bytes = fed.ahead bytes
+    -- ---- the next arrival was held back
 
-  pub fed_start : (k : ℕ) (piece : List ℕ) (session : SessionData) (committer : Committer D g) → session.ended ≡ false → is_broken (store_of committer) ≡ false → HasFed k piece 0 session session committer committer
-  fed_start k piece session committer live sound = record {
+    module _ (first : ℕ) (arrival : Arrival) (held : IsHeldBack k (drop taken piece) first arrival now new) where
+      held_framed : framed_after old (take (taken + first) piece) ≡ all_in_front fed.items (rest_alone new.rest)
+      held_framed =
+          ap (framed_after old) (take-add taken first piece ∙ ap (λ (bytes : List ℕ). take taken piece ++ bytes) (sym (append-nil (take first (drop taken piece)))))
+          ∙ fed.ahead (take first (drop taken piece) ++ [])
+          ∙ ap (all_in_front fed.items) (held.framed [] ∙ held.partial)
+
+      held_arrivals : arrivals_by_piece k (take (taken + first) piece) old ≡ map (arrival_of k) fed.items
+      held_arrivals =
+          by_piece k (take (taken + first) piece) old fed.was_live
+          ∙ ap (arrivals_in k) held_framed
+          ∙ arrivals_all k fed.items (rest_alone new.rest)
+          ∙ append-nil (map (arrival_of k) fed.items)
+
+      held_within : taken + first ≤ length piece
+      held_within = omega (arith, fed.within, held.within, length-drop taken piece)
+
+      held_session : new ≡ with_piece (take (taken + first) piece) old
+      held_session = sym (with_live (take (taken + first) piece) old fed.was_live ∙ ap session_after held_framed ∙ ap (λ (b : Bool). record { rest = new.rest; ended = b }) (sym held.live))
+
+      held_next : arrivals_by_piece k (take (1 + (taken + first)) piece) old ≡ arrivals_by_piece k (take (taken + first) piece) old ++ arrival ∷ []
+      held_next =
+          let rest : List ℕ = drop taken piece in
+          let one_more : 1 + (taken + first) ≡ taken + (1 + first) = omega (arith) in
+          ap (λ (n : ℕ). arrivals_by_piece k (take n piece) old) one_more
+          ∙ by_piece k (take (taken + (1 + first)) piece) old fed.was_live
+          ∙ ap (λ (bytes : List ℕ). arrivals_in k (framed_after old bytes)) (take-add taken (1 + first) piece)
+          ∙ ap (arrivals_in k) (fed.ahead (take (1 + first) rest))
+          ∙ arrivals_all k fed.items (framed_after now (take (1 + first) rest))
+          ∙ ap (λ (later : List Arrival). map (arrival_of k) fed.items ++ later) (sym (by_piece k (take (1 + first) rest) now fed.live) ∙ held.next)
+          ∙ ap (λ (all : List Arrival). all ++ arrival ∷ []) (sym held_arrivals)
+
+    pub fed_err : (fault : FeedFault) → IsUntaken k (drop taken piece) fault now new mid after left later_left → IsFedUpToRefusal k piece (record { taken = taken + fault.taken; error = fault.error }) old new before after bound later_left
+    fed_err fault untaken =
+        let arrivals = held_arrivals fault.taken untaken.arrival untaken.held in
+        record {
+          part = record {
+            within = omega (arith, fed.within, untaken.held.within, length-drop taken piece);
+            session = held_session fault.taken untaken.arrival untaken.held;
+            mid = mid;
+            entered = subst (λ (all : List Arrival). HaveEntered all before mid) (sym arrivals) fed.run.entered;
+            arrival = untaken.arrival;
+            next = held_next fault.taken untaken.arrival untaken.held;
+            end = untaken.enters.end;
+            not_broken = request_not_broken untaken.arrival mid after fault.error untaken.enters.end fed.sound;
+            refused = subst (λ (all : List Arrival). IsRefusedAfter all fault.error before after) (sym arrivals) (run_refused untaken.arrival fault.error fed.run untaken.enters);
+          };
+          spent = taken_as bound later_left (sym arrivals) (subst (λ (l : Limit). AreAdmitted (map (arrival_of k) fed.items) bound l) (sym untaken.unspent) fed.spent);
+        }
+
+    pub fed_withheld : (first : ℕ) → IsWithheld k (drop taken piece) first now new mid after left later_left → IsFedUpTo k piece (taken + first) old new before after bound later_left
+    fed_withheld first withheld =
+        let arrivals = held_arrivals first withheld.arrival withheld.held in
+        record {
+          within = held_within first withheld.arrival withheld.held;
+          whole = record {
+            session = held_session first withheld.arrival withheld.held;
+            run = subst (λ (c : Committer D g). Run (arrivals_by_piece k (take (taken + first) piece) old) before c) (sym withheld.same) (run_as (sym arrivals) fed.run);
+          };
+          spent = taken_as bound later_left (sym arrivals) (subst (λ (l : Limit). AreAdmitted (map (arrival_of k) fed.items) bound l) (sym withheld.unspent) fed.spent);
+          stops = λ less. record {
+            arrival = withheld.arrival;
+            next = held_next first withheld.arrival withheld.held;
+            over = subst (IsNotAdmitted withheld.arrival) (sym withheld.unspent) withheld.over;
+          };
+        }
+
+  pub fed_start : (k : ℕ) (piece : List ℕ) (session : SessionData) (committer : Committer D g) (bound : Limit) → session.ended ≡ false → is_broken (store_of committer) ≡ false → HasFed k piece 0 session session committer committer bound bound
+  fed_start k piece session committer bound live sound = record {
     within = omega (arith);
     was_live = live;
     live = live;
@@ -272,14 +336,17 @@ module _ {D : Type 0} {g : sectors.Ghosts D} where
     items = [];
     ahead = λ later. refl;
     run = run_none committer;
+    spent = refl;
   }
 
   -- bytes after the end are dropped
-  pub fed_ended : (k : ℕ) (piece : List ℕ) (session : SessionData) (committer : Committer D g) → session.ended ≡ true → IsFedWhole k piece session session committer committer
-  fed_ended k piece session committer ended = record {
-    session = sym (ap (λ (b : Bool). if b then session else session_after (framed_after session piece)) ended);
-    run = run_as (sym (ap (λ (b : Bool). if b then [] else arrivals_in k (framed_after session piece)) ended)) (run_none committer);
-  }
+  pub fed_ended : (k : ℕ) (piece : List ℕ) (session : SessionData) (committer : Committer D g) (bound : Limit) → session.ended ≡ true → IsFedUpTo k piece (length piece) session session committer committer bound bound
+  fed_ended k piece session committer bound ended =
+      let none : arrivals_by_piece k piece session ≡ [] = ap (λ (b : Bool). if b then [] else arrivals_in k (framed_after session piece)) ended in
+      all_taken k piece session session committer committer bound bound (record {
+        session = sym (ap (λ (b : Bool). if b then session else session_after (framed_after session piece)) ended);
+        run = run_as (sym none) (run_none committer);
+      }) (taken_as bound bound (sym none) refl)
 
   -- ---- the end of a session
 

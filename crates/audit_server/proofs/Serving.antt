@@ -49,3 +49,7 @@ module _ {D : Type 0} {g : sectors.Ghosts D} where
       decide : (b : Bool) → is_broken (store_of (committer_of old)) ≡ b → HasServed (data_of old) (data_of new) steps no_bytes
       decide true here = absurd (never here)
       decide false sound = served_of old new never (done sound)
+
+  -- a call that succeeded found the core sound
+  pub did_ok : (steps : List StepData) (old new : Core D g) → (is_core_broken old → ⊥) → (IsSound old → HasDone steps old new) → HasServed (data_of old) (data_of new) steps no_bytes
+  did_ok steps old new never done = did_of {E = Unit {0}} steps old new (Ok tt) tt (λ here. absurd (never here)) done

@@ -12,7 +12,10 @@ use Rattle.audit_server.specs.declared.feed_fault.FeedFault.{FeedFault}
 use Rattle.audit_server_model.specs.Sessions.{SessionData, session_at, sessions_run, arrivals_run, session_run}
 use Rattle.audit_server_model.specs.Serving.{CoreData, IsRefusedAs}
 use Rattle.audit_server.specs.Running.{AddsReplies, AdvancesBy}
-use Rattle.audit_server.specs.Feeding.{IsFed}
+use Rattle.audit_serve_passes.specs.declared.allowance.Allowance.{Allowance}
+use Rattle.audit_server.specs.declared.limit.Limit.{Limit}
+use Rattle.audit_server.specs.declared.limit.Limit.TheVariants as limit
+use Rattle.audit_server.specs.Feeding.{IsFed, IsFedWithin}
 use Rattle.audit_server.specs.Ending.{IsEnd}
 
 module _ {D : Type 0} {g : sectors.Ghosts D} where
@@ -54,6 +57,17 @@ module _ {D : Type 0} {g : sectors.Ghosts D} where
       (result : Result (Unit {0}) FeedFault) : Type 0 where
     pub only : OnlySession k old new
     pub fed : IsFed k piece (session_of k old) (session_of k new) (committer_of old) (committer_of new) result
+
+  -- the same of a piece under a limit
+  pub record LimitedOutcome (k : ℕ) (piece : List ℕ) (old new : Core D g) (limit left : Limit)
+      (result : Result ℕ FeedFault) : Type 0 where
+    pub only : OnlySession k old new
+    pub fed : IsFedWithin k piece (session_of k old) (session_of k new) (committer_of old) (committer_of new)
+        limit left result
+
+  abbrev pub AllowedOutcome : ℕ → List ℕ → Core D g → Core D g → Allowance → Allowance → Result ℕ FeedFault → Type 0
+  AllowedOutcome k piece old new allowance left result =
+      LimitedOutcome k piece old new (limit.Within allowance) (limit.Within left) result
 
   pub record EndOutcome (k : ℕ) (old new : Core D g) (result : Result (Unit {0}) StoreError) : Type 0 where
     pub only : OnlySession k old new

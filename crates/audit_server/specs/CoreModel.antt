@@ -1,19 +1,27 @@
 -- Why `Core` is a core that serves sessions.
-use Rattle.std.specs.Prelude.{◌≡◌, ℕ, Bool, List, [], ◌∷◌, slice_index_or, slice_set}
-use Rattle.std.proofs.Common.{◌∙◌, sym, ap}
+use Rattle.std.specs.Prelude.{◌≡◌, ℕ, ◌+◌, Bool, List, [], ◌∷◌, length, slice_index_or, slice_set}
+use Rattle.std.proofs.Common.{◌∙◌, sym, ap, arith}
+use Rattle.std.proofs.lemmas.List.{get_or-set_other}
 use Rattle.audit_disk_model.specs.declared.sectors.Sectors as sectors
 use Rattle.audit_store.specs.declared.store_error.StoreError.{StoreError}
-use Rattle.audit_server_queue.specs.Waiting.{nothing_waits}
+use Rattle.audit_wire.specs.declared.limits.TheConstants.{MAX_MEMBERSHIP_FRAME, REFUSAL_FRAME}
+use Rattle.audit_server_queue.specs.Waiting.{Waiting, nothing_waits}
+use Rattle.audit_server_queue.specs.Owing.{owed_for_waiting}
+use Rattle.audit_server_commit.specs.Owing.{owed_of}
 use Rattle.audit_server_commit.specs.Committer.{waiting_of, outputs_of}
 use Rattle.audit_serve_passes.specs.Steps.{StepData}
 use Rattle.audit_serve_passes.specs.Core.{CoreModel}
 use Rattle.audit_server.specs.declared.server_core.Core.{Core}
-use Rattle.audit_server_model.specs.Sessions.{SessionData, new_session, session_at, sessions_run}
+use Rattle.audit_server_model.specs.Sessions.{SessionData, new_session, ended_session, session_at, sessions_run}
+use Rattle.audit_server_model.specs.Sessions.{arrivals_by_piece}
 use Rattle.audit_server.specs.Core.{committer_of, sessions_of, data_of, Refuses}
 use Rattle.audit_server_model.specs.Serving.{HasServed, IsDurablyServed}
 use Rattle.audit_server_model.proofs.Steps.{sessions-append}
 use Rattle.audit_server_model.proofs.Serving.{served_none, served_more, served_durably, served_refused, durably_more}
-use Rattle.audit_server_model.proofs.Serving.{stays}
+use Rattle.audit_server_model.proofs.Serving.{stays, ended_through}
+
+pub nothing_more : (bytes : ℕ) → bytes + (0 + 0) ≡ bytes
+nothing_more bytes = omega arith
 
 module _ {D : Type 0} {g : sectors.Ghosts D} where
   -- whether a session has ended after a core has done these steps
@@ -39,6 +47,21 @@ module _ {D : Type 0} {g : sectors.Ghosts D} where
     nothing_done = λ core. served_none (data_of core);
     more_done = λ old mid new steps later taken more first next. served_more (data_of old) (data_of mid)
         (data_of new) first next;
+    owed = λ core k. owed_of k (committer_of core);
+    requests = λ core k bytes. length (arrivals_by_piece k bytes (session_at k (sessions_of core)));
+    longest = MAX_MEMBERSHIP_FRAME;
+    refusal = REFUSAL_FRAME;
+    ended_stays = λ core steps later k ended.
+        ap (λ (sessions : List SessionData). (session_at k sessions).ended)
+        (sessions-append steps later (sessions_of core))
+        ∙ ended_through later (sessions_run steps (sessions_of core)) k ended;
+    begun_alone = λ old new k other begun apart.
+        ap (λ (sessions : List SessionData). (session_at other sessions).ended) begun.sessions
+        ∙ ap (λ (session : SessionData). session.ended)
+        (get_or-set_other (sessions_of old) k other new_session ended_session apart);
+    owed_idle = λ core k idle.
+        ap (λ (waiting : Waiting). length (output_of core k) + owed_for_waiting k waiting) idle
+        ∙ nothing_more (length (output_of core k));
     ended_by_steps = λ old new steps later taken k did.
         ap (λ (sessions : List SessionData). (session_at k (sessions_run later sessions)).ended) did.sessions
         ∙ ap (λ (sessions : List SessionData). (session_at k sessions).ended)

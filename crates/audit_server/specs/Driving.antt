@@ -1,5 +1,5 @@
 -- Steps of a core, done in order.
-use Rattle.std.specs.Prelude.{◌≡◌, ◌<◌, Bool, true, false, if◌then◌else◌, Result, Ok, Err, List, [], ◌∷◌, ◌++◌, length}
+use Rattle.std.specs.Prelude.{◌≡◌, ℕ, ◌<◌, Bool, true, false, if◌then◌else◌, Result, Ok, Err, List, [], ◌∷◌, ◌++◌, length}
 use Rattle.std.specs.Prelude.{map, take, drop}
 use Rattle.audit_disk_model.specs.declared.sectors.Sectors as sectors
 use Rattle.audit_chain.specs.Event.{EventData}
@@ -48,6 +48,11 @@ part_done fault a_flush = []
 abbrev pub step_done : StepData → Result (Unit {0}) FeedFault → List StepData
 step_done step (Ok done) = step ∷ []
 step_done step (Err fault) = part_done fault step
+
+-- what was done of a piece: the bytes that were taken
+abbrev pub piece_done : ℕ → List ℕ → Result ℕ FeedFault → List StepData
+piece_done session piece (Ok taken) = a_piece session (take taken piece) ∷ []
+piece_done session piece (Err fault) = part_done fault (a_piece session piece)
 
 -- what was done of a step that can't be done in part
 abbrev pub whole_done : StepData → Result (Unit {0}) StoreError → List StepData

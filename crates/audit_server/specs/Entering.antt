@@ -1,5 +1,5 @@
 -- How a session's request or malformed place enters the queue.
-use Rattle.std.specs.Prelude.{◌≡◌, ◌⊎◌, ℕ, Result, Ok, Err, Option, Some, None, List}
+use Rattle.std.specs.Prelude.{◌≡◌, ◌⊎◌, ℕ, Result, Ok, Err, Option, Some, None, List, [], ◌∷◌}
 use Rattle.audit_disk_model.specs.declared.sectors.Sectors as sectors
 use Rattle.audit_chain.specs.Event.{EventData}
 use Rattle.audit_store_images.specs.Origin.{Origin}
@@ -12,6 +12,8 @@ use Rattle.audit_store.specs.declared.store_error.StoreError.TheVariants.{Memory
 use Rattle.audit_server_commit.specs.declared.committer.Committer.{Committer}
 use Rattle.audit_server_commit.specs.Committer.{store_of}
 use Rattle.audit_server_commit.specs.Entering.{IsArrivalEnd, IsEntered}
+use Rattle.audit_server.specs.declared.limit.Limit.{Limit}
+use Rattle.audit_server.specs.Limit.{IsNotAdmitted, AreAdmitted}
 use Rattle.audit_server.specs.declared.entering.Item.{Item}
 use Rattle.audit_server.specs.declared.entering.Item.TheVariants as item
 
@@ -34,8 +36,18 @@ module _ {D : Type 0} {g : sectors.Ghosts D} where
         → (after : List EventData) × IsEntered origin arrival old new events after result
 
   -- what was found in a body and entered
-  abbrev pub IsItem : ℕ → List ℕ → Committer D g → Committer D g → Result Item StoreError → Type 0
-  IsItem k body old new (Ok item.Request) = (request : Request) × (request_in body ≡ Some request)
+  abbrev pub IsEnteredItem : ℕ → Option Request → Committer D g → Committer D g → Result Item StoreError → Type 0
+  IsEnteredItem k found old new (Ok item.Request) = (request : Request) × (found ≡ Some request)
       × Enters (arrival_of k request) old new (Ok tt)
-  IsItem k body old new (Ok item.Malformed) = (request_in body ≡ None) × Enters (malformed_from k) old new (Ok tt)
-  IsItem k body old new (Err error) = Enters (arrival_by k (request_in body)) old new (Err error)
+  IsEnteredItem k found old new (Ok item.Malformed) = (found ≡ None) × Enters (malformed_from k) old new (Ok tt)
+  IsEnteredItem k found old new (Ok item.Withheld) = ⊥
+  IsEnteredItem k found old new (Err error) = Enters (arrival_by k found) old new (Err error)
+
+  -- the same under a limit
+  abbrev pub IsItem : ℕ → List ℕ → Committer D g → Committer D g → Limit → Limit → Result Item StoreError → Type 0
+  IsItem k body old new limit left (Ok item.Withheld) = (new ≡ old) × (left ≡ limit)
+      × IsNotAdmitted (arrival_by k (request_in body)) limit
+  IsItem k body old new limit left (Ok found) = IsEnteredItem k (request_in body) old new (Ok found)
+      × AreAdmitted (arrival_by k (request_in body) ∷ []) limit left
+  IsItem k body old new limit left (Err error) = IsEnteredItem k (request_in body) old new (Err error)
+      × (left ≡ limit)

@@ -14,6 +14,8 @@ use Rattle.audit_server.specs.declared.feed_fault.FeedFault.{FeedFault}
 use Rattle.audit_server.specs.declared.session.Front.{Front}
 use Rattle.audit_server.specs.declared.session.Front.TheVariants as front
 use Rattle.audit_server_model.specs.Sessions.{SessionData, ended_session, framed_after, with_piece, arrivals_by_piece}
+use Rattle.audit_server.specs.declared.limit.Limit.{Limit}
+use Rattle.audit_server.specs.Limit.{IsNotAdmitted, AreAdmitted}
 use Rattle.audit_server.specs.Running.{HaveEntered, Run, IsRefusedAfter}
 use Rattle.audit_server.specs.Entering.{IsRequestEnd, Enters}
 
@@ -31,16 +33,34 @@ place_after fed.More = None
 place_after (fed.Body taken) = Some taken
 place_after (fed.Malformed taken) = Some taken
 
+-- Of a piece of a live session the first bytes were taken, and the next one completes an arrival: that byte counts as
+-- not received.
+pub record IsHeldBack (k : ℕ) (piece : List ℕ) (taken : ℕ) (arrival : Arrival) (old new : SessionData) : Type 0 where
+  pub within : taken < length piece
+  pub live : new.ended ≡ false
+  pub framed : (later : List ℕ) → framed_after old (take taken piece ++ later) ≡ framed_after new later
+  pub partial : framed_after new [] ≡ rest_alone new.rest
+  pub next : arrivals_by_piece k (take (1 + taken) piece) old ≡ arrival ∷ []
+
+-- The next byte of a piece completes an arrival that the limit doesn't admit.
+pub record StopsBefore (k : ℕ) (piece : List ℕ) (taken : ℕ) (old : SessionData) (left : Limit) : Type 0 where
+  pub arrival : Arrival
+  pub next : arrivals_by_piece k (take (1 + taken) piece) old
+      ≡ arrivals_by_piece k (take taken piece) old ++ arrival ∷ []
+  pub over : IsNotAdmitted arrival left
+
 module _ {D : Type 0} {g : sectors.Ghosts D} where
   -- The start of a piece of a live session was an incomplete frame,
-  pub record IsPart (piece : List ℕ) (old new : SessionData) (before after : Committer D g) : Type 0 where
+  pub record IsPart (piece : List ℕ) (old new : SessionData) (before after : Committer D g)
+      (limit left : Limit) : Type 0 where
     pub live : new.ended ≡ false
     pub framed : framed_after old piece ≡ rest_alone new.rest
     pub same : after ≡ before
+    pub unspent : left ≡ limit
 
   -- or a request,
   pub record IsWholeFeed (k : ℕ) (piece : List ℕ) (taken : ℕ) (old new : SessionData)
-      (before after : Committer D g) : Type 0 where
+      (before after : Committer D g) (limit left : Limit) : Type 0 where
     pub some : 0 < taken
     pub within : taken ≤ length piece
     pub live : new.ended ≡ false
@@ -48,30 +68,44 @@ module _ {D : Type 0} {g : sectors.Ghosts D} where
     pub framed : (later : List ℕ)
         → framed_after old (take taken piece ++ later) ≡ in_front request (framed_after new later)
     pub enters : Enters (arrival_of k request) before after (Ok tt)
+    pub spent : AreAdmitted (arrival_of k request ∷ []) limit left
 
-  -- or a malformed place.
-  pub record IsSpoiled (k : ℕ) (piece : List ℕ) (old new : SessionData) (before after : Committer D g) : Type 0 where
+  -- or a malformed place,
+  pub record IsSpoiled (k : ℕ) (piece : List ℕ) (old new : SessionData) (before after : Committer D g)
+      (limit left : Limit) : Type 0 where
     pub ended : new ≡ ended_session
     pub framed : framed_after old piece ≡ spoiled
     pub enters : Enters (malformed_from k) before after (Ok tt)
+    pub spent : AreAdmitted (malformed_from k ∷ []) limit left
 
-  -- The arrival at the start didn't enter. Its last byte counts as not received.
-  pub record IsUntaken (k : ℕ) (piece : List ℕ) (fault : FeedFault) (old new : SessionData)
-      (before after : Committer D g) : Type 0 where
-    pub within : fault.taken < length piece
-    pub live : new.ended ≡ false
-    pub framed : (later : List ℕ) → framed_after old (take fault.taken piece ++ later) ≡ framed_after new later
-    pub partial : framed_after new [] ≡ rest_alone new.rest
+  -- or an arrival that the limit doesn't admit.
+  pub record IsWithheld (k : ℕ) (piece : List ℕ) (taken : ℕ) (old new : SessionData)
+      (before after : Committer D g) (limit left : Limit) : Type 0 where
     pub arrival : Arrival
-    pub next : arrivals_by_piece k (take (1 + fault.taken) piece) old ≡ arrival ∷ []
-    pub enters : Enters arrival before after (Err fault.error)
+    pub held : IsHeldBack k piece taken arrival old new
+    pub same : after ≡ before
+    pub unspent : left ≡ limit
+    pub over : IsNotAdmitted arrival limit
 
-  abbrev pub IsFront : ℕ → List ℕ → SessionData → SessionData → Committer D g → Committer D g → Result Front FeedFault
-      → Type 0
-  IsFront k piece old new before after (Ok front.Part) = IsPart piece old new before after
-  IsFront k piece old new before after (Ok (front.Request taken)) = IsWholeFeed k piece taken old new before after
-  IsFront k piece old new before after (Ok front.Malformed) = IsSpoiled k piece old new before after
-  IsFront k piece old new before after (Err fault) = IsUntaken k piece fault old new before after
+  -- The arrival at the start didn't enter.
+  pub record IsUntaken (k : ℕ) (piece : List ℕ) (fault : FeedFault) (old new : SessionData)
+      (before after : Committer D g) (limit left : Limit) : Type 0 where
+    pub arrival : Arrival
+    pub held : IsHeldBack k piece fault.taken arrival old new
+    pub enters : Enters arrival before after (Err fault.error)
+    pub unspent : left ≡ limit
+
+  abbrev pub IsFront : ℕ → List ℕ → SessionData → SessionData → Committer D g → Committer D g → Limit → Limit
+      → Result Front FeedFault → Type 0
+  IsFront k piece old new before after limit left (Ok front.Part) = IsPart piece old new before after limit left
+  IsFront k piece old new before after limit left (Ok (front.Request taken)) =
+      IsWholeFeed k piece taken old new before after limit left
+  IsFront k piece old new before after limit left (Ok front.Malformed) =
+      IsSpoiled k piece old new before after limit left
+  IsFront k piece old new before after limit left (Ok (front.Withheld taken)) =
+      IsWithheld k piece taken old new before after limit left
+  IsFront k piece old new before after limit left (Err fault) =
+      IsUntaken k piece fault old new before after limit left
 
   -- ---- a whole piece
 
@@ -99,3 +133,27 @@ module _ {D : Type 0} {g : sectors.Ghosts D} where
       → Result (Unit {0}) FeedFault → Type 0
   IsFed k piece old new before after (Ok done) = IsFedWhole k piece old new before after
   IsFed k piece old new before after (Err fault) = IsFedInPart k piece fault old new before after
+
+  -- ---- a piece under a limit
+
+  -- A prefix of the piece was taken, each of its arrivals within what those before it had left of the limit. It is the
+  -- whole piece, unless the limit doesn't admit the next arrival.
+  pub record IsFedUpTo (k : ℕ) (piece : List ℕ) (taken : ℕ) (old new : SessionData) (before after : Committer D g)
+      (limit left : Limit) : Type 0 where
+    pub within : taken ≤ length piece
+    pub whole : IsFedWhole k (take taken piece) old new before after
+    pub spent : AreAdmitted (arrivals_by_piece k (take taken piece) old) limit left
+    pub stops : taken < length piece → StopsBefore k piece taken old left
+
+  -- the same up to an arrival that was refused
+  pub record IsFedUpToRefusal (k : ℕ) (piece : List ℕ) (fault : FeedFault) (old new : SessionData)
+      (before after : Committer D g) (limit left : Limit) : Type 0 where
+    pub part : IsFedInPart k piece fault old new before after
+    pub spent : AreAdmitted (arrivals_by_piece k (take fault.taken piece) old) limit left
+
+  abbrev pub IsFedWithin : ℕ → List ℕ → SessionData → SessionData → Committer D g → Committer D g → Limit → Limit
+      → Result ℕ FeedFault → Type 0
+  IsFedWithin k piece old new before after limit left (Ok taken) =
+      IsFedUpTo k piece taken old new before after limit left
+  IsFedWithin k piece old new before after limit left (Err fault) =
+      IsFedUpToRefusal k piece fault old new before after limit left

@@ -1,3 +1,4 @@
+pub mod Limit
 pub mod Running
 pub mod Entering
 pub mod Feeding

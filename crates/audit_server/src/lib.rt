@@ -8,6 +8,7 @@ mod driving;
 mod entering;
 mod feed_fault;
 pub mod laws;
+mod limit;
 mod server_core;
 mod session;
 mod session_core;

@@ -3,6 +3,7 @@ ghost use Rattle.audit_server.specs.Feeding.{place_after};
 
 use crate::entering::{Item, enter_body};
 use crate::feed_fault::FeedFault;
+use crate::limit::Limit;
 use audit_disk_model::Sectors;
 use audit_server_commit::Committer;
 use audit_server_queue::{Query, Question};
@@ -20,6 +21,9 @@ pub(crate) enum Front {
     Request { taken: usize },
     /// A malformed place, which was queued. The session has ended.
     Malformed,
+    /// A request or a malformed place that the limit doesn't admit. The first `taken` bytes of the piece were taken, up
+    /// to the one that completes it.
+    Withheld { taken: usize },
 }
 
 /// What a core keeps of a session: its decoder, and whether it has ended.
@@ -56,7 +60,7 @@ impl Session {
     ghost use Rattle.audit_store.specs.Store.{is_broken};
     ghost use Rattle.audit_server_commit.specs.Committer.{store_of};
     ghost use Rattle.audit_server_model.specs.Sessions.{new_session, ended_session};
-    ghost use Rattle.audit_server.specs.Feeding.{IsFront, IsFed};
+    ghost use Rattle.audit_server.specs.Feeding.{IsFront, IsFedWithin};
     ghost use Rattle.audit_server.specs.Ending.{IsFrameEnd, IsEnd};
 
     /// Makes a session at the start of its stream. It reserves all the capacity that it will need. The only error is
@@ -76,23 +80,26 @@ impl Session {
         self.ended
     }
 
-    /// Takes the next bytes of the session, whose number is `session`. If a request or a malformed place is refused,
-    /// the bytes before the one that completed it have been taken.
+    /// Takes the next bytes of the session, whose number is `session`, up to the first request or malformed place that
+    /// the limit doesn't admit, and returns how many it took. If a request or a malformed place is refused or not
+    /// admitted, the bytes before the one that completed it have been taken.
     pub(crate) fn feed<D: Sectors>(
         &mut self,
         committer: &mut Committer<D>,
         alloc: Global,
         session: usize,
         piece: &[u8],
-    ) -> Result<(), FeedFault>
+        limit: &mut Limit,
+    ) -> Result<usize, FeedFault>
         requires session { session < SESSIONS }
         requires sound { is_broken (store_of committer.old) ≡ false }
-        ensures { IsFed session piece.now self.old self.new committer.old committer.new result }
+        ensures { IsFedWithin session piece.now self.old self.new committer.old committer.new
+            limit.old limit.new result }
     {
         if self.ended {
-            return Ok(());
+            return Ok(piece.len());
         }
-        self.feed_live(committer, alloc, session, piece)
+        self.feed_live(committer, alloc, session, piece, limit)
     }
 
     fn feed_live<D: Sectors>(
@@ -101,18 +108,21 @@ impl Session {
         alloc: Global,
         session: usize,
         piece: &[u8],
-    ) -> Result<(), FeedFault>
+        limit: &mut Limit,
+    ) -> Result<usize, FeedFault>
         requires session { session < SESSIONS }
         requires sound { is_broken (store_of committer.old) ≡ false }
         requires live { self.old.ended ≡ false }
-        ensures { IsFed session piece.now self.old self.new committer.old committer.new result }
+        ensures { IsFedWithin session piece.now self.old self.new committer.old committer.new
+            limit.old limit.new result }
     {
         let mut taken = 0;
         loop {
-            match self.take_front(committer, alloc, session, &piece[taken..]) {
+            match self.take_front(committer, alloc, session, &piece[taken..], limit) {
                 Ok(Front::Request { taken: more }) => taken += more,
-                Ok(Front::Part) => return Ok(()),
-                Ok(Front::Malformed) => return Ok(()),
+                Ok(Front::Withheld { taken: more }) => return Ok(taken + more),
+                Ok(Front::Part) => return Ok(piece.len()),
+                Ok(Front::Malformed) => return Ok(piece.len()),
                 Err(fault) => {
                     return Err(FeedFault {
                         taken: taken + fault.taken,
@@ -130,18 +140,24 @@ impl Session {
         alloc: Global,
         session: usize,
         piece: &[u8],
+        limit: &mut Limit,
     ) -> Result<Front, FeedFault>
         requires session { session < SESSIONS }
         requires live { self.old.ended ≡ false }
-        ensures { IsFront session piece.now self.old self.new committer.old committer.new result }
+        ensures { IsFront session piece.now self.old self.new committer.old committer.new limit.old limit.new result }
     {
         let fed = self.decoder.feed(piece);
         let Some(taken) = place_after(fed) else {
             return Ok(Front::Part);
         };
         // A malformed length leaves the body empty, and an empty body isn't a request.
-        match enter_body(committer, alloc, session, self.decoder.body()) {
+        match enter_body(committer, alloc, session, self.decoder.body(), limit) {
             Ok(Item::Request) => Ok(Front::Request { taken }),
+            Ok(Item::Withheld) => {
+                self.decoder.put_back();
+                let taken = taken - 1;
+                Ok(Front::Withheld { taken })
+            }
             Ok(Item::Malformed) => {
                 self.ended = true;
                 Ok(Front::Malformed)

@@ -1,6 +1,6 @@
 use crate::server_core::Core;
 use audit_disk_model::Sectors;
-use audit_serve_passes::SessionCore;
+use audit_serve_passes::{Allowance, SessionCore};
 use audit_store::StoreError;
 use std::alloc::AllocError;
 
@@ -18,6 +18,18 @@ impl<D: Sectors> SessionCore for Core<D> {
         match self.feed(session, piece) {
             Ok(()) => Ok(()),
             Err(fault) => Err(fault.error),
+        }
+    }
+
+    fn feed_within(
+        &mut self,
+        session: usize,
+        piece: &[u8],
+        allowance: &mut Allowance,
+    ) -> Result<usize, StoreError> {
+        match self.feed_within(session, piece, allowance) {
+            Ok(taken) => Ok(taken),
+            Err(refused) => Err(refused.error),
         }
     }
 

@@ -1,5 +1,5 @@
 -- The body of a reply reads as that reply, and has the length that its length field states.
-use Rattle.std.proofs.Common.{◌≡◌, ℕ, ◌+◌, ◌*◌, ◌<◌, ◌^◌, true, ◌&&◌, leb, eqb, List, [], ◌∷◌, ◌++◌, length, take, drop, Some, None, refl, sym, ap, ◌∙◌, arith}
+use Rattle.std.proofs.Common.{◌≡◌, ℕ, ◌+◌, ◌*◌, ◌<◌, ◌≤◌, ◌^◌, true, ◌&&◌, leb, eqb, List, [], ◌∷◌, ◌++◌, length, take, drop, Some, None, refl, sym, ap, ◌∙◌, arith}
 use Rattle.std.specs.List.{concat, flat_map, AllByRecursion}
 use Rattle.std.specs.Int.{w16, w32, w64, to_be_bytes, from_be_bytes}
 use Rattle.std.proofs.lemmas.Bool.{and_from, le-leb, eq-eqb, cond-true}
@@ -14,7 +14,7 @@ use Rattle.audit_wire.specs.declared.refusal.Refusal.TheVariants as refusal
 use Rattle.audit_wire.specs.declared.reply.Reply.{Reply}
 use Rattle.audit_wire.specs.declared.reply.Reply.TheVariants as reply
 use Rattle.audit_wire.specs.Frame.{frame}
-use Rattle.audit_wire.specs.Reply.{IsWholeReply, reply_frame, reply_body, refusal_code, hash_list, IsReply, HasReplyFields, refusal_with_code, refused_with, acknowledgement_in, commitment_reply_in, membership_reply_in, increment_reply_in, entry_reply_in, refused_in, reply_in}
+use Rattle.audit_wire.specs.Reply.{IsWholeReply, reply_frame, longest_frame, reply_body, refusal_code, hash_list, IsReply, HasReplyFields, refusal_with_code, refused_with, acknowledgement_in, commitment_reply_in, membership_reply_in, increment_reply_in, entry_reply_in, refused_in, reply_in}
 
 -- the concatenated hashes of a reply
 joined : (hashes : List (List ℕ)) (entry : List ℕ) → flat_map (λ (hash : List ℕ). hash) hashes ++ entry ≡ concat hashes ++ entry
@@ -101,6 +101,7 @@ refusal_again refusal.NoSuchVersion = refl
 refusal_again refusal.Worn = refl
 refusal_again refusal.Device = refl
 refusal_again refusal.Closed = refl
+refusal_again refusal.NotAllowed = refl
 refusal_again refusal.Malformed = refl
 
 refused_again : (tag : ℕ) (code : Refusal) → tag < 2 ^ 32 → refused_in (to_be_bytes w32 tag ++ refusal_code code ∷ []) ≡ Some (reply.Refused tag code)
@@ -127,6 +128,15 @@ reply_size (reply.Membership tag hashes entry) within fits = omega (arith, ap le
 reply_size (reply.Incremental tag hashes) within fits = omega (arith, ap length (flat_map-concat hashes), length-concat hashes fits.1, within)
 reply_size (reply.Entry tag entry) within fits = omega (arith, within)
 reply_size (reply.Refused tag code) within fits = omega arith
+
+-- a frame is no longer than the longest of its kind
+pub reply_within : (given : Reply) → IsReply given → HasReplyFields given → length (reply_frame given) ≤ longest_frame given
+reply_within (reply.Acknowledgement tag index count root) within fits = omega (arith, fits.3)
+reply_within (reply.Commitment tag count root) within fits = omega (arith, fits.2)
+reply_within (reply.Membership tag hashes entry) within fits = omega (arith, ap length (joined hashes entry), length-joined hashes entry fits.1, within.0, within.1)
+reply_within (reply.Incremental tag hashes) within fits = omega (arith, ap length (flat_map-concat hashes), length-concat hashes fits.1, within)
+reply_within (reply.Entry tag entry) within fits = omega (arith, within)
+reply_within (reply.Refused tag code) within fits = omega arith
 
 -- ---- consecutive replies
 

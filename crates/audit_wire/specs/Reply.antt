@@ -6,6 +6,8 @@ use Rattle.std.specs.Int.{w32, w64, to_be_bytes}
 use Rattle.audit_base.specs.Bytes.{number_at}
 use Rattle.audit_base.specs.Hashes.{AreHashes, first_hashes}
 use Rattle.audit_base.specs.declared.limits.TheConstants.{HASH_LEN, MAX_MEMBER_HASHES, MAX_INCREMENT_HASHES, MAX_ENTRY}
+use Rattle.audit_wire.specs.declared.limits.TheConstants.{ACKNOWLEDGEMENT_FRAME, REFUSAL_FRAME, COMMITMENT_FRAME}
+use Rattle.audit_wire.specs.declared.limits.TheConstants.{MAX_ENTRY_FRAME, MAX_INCREMENT_FRAME, MAX_MEMBERSHIP_FRAME}
 use Rattle.audit_wire.specs.Frame.{frame}
 use Rattle.audit_wire.specs.declared.reply_fault.ReplyError.{ReplyError}
 use Rattle.audit_wire.specs.declared.reply_fault.ReplyError.TheVariants as fault
@@ -24,6 +26,7 @@ refusal_code refusal.NoSuchVersion = 8
 refusal_code refusal.Worn = 9
 refusal_code refusal.Device = 11
 refusal_code refusal.Closed = 13
+refusal_code refusal.NotAllowed = 16
 refusal_code refusal.Malformed = 20
 
 -- the first byte of each kind: 0x81 to 0x85, and 0xff
@@ -76,6 +79,15 @@ pub record IsWholeReply (given : Reply) : Type 0 where
 abbrev pub reply_frame : Reply → List ℕ
 reply_frame given = frame (reply_body given)
 
+-- the size of the longest frame of each kind
+abbrev pub longest_frame : Reply → ℕ
+longest_frame (reply.Acknowledgement tag index count root) = ACKNOWLEDGEMENT_FRAME
+longest_frame (reply.Commitment tag count root) = COMMITMENT_FRAME
+longest_frame (reply.Membership tag hashes entry) = MAX_MEMBERSHIP_FRAME
+longest_frame (reply.Incremental tag hashes) = MAX_INCREMENT_FRAME
+longest_frame (reply.Entry tag entry) = MAX_ENTRY_FRAME
+longest_frame (reply.Refused tag code) = REFUSAL_FRAME
+
 -- ---- the same, read from bytes
 
 -- the kind that the first byte of a body denotes
@@ -97,6 +109,7 @@ refusal_with_code code =
     if code == 9 then Some refusal.Worn else
     if code == 11 then Some refusal.Device else
     if code == 13 then Some refusal.Closed else
+    if code == 16 then Some refusal.NotAllowed else
     if code == 20 then Some refusal.Malformed else None
 
 -- the reply in the bytes after the first one, for each kind

@@ -1,14 +1,16 @@
 //! Laws of the formats. Each function does nothing: its contract is the law.
 
-ghost use Rattle.std.specs.Prelude.{◌≡◌, ◌<◌, ◌^◌, ℕ, length, List, [], ◌∷◌, ◌++◌, Some};
+ghost use Rattle.std.specs.Prelude.{◌≡◌, ◌<◌, ◌≤◌, ◌^◌, ℕ, length, List, [], ◌∷◌, ◌++◌, Some};
 ghost use Rattle.audit_wire.specs.declared.request.Request.{Request};
 ghost use Rattle.audit_base.specs.declared.limits.TheConstants.{HASH_LEN};
 ghost use Rattle.audit_wire.specs.declared.limits.TheConstants.{LENGTH_BYTES, MAX_BODY, MAX_FRAME};
-ghost use Rattle.audit_wire.specs.declared.limits.TheConstants.{ACKNOWLEDGEMENT_FRAME, REFUSAL_FRAME};
+ghost use Rattle.audit_wire.specs.declared.limits.TheConstants.{ACKNOWLEDGEMENT_FRAME, COMMITMENT_FRAME};
+ghost use Rattle.audit_wire.specs.declared.limits.TheConstants.{MAX_ENTRY_FRAME, MAX_INCREMENT_FRAME};
+ghost use Rattle.audit_wire.specs.declared.limits.TheConstants.{MAX_MEMBERSHIP_FRAME, REFUSAL_FRAME};
 ghost use Rattle.audit_wire.specs.declared.refusal.Refusal.{Refusal};
 ghost use Rattle.audit_wire.specs.declared.reply.Reply.{Reply};
 ghost use Rattle.audit_wire.specs.declared.reply.Reply.TheVariants as reply;
-ghost use Rattle.audit_wire.specs.Reply.{reply_body, reply_frame, reply_in, IsWholeReply};
+ghost use Rattle.audit_wire.specs.Reply.{reply_body, reply_frame, longest_frame, reply_in, IsWholeReply};
 ghost use Rattle.std.specs.List.{flat_map, AllByRecursion};
 ghost use Rattle.audit_base.specs.Bytes.{AreBytes};
 ghost use Rattle.audit_wire.specs.Frame.{IsPartial};
@@ -68,11 +70,13 @@ pub fn every_reply_is_read_back()
     ensures refused { (tag : ℕ) (code : Refusal) → length (reply_body (reply.Refused tag code)) ≡ 6 }
 {}
 
-/// All acknowledgements have frames of one size, and so have all refusals.
+/// All acknowledgements have frames of one size, and so have all refusals. No frame is longer than the longest of its
+/// kind.
 pub fn replies_have_their_sizes()
     ensures acknowledgement { (tag index count : ℕ) (root : List ℕ) → length root ≡ HASH_LEN
         → length (reply_frame (reply.Acknowledgement tag index count root)) ≡ ACKNOWLEDGEMENT_FRAME }
     ensures refused { (tag : ℕ) (code : Refusal) → length (reply_frame (reply.Refused tag code)) ≡ REFUSAL_FRAME }
+    ensures within { (given : Reply) → IsWholeReply given → length (reply_frame given) ≤ longest_frame given }
 {}
 
 /// The output of a session can be read as reply frames in only one way.
@@ -110,4 +114,8 @@ pub fn limits_are_these_numbers()
     ensures frame { MAX_FRAME ≡ 32707 }
     ensures acknowledgement { ACKNOWLEDGEMENT_FRAME ≡ 55 }
     ensures refusal { REFUSAL_FRAME ≡ 8 }
+    ensures commitment { COMMITMENT_FRAME ≡ 47 }
+    ensures entry { MAX_ENTRY_FRAME ≡ 32775 }
+    ensures increment { MAX_INCREMENT_FRAME ≡ 808 }
+    ensures membership { MAX_MEMBERSHIP_FRAME ≡ 33544 }
 {}

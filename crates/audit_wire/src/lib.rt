@@ -38,7 +38,10 @@ pub use laws::{
     every_request_is_read_back, limits_are_these_numbers, more_bytes_keep_the_requests,
     one_reading_of_a_stream, one_reading_of_replies, replies_have_their_sizes,
 };
-pub use limits::{ACKNOWLEDGEMENT_FRAME, LENGTH_BYTES, MAX_BODY, MAX_FRAME, REFUSAL_FRAME};
+pub use limits::{
+    ACKNOWLEDGEMENT_FRAME, COMMITMENT_FRAME, LENGTH_BYTES, MAX_BODY, MAX_ENTRY_FRAME, MAX_FRAME,
+    MAX_INCREMENT_FRAME, MAX_MEMBERSHIP_FRAME, REFUSAL_FRAME,
+};
 pub use malformed::Malformed;
 pub use reading::read_request;
 pub use refusal::Refusal;

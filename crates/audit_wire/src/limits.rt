@@ -1,6 +1,6 @@
 //! The limits of the frames, in bytes. The limits of payloads, entries and proofs are the store's.
 
-use audit_base::MAX_PAYLOAD;
+use audit_base::{HASH_LEN, MAX_ENTRY, MAX_INCREMENT_HASHES, MAX_MEMBER_HASHES, MAX_PAYLOAD};
 
 /// The length field of a frame.
 pub const LENGTH_BYTES: usize = 2;
@@ -19,3 +19,18 @@ pub const ACKNOWLEDGEMENT_FRAME: usize = 55;
 
 /// The frame of every refusal, including its length field.
 pub const REFUSAL_FRAME: usize = 8;
+
+/// The frame of every commitment, including its length field.
+pub const COMMITMENT_FRAME: usize = 47;
+
+/// The length field, first byte and request tag of a reply.
+const REPLY_HEAD: usize = LENGTH_BYTES + 5;
+
+/// The longest frame of an entry, including its length field.
+pub const MAX_ENTRY_FRAME: usize = REPLY_HEAD + MAX_ENTRY;
+
+/// The longest frame of an incremental proof, including its length field.
+pub const MAX_INCREMENT_FRAME: usize = REPLY_HEAD + 1 + HASH_LEN * MAX_INCREMENT_HASHES;
+
+/// The longest frame of a membership proof with its entry, including its length field. No reply has a longer one.
+pub const MAX_MEMBERSHIP_FRAME: usize = REPLY_HEAD + 1 + HASH_LEN * MAX_MEMBER_HASHES + MAX_ENTRY;

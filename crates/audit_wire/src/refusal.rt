@@ -15,6 +15,8 @@ pub enum Refusal {
     Device = 11,
     /// The log is closed.
     Closed = 13,
+    /// The request isn't allowed on this socket.
+    NotAllowed = 16,
     /// The bytes weren't a request.
     Malformed = 20,
 }
@@ -40,6 +42,7 @@ impl Refusal {
             9 => Some(Refusal::Worn),
             11 => Some(Refusal::Device),
             13 => Some(Refusal::Closed),
+            16 => Some(Refusal::NotAllowed),
             20 => Some(Refusal::Malformed),
             _ => None,
         }

@@ -1,0 +1,220 @@
+-- What the calls of a core make its sessions owed.
+use Rattle.std.proofs.Common.{◌≡◌, ◌∙◌, inl, inr, ◌⊎◌, ℕ, ◌+◌, ◌-◌, ◌<◌, ◌≤◌, Bool, true, false, ◌||◌, ◌&&◌, cond, eqb, leb, Result, Ok, Err, OnOk, List, [], ◌∷◌, ◌++◌, length, map, take, refl, sym, ap, subst, arith, true≢false}
+use Rattle.std.specs.List.{AllByRecursion}
+use Rattle.std.proofs.lemmas.Bool.{eqb-true, leb-true}
+use Rattle.audit_disk_model.specs.declared.sectors.Sectors as sectors
+use Rattle.audit_wire.specs.declared.limits.TheConstants.{MAX_MEMBERSHIP_FRAME, REFUSAL_FRAME}
+use Rattle.audit_wire.specs.declared.request.Request.{Request}
+use Rattle.audit_wire.specs.declared.request.Request.TheVariants as request
+use Rattle.audit_wire.specs.Stream.{Framed}
+use Rattle.audit_server_queue.specs.declared.question.Query.{Query}
+use Rattle.audit_server_queue.specs.declared.question.Query.TheVariants as query
+use Rattle.audit_server_queue.specs.Arrivals.{Arrival, an_append, a_question, arrival_of, malformed_from, arrivals_in}
+use Rattle.audit_server_queue.specs.Owing.{longest_answer, longest_reply, comes_from, share_of, owed_for}
+use Rattle.audit_store.specs.Store.{is_broken}
+use Rattle.audit_store.specs.declared.store_error.StoreError.{StoreError}
+use Rattle.audit_server_commit.specs.declared.committer.Committer.{Committer}
+use Rattle.audit_server_commit.specs.Committer.{store_of}
+use Rattle.audit_server_commit.specs.Owing.{owed_of}
+use Rattle.audit_server_commit.specs.Flush.{FlushOutcome}
+use Rattle.audit_server_commit.proofs.Owing.{flush_owed, entered_owed}
+use Rattle.audit_serve_passes.specs.declared.allowance.Demand.{Demand}
+use Rattle.audit_serve_passes.specs.declared.allowance.Share.{Share}
+use Rattle.audit_serve_passes.specs.declared.allowance.Allowance.{Allowance}
+use Rattle.audit_serve_passes.specs.Allowance.{has_room, has_room_to_ask, spent}
+use Rattle.audit_serve_passes.specs.Owing.{GrowsWithin, OwesNoMore, OwesWithin, OwesAtEnd, IsBeyondAllowance}
+use Rattle.audit_server_model.specs.Sessions.{SessionData, arrivals_by_piece, arrivals_of_rest, arrivals_by_end, framed_after}
+use Rattle.audit_server.specs.declared.limit.Limit.{Limit}
+use Rattle.audit_server.specs.declared.limit.Limit.TheVariants as limit
+use Rattle.audit_server.specs.declared.server_core.Core.{Core}
+use Rattle.audit_server.specs.Limit.{AreAdmitted}
+use Rattle.audit_server.specs.Running.{HaveEntered}
+use Rattle.audit_server.specs.Core.{committer_of, session_of, is_core_broken, IsSound, AllowedOutcome, EndOutcome, IsCoreUntouched}
+use Rattle.audit_server.specs.CoreModel.{core_model}
+
+-- ---- the replies to arrivals
+
+-- the longest replies to arrivals, all of them and those for session k
+abbrev total_of : List Arrival → ℕ
+total_of [] = 0
+total_of (arrival ∷ arrivals) = longest_reply arrival + total_of arrivals
+
+abbrev owed_for_all : ℕ → List Arrival → ℕ
+owed_for_all k [] = 0
+owed_for_all k (arrival ∷ arrivals) = owed_for k arrival + owed_for_all k arrivals
+
+abbrev ComeFrom : ℕ → List Arrival → Type 0
+ComeFrom j = AllByRecursion (λ arrival. comes_from arrival ≡ j)
+
+share-most : (k session bytes : ℕ) → share_of k session bytes ≤ bytes
+share-most k session bytes = by (eqb session k)
+  where
+    by : (same : Bool) → cond same bytes 0 ≤ bytes
+    by true = omega arith
+    by false = omega arith
+
+no_share : (k session bytes : ℕ) → (session ≡ k → ⊥) → share_of k session bytes ≡ 0
+no_share k session bytes apart = by (eqb session k) refl
+  where
+    by : (same : Bool) → eqb session k ≡ same → cond same bytes 0 ≡ 0
+    by true is = absurd (apart (eqb-true session k is))
+    by false is = refl
+
+own_most : (k : ℕ) (arrivals : List Arrival) → owed_for_all k arrivals ≤ total_of arrivals
+own_most k [] = omega arith
+own_most k (arrival ∷ arrivals) = omega (arith, share-most k (comes_from arrival) (longest_reply arrival), own_most k arrivals)
+
+others_none : (j k : ℕ) (arrivals : List Arrival) → (k ≡ j → ⊥) → ComeFrom j arrivals → owed_for_all k arrivals ≡ 0
+others_none j k [] apart from = refl
+others_none j k (arrival ∷ arrivals) apart from =
+    omega (arith, no_share k (comes_from arrival) (longest_reply arrival) (λ same. apart (sym same ∙ from.0)), others_none j k arrivals apart from.1)
+
+request_from : (k : ℕ) (one : Request) → comes_from (arrival_of k one) ≡ k
+request_from k (request.Append tag kind payload) = refl
+request_from k (request.Commitment tag) = refl
+request_from k (request.Membership tag index count) = refl
+request_from k (request.Incremental tag older newer) = refl
+request_from k (request.Entry tag index) = refl
+request_from k (request.Close tag) = refl
+
+arrivals_from : (k : ℕ) (requests : List Request) (malformed : Bool) → ComeFrom k (map (arrival_of k) requests ++ cond malformed (malformed_from k ∷ []) [])
+arrivals_from k [] true = (refl, tt)
+arrivals_from k [] false = tt
+arrivals_from k (one ∷ requests) malformed = (request_from k one, arrivals_from k requests malformed)
+
+piece_from : (k : ℕ) (piece : List ℕ) (session : SessionData) → ComeFrom k (arrivals_by_piece k piece session)
+piece_from k piece session = by session.ended
+  where
+    framed : Framed Request
+    framed = framed_after session piece
+
+    by : (ended : Bool) → ComeFrom k (cond ended [] (arrivals_in k framed))
+    by true = tt
+    by false = arrivals_from k framed.items framed.malformed
+
+end_from : (k : ℕ) (session : SessionData) → ComeFrom k (arrivals_by_end k session)
+end_from k session = by session.ended session.rest
+  where
+    by : (ended : Bool) (rest : List ℕ) → ComeFrom k (cond ended [] (arrivals_of_rest k rest))
+    by true rest = tt
+    by false [] = tt
+    by false (byte ∷ rest) = (refl, tt)
+
+end_total : (k : ℕ) (session : SessionData) → total_of (arrivals_by_end k session) ≤ REFUSAL_FRAME
+end_total k session = by session.ended session.rest
+  where
+    by : (ended : Bool) (rest : List ℕ) → total_of (cond ended [] (arrivals_of_rest k rest)) ≤ REFUSAL_FRAME
+    by true rest = omega arith
+    by false [] = omega arith
+    by false (byte ∷ rest) = omega arith
+
+-- ---- within an allowance
+
+longest_query : (asked : Query) → longest_answer asked ≤ MAX_MEMBERSHIP_FRAME
+longest_query (query.Commitment tag) = omega arith
+longest_query (query.Membership tag index count) = omega arith
+longest_query (query.Incremental tag older newer) = omega arith
+longest_query (query.Entry tag index) = omega arith
+longest_query query.Malformed = omega arith
+
+longest_arrival : (arrival : Arrival) → longest_reply arrival ≤ MAX_MEMBERSHIP_FRAME
+longest_arrival (an_append append) = omega arith
+longest_arrival (a_question question) = longest_query question.query
+
+room_or : (share : Share) (bytes : ℕ) (more : Bool) → (has_room share bytes && more) ≡ true → (share.is_whole ≡ true) ⊎ (bytes ≤ share.left)
+room_or share bytes more is = by share.is_whole refl (leb bytes share.left) refl
+  where
+    by : (whole : Bool) → share.is_whole ≡ whole → (within : Bool) → leb bytes share.left ≡ within → (share.is_whole ≡ true) ⊎ (bytes ≤ share.left)
+    by true whole within rest = inl whole
+    by false whole true within = inr (leb-true bytes share.left within)
+    by false whole false within = absurd (true≢false (sym is ∙ ap (λ (b : Bool). (b || leb bytes share.left) && more) whole ∙ ap (λ (b : Bool). b && more) within))
+
+abbrev TotalWithin : Share → ℕ → Type 0
+TotalWithin share total = (total ≤ share.left) ⊎ ((share.is_whole ≡ true) × (total ≤ MAX_MEMBERSHIP_FRAME))
+
+more_within : (share : Share) (first rest : ℕ) → (share.is_whole ≡ true) ⊎ (first ≤ share.left) → first ≤ MAX_MEMBERSHIP_FRAME → rest ≤ share.left - first → TotalWithin share (first + rest)
+more_within share first rest (inr room) most within = inl (omega (arith, room, within))
+more_within share first rest (inl whole) most within = by (less_or share.left first)
+  where
+    less_or : (m n : ℕ) → (m < n) ⊎ (n ≤ m)
+    less_or m n = search (arith)
+
+    by : (share.left < first) ⊎ (first ≤ share.left) → TotalWithin share (first + rest)
+    by (inl less) = inr (whole, omega (arith, less, most, within))
+    by (inr room) = inl (omega (arith, room, within))
+
+admitted_total : (arrivals : List Arrival) (old : Allowance) (left : Limit) → AreAdmitted arrivals (limit.Within old) left → TotalWithin old.session (total_of arrivals)
+admitted_total [] old left taken = inl (omega arith)
+admitted_total (arrival ∷ arrivals) old left taken = by (admitted_total arrivals (spent taken.0 old) left taken.3)
+  where
+    demand : Demand
+    demand = taken.0
+
+    room : (old.session.is_whole ≡ true) ⊎ (demand.reply ≤ old.session.left)
+    room = room_or old.session demand.reply (has_room_to_ask old.questions demand.question) taken.2
+
+    by : TotalWithin (spent demand old).session (total_of arrivals) → TotalWithin old.session (longest_reply arrival + total_of arrivals)
+    by (inl within) = subst (λ (bytes : ℕ). TotalWithin old.session (bytes + total_of arrivals)) taken.1.reply (more_within old.session demand.reply (total_of arrivals) room (omega (arith, taken.1.reply, longest_arrival arrival)) within)
+    by (inr whole) = absurd (true≢false (sym whole.0))
+
+grows : (share : Share) (old new total owed : ℕ) → new ≤ old + owed → owed ≤ total → TotalWithin share total → GrowsWithin share MAX_MEMBERSHIP_FRAME old new
+grows share old new total owed grown most (inl within) = inl (omega (arith, grown, most, within))
+grows share old new total owed grown most (inr (whole, within)) = inr (whole, omega (arith, grown, most, within))
+
+module _ {D : Type 0} {g : sectors.Ghosts D} where
+  entered_all : (k : ℕ) (arrivals : List Arrival) (old new : Committer D g) → HaveEntered arrivals old new → owed_of k new ≤ owed_of k old + owed_for_all k arrivals
+  entered_all k [] old new same = omega (arith, ap (owed_of k) same)
+  entered_all k (arrival ∷ arrivals) old new entered = omega (arith, entered_owed k arrival old entered.0 entered.1, entered_all k arrivals entered.0 new entered.2)
+
+  pub within_owes : (k : ℕ) (piece : List ℕ) (taken : ℕ) (old new : Core D g) (allowance left : Allowance) → AllowedOutcome k piece old new allowance left (Ok taken) → OwesWithin core_model k allowance.session old new
+  within_owes k piece taken old new allowance left end =
+      let arrivals = arrivals_by_piece k (take taken piece) (session_of k old) in
+      let entered = end.fed.whole.run.entered in
+      record {
+        own = grows allowance.session (owed_of k (committer_of old)) (owed_of k (committer_of new)) (total_of arrivals) (owed_for_all k arrivals) (entered_all k arrivals (committer_of old) (committer_of new) entered) (own_most k arrivals)
+            (admitted_total arrivals allowance (limit.Within left) end.fed.spent);
+        others = λ other apart. omega (arith, entered_all other arrivals (committer_of old) (committer_of new) entered, others_none k other arrivals apart (piece_from k (take taken piece) (session_of k old)));
+      }
+
+  pub within_stops : (k : ℕ) (piece : List ℕ) (taken : ℕ) (old new : Core D g) (allowance left : Allowance) → AllowedOutcome k piece old new allowance left (Ok taken) → taken < length piece → IsBeyondAllowance (core_model {D = D} {g = g}) left
+  within_stops k piece taken old new allowance left end less =
+      let stops = end.fed.stops less in
+      record { demand = stops.over.demand; most = omega (arith, stops.over.its.reply, longest_arrival stops.arrival); over = stops.over.over }
+
+  pub within_unspent : (k : ℕ) (piece : List ℕ) (taken : ℕ) (old new : Core D g) (allowance left : Allowance) → AllowedOutcome k piece old new allowance left (Ok taken) → length (arrivals_by_piece k (take taken piece) (session_of k old)) ≡ 0 → left ≡ allowance
+  within_unspent k piece taken old new allowance left end none = by (arrivals_by_piece k (take taken piece) (session_of k old)) none end.fed.spent
+    where
+      by : (arrivals : List Arrival) → length arrivals ≡ 0 → AreAdmitted arrivals (limit.Within allowance) (limit.Within left) → left ≡ allowance
+      by [] none same = cc same
+      by (arrival ∷ arrivals) none same = absurd (omega (arith, none))
+
+  pub end_owes : (k : ℕ) (old new : Core D g) → EndOutcome k old new (Ok tt) → OwesAtEnd core_model k old new
+  end_owes k old new end =
+      let arrivals = arrivals_by_end k (session_of k old) in
+      let entered = end.ended.frame.entered in
+      record {
+        own = omega (arith, entered_all k arrivals (committer_of old) (committer_of new) entered, own_most k arrivals, end_total k (session_of k old));
+        others = λ other apart. omega (arith, entered_all other arrivals (committer_of old) (committer_of new) entered, others_none k other arrivals apart (end_from k (session_of k old)));
+      }
+
+  pub end_over : (k : ℕ) (old new : Core D g) → EndOutcome k old new (Ok tt) → (session_of k new).ended ≡ true
+  end_over k old new end = ap (λ (session : SessionData). session.ended) end.ended.session
+
+  pub flush_owes : (old new : Core D g) (result : Result (Unit {0}) StoreError) → FlushOutcome (committer_of old) (committer_of new) result → OwesNoMore core_model old new
+  flush_owes old new result end = λ k. flush_owed k (committer_of old) (committer_of new) result end
+
+  -- a call that succeeded found the core sound
+  pub was_sound : (core : Core D g) → (is_core_broken core → ⊥) → IsSound core
+  was_sound core never = by (is_broken (store_of (committer_of core))) refl
+    where
+      by : (broken : Bool) → is_broken (store_of (committer_of core)) ≡ broken → IsSound core
+      by true is = absurd (never is)
+      by false is = is
+
+  pub on_ok_sound : {E : Type 0} {P : Type 0} (old new : Core D g) (result : Result (Unit {0}) E) (error : E) → (is_core_broken old → (result ≡ Err error) × IsCoreUntouched old new) → ((done : Unit {0}) → result ≡ Ok done → IsSound old → P) → OnOk result P
+  on_ok_sound old new (Err fault) error broken by = tt
+  on_ok_sound old new (Ok done) error broken by = by done refl (was_sound old (λ here. absurd (cc (broken here).0)))
+
+pub on_ok : {A E : Type 0} {P : Type 0} (result : Result A E) → P → OnOk result P
+on_ok (Ok value) holds = holds
+on_ok (Err error) holds = tt
