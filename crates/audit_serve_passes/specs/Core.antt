@@ -1,5 +1,5 @@
 -- A core that serves sessions, as contracts see it.
-use Rattle.std.specs.Prelude.{◌≡◌, ℕ, ◌==◌, Bool, if◌then◌else◌, List, [], ◌∷◌, ◌++◌}
+use Rattle.std.specs.Prelude.{◌≡◌, ℕ, ◌==◌, Bool, true, if◌then◌else◌, List, [], ◌∷◌, ◌++◌, length}
 use Rattle.audit_serve_passes.specs.Steps.{StepData, IsAbout, IsPartOf}
 
 -- bytes for each session: none, or those of one session
@@ -16,6 +16,14 @@ pub record CoreModel (C : Type 0) : Type 1 where
   pub output : C → ℕ → List ℕ
   -- nothing waits to be answered
   pub Idle : C → Type 0
+  -- the most bytes that a session may be sent for what it has asked: those that wait for it, and the longest replies to
+  -- its requests that wait to be answered
+  pub owed : C → ℕ → ℕ
+  -- how many requests of a session these bytes complete
+  pub requests : C → ℕ → List ℕ → ℕ
+  -- the longest reply to a request, and what a session is sent if the end of its stream cuts a request off
+  pub longest : ℕ
+  pub refusal : ℕ
   -- from the first state to the second a session was started anew, and nothing else has changed
   pub Begins : ℕ → C → C → Type 0
   -- the core did these steps from the first state to the second, and these bytes were taken from each session's output
@@ -32,6 +40,14 @@ pub record CoreModel (C : Type 0) : Type 1 where
       → DidSteps old new steps taken → ended new later k ≡ ended old (steps ++ later) k
   pub ended_alone : (core : C) (steps : List StepData) (step : StepData) (k : ℕ) → (IsAbout k step → ⊥)
       → ended core (steps ++ step ∷ []) k ≡ ended core steps k
+  -- a session that has ended stays so
+  pub ended_stays : (core : C) (steps later : List StepData) (k : ℕ) → ended core steps k ≡ true
+      → ended core (steps ++ later) k ≡ true
+  -- a session that is started anew doesn't change whether another has ended
+  pub begun_alone : (old new : C) (k other : ℕ) → Begins k old new → (other ≡ k → ⊥)
+      → ended new [] other ≡ ended old [] other
+  -- if nothing waits to be answered, a session is owed what waits for it
+  pub owed_idle : (core : C) (k : ℕ) → Idle core → owed core k ≡ length (output core k)
   pub done_in_part : (old new : C) (steps : List StepData) (taken : ℕ → List ℕ) → DidSteps old new steps taken
       → DidStepsInPart old new steps taken
   -- nothing more is done after a refusal

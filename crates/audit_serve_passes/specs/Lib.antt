@@ -1,8 +1,10 @@
+pub mod Allowance
 pub mod Steps
 pub mod Streams
 pub mod Known
 pub mod CallLaws
 pub mod Core
+pub mod Owing
 pub mod Rounds
 pub mod Transition
 pub mod Pairs

@@ -5,6 +5,7 @@
 //! the bytes of the sessions.
 #![tactic(auto)]
 
+mod allowance;
 mod duplex;
 mod duplex_stream;
 pub mod laws;
@@ -19,6 +20,7 @@ mod stream_fault;
 mod stream_pair;
 mod writing;
 
+pub use allowance::{Allowance, Demand, Share};
 pub use duplex::Duplex;
 pub use duplex_stream::DuplexStream;
 pub use limits::{MAX_PIECE, MAX_TURNS};

@@ -1,8 +1,10 @@
-ghost use Rattle.std.specs.Prelude.{◌≡◌, ◌<◌, ℕ, List, [], ◌∷◌, true, IfErr, OnOk, OnErr};
+ghost use Rattle.std.specs.Prelude.{◌≡◌, ◌<◌, ◌≤◌, ℕ, List, [], ◌∷◌, true, length, take, IfOk, IfErr, OnOk, OnErr};
 ghost use Rattle.audit_base.specs.declared.limits.TheConstants.{SESSIONS};
 ghost use Rattle.audit_serve_passes.specs.Steps.{StepData, a_piece, an_end, a_flush};
 ghost use Rattle.audit_serve_passes.specs.Core.{CoreModel, GoesBy, no_bytes, bytes_for};
+ghost use Rattle.audit_serve_passes.specs.Owing.{OwesNoMore, OwesWithin, OwesAtEnd, IsBeyondAllowance};
 
+use crate::allowance::Allowance;
 use std::alloc::AllocError;
 
 /// A core that serves the requests of sessions. It takes their bytes in pieces of any size, and keeps the bytes of the
@@ -28,11 +30,34 @@ pub trait SessionCore {
         ensures did { OnOk result (model.DidSteps self.old self.new (a_piece session piece.now ∷ []) no_bytes) }
         ensures refused { IfErr result (refuses self.old self.new) };
 
+    /// Takes the next bytes of a session up to the first request that the allowance doesn't admit, and returns how many
+    /// it took. The allowance is then what is left of it. Bytes of a session that has ended are dropped.
+    fn feed_within(
+        &mut self,
+        session: usize,
+        piece: &[u8],
+        allowance: &mut Allowance,
+    ) -> Result<usize, Self::Error>
+        requires { session < SESSIONS }
+        ensures within { IfOk result (λ taken. taken ≤ length piece.now) }
+        ensures reaches { GoesBy model (a_piece session piece.now) self.old self.new }
+        ensures did { IfOk result (λ taken.
+            model.DidSteps self.old self.new (a_piece session (take taken piece.now) ∷ []) no_bytes) }
+        // The replies that it may have to send are within the session's share.
+        ensures owes { OnOk result (OwesWithin model session allowance.old.session self.old self.new) }
+        // It stops only before a request that isn't admitted, and only requests are taken of the allowance.
+        ensures stops { IfOk result (λ taken. taken < length piece.now → IsBeyondAllowance model allowance.new) }
+        ensures unspent { IfOk result (λ taken. model.requests self.old session (take taken piece.now) ≡ 0
+            → allowance.new ≡ allowance.old) }
+        ensures refused { IfErr result (refuses self.old self.new) };
+
     /// Ends a session: no more of its bytes follow.
     fn end(&mut self, session: usize) -> Result<(), Self::Error>
         requires { session < SESSIONS }
         ensures reaches { GoesBy model (an_end session) self.old self.new }
         ensures did { OnOk result (model.DidSteps self.old self.new (an_end session ∷ []) no_bytes) }
+        ensures over { OnOk result (model.ended self.new [] session ≡ true) }
+        ensures owes { OnOk result (OwesAtEnd model session self.old self.new) }
         ensures refused { IfErr result (refuses self.old self.new) };
 
     /// Commits and answers what waits.
@@ -40,6 +65,7 @@ pub trait SessionCore {
         ensures reaches { GoesBy model a_flush self.old self.new }
         ensures did { OnOk result (model.DidSteps self.old self.new (a_flush ∷ []) no_bytes) }
         ensures idle { OnOk result (model.Idle self.new) }
+        ensures owes { OnOk result (OwesNoMore model self.old self.new) }
         ensures refused { IfErr result (refuses self.old self.new) };
 
     /// Takes the bytes that wait for a session. The bytes for other sessions are kept.

@@ -8,7 +8,7 @@ use Rattle.audit_serve_passes.specs.CallLaws.{or_of_three, bytes_read-append, by
 use Rattle.audit_serve_passes.specs.Transition.{AreElsewhere}
 use Rattle.audit_serve_passes.proofs.Calls.{or_left, or_right, nothing_sent, whole-append}
 use Rattle.audit_serve_passes.proofs.StreamSteps.{bytes_of-append, ends_in-append, bytes_elsewhere, ends_elsewhere}
-use Rattle.audit_serve_ready.specs.Slot.{SlotData, vacant, serving, closing, client_of, kept_of, is_shut, HasCalled, IsAccounted}
+use Rattle.audit_serve_ready.specs.Slot.{SlotData, vacant, serving, unheard, closing, client_of, unread_of, kept_of, with_unread, is_shut, is_mute, HasCalled, IsAccounted}
 use Rattle.audit_serve_ready.specs.Places.{is_last_read, has_last_read, IsServedAt}
 
 pub either_of : {P : Type 0} (x y : Bool) → (x || y) ≡ true → (x ≡ true → P) → (y ≡ true → P) → P
@@ -49,10 +49,18 @@ join_shut k s m b1 bk d1 b2 ck d2 first second nb n2 nc =
     sym (append_assoc k s m) ∙ ap (λ (x : List ℕ). x ++ m) first ∙ ap (λ (x : List ℕ). (b1 ++ (x ++ d1)) ++ m) nb ∙ append_assoc b1 d1 m ∙ ap (λ (x : List ℕ). b1 ++ (d1 ++ x)) rest
     ∙ ap (λ (x : List ℕ). x ++ (d1 ++ d2)) (sym (append-nil b1)) ∙ ap (λ (x : List ℕ). (b1 ++ x) ++ (d1 ++ d2)) (sym n2) ∙ ap (λ (x : List ℕ). (b1 ++ b2) ++ (x ++ (d1 ++ d2))) (sym nc)
 
-pub nothing_kept : {S : Type 0} (slot : SlotData S) → is_shut slot ≡ true → kept_of slot ≡ []
-nothing_kept vacant shut = refl
-nothing_kept (serving client kept) shut = absurd (true≢false (sym shut))
-nothing_kept (closing client) shut = refl
+pub nothing_kept : {S : Type 0} (slot : SlotData S) → is_mute slot ≡ true → kept_of slot ≡ []
+nothing_kept vacant mute = refl
+nothing_kept (serving client unread kept) mute = absurd (true≢false (sym mute))
+nothing_kept (unheard client unread) mute = refl
+nothing_kept (closing client unread) mute = refl
+
+-- a place that isn't shut has the bytes that are put there
+pub unread_put : {S : Type 0} (bytes : List ℕ) (slot : SlotData S) → is_shut slot ≡ false → unread_of (with_unread bytes slot) ≡ bytes
+unread_put bytes vacant live = absurd (true≢false live)
+unread_put bytes (serving client unread kept) live = refl
+unread_put bytes (unheard client unread) live = refl
+unread_put bytes (closing client unread) live = absurd (true≢false live)
 
 module _ {S : Type 0} (N : CallModel S) where
   called_none : (client : Option S) → HasCalled N client client []
@@ -76,36 +84,45 @@ module _ {S : Type 0} (N : CallModel S) where
     written = refl;
     none_dropped = λ now. refl;
     whole = tt;
-    shut = λ shut. shut;
+    mute = λ mute. mute;
     fails = λ failed. absurd (true≢false (sym failed));
+    shut = λ shut. shut;
   }
+
+  -- what is unread is no matter of replies
+  pub unread_accounted : (bytes : List ℕ) (slot : SlotData S) → IsAccounted N [] [] slot (with_unread bytes slot)
+  unread_accounted bytes vacant = accounted_none vacant
+  unread_accounted bytes (serving client unread kept) = record { client = N.nothing_called client; dropped = []; written = refl; none_dropped = λ now. refl; whole = tt; mute = λ mute. mute; fails = λ failed. absurd (true≢false (sym failed)); shut = λ shut. shut }
+  unread_accounted bytes (unheard client unread) = record { client = N.nothing_called client; dropped = []; written = refl; none_dropped = λ now. refl; whole = tt; mute = λ mute. mute; fails = λ failed. absurd (true≢false (sym failed)); shut = λ shut. shut }
+  unread_accounted bytes (closing client unread) = record { client = N.nothing_called client; dropped = []; written = refl; none_dropped = λ now. refl; whole = tt; mute = λ mute. mute; fails = λ failed. absurd (true≢false (sym failed)); shut = λ shut. shut }
 
   pub accounted_then : (sent more : List ℕ) (calls later : List StreamCall) (a b c : SlotData S) → IsAccounted N sent calls a b → IsAccounted N more later b c → IsAccounted N (sent ++ more) (calls ++ later) a c
   accounted_then sent more calls later a b c first second = record {
     client = called_then (client_of a) (client_of b) (client_of c) calls later first.client second.client;
     dropped = first.dropped ++ second.dropped;
     written =
-        elim (cases_Bool (is_shut b)) [
+        elim (cases_Bool (is_mute b)) [
           | inl e ↦ join_shut (kept_of a) sent more (bytes_sent calls) (kept_of b) first.dropped (bytes_sent later) (kept_of c) second.dropped first.written second.written
-              (nothing_kept b e) (nothing_sent (is_shut b) later e second.whole) (nothing_kept c (second.shut e))
+              (nothing_kept b e) (nothing_sent (is_mute b) later e second.whole) (nothing_kept c (second.mute e))
           | inr e ↦ join_open (kept_of a) sent more (bytes_sent calls) (kept_of b) first.dropped (bytes_sent later) (kept_of c) second.dropped first.written second.written (first.none_dropped e)
         ]
         ∙ ap (λ (all : List ℕ). all ++ (kept_of c ++ (first.dropped ++ second.dropped))) (sym (bytes_sent-append calls later));
-    none_dropped = λ now. elim (cases_Bool (is_shut b)) [
-      | inl e ↦ absurd (true≢false (sym (second.shut e) ∙ now))
+    none_dropped = λ now. elim (cases_Bool (is_mute b)) [
+      | inl e ↦ absurd (true≢false (sym (second.mute e) ∙ now))
       | inr e ↦ ap (λ (front : List ℕ). front ++ second.dropped) (first.none_dropped e) ∙ second.none_dropped now
     ];
-    whole = whole-append (is_shut a) calls later first.whole
-        (whole_weaker (is_shut a || has_failed_write calls) (is_shut b) (λ one. either_of (is_shut a) (has_failed_write calls) one first.shut first.fails) later second.whole);
+    whole = whole-append (is_mute a) calls later first.whole
+        (whole_weaker (is_mute a || has_failed_write calls) (is_mute b) (λ one. either_of (is_mute a) (has_failed_write calls) one first.mute first.fails) later second.whole);
+    mute = λ mute. second.mute (first.mute mute);
+    fails = λ failed. either_of (has_failed_write calls) (has_failed_write later) (sym (failed-append calls later) ∙ failed) (λ one. second.mute (first.fails one)) second.fails;
     shut = λ shut. second.shut (first.shut shut);
-    fails = λ failed. either_of (has_failed_write calls) (has_failed_write later) (sym (failed-append calls later) ∙ failed) (λ one. second.shut (first.fails one)) second.fails;
   }
 
   -- ---- one place, and the steps of its session
 
   pub served_elsewhere : (k : ℕ) (steps : List StepData) (slot : SlotData S) → AreElsewhere k steps → IsServedAt N k steps [] [] [] slot slot
   served_elsewhere k steps slot others = record {
-    read = ap (λ (bytes : List ℕ). bytes ++ []) (sym (bytes_elsewhere k steps others));
+    read = ap (λ (bytes : List ℕ). bytes ++ (unread_of slot ++ [])) (sym (bytes_elsewhere k steps others));
     ends = inl (ends_elsewhere k steps others);
     accounted = accounted_none slot;
   }
@@ -120,11 +137,13 @@ module _ {S : Type 0} (N : CallModel S) where
   pub served_then : (k : ℕ) (steps later : List StepData) (lost sent more : List ℕ) (calls further : List StreamCall) (a b c : SlotData S) → IsServedAt N k steps [] sent calls a b → IsServedAt N k later lost more further b c
       → IsServedAt N k (steps ++ later) lost (sent ++ more) (calls ++ further) a c
   served_then k steps later lost sent more calls further a b c first second = record {
-    read = bytes_read-append calls further
-        ∙ ap (λ (front : List ℕ). front ++ bytes_read further) (first.read ∙ append-nil (bytes_fed k steps))
+    read = ap (λ (bytes : List ℕ). unread_of a ++ bytes) (bytes_read-append calls further)
+        ∙ sym (append_assoc (unread_of a) (bytes_read calls) (bytes_read further))
+        ∙ ap (λ (front : List ℕ). front ++ bytes_read further) (first.read ∙ ap (λ (rest : List ℕ). bytes_fed k steps ++ rest) (append-nil (unread_of b)))
+        ∙ append_assoc (bytes_fed k steps) (unread_of b) (bytes_read further)
         ∙ ap (λ (rest : List ℕ). bytes_fed k steps ++ rest) second.read
-        ∙ sym (append_assoc (bytes_fed k steps) (bytes_fed k later) lost)
-        ∙ ap (λ (bytes : List ℕ). bytes ++ lost) (sym (bytes_of-append k steps later));
+        ∙ sym (append_assoc (bytes_fed k steps) (bytes_fed k later) (unread_of c ++ lost))
+        ∙ ap (λ (bytes : List ℕ). bytes ++ (unread_of c ++ lost)) (sym (bytes_of-append k steps later));
     ends = elim (ends_then (ends_in k steps) (ends_in k later) (has_last_read calls) (has_last_read further) (is_shut b) (is_shut c) first.ends second.ends second.accounted.shut) [
       | inl none ↦ inl (ends_in-append k steps later ∙ none)
       | inr last ↦ inr (ap (λ (x : Bool). x || is_shut c) (last-append calls further) ∙ last)

@@ -1,40 +1,53 @@
 -- Changes one after another.
-use Rattle.std.proofs.Common.{◌≡◌, List, [], ◌∷◌, ◌++◌, Result, Ok, Err, IfErr, refl, subst}
+use Rattle.std.proofs.Common.{◌≡◌, ◌∙◌, ℕ, ◌<◌, List, [], ◌∷◌, ◌++◌, length, Result, Ok, Err, IfErr, refl, sym, ap, subst}
 use Rattle.audit_serve_passes.specs.Streams.{CallModel}
 use Rattle.audit_serve_passes.specs.Core.{CoreModel, no_bytes}
 use Rattle.audit_serve_ready.specs.Slot.{SlotData}
-use Rattle.audit_serve_ready.specs.Places.{ServesPlaces, StopsAtPlaces}
-use Rattle.audit_serve_ready.specs.Clients.{ClientChange, a_pass, IsChange, AreChanges, ServesClients, StopsServing}
+use Rattle.audit_serve_ready.specs.Places.{slot_at, ServesPlaces, StopsAtPlaces}
+use Rattle.audit_serve_ready.specs.Backlog.{TakesTurn}
+use Rattle.audit_serve_ready.specs.Clients.{ClientChange, a_pass, next_first, first_after, first_after_all, IsChange, AreChanges, ServesClients, StopsServing}
 
-module _ {C S : Type 0} (M : CoreModel C) (N : CallModel S) where
-  pub changes_then : (old mid new : C) (before between after : List (SlotData S)) (changes later : List (ClientChange S)) → AreChanges M N changes old mid before between → AreChanges M N later mid new between after
-      → AreChanges M N (changes ++ later) old new before after
-  changes_then old mid new before between after [] later first next =
-      subst (λ (core : C). AreChanges M N later core new before after) first.0
-      (subst (λ (slots : List (SlotData S)). AreChanges M N later mid new slots after) first.1 next)
-  changes_then old mid new before between after (change ∷ changes) later first next = (first.0, first.1, first.2, changes_then first.0 mid new first.1 between after changes later first.3 next)
+first_after-append : {S : Type 0} (first : ℕ) (changes later : List (ClientChange S)) → first_after_all first (changes ++ later) ≡ first_after_all (first_after_all first changes) later
+first_after-append first [] later = refl
+first_after-append first (change ∷ changes) later = first_after-append (first_after first change) changes later
 
-  pub clients_none : (core : C) (slots : List (SlotData S)) → ServesClients M N core core slots slots
-  clients_none core slots = record { changes = []; are = (refl, refl) }
+module _ {C S : Type 0} (M : CoreModel C) (N : CallModel S) (backlog : ℕ) where
+  pub changes_then : (first : ℕ) (old mid new : C) (before between after : List (SlotData S)) (changes later : List (ClientChange S)) → AreChanges M N backlog first changes old mid before between
+      → AreChanges M N backlog (first_after_all first changes) later mid new between after → AreChanges M N backlog first (changes ++ later) old new before after
+  changes_then first old mid new before between after [] later are next =
+      subst (λ (core : C). AreChanges M N backlog first later core new before after) are.0
+      (subst (λ (slots : List (SlotData S)). AreChanges M N backlog first later mid new slots after) are.1 next)
+  changes_then first old mid new before between after (change ∷ changes) later are next =
+      (are.0, are.1, are.2, changes_then (first_after first change) are.0 mid new are.1 between after changes later are.3 next)
 
-  pub clients_then : (old mid new : C) (before between after : List (SlotData S)) → ServesClients M N old mid before between → ServesClients M N mid new between after → ServesClients M N old new before after
-  clients_then old mid new before between after first next = record { changes = first.changes ++ next.changes; are = changes_then old mid new before between after first.changes next.changes first.are next.are }
+  pub clients_none : (first : ℕ) (core : C) (slots : List (SlotData S)) → ServesClients M N backlog first first core core slots slots
+  clients_none first core slots = record { changes = []; are = (refl, refl); turns = refl }
 
-  pub one_change : (old new : C) (before after : List (SlotData S)) (change : ClientChange S) → IsChange M N change old new before after → ServesClients M N old new before after
-  one_change old new before after change is = record { changes = change ∷ []; are = (new, after, is, (refl, refl)) }
+  pub clients_then : (first then_ last : ℕ) (old mid new : C) (before between after : List (SlotData S)) → ServesClients M N backlog first then_ old mid before between → ServesClients M N backlog then_ last mid new between after
+      → ServesClients M N backlog first last old new before after
+  clients_then first then_ last old mid new before between after serves next = record {
+    changes = serves.changes ++ next.changes;
+    are = changes_then first old mid new before between after serves.changes next.changes serves.are (subst (λ (n : ℕ). AreChanges M N backlog n next.changes mid new between after) (sym serves.turns) next.are);
+    turns = first_after-append first serves.changes next.changes ∙ ap (λ (n : ℕ). first_after_all n next.changes) serves.turns ∙ next.turns;
+  }
 
-  pub one_pass : (old new : C) (before after : List (SlotData S)) → ServesPlaces N (M.DidSteps old new) no_bytes before after → ServesClients M N old new before after
-  one_pass old new before after serves = one_change old new before after (a_pass serves.steps serves.taken serves.calls) serves.pass
+  pub one_change : (first : ℕ) (old new : C) (before after : List (SlotData S)) (change : ClientChange S) → IsChange M N backlog first change old new before after → ServesClients M N backlog first (first_after first change) old new before after
+  one_change first old new before after change is = record { changes = change ∷ []; are = (new, after, is, (refl, refl)); turns = refl }
 
-  pub stops_first : {Refuses : C → C → Type 0} (old new : C) (before after : List (SlotData S)) → Refuses old new → StopsAtPlaces N (M.DidStepsInPart old new) before after → StopsServing M N Refuses old new before after
-  stops_first old new before after refused last = record { mid = old; between = before; changes = []; are = (refl, refl); refused = refused; last = last }
+  pub one_pass : (first : ℕ) (old new : C) (before after : List (SlotData S)) → ServesPlaces N (M.DidSteps old new) no_bytes before after → M.Idle new
+      → (first < length before → TakesTurn M backlog first old (slot_at first before) (slot_at first after)) → ServesClients M N backlog first (next_first first) old new before after
+  one_pass first old new before after serves idle turn = one_change first old new before after (a_pass serves.steps serves.taken serves.calls) (record { served = serves.pass; answered = idle; turn = turn })
 
-  pub stops_later : {Refuses : C → C → Type 0} (old mid new : C) (before between after : List (SlotData S)) → ServesClients M N old mid before between → StopsServing M N Refuses mid new between after → StopsServing M N Refuses old new before after
-  stops_later old mid new before between after first next = record {
+  pub stops_first : {Refuses : C → C → Type 0} (first : ℕ) (old new : C) (before after : List (SlotData S)) → Refuses old new → StopsAtPlaces N (M.DidStepsInPart old new) before after → StopsServing M N backlog Refuses first old new before after
+  stops_first first old new before after refused last = record { mid = old; between = before; changes = []; are = (refl, refl); refused = refused; last = last }
+
+  pub stops_later : {Refuses : C → C → Type 0} (first then_ : ℕ) (old mid new : C) (before between after : List (SlotData S)) → ServesClients M N backlog first then_ old mid before between → StopsServing M N backlog Refuses then_ mid new between after
+      → StopsServing M N backlog Refuses first old new before after
+  stops_later first then_ old mid new before between after serves next = record {
     mid = next.mid;
     between = next.between;
-    changes = first.changes ++ next.changes;
-    are = changes_then old mid next.mid before between next.between first.changes next.changes first.are next.are;
+    changes = serves.changes ++ next.changes;
+    are = changes_then first old mid next.mid before between next.between serves.changes next.changes serves.are (subst (λ (n : ℕ). AreChanges M N backlog n next.changes mid next.mid between next.between) (sym serves.turns) next.are);
     refused = next.refused;
     last = next.last;
   }

@@ -1,6 +1,10 @@
 pub mod Accounts
+pub mod Looking
 pub mod Passes
 pub mod Visits
+pub mod Bounds
+pub mod Asking
 pub mod Sending
 pub mod Changes
 pub mod Staying
+pub mod Rounds

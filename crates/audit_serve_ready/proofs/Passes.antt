@@ -10,7 +10,7 @@ use Rattle.audit_serve_passes.specs.CallLaws.{bytes_read-append}
 use Rattle.audit_serve_passes.proofs.Calls.{calls_here, calls_there}
 use Rattle.audit_serve_passes.proofs.StreamSteps.{about_elsewhere}
 use Rattle.audit_serve_passes.proofs.Transitions.{none_of_both, no_calls, bytes_here, bytes_there, no_bytes_for, in_any}
-use Rattle.audit_serve_ready.specs.Slot.{SlotData, vacant, IsAccounted, IsPushed}
+use Rattle.audit_serve_ready.specs.Slot.{SlotData, vacant, unread_of, IsAccounted, IsPushed}
 use Rattle.audit_serve_ready.specs.Places.{slot_at, CoreDid, IsServedAt, ServesPlace, StopsAtPlace, IsReadyPass, ServesPlaces, StopsAtPlaces, WritesOn}
 use Rattle.audit_serve_ready.proofs.Accounts.{accounted_none, accounted_then, served_elsewhere, served_then}
 
@@ -112,7 +112,7 @@ module _ {S : Type 0} (N : CallModel S) where
   -- ---- writing alone
 
   pub writes_none : (slots : List (SlotData S)) → WritesOn N slots slots
-  writes_none slots = record { count = refl; calls = no_calls; at = λ k within. (refl, accounted_none N (slot_at k slots)) }
+  writes_none slots = record { count = refl; calls = no_calls; at = λ k within. (refl, refl, accounted_none N (slot_at k slots)) }
 
   pub writes_then : (before between after : List (SlotData S)) → WritesOn N before between → WritesOn N between after → WritesOn N before after
   writes_then before between after first second = record {
@@ -122,7 +122,8 @@ module _ {S : Type 0} (N : CallModel S) where
         let one = first.at k within in
         let two = second.at k (omega (arith, within, first.count)) in (
           bytes_read-append (first.calls k) (second.calls k) ∙ none_of_both (bytes_read (first.calls k)) (bytes_read (second.calls k)) one.0 two.0,
-          accounted_then N [] [] (first.calls k) (second.calls k) (slot_at k before) (slot_at k between) (slot_at k after) one.1 two.1,
+          two.1 ∙ one.1,
+          accounted_then N [] [] (first.calls k) (second.calls k) (slot_at k before) (slot_at k between) (slot_at k after) one.2 two.2,
         );
   }
 
@@ -131,14 +132,16 @@ module _ {S : Type 0} (N : CallModel S) where
     count = length-set slots k after;
     calls = calls_for k pushed.calls;
     at = λ other inside. elim (cases_eq other k) [
-      | inl same ↦ subst (λ (j : ℕ). (bytes_read (calls_for k pushed.calls j) ≡ []) × IsAccounted N [] (calls_for k pushed.calls j) (slot_at j slots) (slot_at j (set slots k after))) (sym same) (
+      | inl same ↦ subst (λ (j : ℕ). (bytes_read (calls_for k pushed.calls j) ≡ []) × (unread_of (slot_at j (set slots k after)) ≡ unread_of (slot_at j slots)) × IsAccounted N [] (calls_for k pushed.calls j) (slot_at j slots) (slot_at j (set slots k after))) (sym same) (
         ap bytes_read (calls_here k pushed.calls) ∙ pushed.quiet,
+        ap unread_of (get_or-set_same slots k after vacant within) ∙ pushed.unread ∙ ap unread_of (sym is),
         subst (λ (now : List StreamCall). IsAccounted N [] now (slot_at k slots) (slot_at k (set slots k after))) (sym (calls_here k pushed.calls))
             (subst (λ (now : SlotData S). IsAccounted N [] pushed.calls now (slot_at k (set slots k after))) (sym is)
             (subst (λ (now : SlotData S). IsAccounted N [] pushed.calls slot now) (sym (get_or-set_same slots k after vacant within)) pushed.accounted)),
       )
       | inr apart ↦ (
         ap bytes_read (calls_there k other pushed.calls apart),
+        ap unread_of (get_or-set_other slots k other after vacant apart),
         subst (λ (now : List StreamCall). IsAccounted N [] now (slot_at other slots) (slot_at other (set slots k after))) (sym (calls_there k other pushed.calls apart))
             (subst (λ (now : SlotData S). IsAccounted N [] [] (slot_at other slots) now) (sym (get_or-set_other slots k other after vacant apart)) (accounted_none N (slot_at other slots))),
       )

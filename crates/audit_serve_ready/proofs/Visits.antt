@@ -1,18 +1,16 @@
 -- The turn of one session.
-use Rattle.std.proofs.Common.{◌≡◌, ℕ, zero, suc, ◌<◌, ◌≤◌, Bool, true, ◌||◌, eqb, cond, List, [], ◌∷◌, ◌++◌, length, take, Result, Ok, Err, refl, sym, ap, subst, ◌∙◌, arith, inl, inr}
+use Rattle.std.proofs.Common.{◌≡◌, ℕ, ◌≤◌, Bool, true, false, ◌||◌, eqb, cond, Result, Ok, Err, OnOk, OnErr, List, [], ◌∷◌, ◌++◌, length, take, drop, refl, sym, ap, subst, ◌∙◌, arith, inl, inr}
 use Rattle.std.proofs.lemmas.Bool.{eq-eqb, cond-true}
-use Rattle.std.proofs.lemmas.List.{append-nil, length-take-le, length-append}
+use Rattle.std.proofs.lemmas.List.{append-nil, take-append-drop, length-append}
 use Rattle.audit_serve_passes.specs.declared.limits.TheConstants.{MAX_PIECE}
-use Rattle.audit_serve_passes.specs.declared.stream_fault.StreamError.{StreamError}
 use Rattle.audit_serve_passes.specs.Steps.{StepData, a_piece, an_end, AreAbout, IsPartOf, bytes_fed}
-use Rattle.audit_serve_passes.specs.Streams.{StreamCall, a_read, a_failed_read, read_call, CallModel, bytes_read}
+use Rattle.audit_serve_passes.specs.Streams.{StreamCall, CallModel, bytes_read}
 use Rattle.audit_serve_passes.specs.Core.{CoreModel, GoesBy, no_bytes, bytes_for}
 use Rattle.audit_serve_passes.proofs.Transitions.{no_bytes_for}
 use Rattle.audit_serve_passes.proofs.Turns.{end_brings_nothing}
-use Rattle.audit_serve_ready.specs.Ready.{step_for}
-use Rattle.audit_serve_ready.specs.Slot.{SlotData, is_shut, IsAccounted}
-use Rattle.audit_serve_ready.specs.Places.{has_last_read, ServesPlace, StopsAtPlace}
-use Rattle.audit_serve_ready.proofs.Accounts.{accounted_none}
+use Rattle.audit_serve_ready.specs.Slot.{SlotData, unread_of, with_unread, is_shut, HasLooked, IsAccounted}
+use Rattle.audit_serve_ready.specs.Places.{has_last_read, CoreDid, ServesPlace, StopsAtPlace}
+use Rattle.audit_serve_ready.proofs.Accounts.{accounted_none, unread_put, unread_accounted, served_then}
 
 one_piece : (k : ℕ) (piece : List ℕ) → bytes_fed k (a_piece k piece ∷ []) ≡ piece
 one_piece k piece = append-nil (cond (eqb k k) piece []) ∙ cond-true (eqb k k) piece [] (eq-eqb k k refl)
@@ -21,14 +19,14 @@ end_about : (k : ℕ) (part : List StepData) → IsPartOf (an_end k) part → Ar
 end_about k part (inl none) = subst (AreAbout k) (sym none) tt
 end_about k part (inr whole) = subst (AreAbout k) (sym whole) (refl, tt)
 
-pub step_some : (k count : ℕ) (buffer : List ℕ) → 0 < count → step_for k (Ok count) buffer ≡ a_piece k (take count buffer)
-step_some k zero buffer some = absurd (omega (arith, some))
-step_some k (suc count) buffer some = refl
+-- what follows of a result follows of it in any form
+pub on_ok : {A E : Type 0} {P Q : Type 0} (result : Result A E) → (P → Q) → OnOk result P → OnOk result Q
+on_ok (Ok value) then_ holds = then_ holds
+on_ok (Err error) then_ holds = tt
 
-pub step_none : (k : ℕ) (given : Result ℕ StreamError) (buffer : List ℕ) → ((count : ℕ) → given ≡ Ok count → count ≡ 0) → step_for k given buffer ≡ an_end k
-step_none k (Ok zero) buffer none = refl
-step_none k (Ok (suc count)) buffer none = absurd (omega (arith, none (suc count) refl))
-step_none k (Err fault) buffer none = refl
+pub on_err : {A E : Type 0} {P Q : Type 0} (result : Result A E) → (P → Q) → OnErr result P → OnErr result Q
+on_err (Ok value) then_ holds = tt
+on_err (Err error) then_ holds = then_ holds
 
 module _ {C S : Type 0} (M : CoreModel C) (N : CallModel S) where
   taking_none : (k : ℕ) (old new : C) (steps : List StepData) → M.DidSteps old new steps no_bytes → M.DidSteps old new steps (bytes_for k [])
@@ -59,115 +57,149 @@ module _ {C S : Type 0} (M : CoreModel C) (N : CallModel S) where
       calls = [];
       did = taking_none_in_part k old new goes.0 goes.2;
       about = end_about k goes.0 goes.1;
-      served = record { read = ap (λ (bytes : List ℕ). bytes ++ []) (sym (end_brings_nothing k goes.0 goes.1 k)); ends = inr shut; accounted = accounted_none N slot };
+      served = record { read = ap (λ (bytes : List ℕ). bytes ++ (unread_of slot ++ [])) (sym (end_brings_nothing k goes.0 goes.1 k)); ends = inr shut; accounted = accounted_none N slot };
     };
   }
 
-  -- ---- a read
+  -- ---- a look
 
-  pub idle_done : (k : ℕ) (core : C) (before after : SlotData S) → IsAccounted N [] [] before after → ServesPlace N (M.DidSteps core core) k [] before after
-  idle_done k core before after accounted = record {
+  pub idle_done : (k : ℕ) (core : C) (before after : SlotData S) → unread_of after ≡ unread_of before → IsAccounted N [] [] before after → ServesPlace N (M.DidSteps core core) k [] before after
+  idle_done k core before after unread accounted = record {
     steps = [];
     sent = [];
     calls = [];
     did = taking_none k core core [] (M.nothing_done core);
     about = tt;
-    served = record { read = refl; ends = inl refl; accounted = accounted };
+    served = record { read = ap (λ (bytes : List ℕ). bytes ++ []) (sym unread); ends = inl refl; accounted = accounted };
   }
 
-  pub read_done : (k : ℕ) (given : Result ℕ StreamError) (buffer : List ℕ) (old new : C) (before after : SlotData S) → IsAccounted N [] (read_call given buffer ∷ []) before after
-      → M.DidSteps old new (step_for k given buffer ∷ []) no_bytes → ServesPlace N (M.DidSteps old new) k [] before after
-  read_done k (Ok zero) buffer old new before after accounted did = record {
-    steps = an_end k ∷ [];
+  looked : (before after : SlotData S) (calls : List StreamCall) → HasLooked N before after calls → unread_of before ++ bytes_read calls ≡ unread_of after ++ []
+  looked before after calls look = look.read ∙ sym (append-nil (unread_of after))
+
+  -- nothing was there,
+  pub look_done : (k : ℕ) (core : C) (before after : SlotData S) (calls : List StreamCall) → HasLooked N before after calls → ServesPlace N (M.DidSteps core core) k [] before after
+  look_done k core before after calls look = record {
+    steps = [];
     sent = [];
-    calls = a_read [] ∷ [];
-    did = taking_none k old new (an_end k ∷ []) did;
-    about = (refl, tt);
-    served = record { read = refl; ends = inr refl; accounted = accounted };
-  }
-  read_done k (Ok (suc count)) buffer old new before after accounted did =
-      let piece = take (suc count) buffer in
-      record {
-        steps = a_piece k piece ∷ [];
-        sent = [];
-        calls = a_read piece ∷ [];
-        did = taking_none k old new (a_piece k piece ∷ []) did;
-        about = (refl, tt);
-        served = record { read = ap (λ (bytes : List ℕ). bytes ++ []) (sym (one_piece k piece)); ends = inl refl; accounted = accounted };
-      }
-  read_done k (Err fault) buffer old new before after accounted did = record {
-    steps = an_end k ∷ [];
-    sent = [];
-    calls = a_failed_read ∷ [];
-    did = taking_none k old new (an_end k ∷ []) did;
-    about = (refl, tt);
-    served = record { read = refl; ends = inr refl; accounted = accounted };
+    calls = calls;
+    did = taking_none k core core [] (M.nothing_done core);
+    about = tt;
+    served = record { read = looked before after calls look; ends = inl refl; accounted = look.accounted };
   }
 
-  -- an end that was refused
-  end_stopped : (k : ℕ) (call : StreamCall) (old new : C) (before after : SlotData S) → bytes_read (call ∷ []) ≡ [] → has_last_read (call ∷ []) ≡ true → IsAccounted N [] (call ∷ []) before after → GoesBy M (an_end k) old new
+  -- or the stream was over,
+  pub over_done : (k : ℕ) (old new : C) (before after : SlotData S) (calls : List StreamCall) → HasLooked N before after calls → has_last_read calls ≡ true → M.DidSteps old new (an_end k ∷ []) no_bytes
+      → ServesPlace N (M.DidSteps old new) k [] before after
+  over_done k old new before after calls look last did = record {
+    steps = an_end k ∷ [];
+    sent = [];
+    calls = calls;
+    did = taking_none k old new (an_end k ∷ []) did;
+    about = (refl, tt);
+    served = record { read = looked before after calls look; ends = inr (ap (λ (x : Bool). x || is_shut after) last); accounted = look.accounted };
+  }
+
+  pub over_stopped : (k : ℕ) (old new : C) (before after : SlotData S) (calls : List StreamCall) → HasLooked N before after calls → has_last_read calls ≡ true → GoesBy M (an_end k) old new
       → StopsAtPlace N (M.DidStepsInPart old new) k before after
-  end_stopped k call old new before after none last accounted goes = record {
+  over_stopped k old new before after calls look last goes = record {
     lost = [];
     most = omega arith;
     serves = record {
       steps = goes.0;
       sent = [];
-      calls = call ∷ [];
+      calls = calls;
       did = taking_none_in_part k old new goes.0 goes.2;
       about = end_about k goes.0 goes.1;
       served = record {
-        read = none ∙ ap (λ (bytes : List ℕ). bytes ++ []) (sym (end_brings_nothing k goes.0 goes.1 k));
+        read = looked before after calls look ∙ ap (λ (bytes : List ℕ). bytes ++ (unread_of after ++ [])) (sym (end_brings_nothing k goes.0 goes.1 k));
         ends = inr (ap (λ (x : Bool). x || is_shut after) last);
-        accounted = accounted;
+        accounted = look.accounted;
       };
     };
   }
 
-  piece_stopped : (k : ℕ) (piece : List ℕ) (old new : C) (before after : SlotData S) → length piece ≤ MAX_PIECE → IsAccounted N [] (a_read piece ∷ []) before after → GoesBy M (a_piece k piece) old new
-      → StopsAtPlace N (M.DidStepsInPart old new) k before after
-  piece_stopped k piece old new before after most accounted (part, inl none, goes) = record {
-    lost = piece;
-    most = most;
-    serves = record {
-      steps = [];
-      sent = [];
-      calls = a_read piece ∷ [];
-      did = taking_none_in_part k old new [] (subst (λ (steps : List StepData). M.DidStepsInPart old new steps no_bytes) none goes);
-      about = tt;
-      served = record { read = append-nil piece; ends = inl refl; accounted = accounted };
-    };
-  }
-  piece_stopped k piece old new before after most accounted (part, inr (front, rest, split, is), goes) = record {
-    lost = rest;
-    most = omega (arith, most, ap length split, length-append front rest);
-    serves = record {
-      steps = a_piece k front ∷ [];
-      sent = [];
-      calls = a_read piece ∷ [];
-      did = taking_none_in_part k old new (a_piece k front ∷ []) (subst (λ (steps : List StepData). M.DidStepsInPart old new steps no_bytes) is goes);
-      about = (refl, tt);
-      served = record { read = append-nil piece ∙ split ∙ ap (λ (bytes : List ℕ). bytes ++ rest) (sym (one_piece k front)); ends = inl refl; accounted = accounted };
-    };
+  -- or bytes are unread.
+  pub look_then : {Did : CoreDid} (k : ℕ) (lost : List ℕ) (before between after : SlotData S) (calls : List StreamCall) → HasLooked N before between calls → ServesPlace N Did k lost between after → ServesPlace N Did k lost before after
+  look_then k lost before between after calls look place = record {
+    steps = place.steps;
+    sent = place.sent;
+    calls = calls ++ place.calls;
+    did = place.did;
+    about = place.about;
+    served = served_then N k [] place.steps lost [] place.sent calls place.calls before between after
+        (record { read = looked before between calls look; ends = inl refl; accounted = look.accounted }) place.served;
   }
 
-  -- the bytes that a read gave fit the buffer
-  pub read_stopped : (k : ℕ) (given : Result ℕ StreamError) (buffer : List ℕ) (old new : C) (before after : SlotData S) → length buffer ≤ MAX_PIECE → ((count : ℕ) → given ≡ Ok count → count ≤ length buffer)
-      → IsAccounted N [] (read_call given buffer ∷ []) before after → GoesBy M (step_for k given buffer) old new → StopsAtPlace N (M.DidStepsInPart old new) k before after
-  read_stopped k (Ok zero) buffer old new before after most within accounted goes = end_stopped k (a_read []) old new before after refl refl accounted goes
-  read_stopped k (Ok (suc count)) buffer old new before after most within accounted goes =
-      piece_stopped k (take (suc count) buffer) old new before after (omega (arith, most, within (suc count) refl, length-take-le (suc count) buffer (within (suc count) refl))) accounted goes
-  read_stopped k (Err fault) buffer old new before after most within accounted goes = end_stopped k a_failed_read old new before after refl refl accounted goes
+  pub look_stops : {Did : CoreDid} (k : ℕ) (before between after : SlotData S) (calls : List StreamCall) → HasLooked N before between calls → StopsAtPlace N Did k between after → StopsAtPlace N Did k before after
+  look_stops {Did = Did} k before between after calls look stops = record { lost = stops.lost; most = stops.most; serves = look_then {Did = Did} k stops.lost before between after calls look stops.serves }
+
+  -- ---- a piece of what is unread
+
+  pub fed_done : (k : ℕ) (taken : ℕ) (old new : C) (slot : SlotData S) → is_shut slot ≡ false → M.DidSteps old new (a_piece k (take taken (unread_of slot)) ∷ []) no_bytes
+      → ServesPlace N (M.DidSteps old new) k [] slot (with_unread (drop taken (unread_of slot)) slot)
+  fed_done k taken old new slot live did =
+      let bytes : List ℕ = unread_of slot in
+      record {
+        steps = a_piece k (take taken bytes) ∷ [];
+        sent = [];
+        calls = [];
+        did = taking_none k old new (a_piece k (take taken bytes) ∷ []) did;
+        about = (refl, tt);
+        served = record {
+          read = append-nil bytes
+              ∙ sym (take-append-drop taken bytes)
+              ∙ ap (λ (front : List ℕ). front ++ drop taken bytes) (sym (one_piece k (take taken bytes)))
+              ∙ ap (λ (rest : List ℕ). bytes_fed k (a_piece k (take taken bytes) ∷ []) ++ rest) (sym (append-nil (unread_of (with_unread (drop taken bytes) slot)) ∙ unread_put (drop taken bytes) slot live));
+          ends = inl refl;
+          accounted = unread_accounted N (drop taken bytes) slot;
+        };
+      }
+
+  -- one that was refused, at most in part: the rest is lost
+  pub fed_stopped : (k : ℕ) (old new : C) (slot : SlotData S) → is_shut slot ≡ false → length (unread_of slot) ≤ MAX_PIECE → GoesBy M (a_piece k (unread_of slot)) old new
+      → StopsAtPlace N (M.DidStepsInPart old new) k slot (with_unread [] slot)
+  fed_stopped k old new slot live most (part, inl none, goes) =
+      let bytes : List ℕ = unread_of slot in
+      record {
+        lost = bytes;
+        most = most;
+        serves = record {
+          steps = [];
+          sent = [];
+          calls = [];
+          did = taking_none_in_part k old new [] (subst (λ (steps : List StepData). M.DidStepsInPart old new steps no_bytes) none goes);
+          about = tt;
+          served = record { read = append-nil bytes ∙ ap (λ (front : List ℕ). front ++ bytes) (sym (unread_put [] slot live)); ends = inl refl; accounted = unread_accounted N [] slot };
+        };
+      }
+  fed_stopped k old new slot live most (part, inr (front, rest, split, is), goes) =
+      let bytes : List ℕ = unread_of slot in
+      record {
+        lost = rest;
+        most = omega (arith, most, ap length split, length-append front rest);
+        serves = record {
+          steps = a_piece k front ∷ [];
+          sent = [];
+          calls = [];
+          did = taking_none_in_part k old new (a_piece k front ∷ []) (subst (λ (steps : List StepData). M.DidStepsInPart old new steps no_bytes) is goes);
+          about = (refl, tt);
+          served = record {
+            read = append-nil bytes ∙ split ∙ ap (λ (first : List ℕ). first ++ rest) (sym (one_piece k front)) ∙ ap (λ (first : List ℕ). bytes_fed k (a_piece k front ∷ []) ++ (first ++ rest)) (sym (unread_put [] slot live));
+            ends = inl refl;
+            accounted = unread_accounted N [] slot;
+          };
+        };
+      }
 
   -- ---- what was taken
 
-  pub sent_done : (k : ℕ) (sent : List ℕ) (calls : List StreamCall) (old new : C) (before after : SlotData S) → bytes_read calls ≡ [] → IsAccounted N sent calls before after → M.DidSteps old new [] (bytes_for k sent)
+  pub sent_done : (k : ℕ) (sent : List ℕ) (calls : List StreamCall) (old new : C) (before after : SlotData S) → bytes_read calls ≡ [] → unread_of after ≡ unread_of before → IsAccounted N sent calls before after → M.DidSteps old new [] (bytes_for k sent)
       → ServesPlace N (M.DidSteps old new) k [] before after
-  sent_done k sent calls old new before after quiet accounted did = record {
+  sent_done k sent calls old new before after quiet unread accounted did = record {
     steps = [];
     sent = sent;
     calls = calls;
     did = did;
     about = tt;
-    served = record { read = quiet; ends = inl refl; accounted = accounted };
+    served = record { read = ap (λ (bytes : List ℕ). unread_of before ++ bytes) quiet ∙ ap (λ (bytes : List ℕ). bytes ++ []) (sym unread); ends = inl refl; accounted = accounted };
   }

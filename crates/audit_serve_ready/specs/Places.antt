@@ -5,7 +5,7 @@ use Rattle.audit_serve_passes.specs.Steps.{StepData, AreAbout, bytes_fed, ends_i
 use Rattle.audit_serve_passes.specs.Streams.{StreamCall, a_read, a_failed_read, CallModel}
 use Rattle.audit_serve_passes.specs.Streams.{bytes_read}
 use Rattle.audit_serve_passes.specs.Core.{bytes_for}
-use Rattle.audit_serve_ready.specs.Slot.{SlotData, vacant, is_shut, IsAccounted}
+use Rattle.audit_serve_ready.specs.Slot.{SlotData, vacant, unread_of, is_shut, IsAccounted}
 
 -- the place of a session
 abbrev pub slot_at : {S : Type 0} → ℕ → List (SlotData S) → SlotData S
@@ -26,11 +26,12 @@ abbrev pub CoreDid : Type 1
 CoreDid = List StepData → (ℕ → List ℕ) → Type 0
 
 module _ {S : Type 0} (N : CallModel S) where
-  -- The steps fed session k what its client's stream gave in these calls, but for what was lost. They ended it only if
-  -- a read found the end or failed, or the place was shut. What was taken of its output is accounted for.
+  -- The steps fed session k what its client's stream gave in these calls, after what was unread before and up to what
+  -- is unread now, but for what was lost. They ended it only if a read found the end or failed, or the place was shut.
+  -- What was taken of its output is accounted for.
   pub record IsServedAt (k : ℕ) (steps : List StepData) (lost sent : List ℕ) (calls : List StreamCall)
       (before after : SlotData S) : Type 0 where
-    pub read : bytes_read calls ≡ bytes_fed k steps ++ lost
+    pub read : unread_of before ++ bytes_read calls ≡ bytes_fed k steps ++ (unread_of after ++ lost)
     pub ends : (ends_in k steps ≡ 0) ⊎ ((has_last_read calls || is_shut after) ≡ true)
     pub accounted : IsAccounted N sent calls before after
 
@@ -79,4 +80,5 @@ module _ {S : Type 0} (N : CallModel S) where
     pub count : length after ≡ length before
     pub calls : ℕ → List StreamCall
     pub at : (k : ℕ) → k < length before → (bytes_read (calls k) ≡ [])
+        × (unread_of (slot_at k after) ≡ unread_of (slot_at k before))
         × IsAccounted N [] (calls k) (slot_at k before) (slot_at k after)

@@ -1,7 +1,6 @@
 -- The calls of a stream that doesn't wait.
-use Rattle.std.specs.Prelude.{ℕ, zero, suc, Option, Some, None, Result, Ok, Err, List, [], ◌∷◌, take}
+use Rattle.std.specs.Prelude.{◌≡◌, ℕ, Option, Some, None, Result, Ok, Err, List, [], ◌∷◌, length, take}
 use Rattle.audit_serve_passes.specs.declared.stream_fault.StreamError.{StreamError}
-use Rattle.audit_serve_passes.specs.Steps.{StepData, a_piece, an_end}
 use Rattle.audit_serve_passes.specs.Streams.{StreamCall, a_write, a_failed_write, read_call}
 
 -- a read that had this result; if no byte was there, it counts as no call
@@ -14,8 +13,8 @@ abbrev pub ready_write_call : Result ℕ StreamError → List ℕ → StreamCall
 ready_write_call (Ok count) bytes = a_write (take count bytes)
 ready_write_call (Err fault) bytes = a_failed_write bytes
 
--- the step for what a read gave: the bytes, or the end at the end of the stream and at a fault
-abbrev pub step_for : ℕ → Result ℕ StreamError → List ℕ → StepData
-step_for k (Ok zero) buffer = an_end k
-step_for k (Ok (suc count)) buffer = a_piece k (take (suc count) buffer)
-step_for k (Err fault) buffer = an_end k
+-- the bytes that such a read gave
+abbrev pub IsReadInto : Option (Result ℕ StreamError) → List ℕ → Type 0
+IsReadInto None bytes = bytes ≡ []
+IsReadInto (Some (Ok count)) bytes = length bytes ≡ count
+IsReadInto (Some (Err fault)) bytes = bytes ≡ []

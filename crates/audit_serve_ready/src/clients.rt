@@ -3,6 +3,7 @@ ghost use Rattle.audit_base.specs.declared.limits.TheConstants.{SESSIONS};
 ghost use Rattle.audit_serve_passes.specs.Transition.{AreEmpty};
 ghost use Rattle.audit_serve_ready.specs.Slot.{vacant, has_client, kept_of};
 ghost use Rattle.audit_serve_ready.specs.Places.{slot_at};
+ghost use Rattle.audit_serve_ready.specs.Backlog.{AreWithinBacklog};
 ghost use Rattle.audit_serve_ready.specs.Clients.{ServesClients};
 
 use crate::departure::Departure;
@@ -37,7 +38,10 @@ pub(crate) fn let_go<C: SessionCore, D: Door>(
 ) -> bool
     requires count { length slots.old ≤ SESSIONS }
     requires empty { AreEmpty C.model (length slots.old) core.now }
-    ensures { ServesClients C.model D.Stream.calls core.now core.now slots.old slots.new }
+    ensures went { (backlog first : ℕ)
+        → ServesClients C.model D.Stream.calls backlog first first core.now core.now slots.old slots.new }
+    ensures within { (backlog : ℕ) → AreWithinBacklog C.model backlog core.now slots.old
+        → AreWithinBacklog C.model backlog core.now slots.new }
 {
     let mut moved = false;
     for place in 0..slots.len() {
@@ -71,9 +75,12 @@ fn let_in_at<C: SessionCore, D: Door>(
     requires idle { C.model.Idle core.old }
     requires taken { C.model.output core.old place ≡ [] }
     requires vacant { has_client (slot_at place slots.old) ≡ false }
-    ensures came { ServesClients C.model D.Stream.calls core.old core.new slots.old slots.new }
+    ensures came { (backlog first : ℕ)
+        → ServesClients C.model D.Stream.calls backlog first first core.old core.new slots.old slots.new }
     ensures idle { C.model.Idle core.new }
     ensures outputs { (other : ℕ) → C.model.output core.new other ≡ C.model.output core.old other }
+    ensures within { (backlog : ℕ) → AreWithinBacklog C.model backlog core.old slots.old
+        → AreWithinBacklog C.model backlog core.new slots.new }
 {
     let Some(client) = door.next_client(place) else {
         return false;
@@ -95,7 +102,12 @@ pub(crate) fn let_in<C: SessionCore, D: Door>(
     requires count { length slots.old ≤ SESSIONS }
     requires idle { C.model.Idle core.old }
     requires empty { AreEmpty C.model (length slots.old) core.old }
-    ensures { ServesClients C.model D.Stream.calls core.old core.new slots.old slots.new }
+    ensures came { (backlog first : ℕ)
+        → ServesClients C.model D.Stream.calls backlog first first core.old core.new slots.old slots.new }
+    ensures idle { C.model.Idle core.new }
+    ensures outputs { (other : ℕ) → C.model.output core.new other ≡ C.model.output core.old other }
+    ensures within { (backlog : ℕ) → AreWithinBacklog C.model backlog core.old slots.old
+        → AreWithinBacklog C.model backlog core.new slots.new }
 {
     let mut moved = false;
     for place in 0..slots.len() {

@@ -7,10 +7,8 @@ pub enum Departure {
     Malformed,
     /// A read of its stream failed.
     ReadFailed,
-    /// A write to its stream failed.
+    /// A write to its stream failed. All that it had sent was read, unless a read failed too.
     WriteFailed,
-    /// It took its replies too slowly: more would have been kept for it than the backlog allows.
-    TooSlow,
     /// The door dismissed it.
     Dismissed,
     /// Memory was refused, for its replies or for its session.

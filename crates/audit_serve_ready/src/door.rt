@@ -27,6 +27,10 @@ pub trait Door {
     /// again before the core flushes. A pass asks 1,024 times at most, and the call must not wait.
     fn asks_again(&mut self, found: bool) -> bool;
 
+    /// Called in each pass after the flush and before any reply is written, and before what is kept is written in the
+    /// end. Returns whether replies may leave: if not, none leaves any more, and serving ends.
+    fn lets_reply(&mut self) -> bool;
+
     /// Takes a client back that has left its place, or that couldn't be admitted to it.
     fn gone(&mut self, place: usize, client: Self::Stream, departure: Departure);
 

@@ -1,15 +1,18 @@
 //! Reading what clients send while others are read, so that one commit has it.
-ghost use Rattle.std.specs.Prelude.{◌<◌, ◌≤◌, length, IfErr, OnOk, OnErr};
+ghost use Rattle.std.specs.Prelude.{◌≡◌, ◌<◌, ◌≤◌, true, false, length, slice_index_or, IfErr, OnOk, OnErr};
 ghost use Rattle.audit_base.specs.declared.limits.TheConstants.{SESSIONS};
-ghost use Rattle.audit_serve_passes.specs.declared.limits.TheConstants.{MAX_PIECE};
 ghost use Rattle.audit_serve_passes.specs.Core.{no_bytes};
-ghost use Rattle.audit_serve_ready.specs.Places.{ServesPlaces, StopsAtPlaces};
+ghost use Rattle.audit_serve_ready.specs.Backlog.{OwesNothing, OwesOnlyAfterTurns, AreWithinBacklog, MayAsk};
+ghost use Rattle.audit_serve_ready.specs.Backlog.{HasTakenRequest};
+ghost use Rattle.audit_serve_ready.specs.Places.{slot_at, ServesPlaces, StopsAtPlaces};
 
 use crate::door::Door;
+use crate::limits::MAX_ASKED;
+use crate::ready_stream::ReadyStream;
 use crate::slot::Slot;
-use crate::turns::{is_due, read_turns};
+use crate::turns::{is_due, read_turns, turn_of};
 use audit_base::SESSIONS;
-use audit_serve_passes::SessionCore;
+use audit_serve_passes::{SessionCore, Share};
 
 /// A mark for each session.
 pub(crate) type Marks = [bool; SESSIONS];
@@ -33,34 +36,90 @@ fn is_gathered<D: Door>(door: &mut D, is_awaited: bool, moved: bool, found: bool
     !is_awaited || !moved || !door.asks_again(found)
 }
 
-/// Gives each live session one turn of reading: something was read, or it was ended. While some have had theirs and
-/// others that are marked as busy haven't, those that haven't are asked again, as long as the door says so. Returns
-/// whether there was a turn; if there was, those that had one are marked as busy afterwards.
+/// Gives session `first` its turn, in which whatever it asks is within what all questions may have.
+fn first_turn<C: SessionCore, S: ReadyStream + Drop>(
+    core: &mut C,
+    slots: &mut [Slot<S>],
+    first: usize,
+    had_turn: &mut Marks,
+    backlog: usize,
+    questions: &mut Share,
+) -> Result<bool, C::Error>
+    requires { length slots.old ≤ SESSIONS }
+    ensures stopped { OnErr result (StopsAtPlaces S.calls (C.model.DidStepsInPart core.old core.new)
+        slots.old slots.new) }
+    ensures refused { IfErr result (C.refuses core.old core.new) }
+    ensures done { OnOk result (ServesPlaces S.calls (C.model.DidSteps core.old core.new) no_bytes
+        slots.old slots.new) }
+    ensures within { OwesOnlyAfterTurns C.model (length slots.old) had_turn.old core.old
+        → AreWithinBacklog C.model backlog core.old slots.old
+        → OnOk result (OwesOnlyAfterTurns C.model (length slots.old) had_turn.new core.new
+        × AreWithinBacklog C.model backlog core.new slots.new) }
+    ensures asked { questions.old.is_whole ≡ true → slice_index_or had_turn.old first true ≡ false
+        → first < length slots.old → MayAsk C.model backlog first core.old (slot_at first slots.old)
+        → OnOk result (HasTakenRequest C.model backlog first core.old
+        (slot_at first slots.old) (slot_at first slots.new)
+        × (slice_index_or had_turn.new first true ≡ true)) }
+{
+    if first < slots.len() {
+        turn_of(core, slots, first, had_turn, backlog, questions)
+    } else {
+        Ok(false)
+    }
+}
+
+/// Gives each live session one turn of reading, from session `first` on: something was read, or it was ended. While
+/// some have had theirs and others that are marked as busy haven't, those that haven't are asked again, as long as the
+/// door says so. The replies to all questions that are taken have [`MAX_ASKED`] bytes at most, or are those to one
+/// question. Returns whether anything was taken or ended; if it was, those that had a turn are marked as busy
+/// afterwards.
 pub(crate) fn gather<C: SessionCore, D: Door>(
     core: &mut C,
     slots: &mut [Slot<D::Stream>],
     door: &mut D,
+    backlog: usize,
+    first: usize,
     busy: &mut Marks,
-    buffer: &mut [u8],
 ) -> Result<bool, C::Error>
-    requires count { length slots.old ≤ SESSIONS }
-    requires room { 0 < length buffer.old }
-    requires most { length buffer.old ≤ MAX_PIECE }
+    requires { length slots.old ≤ SESSIONS }
     ensures stopped { OnErr result (StopsAtPlaces D.Stream.calls (C.model.DidStepsInPart core.old core.new)
         slots.old slots.new) }
     ensures refused { IfErr result (C.refuses core.old core.new) }
     ensures done { OnOk result (ServesPlaces D.Stream.calls (C.model.DidSteps core.old core.new) no_bytes
         slots.old slots.new) }
+    ensures within { OwesNothing C.model (length slots.old) core.old
+        → AreWithinBacklog C.model backlog core.old slots.old
+        → OnOk result (AreWithinBacklog C.model backlog core.new slots.new) }
+    ensures asked { first < length slots.old → MayAsk C.model backlog first core.old (slot_at first slots.old)
+        → OnOk result (HasTakenRequest C.model backlog first core.old
+        (slot_at first slots.old) (slot_at first slots.new)) }
 {
+    let mut questions = Share {
+        left: MAX_ASKED,
+        is_whole: true,
+    };
     let mut had_turn = [false; SESSIONS];
+    let mut found = first_turn(core, slots, first, &mut had_turn, backlog, &mut questions)?;
+    let mut from = if first < slots.len() { 1 } else { 0 };
     let mut moved = false;
     for _ in 0..MAX_READINGS {
-        let found = read_turns(core, slots, &mut had_turn, buffer)?;
+        let more = read_turns(
+            core,
+            slots,
+            first,
+            from,
+            &mut had_turn,
+            backlog,
+            &mut questions,
+        )?;
+        found |= more;
         moved |= found;
         let is_awaited = is_one_awaited(core, slots.len(), busy, &had_turn);
         if is_gathered(door, is_awaited, moved, found) {
             break;
         }
+        found = false;
+        from = 0;
     }
     if moved {
         *busy = had_turn;

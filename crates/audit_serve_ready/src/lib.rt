@@ -14,13 +14,15 @@ mod gathering;
 pub mod laws;
 mod limits;
 mod ready_stream;
+mod reception;
 mod serving;
 mod slot;
 mod turns;
+mod unread;
 
 pub use departure::Departure;
 pub use door::{Door, Next};
-pub use limits::{DEFAULT_BACKLOG, MAX_BACKLOG};
+pub use limits::{DEFAULT_BACKLOG, MAX_ASKED, MAX_BACKLOG};
 pub use ready_stream::ReadyStream;
 pub use serving::{finish_writing, serve_clients};
 pub use slot::{Slot, vacant_slots};

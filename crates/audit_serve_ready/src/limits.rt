@@ -5,3 +5,7 @@ pub const MAX_BACKLOG: usize = 1 << 26;
 
 /// How many bytes are kept for a client if nothing else is asked for.
 pub const DEFAULT_BACKLOG: usize = 1 << 20;
+
+/// How many bytes of replies the questions of one pass may have, so that appends needn't wait for many answers. One
+/// question is answered in a pass whatever its reply.
+pub const MAX_ASKED: usize = 1 << 16;

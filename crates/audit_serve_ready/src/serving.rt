@@ -1,26 +1,32 @@
-ghost use Rattle.std.specs.Prelude.{◌<◌, ◌≤◌, length, IfErr, OnOk};
+ghost use Rattle.std.specs.Prelude.{◌≡◌, ◌≢◌, ◌<◌, ◌≤◌, ℕ, true, length, IfOk, IfErr, OnOk};
 ghost use Rattle.audit_base.specs.declared.limits.TheConstants.{SESSIONS};
-ghost use Rattle.audit_serve_passes.specs.declared.limits.TheConstants.{MAX_PIECE};
+ghost use Rattle.audit_serve_ready.specs.declared.turns.Pass.{Pass};
+ghost use Rattle.audit_serve_ready.specs.Backlog.{OwesNothing, AreWithinBacklog};
 ghost use Rattle.audit_serve_ready.specs.Places.{WritesOn};
-ghost use Rattle.audit_serve_ready.specs.Clients.{ServesClients, StopsServing};
+ghost use Rattle.audit_serve_ready.specs.Clients.{next_first, ServesClients, StopsServing};
 
 use crate::clients::{let_go, let_in};
 use crate::door::{Door, Next};
 use crate::gathering::Marks;
 use crate::ready_stream::ReadyStream;
 use crate::slot::Slot;
-use crate::turns::serve_present;
+use crate::turns::{Pass, serve_present};
 use audit_base::SESSIONS;
-use audit_serve_passes::{MAX_PIECE, SessionCore};
+use audit_serve_passes::SessionCore;
 
-/// Serves clients as they come and go, until the door says to stop or the core refuses a step. The first place is that
-/// of session 0; a session whose place has no client is ended first.
+/// Serves clients as they come and go, until the door says to stop or lets no replies leave, or the core refuses a
+/// step. The first place is that of session 0; a session whose place has no client is ended first.
 ///
-/// A pass reads one piece from each client, at most [`MAX_PIECE`] bytes, and feeds it to its session. So that one
-/// commit has what comes meanwhile, the door may have clients that have sent nothing asked again
+/// A pass reads one piece from each client, at most [`MAX_PIECE`](audit_serve_passes::MAX_PIECE) bytes, and feeds it to
+/// its session, up to the first request whose reply might be more than the `backlog` has room for, or than the
+/// questions of a pass may ask for ([`MAX_ASKED`](crate::MAX_ASKED)): the rest of the piece waits for a later pass. A
+/// client that doesn't take its replies waits too: what is kept for it is at most the backlog, in bytes, or one reply.
+/// The first turn goes round from pass to pass, and whoever has it has a question taken, however many others ask. So
+/// that one commit has what comes meanwhile, the door may have clients that have sent nothing asked again
 /// ([`Door::asks_again`]). Then the core flushes, and each client is sent what waits for it: what it doesn't take is
-/// kept for it. A client whose session has ended goes when it has taken everything, and the next client gets its place
-/// and a session that begins anew.
+/// kept for it. If a write fails, the client's replies are dropped, but all that it sent is read. A client whose
+/// session has ended goes when it has taken everything, and the next client gets its place and a session that begins
+/// anew.
 ///
 /// If the core refuses a step, serving stops at once, and the clients keep their places. Whatever happens, what was
 /// fed to a client's session is what was read from its stream, except for a piece that a refused step may have lost.
@@ -28,51 +34,84 @@ pub fn serve_clients<C: SessionCore, D: Door>(
     core: &mut C,
     slots: &mut [Slot<D::Stream>],
     door: &mut D,
+    backlog: usize,
 ) -> Result<(), C::Error>
     requires { length slots.old ≤ SESSIONS }
     // Passes, comings and goings led from the old core and places to the new.
-    ensures served { OnOk result (ServesClients C.model D.Stream.calls core.old core.new slots.old slots.new) }
+    // After each pass nothing waits to be answered, and the session with the first turn takes a request, if it waits.
+    ensures served { OnOk result ((next : ℕ)
+        × ServesClients C.model D.Stream.calls backlog 0 next core.old core.new slots.old slots.new) }
     // If a step was refused, they led to the pass in which it was.
-    ensures stopped { IfErr result (λ error. StopsServing C.model D.Stream.calls (λ old new. C.refuses old new error)
-        core.old core.new slots.old slots.new) }
+    ensures stopped { IfErr result (λ error. StopsServing C.model D.Stream.calls backlog
+        (λ old new. C.refuses old new error) 0 core.old core.new slots.old slots.new) }
+    // What is kept for a client and owed to its session is at most the backlog or one longest reply, if it was so at
+    // the start and nothing was owed then.
+    ensures within { OwesNothing C.model (length slots.old) core.old
+        → AreWithinBacklog C.model backlog core.old slots.old
+        → OnOk result (AreWithinBacklog C.model backlog core.new slots.new) }
 {
     let mut busy = [false; SESSIONS];
-    let mut buffer = [0; MAX_PIECE];
+    let mut first = 0;
     for _ in 0..u64::MAX {
-        let moved = serve_pass(core, slots, door, &mut busy, &mut buffer)?;
-        if door.pause(moved) == Next::Stop {
+        let pass = serve_pass(core, slots, door, backlog, first, &mut busy)?;
+        first = next_first(first);
+        if !goes_on(door, pass) {
             break;
         }
     }
     Ok(())
 }
 
-/// Serves a pass, lets clients go, and lets others in. Returns whether anything moved.
+/// Whether serving goes on after a pass. The door is asked unless it withheld the replies.
+fn goes_on<D: Door>(door: &mut D, pass: Pass) -> bool
+    ensures { result ≡ true → pass ≢ Pass.Withheld }
+{
+    pass != Pass::Withheld && door.pause(pass == Pass::Moved) == Next::Again
+}
+
+/// The session that has the first turn in the next pass.
+fn next_first(first: usize) -> usize
+    ensures { result ≡ next_first first }
+{
+    if first < SESSIONS - 1 { first + 1 } else { 0 }
+}
+
+/// Serves a pass, lets clients go, and lets others in. Returns what it came to: it has moved if a client went or came.
 fn serve_pass<C: SessionCore, D: Door>(
     core: &mut C,
     slots: &mut [Slot<D::Stream>],
     door: &mut D,
+    backlog: usize,
+    first: usize,
     busy: &mut Marks,
-    buffer: &mut [u8],
-) -> Result<bool, C::Error>
-    requires count { length slots.old ≤ SESSIONS }
-    requires room { 0 < length buffer.old }
-    requires most { length buffer.old ≤ MAX_PIECE }
-    ensures served { OnOk result (ServesClients C.model D.Stream.calls core.old core.new slots.old slots.new) }
-    ensures stopped { IfErr result (λ error. StopsServing C.model D.Stream.calls (λ old new. C.refuses old new error)
+) -> Result<Pass, C::Error>
+    requires { length slots.old ≤ SESSIONS }
+    ensures served { OnOk result (ServesClients C.model D.Stream.calls backlog first (next_first first)
         core.old core.new slots.old slots.new) }
+    ensures stopped { IfErr result (λ error. StopsServing C.model D.Stream.calls backlog
+        (λ old new. C.refuses old new error) first core.old core.new slots.old slots.new) }
+    ensures within { OwesNothing C.model (length slots.old) core.old
+        → AreWithinBacklog C.model backlog core.old slots.old
+        → OnOk result (AreWithinBacklog C.model backlog core.new slots.new) }
+    ensures owes { IfOk result (λ pass. pass ≢ Pass.Withheld → OwesNothing C.model (length slots.old) core.new) }
 {
-    let served = serve_present(core, slots, door, busy, buffer)?;
+    let pass = serve_present(core, slots, door, backlog, first, busy)?;
+    if pass == Pass::Withheld {
+        return Ok(pass);
+    }
     let gone = let_go(core, slots, door);
     let come = let_in(core, slots, door);
-    Ok(served | gone | come)
+    Ok(if gone | come { Pass::Moved } else { pass })
 }
 
-/// Writes what is kept for the clients, as long as there is some and the door says to go on. Nothing is read, and no
-/// client goes.
+/// Writes what is kept for the clients, as long as there is some and the door says to go on; nothing if the door lets
+/// no replies leave. Nothing is read, and no client goes.
 pub fn finish_writing<D: Door>(slots: &mut [Slot<D::Stream>], door: &mut D)
     ensures { WritesOn D.Stream.calls slots.old slots.new }
 {
+    if !door.lets_reply() {
+        return;
+    }
     for _ in 0..u64::MAX {
         let moved = push_all(slots);
         if all_written(slots) || door.pause(moved) == Next::Stop {

@@ -1,28 +1,39 @@
-ghost use Rattle.std.specs.Prelude.{◌≡◌, ◌≤◌, [], ◌∷◌, false, length, replicate, IfOk};
-ghost use Rattle.audit_serve_ready.specs.declared.limits.TheConstants.{MAX_BACKLOG};
-ghost use Rattle.audit_serve_ready.specs.Ready.{ready_write_call};
+ghost use Rattle.std.specs.Prelude.{◌≡◌, ◌≤◌, [], ◌∷◌, false, replicate, IfOk, length};
+ghost use Rattle.audit_serve_ready.specs.Ready.{ready_read_calls, ready_write_call, IsReadInto};
 ghost use Rattle.audit_serve_ready.specs.Slot.{vacant, is_no_client, HasCalled};
 
 use crate::backlog::Backlog;
 use crate::departure::Departure;
-use crate::limits::MAX_BACKLOG;
 use crate::ready_stream::ReadyStream;
-use audit_serve_passes::StreamError;
+use crate::reception::Reception;
+use crate::unread::Unread;
+use audit_serve_passes::{Share, StreamError};
 use std::alloc::{AllocError, Global};
 use std::marker::Model;
 use std::mem;
 
-/// The place of a session's client, with the bytes that are kept for the client until it takes them.
+/// The place of a session's client, with the bytes of the client that its session hasn't taken, and those that are kept
+/// for the client until it takes them.
 ///
 /// It is shut if there is no client, or if the client is to be dropped: nothing more is read, kept or written then.
 #[derive(Drop)]
 pub struct Slot<S> {
     client: Option<S>,
+    unread: Unread,
     kept: Backlog,
-    most: usize,
-    closed: bool,
+    reception: Reception,
     departure: Option<Departure>,
-    ghost few: { most ≤ MAX_BACKLOG },
+}
+
+/// What was found of a client's bytes.
+#[derive(Clone, Copy)]
+pub(crate) enum Look {
+    /// Nothing is there now.
+    Nothing,
+    /// The stream is over: at its end, or after a fault.
+    Over,
+    /// Some bytes are unread.
+    Bytes,
 }
 
 impl<S> Model for Slot<S> {
@@ -30,22 +41,19 @@ impl<S> Model for Slot<S> {
 
     ghost Value = { SlotData S };
 
-    ghost view = { λ slot. slot_data slot.client slot.kept slot.closed };
+    ghost view = { λ slot. slot_data slot.client slot.unread slot.kept slot.reception };
 }
 
-/// Makes this many vacant places, each of which keeps at most `most` bytes for its client. The only error is that
-/// memory is refused.
+/// Makes this many vacant places. The only error is that memory is refused.
 pub fn vacant_slots<S: ReadyStream + Drop>(
     alloc: Global,
     count: usize,
-    most: usize,
 ) -> Result<Vec<Slot<S>>, AllocError>
-    requires { most ≤ MAX_BACKLOG }
     ensures { IfOk result (λ slots. slots.items ≡ replicate count vacant) }
 {
     let mut slots = Vec::with_capacity(alloc, count)?;
     for _ in 0..count {
-        slots.push_reserved(Slot::vacant(alloc, most));
+        slots.push_reserved(Slot::vacant(alloc)?);
     }
     Ok(slots)
 }
@@ -61,23 +69,44 @@ fn write_some<S: ReadyStream>(client: &mut Option<S>, bytes: &[u8]) -> Result<us
     }
 }
 
-impl<S: ReadyStream + Drop> Slot<S> {
-    ghost use Rattle.std.specs.Prelude.{◌≡◌, ◌<◌, ◌≤◌, [], length, true, false, IfOk, IfSome};
-    ghost use Rattle.audit_serve_ready.specs.Ready.{ready_read_calls};
-    ghost use Rattle.audit_serve_ready.specs.Slot.{vacant, serving, has_client, is_shut, kept_of, IsAccounted, IsPushed};
-
-    /// A place with no client, which keeps at most `most` bytes for its clients. It allocates nothing.
-    pub fn vacant(alloc: Global, most: usize) -> Slot<S>
-        requires { most ≤ MAX_BACKLOG }
-        ensures { result ≡ vacant }
-    {
-        Slot {
-            client: None,
-            kept: Backlog::new(alloc),
-            most,
-            closed: false,
-            departure: None,
+fn read_some<S: ReadyStream>(
+    client: &mut Option<S>,
+    unread: &mut Unread,
+) -> Option<Result<usize, StreamError>>
+    ensures into { IsReadInto result unread.new }
+    ensures did { is_no_client client.old ≡ false
+        → HasCalled S.calls client.old client.new (ready_read_calls result unread.new) }
+{
+    match client {
+        Some(client) => unread.read_from(client),
+        None => {
+            unread.clear();
+            None
         }
+    }
+}
+
+impl<S: ReadyStream + Drop> Slot<S> {
+    ghost use Rattle.std.specs.Prelude.{◌≡◌, ◌≢◌, ◌+◌, ◌-◌, ◌<◌, ◌≤◌, max, nat_eq, [], length, drop, true, false, List};
+    ghost use Rattle.std.specs.Prelude.{IfOk};
+    ghost use Rattle.audit_serve_passes.specs.declared.limits.TheConstants.{MAX_PIECE};
+    ghost use Rattle.audit_serve_passes.specs.Streams.{StreamCall};
+    ghost use Rattle.audit_serve_ready.specs.declared.slot.Look.{Look};
+    ghost use Rattle.audit_serve_ready.specs.Places.{has_last_read};
+    ghost use Rattle.audit_serve_ready.specs.Slot.{vacant, serving, has_client, is_shut, is_mute, kept_of, unread_of};
+    ghost use Rattle.audit_serve_ready.specs.Slot.{with_unread, HasLooked, IsAccounted, IsPushed};
+
+    /// A place with no client. The only error is that memory is refused.
+    pub(crate) fn vacant(alloc: Global) -> Result<Slot<S>, AllocError>
+        ensures { IfOk result (λ slot. slot ≡ vacant) }
+    {
+        Ok(Slot {
+            client: None,
+            unread: Unread::new(alloc)?,
+            kept: Backlog::new(alloc),
+            reception: Reception::Takes,
+            departure: None,
+        })
     }
 
     /// The client, if there is one.
@@ -96,7 +125,14 @@ impl<S: ReadyStream + Drop> Slot<S> {
     pub(crate) fn is_shut(&self) -> bool
         ensures { result ≡ is_shut self.now }
     {
-        self.closed || self.client.is_none()
+        self.reception == Reception::Shut || self.client.is_none()
+    }
+
+    /// Whether there is no client that takes replies.
+    fn is_mute(&self) -> bool
+        ensures { result ≡ is_mute self.now }
+    {
+        self.reception != Reception::Takes || self.client.is_none()
     }
 
     /// Whether nothing is kept for the client.
@@ -108,10 +144,11 @@ impl<S: ReadyStream + Drop> Slot<S> {
 
     /// Takes a client in.
     pub(crate) fn admit(&mut self, client: S)
-        ensures { self.new ≡ serving client [] }
+        ensures { self.new ≡ serving client [] [] }
     {
+        self.unread.clear();
         self.kept.clear();
-        self.closed = false;
+        self.reception = Reception::Takes;
         self.departure = None;
         self.client = Some(client);
     }
@@ -122,7 +159,6 @@ impl<S: ReadyStream + Drop> Slot<S> {
     {
         let departure = self.departure.unwrap_or(Departure::Malformed);
         self.kept.clear();
-        self.closed = false;
         self.departure = None;
         match mem::replace(&mut self.client, None) {
             Some(client) => Some((client, departure)),
@@ -133,62 +169,103 @@ impl<S: ReadyStream + Drop> Slot<S> {
     /// Drops what is kept for the client, which is to be dropped too.
     pub(crate) fn close(&mut self, departure: Departure)
         ensures accounted { IsAccounted S.calls [] [] self.old self.new }
+        ensures unread { unread_of self.new ≡ unread_of self.old }
         ensures shut { is_shut self.new ≡ true }
+        ensures mute { is_mute self.new ≡ true }
     {
         self.kept.clear();
-        self.closed = true;
+        self.reception = Reception::Shut;
         self.departure = Some(departure);
     }
 
-    /// Reads what is there of the client's bytes: of no client nothing.
-    pub(crate) fn read(&mut self, buffer: &mut [u8]) -> Option<Result<usize, StreamError>>
-        requires { 0 < length buffer.old }
-        ensures within { IfSome result (λ given. IfOk given (λ count. count ≤ length buffer.new)) }
-        ensures did { IsAccounted S.calls [] (ready_read_calls result buffer.new) self.old self.new }
+    /// How many bytes of replies may be queued for the client, beside those that are kept for it, if there is a backlog
+    /// of this many: one reply always if none are kept.
+    pub(crate) fn share(&self, backlog: usize) -> Share
+        ensures left { length (kept_of self.now) + result.left ≤ max backlog (length (kept_of self.now)) }
+        ensures whole { result.is_whole ≡ true → kept_of self.now ≡ [] }
+        ensures exact { is_mute self.now ≡ false → result ≡ record {
+          left = backlog - length (kept_of self.now);
+          is_whole = nat_eq (length (kept_of self.now)) 0;
+        } }
     {
-        let given = self.read_client(buffer);
-        self.note(given);
-        given
-    }
-
-    fn read_client(&mut self, buffer: &mut [u8]) -> Option<Result<usize, StreamError>>
-        requires { 0 < length buffer.old }
-        ensures within { IfSome result (λ given. IfOk given (λ count. count ≤ length buffer.new)) }
-        ensures did { IsAccounted S.calls [] (ready_read_calls result buffer.new) self.old self.new }
-    {
-        match &mut self.client {
-            Some(client) => client.read_ready(buffer),
-            None => None,
+        Share {
+            left: backlog.saturating_sub(self.kept.len()),
+            is_whole: self.kept.len() == 0,
         }
     }
 
-    // Notes why the session ends, if a read ends it.
-    fn note(&mut self, given: Option<Result<usize, StreamError>>)
+    /// The bytes of the client that its session hasn't taken.
+    pub(crate) fn unread(&self) -> &[u8]
+        ensures bytes { is_shut self.now ≡ false → result.now ≡ unread_of self.now }
+        ensures most { length result.now ≤ MAX_PIECE }
+    {
+        self.unread.as_slice()
+    }
+
+    /// Removes the first bytes of those that are unread: the session has taken them.
+    pub(crate) fn advance(&mut self, taken: usize)
+        requires live { is_shut self.old ≡ false }
+        requires within { taken ≤ length (unread_of self.old) }
+        ensures { self.new ≡ with_unread (drop taken (unread_of self.old)) self.old }
+    {
+        self.unread.remove(taken);
+    }
+
+    /// Drops the bytes that are unread.
+    pub(crate) fn drop_unread(&mut self)
+        ensures { self.new ≡ with_unread [] self.old }
+    {
+        self.unread.clear();
+    }
+
+    /// Reads a piece of the client's bytes if none are unread.
+    pub(crate) fn look(&mut self) -> Look
+        requires { is_shut self.old ≡ false }
+        ensures looked { (calls : List StreamCall) × HasLooked S.calls self.old self.new calls
+            × (result ≡ Look.Over → has_last_read calls ≡ true) }
+        ensures waits { unread_of self.old ≢ [] → (result ≡ Look.Bytes) × (self.new ≡ self.old) }
+    {
+        if !self.unread.is_empty() {
+            return Look::Bytes;
+        }
+        match read_some(&mut self.client, &mut self.unread) {
+            None => Look::Nothing,
+            Some(Ok(count)) if count > 0 => Look::Bytes,
+            Some(Ok(_)) => {
+                self.note(Departure::Finished);
+                Look::Over
+            }
+            Some(Err(_)) => {
+                self.note(Departure::ReadFailed);
+                Look::Over
+            }
+        }
+    }
+
+    // Notes why the session ends, unless something worse was noted before.
+    fn note(&mut self, departure: Departure)
         ensures { self.new ≡ self.old }
     {
-        match given {
-            Some(Ok(0)) => self.departure = Some(Departure::Finished),
-            Some(Err(_)) => self.departure = Some(Departure::ReadFailed),
-            Some(Ok(_)) | None => {}
+        if self.departure.is_none() {
+            self.departure = Some(departure);
         }
     }
 
-    /// Keeps these bytes for the client and writes what it takes now of all that is kept. If it fails, or more is left
-    /// than may be kept, or memory is refused, the place is shut. Returns whether the client took bytes or failed.
+    /// Keeps these bytes for the client and writes what it takes now of all that is kept. If a write fails, the replies
+    /// are dropped from then on. If memory is refused, the place is shut. Returns whether the client took bytes or
+    /// failed.
     pub(crate) fn send(&mut self, bytes: Vec<u8>) -> bool
-        ensures sent { IsPushed S.calls bytes.items self.old self.new }
-        ensures few { length (kept_of self.new) ≤ MAX_BACKLOG }
+        ensures { IsPushed S.calls bytes.items self.old self.new }
     {
         self.keep(bytes);
-        let moved = self.push();
-        self.limit();
-        moved
+        self.push()
     }
 
     fn keep(&mut self, bytes: Vec<u8>)
-        ensures { IsAccounted S.calls bytes.items [] self.old self.new }
+        ensures accounted { IsAccounted S.calls bytes.items [] self.old self.new }
+        ensures unread { unread_of self.new ≡ unread_of self.old }
     {
-        if self.is_shut() {
+        if self.is_mute() {
             return;
         }
         if self.kept.append(bytes).is_err() {
@@ -210,7 +287,7 @@ impl<S: ReadyStream + Drop> Slot<S> {
             }
             Err(StreamError) => {
                 self.kept.clear();
-                self.closed = true;
+                self.reception = Reception::Drops;
                 self.departure = Some(Departure::WriteFailed);
                 true
             }
@@ -218,17 +295,8 @@ impl<S: ReadyStream + Drop> Slot<S> {
     }
 
     fn has_nothing_to_write(&self) -> bool
-        ensures { result ≡ false → is_shut self.now ≡ false }
+        ensures { result ≡ false → is_mute self.now ≡ false }
     {
-        self.is_shut() || self.kept.len() == 0
-    }
-
-    fn limit(&mut self)
-        ensures kept { IsAccounted S.calls [] [] self.old self.new }
-        ensures few { length (kept_of self.new) ≤ MAX_BACKLOG }
-    {
-        if self.kept.len() > self.most {
-            self.close(Departure::TooSlow);
-        }
+        self.is_mute() || self.kept.len() == 0
     }
 }

@@ -1,96 +1,201 @@
-ghost use Rattle.std.specs.Prelude.{◌≡◌, ◌<◌, ◌≤◌, ℕ, [], ◌∷◌, length, IfOk, IfErr, OnOk, OnErr};
+ghost use Rattle.std.specs.Prelude.{◌≡◌, ◌≢◌, ◌⊎◌, ◌+◌, ◌<◌, ◌≤◌, ℕ, [], true, false, length, slice_index_or};
+ghost use Rattle.std.specs.Prelude.{IfOk, IfErr, OnOk, OnErr};
 ghost use Rattle.audit_base.specs.declared.limits.TheConstants.{SESSIONS};
-ghost use Rattle.audit_serve_passes.specs.declared.limits.TheConstants.{MAX_PIECE};
-ghost use Rattle.audit_serve_passes.specs.Core.{GoesBy, no_bytes};
+ghost use Rattle.audit_serve_passes.specs.Core.{no_bytes};
 ghost use Rattle.audit_serve_passes.specs.Transition.{AreEmpty};
-ghost use Rattle.audit_serve_ready.specs.Ready.{step_for};
-ghost use Rattle.audit_serve_ready.specs.Places.{ServesPlace, ServesPlaces, StopsAtPlace, StopsAtPlaces};
+ghost use Rattle.audit_serve_ready.specs.declared.turns.Pass.{Pass};
+ghost use Rattle.audit_serve_ready.specs.declared.turns.Turn.{Turn};
+ghost use Rattle.audit_serve_ready.specs.Backlog.{OwesNothing, OwesOnlyAfterTurns, AreWithinBacklog, IsTurnWithin};
+ghost use Rattle.audit_serve_ready.specs.Backlog.{MayAsk, HasTakenRequest, KeepsTurns, TakesTurn};
+ghost use Rattle.audit_serve_ready.specs.Places.{slot_at, ServesPlace, ServesPlaces, StopsAtPlace, StopsAtPlaces};
+ghost use Rattle.audit_serve_ready.specs.Slot.{is_shut, is_mute, kept_of, unread_of};
 
 use crate::departure::Departure;
 use crate::door::Door;
 use crate::gathering::{Marks, gather};
 use crate::ready_stream::ReadyStream;
-use crate::slot::Slot;
-use audit_serve_passes::{SessionCore, StreamError};
+use crate::slot::{Look, Slot};
+use audit_serve_passes::{Allowance, SessionCore, Share};
 
-/// Feeds a session what is there of its client's bytes. The end of the stream, or a fault, ends the session, and so
-/// does a place that is shut. Returns whether anything was done.
+/// What a pass came to.
+#[derive(Clone, Copy, PartialEq, Eq)]
+pub(crate) enum Pass {
+    /// Nothing moved.
+    Idle,
+    /// Bytes moved, or a session ended.
+    Moved,
+    /// The door doesn't let replies leave. None did after the flush.
+    Withheld,
+}
+
+/// What a turn of reading came to.
+#[derive(Clone, Copy, PartialEq, Eq)]
+pub(crate) enum Turn {
+    /// Nothing was there.
+    Idle,
+    /// Bytes are there, but their replies have to wait.
+    Held,
+    /// Bytes were taken, or the session was ended.
+    Moved,
+}
+
+/// Feeds a session what is unread or there of its client's bytes, as far as its share and the questions' allow. The end
+/// of the stream, or a fault, ends the session, and so does a place that is shut.
 fn read_turn<C: SessionCore, S: ReadyStream + Drop>(
     core: &mut C,
     session: usize,
     slot: &mut Slot<S>,
-    buffer: &mut [u8],
-) -> Result<bool, C::Error>
-    requires session { session < SESSIONS }
-    requires room { 0 < length buffer.old }
-    requires most { length buffer.old ≤ MAX_PIECE }
+    backlog: usize,
+    questions: &mut Share,
+) -> Result<Turn, C::Error>
+    requires { session < SESSIONS }
     ensures stopped { OnErr result (StopsAtPlace S.calls (C.model.DidStepsInPart core.old core.new) session
         slot.old slot.new) }
     ensures refused { IfErr result (C.refuses core.old core.new) }
     ensures done { OnOk result (ServesPlace S.calls (C.model.DidSteps core.old core.new) session []
         slot.old slot.new) }
+    ensures within { OnOk result (IsTurnWithin C.model backlog session core.old core.new slot.old slot.new) }
+    ensures idle { IfOk result (λ turn. turn ≡ Turn.Idle → (core.new ≡ core.old) × (unread_of slot.old ≡ [])) }
+    ensures asked { questions.old.is_whole ≡ true → MayAsk C.model backlog session core.old slot.old
+        → OnOk result (HasTakenRequest C.model backlog session core.old slot.old slot.new) }
 {
     if slot.is_shut() {
         core.end(session)?;
-        return Ok(true);
+        return Ok(Turn::Moved);
     }
-    let Some(given) = slot.read(buffer) else {
-        return Ok(false);
-    };
-    take_read(core, session, given, buffer)?;
-    Ok(true)
+    match slot.look() {
+        Look::Nothing => Ok(Turn::Idle),
+        Look::Over => {
+            core.end(session)?;
+            Ok(Turn::Moved)
+        }
+        Look::Bytes => feed_turn(core, session, slot, backlog, questions),
+    }
 }
 
-/// Feeds a session what a read gave, or ends it.
-fn take_read<C: SessionCore>(
+/// Feeds a session the bytes that are unread, as far as its share and the questions' allow.
+fn feed_turn<C: SessionCore, S: ReadyStream + Drop>(
     core: &mut C,
     session: usize,
-    given: Result<usize, StreamError>,
-    buffer: &[u8],
-) -> Result<(), C::Error>
+    slot: &mut Slot<S>,
+    backlog: usize,
+    questions: &mut Share,
+) -> Result<Turn, C::Error>
     requires session { session < SESSIONS }
-    requires within { IfOk given (λ count. count ≤ length buffer.now) }
-    ensures reaches { GoesBy C.model (step_for session given buffer.now) core.old core.new }
+    requires live { is_shut slot.old ≡ false }
+    ensures stopped { OnErr result (StopsAtPlace S.calls (C.model.DidStepsInPart core.old core.new) session
+        slot.old slot.new) }
     ensures refused { IfErr result (C.refuses core.old core.new) }
-    ensures done { OnOk result (C.model.DidSteps core.old core.new (step_for session given buffer.now ∷ []) no_bytes) }
+    ensures done { OnOk result (ServesPlace S.calls (C.model.DidSteps core.old core.new) session []
+        slot.old slot.new) }
+    ensures within { OnOk result (IsTurnWithin C.model backlog session core.old core.new slot.old slot.new) }
+    ensures taken { IfOk result (λ turn. turn ≢ Turn.Idle) }
+    ensures asked { questions.old.is_whole ≡ true → MayAsk C.model backlog session core.old slot.old
+        → OnOk result (HasTakenRequest C.model backlog session core.old slot.old slot.new) }
 {
-    match given {
-        Ok(count) if count > 0 => core.feed(session, &buffer[..count]),
-        _ => core.end(session),
+    let mut allowance = Allowance {
+        session: slot.share(backlog),
+        questions: *questions,
+    };
+    match core.feed_within(session, slot.unread(), &mut allowance) {
+        Ok(taken) => {
+            *questions = allowance.questions;
+            slot.advance(taken);
+            Ok(if taken > 0 { Turn::Moved } else { Turn::Held })
+        }
+        Err(error) => {
+            slot.drop_unread();
+            Err(error)
+        }
     }
 }
 
 /// Whether a session is live and has not had its turn.
 pub(crate) fn is_due<C: SessionCore>(core: &C, session: usize, had_turn: &Marks) -> bool
     requires { session < SESSIONS }
+    ensures live { result ≡ true → C.model.ended core.now [] session ≡ false }
+    ensures turn { result ≡ true → slice_index_or had_turn.now session true ≡ false }
+    ensures due { slice_index_or had_turn.now session true ≡ false → C.model.ended core.now [] session ≡ false
+        → result ≡ true }
 {
     !had_turn[session] && !core.ended(session)
 }
 
-/// Does so for each live session that has not had its turn, in rising order. Those for which anything was done have had
-/// it then. Returns whether there was one.
-pub(crate) fn read_turns<C: SessionCore, S: ReadyStream + Drop>(
+/// The session whose turn is the one with this number, if session `first` has the first turn of `count`.
+fn session_of_turn(first: usize, number: usize, count: usize) -> usize
+    requires some { number < count }
+    requires few { count ≤ SESSIONS }
+    ensures { result < count }
+{
+    let place = first % count + number;
+    if place < count { place } else { place - count }
+}
+
+/// Reads for a session if it is live and has not had its turn. If something was there, it has had its turn then.
+/// Returns whether anything was taken or ended.
+pub(crate) fn turn_of<C: SessionCore, S: ReadyStream + Drop>(
     core: &mut C,
     slots: &mut [Slot<S>],
+    session: usize,
     had_turn: &mut Marks,
-    buffer: &mut [u8],
+    backlog: usize,
+    questions: &mut Share,
 ) -> Result<bool, C::Error>
     requires count { length slots.old ≤ SESSIONS }
-    requires room { 0 < length buffer.old }
-    requires most { length buffer.old ≤ MAX_PIECE }
+    requires there { session < length slots.old }
     ensures stopped { OnErr result (StopsAtPlaces S.calls (C.model.DidStepsInPart core.old core.new)
         slots.old slots.new) }
     ensures refused { IfErr result (C.refuses core.old core.new) }
     ensures done { OnOk result (ServesPlaces S.calls (C.model.DidSteps core.old core.new) no_bytes
         slots.old slots.new) }
+    ensures within { OwesOnlyAfterTurns C.model (length slots.old) had_turn.old core.old
+        → AreWithinBacklog C.model backlog core.old slots.old
+        → OnOk result (OwesOnlyAfterTurns C.model (length slots.old) had_turn.new core.new
+        × AreWithinBacklog C.model backlog core.new slots.new) }
+    ensures kept { OnOk result (KeepsTurns had_turn.old had_turn.new slots.old slots.new) }
+    ensures asked { questions.old.is_whole ≡ true → slice_index_or had_turn.old session true ≡ false
+        → MayAsk C.model backlog session core.old (slot_at session slots.old)
+        → OnOk result (HasTakenRequest C.model backlog session core.old
+        (slot_at session slots.old) (slot_at session slots.new)
+        × (slice_index_or had_turn.new session true ≡ true)) }
 {
+    if !is_due(core, session, had_turn) {
+        return Ok(false);
+    }
+    let turn = read_turn(core, session, &mut slots[session], backlog, questions)?;
+    had_turn[session] = turn != Turn::Idle;
+    Ok(turn == Turn::Moved)
+}
+
+/// Gives each live session its turn that has not had it, from turn number `from` on; turn number 0 is that of session
+/// `first`. Returns whether anything was taken or ended.
+pub(crate) fn read_turns<C: SessionCore, S: ReadyStream + Drop>(
+    core: &mut C,
+    slots: &mut [Slot<S>],
+    first: usize,
+    from: usize,
+    had_turn: &mut Marks,
+    backlog: usize,
+    questions: &mut Share,
+) -> Result<bool, C::Error>
+    requires { length slots.old ≤ SESSIONS }
+    ensures stopped { OnErr result (StopsAtPlaces S.calls (C.model.DidStepsInPart core.old core.new)
+        slots.old slots.new) }
+    ensures refused { IfErr result (C.refuses core.old core.new) }
+    ensures done { OnOk result (ServesPlaces S.calls (C.model.DidSteps core.old core.new) no_bytes
+        slots.old slots.new) }
+    ensures within { OwesOnlyAfterTurns C.model (length slots.old) had_turn.old core.old
+        → AreWithinBacklog C.model backlog core.old slots.old
+        → OnOk result (OwesOnlyAfterTurns C.model (length slots.old) had_turn.new core.new
+        × AreWithinBacklog C.model backlog core.new slots.new) }
+    ensures kept { OnOk result (KeepsTurns had_turn.old had_turn.new slots.old slots.new) }
+{
+    let count = slots.len();
     let mut found = false;
-    for session in 0..slots.len() {
-        if is_due(core, session, had_turn) {
-            let had = read_turn(core, session, &mut slots[session], buffer)?;
-            had_turn[session] = had;
-            found |= had;
-        }
+    for number in from..count {
+        let session = session_of_turn(first, number, count);
+        let taken = turn_of(core, slots, session, had_turn, backlog, questions)?;
+        found |= taken;
     }
     Ok(found)
 }
@@ -108,6 +213,9 @@ fn write_turn<C: SessionCore, S: ReadyStream + Drop>(
     ensures others { (other : ℕ) → (other ≡ session → ⊥)
         → C.model.output core.new other ≡ C.model.output core.old other }
     ensures idle { C.model.Idle core.old → C.model.Idle core.new }
+    ensures kept { length (kept_of slot.new) ≤ length (kept_of slot.old) + length (C.model.output core.old session) }
+    ensures unread { unread_of slot.new ≡ unread_of slot.old }
+    ensures mute { is_mute slot.old ≡ true → is_mute slot.new ≡ true }
 {
     let output = core.take_output(session);
     slot.send(output)
@@ -122,6 +230,10 @@ pub(crate) fn write_turns<C: SessionCore, S: ReadyStream + Drop>(
     ensures done { ServesPlaces S.calls (C.model.DidSteps core.old core.new) no_bytes slots.old slots.new }
     ensures empty { AreEmpty C.model (length slots.old) core.new }
     ensures idle { C.model.Idle core.old → C.model.Idle core.new }
+    ensures within { (backlog : ℕ) → C.model.Idle core.old → AreWithinBacklog C.model backlog core.old slots.old
+        → AreWithinBacklog C.model backlog core.new slots.new }
+    ensures unread { (k : ℕ) → unread_of (slot_at k slots.new) ≡ unread_of (slot_at k slots.old) }
+    ensures mute { (k : ℕ) → is_mute (slot_at k slots.old) ≡ true → is_mute (slot_at k slots.new) ≡ true }
 {
     let mut moved = false;
     for session in 0..slots.len() {
@@ -136,7 +248,10 @@ pub(crate) fn dismiss<C: SessionCore, D: Door>(
     slots: &mut [Slot<D::Stream>],
     door: &mut D,
 )
-    ensures { ServesPlaces D.Stream.calls (C.model.DidSteps core.now core.now) no_bytes slots.old slots.new }
+    ensures done { ServesPlaces D.Stream.calls (C.model.DidSteps core.now core.now) no_bytes slots.old slots.new }
+    ensures within { (backlog : ℕ) → AreWithinBacklog C.model backlog core.now slots.old
+        → AreWithinBacklog C.model backlog core.now slots.new }
+    ensures each { (k : ℕ) → (slot_at k slots.new ≡ slot_at k slots.old) ⊎ (is_mute (slot_at k slots.new) ≡ true) }
 {
     for place in 0..slots.len() {
         if is_dismissed(&slots[place], place, door) {
@@ -152,29 +267,41 @@ fn is_dismissed<D: Door>(slot: &Slot<D::Stream>, place: usize, door: &mut D) -> 
     }
 }
 
-/// A pass over the clients that are there: what they sent is gathered, the core flushes, and each session has its turn
-/// of writing. Returns whether anything moved.
+/// A pass over the clients that are there: what they sent is gathered, from session `first` on, the core flushes, and
+/// each session has its turn of writing. If the door doesn't let replies leave, nobody has. Returns what the pass came
+/// to.
 pub(crate) fn serve_present<C: SessionCore, D: Door>(
     core: &mut C,
     slots: &mut [Slot<D::Stream>],
     door: &mut D,
+    backlog: usize,
+    first: usize,
     busy: &mut Marks,
-    buffer: &mut [u8],
-) -> Result<bool, C::Error>
-    requires count { length slots.old ≤ SESSIONS }
-    requires room { 0 < length buffer.old }
-    requires most { length buffer.old ≤ MAX_PIECE }
+) -> Result<Pass, C::Error>
+    requires { length slots.old ≤ SESSIONS }
     ensures stopped { OnErr result (StopsAtPlaces D.Stream.calls (C.model.DidStepsInPart core.old core.new)
         slots.old slots.new) }
     ensures refused { IfErr result (C.refuses core.old core.new) }
     ensures done { OnOk result (ServesPlaces D.Stream.calls (C.model.DidSteps core.old core.new) no_bytes
         slots.old slots.new) }
     ensures idle { OnOk result (C.model.Idle core.new) }
-    ensures empty { OnOk result (AreEmpty C.model (length slots.old) core.new) }
+    ensures empty { IfOk result (λ pass. pass ≢ Pass.Withheld → AreEmpty C.model (length slots.old) core.new) }
+    ensures within { OwesNothing C.model (length slots.old) core.old
+        → AreWithinBacklog C.model backlog core.old slots.old
+        → OnOk result (AreWithinBacklog C.model backlog core.new slots.new) }
+    ensures turn { first < length slots.old
+        → OnOk result (TakesTurn C.model backlog first core.old (slot_at first slots.old) (slot_at first slots.new)) }
 {
     dismiss(core, slots, door);
-    let was_read = gather(core, slots, door, busy, buffer)?;
+    let was_read = gather(core, slots, door, backlog, first, busy)?;
     core.flush()?;
+    if !door.lets_reply() {
+        return Ok(Pass::Withheld);
+    }
     let was_written = write_turns(core, slots);
-    Ok(was_read | was_written)
+    Ok(if was_read | was_written {
+        Pass::Moved
+    } else {
+        Pass::Idle
+    })
 }

@@ -9,3 +9,6 @@ loop-preserved g c = writes_then g.D.Stream.ReadyStream.calls c.args.slots.now c
 
 pub returns-then-all_written : goal.returns-then-all_written
 returns-then-all_written g c = writes_then g.D.Stream.ReadyStream.calls c.args.slots.now c.loop.slots c.push_all-moved.new.slots c.loop.invariant c.push_all-moved.ensures
+
+pub returns-then-not-lets_reply : goal.returns-then-not-lets_reply
+returns-then-not-lets_reply g c = writes_none g.D.Stream.ReadyStream.calls c.args.slots.now

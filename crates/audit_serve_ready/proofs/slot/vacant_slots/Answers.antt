@@ -11,7 +11,7 @@ loop-preserved g c =
     let pushed = c.push_reserved.ensures in
     record {
       new = pushed.items
-          ∙ ap (λ slot. c.loop.slots.items ++ slot ∷ []) c.vacant.ensures
+          ∙ ap (λ slot. c.loop.slots.items ++ slot ∷ []) c.in_ok-vacant.ensures
           ∙ ap (λ slots. slots ++ vacant ∷ []) c.loop.invariant.new
           ∙ replicate-append-replicate c.loop.counter 1 vacant;
       len = pushed.len ∙ ap (λ n. n + 1) c.loop.invariant.len;

@@ -1,8 +1,12 @@
-use Rattle.std.proofs.Common.{◌≡◌, ◌≤◌, length, true, rules}
-use Rattle.audit_serve_passes.specs.declared.limits.TheConstants.{MAX_PIECE}
+use Rattle.std.proofs.Common.{◌≡◌, ◌∙◌, [], ◌∷◌, true, false, OnOk, refl, sym, subst, rules, arith}
+use Rattle.audit_serve_passes.specs.Steps.{an_end}
+use Rattle.audit_serve_passes.specs.Core.{no_bytes}
 use Rattle.audit_serve_passes.proofs.Turns.{if_err}
-use Rattle.audit_serve_ready.specs.Slot.{is_shut}
-use Rattle.audit_serve_ready.proofs.Visits.{shut_done, shut_stopped, idle_done, read_done, read_stopped}
+use Rattle.audit_serve_ready.specs.Slot.{is_shut, unread_of}
+use Rattle.audit_serve_ready.specs.Backlog.{MayAsk, HasTakenRequest}
+use Rattle.audit_serve_ready.proofs.Asking.{never_shut, none_waits}
+use Rattle.audit_serve_ready.proofs.Visits.{shut_done, shut_stopped, look_done, over_done, over_stopped, look_then, look_stops, on_ok, on_err}
+use Rattle.audit_serve_ready.proofs.Bounds.{turn_idle, turn_ended, turn_then, looked_length}
 use Rattle.audit_serve_ready.proofs.turns.read_turn.Goals as goal
 
 pub returns-in_err-end-clause-stopped : goal.returns-in_err-end-clause-stopped
@@ -15,17 +19,67 @@ returns-then-is_shut-clause-done g c =
     let shut : is_shut c.args.slot.now ≡ true = search rules in
     shut_done g.C.SessionCore.model g.S.ReadyStream.calls c.args.session c.args.core.now c.end.new.self c.args.slot.now shut c.in_ok-end.ensures.did
 
-pub returns-in_default-clause-done : goal.returns-in_default-clause-done
-returns-in_default-clause-done g c =
-    idle_done g.C.SessionCore.model g.S.ReadyStream.calls c.args.session c.args.core.now c.args.slot.now c.read.new.self c.in_default.ensures.did
+pub returns-in-Nothing-clause-done : goal.returns-in-Nothing-clause-done
+returns-in-Nothing-clause-done g c =
+    look_done g.C.SessionCore.model g.S.ReadyStream.calls c.args.session c.args.core.now c.args.slot.now c.look.new.self c.look.ensures.looked.0 c.look.ensures.looked.1
 
-pub returns-in_err-take_read-clause-stopped : goal.returns-in_err-take_read-clause-stopped
-returns-in_err-take_read-clause-stopped g c =
-    let most : length c.read.new.buffer ≤ MAX_PIECE = search rules in
-    if_err c.from_residual-in_err-take_read.result
-    (read_stopped g.C.SessionCore.model g.S.ReadyStream.calls c.args.session c.in-Some.given c.read.new.buffer c.args.core.now c.take_read.new.core c.args.slot.now c.read.new.self most
-    (λ count is. search (rules, is)) c.in-Some.ensures.did c.take_read.ensures.reaches)
+pub returns-in_err-end-in-Over-clause-stopped : goal.returns-in_err-end-in-Over-clause-stopped
+returns-in_err-end-in-Over-clause-stopped g c =
+    if_err c.from_residual-in_err-end-in-Over.result
+    (over_stopped g.C.SessionCore.model g.S.ReadyStream.calls c.args.session c.args.core.now c.end-in-Over.new.self c.args.slot.now c.look.new.self c.look.ensures.looked.0 c.look.ensures.looked.1 (c.look.ensures.looked.2 c.in-Over.is) c.end-in-Over.ensures.reaches)
 
-pub returns-clause-done : goal.returns-clause-done
-returns-clause-done g c =
-    read_done g.C.SessionCore.model g.S.ReadyStream.calls c.args.session c.in-Some.given c.read.new.buffer c.args.core.now c.take_read.new.core c.args.slot.now c.read.new.self c.in-Some.ensures.did c.in_ok-take_read.ensures.done
+pub returns-in_ok-end-in-Over-clause-done : goal.returns-in_ok-end-in-Over-clause-done
+returns-in_ok-end-in-Over-clause-done g c =
+    over_done g.C.SessionCore.model g.S.ReadyStream.calls c.args.session c.args.core.now c.end-in-Over.new.self c.args.slot.now c.look.new.self c.look.ensures.looked.0 c.look.ensures.looked.1 (c.look.ensures.looked.2 c.in-Over.is) c.in_ok-end-in-Over.ensures.did
+
+pub feed_turn-requires-clause-live : goal.feed_turn-requires-clause-live
+feed_turn-requires-clause-live g c =
+    let live : is_shut c.args.slot.now ≡ false = search rules in
+    c.look.ensures.looked.1.shut ∙ live
+
+pub returns-in-Bytes-clause-stopped : goal.returns-in-Bytes-clause-stopped
+returns-in-Bytes-clause-stopped g c =
+    let M = g.C.SessionCore.model in
+    on_err c.feed_turn.result (look_stops M g.S.ReadyStream.calls {Did = M.DidStepsInPart c.args.core.now c.feed_turn.new.core} c.args.session c.args.slot.now c.look.new.self c.feed_turn.new.slot c.look.ensures.looked.0 c.look.ensures.looked.1) c.feed_turn.ensures.stopped
+
+pub returns-in-Bytes-clause-done : goal.returns-in-Bytes-clause-done
+returns-in-Bytes-clause-done g c =
+    let M = g.C.SessionCore.model in
+    on_ok c.feed_turn.result (look_then M g.S.ReadyStream.calls {Did = M.DidSteps c.args.core.now c.feed_turn.new.core} c.args.session [] c.args.slot.now c.look.new.self c.feed_turn.new.slot c.look.ensures.looked.0 c.look.ensures.looked.1) c.feed_turn.ensures.done
+
+pub returns-then-is_shut-clause-within : goal.returns-then-is_shut-clause-within
+returns-then-is_shut-clause-within g c =
+    turn_ended g.C.SessionCore.model c.args.backlog c.args.session c.args.core.now c.end.new.self c.args.slot.now c.args.slot.now (an_end c.args.session ∷ []) no_bytes (omega arith) c.in_ok-end.ensures.did c.in_ok-end.ensures.over c.in_ok-end.ensures.owes
+
+pub returns-in-Nothing-clause-within : goal.returns-in-Nothing-clause-within
+returns-in-Nothing-clause-within g c =
+    turn_idle g.C.SessionCore.model c.args.backlog c.args.session c.args.core.now c.args.slot.now c.look.new.self (looked_length g.S.ReadyStream.calls c.look.ensures.looked.0 c.args.slot.now c.look.new.self c.look.ensures.looked.1)
+
+pub returns-in_ok-end-in-Over-clause-within : goal.returns-in_ok-end-in-Over-clause-within
+returns-in_ok-end-in-Over-clause-within g c =
+    turn_ended g.C.SessionCore.model c.args.backlog c.args.session c.args.core.now c.end-in-Over.new.self c.args.slot.now c.look.new.self (an_end c.args.session ∷ []) no_bytes (looked_length g.S.ReadyStream.calls c.look.ensures.looked.0 c.args.slot.now c.look.new.self c.look.ensures.looked.1)
+    c.in_ok-end-in-Over.ensures.did c.in_ok-end-in-Over.ensures.over c.in_ok-end-in-Over.ensures.owes
+
+pub returns-in-Bytes-clause-within : goal.returns-in-Bytes-clause-within
+returns-in-Bytes-clause-within g c =
+    on_ok c.feed_turn.result (turn_then g.C.SessionCore.model c.args.backlog c.args.session c.args.core.now c.feed_turn.new.core c.args.slot.now c.look.new.self c.feed_turn.new.slot (looked_length g.S.ReadyStream.calls c.look.ensures.looked.0 c.args.slot.now c.look.new.self c.look.ensures.looked.1)) c.feed_turn.ensures.within
+
+pub returns-then-is_shut-clause-asked : goal.returns-then-is_shut-clause-asked
+returns-then-is_shut-clause-asked g c =
+    let shut : is_shut c.args.slot.now ≡ true = search rules in λ whole may. never_shut c.args.slot.now shut may.heard
+
+pub returns-in-Nothing-clause-idle : goal.returns-in-Nothing-clause-idle
+returns-in-Nothing-clause-idle g c = λ idle. (refl, none_waits (unread_of c.args.slot.now) (λ some. cc (c.look.ensures.waits some).0))
+
+pub returns-in-Nothing-clause-asked : goal.returns-in-Nothing-clause-asked
+returns-in-Nothing-clause-asked g c = λ whole may. absurd (cc (c.look.ensures.waits may.unread).0)
+
+pub returns-in_ok-end-in-Over-clause-asked : goal.returns-in_ok-end-in-Over-clause-asked
+returns-in_ok-end-in-Over-clause-asked g c = λ whole may. absurd (cc (c.look.ensures.waits may.unread).0)
+
+pub returns-in-Bytes-clause-asked : goal.returns-in-Bytes-clause-asked
+returns-in-Bytes-clause-asked g c =
+    let M = g.C.SessionCore.model in λ whole may.
+    let same = (c.look.ensures.waits may.unread).1 in
+    subst (λ slot. OnOk c.feed_turn.result (HasTakenRequest M c.args.backlog c.args.session c.args.core.now slot c.feed_turn.new.slot)) same
+    (c.feed_turn.ensures.asked whole (subst (MayAsk M c.args.backlog c.args.session c.args.core.now) (sym same) may))

@@ -1,6 +1,7 @@
-use Rattle.std.proofs.Common.{◌≡◌, true, false, [], ◌∷◌, take, sym, ap, subst, ◌∙◌}
+use Rattle.std.proofs.Common.{◌≡◌, false, [], ◌∷◌, take, sym, ap, subst, ◌∙◌}
 use Rattle.audit_serve_passes.specs.Streams.{a_write, a_failed_write}
-use Rattle.audit_serve_ready.specs.Slot.{slot_data, is_shut, is_no_client, HasCalled, IsPushed}
+use Rattle.audit_serve_ready.specs.Slot.{slot_data, is_mute, is_no_client, HasCalled, IsPushed}
+use Rattle.audit_serve_ready.specs.declared.reception.Reception.TheVariants as reception
 use Rattle.audit_serve_ready.proofs.Sending.{push_none, push_ok, push_err}
 use Rattle.audit_serve_ready.proofs.slot.Slot.push.Goals as goal
 
@@ -12,9 +13,9 @@ returns-in-Ok g c =
     let N = g.S.ReadyStream.calls in
     let inside = c.self.inside in
     let after = c.write_some.new.client in
-    subst (λ slot. IsPushed N [] slot (slot_data after c.remove.new.self inside.closed)) c.self.view_is
-    (subst (λ kept. IsPushed N [] (slot_data inside.client inside.kept inside.closed) (slot_data after kept inside.closed)) (sym c.remove.ensures)
-    (push_ok N inside.client after inside.closed inside.kept c.in-Ok.count (ap is_shut c.self.view_is ∙ c.has_nothing_to_write.ensures c.if-has_nothing_to_write.false)
+    subst (λ slot. IsPushed N [] slot (slot_data after inside.unread c.remove.new.self inside.reception)) c.self.view_is
+    (subst (λ kept. IsPushed N [] (slot_data inside.client inside.unread inside.kept inside.reception) (slot_data after inside.unread kept inside.reception)) (sym c.remove.ensures)
+    (push_ok N inside.client after inside.reception inside.unread inside.kept c.in-Ok.count (ap is_mute c.self.view_is ∙ c.has_nothing_to_write.ensures c.if-has_nothing_to_write.false)
     (subst (λ bytes. is_no_client inside.client ≡ false → HasCalled N inside.client after (a_write (take c.in-Ok.count bytes) ∷ [])) c.as_slice.ensures c.in-Ok.ensures.did)))
 
 pub returns-in-Err : goal.returns-in-Err
@@ -22,6 +23,6 @@ returns-in-Err g c =
     let N = g.S.ReadyStream.calls in
     let inside = c.self.inside in
     let after = c.write_some.new.client in
-    subst (λ slot. IsPushed N [] slot (slot_data after c.clear.new.self true)) c.self.view_is
-    (push_err N inside.client after inside.closed inside.kept c.clear.new.self (ap is_shut c.self.view_is ∙ c.has_nothing_to_write.ensures c.if-has_nothing_to_write.false)
+    subst (λ slot. IsPushed N [] slot (slot_data after inside.unread c.clear.new.self reception.Drops)) c.self.view_is
+    (push_err N inside.client after inside.reception inside.unread inside.kept c.clear.new.self (ap is_mute c.self.view_is ∙ c.has_nothing_to_write.ensures c.if-has_nothing_to_write.false)
     (subst (λ bytes. is_no_client inside.client ≡ false → HasCalled N inside.client after (a_failed_write bytes ∷ [])) c.as_slice.ensures c.in-Err.ensures.did))

@@ -1,0 +1,66 @@
+use Rattle.std.proofs.Common.{◌≡◌, ◌<◌, ◌≤◌, ℕ, List, ◌∷◌, [], length, take, drop, sym, subst}
+use Rattle.audit_serve_passes.specs.declared.limits.TheConstants.{MAX_PIECE}
+use Rattle.audit_serve_passes.specs.Steps.{a_piece}
+use Rattle.audit_serve_passes.specs.Core.{GoesBy, no_bytes}
+use Rattle.audit_serve_ready.specs.Slot.{unread_of}
+use Rattle.audit_serve_ready.specs.Places.{ServesPlace, StopsAtPlace}
+use Rattle.audit_serve_ready.proofs.Visits.{fed_done, fed_stopped}
+use Rattle.audit_serve_passes.specs.Owing.{IsBeyondAllowance}
+use Rattle.audit_serve_ready.specs.Backlog.{IsTurnWithin, HasTakenRequest}
+use Rattle.audit_serve_ready.proofs.Asking.{took}
+use Rattle.audit_serve_ready.proofs.Bounds.{turn_taken, unread_length}
+use Rattle.audit_serve_ready.proofs.turns.feed_turn.Goals as goal
+
+pub advance-requires-clause-within : goal.advance-requires-clause-within
+advance-requires-clause-within g c =
+    let bytes : c.unread.result.now ≡ unread_of c.args.slot.now = c.unread.ensures.bytes c.requires.live in
+    subst (λ (all : List ℕ). c.in-Ok.taken ≤ length all) bytes c.in-Ok.ensures.within
+
+pub returns-after-taken-gt0-clause-done : goal.returns-after-taken-gt0-clause-done
+returns-after-taken-gt0-clause-done g c =
+    let M = g.C.SessionCore.model in
+    let N = g.S.ReadyStream.calls in
+    let old = c.args.core.now in
+    let new = c.feed_within.new.self in
+    let slot = c.args.slot.now in
+    let taken = c.in-Ok.taken in
+    let k = c.args.session in
+    let bytes : c.unread.result.now ≡ unread_of slot = c.unread.ensures.bytes c.requires.live in
+    subst (λ after. ServesPlace N (M.DidSteps old new) k [] slot after) (sym c.advance.ensures)
+    (fed_done M N k taken old new slot c.requires.live (subst (λ (all : List ℕ). M.DidSteps old new (a_piece k (take taken all) ∷ []) no_bytes) bytes c.in-Ok.ensures.did))
+
+pub returns-in-Err-clause-stopped : goal.returns-in-Err-clause-stopped
+returns-in-Err-clause-stopped g c =
+    let M = g.C.SessionCore.model in
+    let N = g.S.ReadyStream.calls in
+    let old = c.args.core.now in
+    let new = c.feed_within.new.self in
+    let slot = c.args.slot.now in
+    let k = c.args.session in
+    let bytes : c.unread.result.now ≡ unread_of slot = c.unread.ensures.bytes c.requires.live in
+    subst (λ after. StopsAtPlace N (M.DidStepsInPart old new) k slot after) (sym c.drop_unread.ensures)
+    (fed_stopped M N k old new slot c.requires.live (subst (λ (all : List ℕ). length all ≤ MAX_PIECE) bytes c.unread.ensures.most)
+    (subst (λ (all : List ℕ). GoesBy M (a_piece k all) old new) bytes c.in-Err.ensures.reaches))
+
+pub returns-after-taken-gt0-clause-within : goal.returns-after-taken-gt0-clause-within
+returns-after-taken-gt0-clause-within g c =
+    let M = g.C.SessionCore.model in
+    let old = c.args.core.now in
+    let new = c.feed_within.new.self in
+    let slot = c.args.slot.now in
+    let k = c.args.session in
+    subst (λ after. IsTurnWithin M c.args.backlog k old new slot after) (sym c.advance.ensures)
+    (turn_taken M c.args.backlog k c.share.result old new slot _ (a_piece k (take c.in-Ok.taken c.unread.result.now) ∷ []) no_bytes (unread_length (drop c.in-Ok.taken (unread_of slot)) slot) c.share.ensures.left c.share.ensures.whole c.in-Ok.ensures.did c.in-Ok.ensures.owes)
+
+pub returns-after-taken-gt0-clause-asked : goal.returns-after-taken-gt0-clause-asked
+returns-after-taken-gt0-clause-asked g c =
+    let M = g.C.SessionCore.model in
+    let old = c.args.core.now in
+    let slot = c.args.slot.now in
+    let k = c.args.session in
+    let bytes : c.unread.result.now ≡ unread_of slot = c.unread.ensures.bytes c.requires.live in λ whole may.
+    subst (λ after. HasTakenRequest M c.args.backlog k old slot after) (sym c.advance.ensures)
+    (took M c.args.backlog k c.share.result c.args.questions.now old slot c.in-Ok.taken c.feed_within.new.allowance c.requires.live may whole (c.share.ensures.exact may.heard)
+    (subst (λ (all : List ℕ). c.in-Ok.taken ≤ length all) bytes c.in-Ok.ensures.within)
+    (subst (λ (all : List ℕ). c.in-Ok.taken < length all → IsBeyondAllowance M c.feed_within.new.allowance) bytes c.in-Ok.ensures.stops)
+    (subst (λ (all : List ℕ). M.requests old k (take c.in-Ok.taken all) ≡ 0 → c.feed_within.new.allowance ≡ record { session = c.share.result; questions = c.args.questions.now }) bytes c.in-Ok.ensures.unspent))

@@ -1,0 +1,60 @@
+-- How many bytes are kept for a client and owed to its session.
+use Rattle.std.specs.Prelude.{◌≡◌, ◌≢◌, ◌⊎◌, ℕ, ◌+◌, ◌<◌, ◌≤◌, max, Bool, true, false, List, [], ◌++◌, length}
+use Rattle.std.specs.Prelude.{slice_index_or}
+use Rattle.audit_serve_passes.specs.Core.{CoreModel}
+use Rattle.audit_serve_passes.specs.Owing.{OwesOthersNoMore}
+use Rattle.audit_serve_ready.specs.Slot.{SlotData, kept_of, unread_of, is_mute}
+use Rattle.audit_serve_ready.specs.Places.{slot_at}
+
+module _ {C : Type 0} (M : CoreModel C) where
+  -- nothing is owed to the sessions below a number, or to those that haven't had their turn
+  abbrev pub OwesNothing : ℕ → C → Type 0
+  OwesNothing count core = (k : ℕ) → k < count → M.owed core k ≡ 0
+
+  abbrev pub OwesOnlyAfterTurns : ℕ → List Bool → C → Type 0
+  OwesOnlyAfterTurns count had_turn core = (k : ℕ) → k < count → slice_index_or had_turn k true ≡ false
+      → M.owed core k ≡ 0
+
+  -- the backlog, or one reply that is longer
+  abbrev pub most_due : ℕ → ℕ
+  most_due backlog = max backlog M.longest
+
+-- Whoever had a turn has had it still, and its place is the same.
+abbrev pub KeepsTurns : {S : Type 0} → List Bool → List Bool → List (SlotData S) → List (SlotData S) → Type 0
+KeepsTurns had now before after = (k : ℕ) → slice_index_or had k true ≡ true
+    → (slice_index_or now k true ≡ true) × (slot_at k after ≡ slot_at k before)
+
+module _ {C S : Type 0} (M : CoreModel C) (backlog : ℕ) where
+  -- What is kept for a client and owed to its session is within that; once the session has ended, with the refusal of a
+  -- request that its end cut off.
+  abbrev pub IsWithinBacklog : ℕ → C → SlotData S → Type 0
+  IsWithinBacklog k core slot = (length (kept_of slot) + M.owed core k ≤ most_due M backlog)
+      ⊎ ((M.ended core [] k ≡ true) × (length (kept_of slot) + M.owed core k ≤ most_due M backlog + M.refusal))
+
+  abbrev pub AreWithinBacklog : C → List (SlotData S) → Type 0
+  AreWithinBacklog core slots = (k : ℕ) → k < length slots → IsWithinBacklog k core (slot_at k slots)
+
+  -- The turn of a session leaves it within that, and no other is owed more.
+  pub record IsTurnWithin (k : ℕ) (old new : C) (before after : SlotData S) : Type 0 where
+    pub others : OwesOthersNoMore M k old new
+    pub ended : (other : ℕ) → M.ended old [] other ≡ true → M.ended new [] other ≡ true
+    pub within : M.ended old [] k ≡ false → M.owed old k ≡ 0 → IsWithinBacklog k old before
+        → IsWithinBacklog k new after
+
+  -- ---- whose turn it is
+
+  -- A client is heard, bytes of it are unread, and whatever it asks, there is room for the reply.
+  pub record MayAsk (k : ℕ) (core : C) (slot : SlotData S) : Type 0 where
+    pub live : M.ended core [] k ≡ false
+    pub heard : is_mute slot ≡ false
+    pub unread : unread_of slot ≢ []
+    pub room : (kept_of slot ≡ []) ⊎ (length (kept_of slot) + M.longest ≤ backlog)
+
+  -- the session took a request of what was unread, or all of it
+  abbrev pub HasTakenRequest : ℕ → C → SlotData S → SlotData S → Type 0
+  HasTakenRequest k core before after = (unread_of after ≡ [])
+      ⊎ ((fed : List ℕ) × (unread_of before ≡ fed ++ unread_of after) × (M.requests core k fed ≢ 0))
+
+  -- It does so in a turn of its own, unless its client is heard no more afterwards.
+  abbrev pub TakesTurn : ℕ → C → SlotData S → SlotData S → Type 0
+  TakesTurn k core before after = MayAsk k core before → is_mute after ≡ false → HasTakenRequest k core before after
