@@ -1,2 +1,4 @@
 pub mod Moves
 pub mod Metered
+pub mod Orders
+pub mod Choice

@@ -8,7 +8,7 @@ use std::os::unix::net::UnixListener;
 #[derive(Drop)]
 pub struct Entrance {
     pub(crate) incoming: Incoming,
-    rights: Rights,
+    pub(crate) rights: Rights,
 }
 
 /// A connection that came in, and what its client may ask for.
@@ -24,14 +24,6 @@ impl Entrance {
         Ok(Entrance {
             incoming: Incoming::new(listener)?,
             rights,
-        })
-    }
-
-    /// Accepts a connection, if one is there.
-    pub(crate) fn accept(&mut self) -> Option<Arrival> {
-        Some(Arrival {
-            stream: self.incoming.accept()?,
-            rights: self.rights,
         })
     }
 }

@@ -11,6 +11,17 @@ pub(crate) struct Incoming {
     may_have_some: bool,
 }
 
+/// What an attempt to accept a connection gave.
+#[derive(Drop)]
+pub(crate) enum Accepted {
+    /// A connection.
+    One(UnixStream),
+    /// None is there now.
+    NoneLeft,
+    /// One is there, and can't be accepted: descriptors or memory ran out.
+    Failed,
+}
+
 impl Incoming {
     /// Takes connections from a socket that listens.
     pub(crate) fn new(listener: net::UnixListener) -> io::Result<Incoming> {
@@ -36,16 +47,26 @@ impl Incoming {
     }
 
     /// Accepts a connection, if one is there.
-    pub(crate) fn accept(&mut self) -> Option<UnixStream> {
+    pub(crate) fn accept(&mut self) -> Accepted {
         if !self.may_have_some {
-            return None;
+            return Accepted::NoneLeft;
         }
         match self.listener.accept() {
-            Ok((stream, _)) => Some(stream),
-            Err(error) => {
-                self.may_have_some = error.kind() != ErrorKind::WouldBlock;
-                None
+            Ok((stream, _)) => Accepted::One(stream),
+            Err(error) => self.judge(error.kind()),
+        }
+    }
+
+    // A connection that was given up before it was accepted, or an interrupted call, isn't a lack.
+    fn judge(&mut self, kind: ErrorKind) -> Accepted {
+        if kind == ErrorKind::WouldBlock {
+            self.may_have_some = false;
+        }
+        match kind {
+            ErrorKind::WouldBlock | ErrorKind::Interrupted | ErrorKind::ConnectionAborted => {
+                Accepted::NoneLeft
             }
+            _ => Accepted::Failed,
         }
     }
 }

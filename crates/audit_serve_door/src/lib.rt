@@ -1,9 +1,10 @@
-//! The door of a daemon: Unix sockets on which clients come in, and one on which the order to stop comes.
+//! The door of a daemon: Unix sockets on which clients come in, and one on which orders to stop come.
 //!
 //! [`SocketDoor`] waits with `mio`'s `Poll`, so no call on a client's stream waits, and without anything to do it takes
 //! no processor time. What a client may ask for depends on the socket that it came by ([`Entrance`]).
 #![tactic(auto)]
 
+mod choice;
 mod client;
 mod entrance;
 mod incoming;
@@ -11,14 +12,23 @@ mod journal;
 mod limits;
 mod metered;
 mod nonblocking;
+mod order;
 mod places;
+mod room;
 mod socket_door;
 mod stop_orders;
+mod waiting;
+mod watch;
 
+pub use choice::{Heads, Taken, next_entry};
 pub use client::Client;
 pub use entrance::Entrance;
 pub use journal::Journal;
+pub use limits::MOST_OF_A_SIDE;
 pub use metered::Metered;
 pub use nonblocking::Nonblocking;
+pub use order::{OrderText, STOP_ORDER, order_text};
+pub use room::{ROOM, Room};
 pub use socket_door::SocketDoor;
 pub use stop_orders::StopOrders;
+pub use watch::Watch;

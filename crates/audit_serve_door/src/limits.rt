@@ -1,8 +1,14 @@
 //! The limits of a daemon.
 use std::time::Duration;
 
-/// How many stop orders are answered.
+/// How many connections for stop orders are kept, and how many orders are answered.
 pub const MAX_ORDERS: usize = 64;
+
+/// How many of the places clients that only read may hold, and how many all others may, if there are both.
+pub const MOST_OF_A_SIDE: usize = 15;
+
+/// How many connections of a socket a pause accepts at most. It is a power of two.
+pub const MAX_ACCEPTED: usize = 1 << 10;
 
 /// How long clients may take replies after the order to stop.
 pub fn finishing_time() -> Duration {
@@ -17,4 +23,9 @@ pub fn retry_time() -> Duration {
 /// How long a pass asks for more after it has found something.
 pub fn gathering_time() -> Duration {
     Duration::from_micros(20)
+}
+
+/// How long replies may leave after a look whether the store is in its place.
+pub fn looking_time() -> Duration {
+    Duration::from_secs(1)
 }

@@ -1,45 +1,65 @@
+use crate::choice::next_entry;
 use crate::client::Client;
 use crate::entrance::{Arrival, Entrance};
+use crate::incoming::Accepted;
 use crate::journal::Journal;
-use crate::limits::{finishing_time, gathering_time, retry_time};
+use crate::limits::{
+    MAX_ACCEPTED, MAX_ORDERS, MOST_OF_A_SIDE, finishing_time, gathering_time, looking_time,
+    retry_time,
+};
 use crate::metered::Metered;
 use crate::nonblocking::Nonblocking;
-use crate::places::Places;
+use crate::places::{Candidates, Places};
 use crate::stop_orders::StopOrders;
+use crate::waiting::Waiting;
+use crate::watch::Watch;
 use audit_base::SESSIONS;
 use audit_serve_ready::{Departure, Door, Next};
-use audit_serve_rights::Guarded;
-use mio::{Events, Interest, Poll, Token};
+use audit_serve_rights::{Guarded, Rights};
+use mio::{Events, Interest, Poll, Registry, Token};
 use std::alloc::Global;
 use std::io::{self, ErrorKind};
 use std::net::Net;
 use std::time::{Clock, Duration, Instant};
 
-// The token of the orders to stop. The numbers below it are those of the clients, by their places.
-const STOP: usize = SESSIONS;
+// The token of the socket for orders to stop. Those of the entrances follow.
+const STOP: usize = 0;
 
-// The first of the entrances' tokens.
 const FIRST_ENTRANCE: usize = STOP + 1;
 
-// How many events a pause takes at most.
-const MAX_EVENTS: usize = 64;
+// The first number of a client's connection. They rise in the order of acceptance.
+const FIRST_CLIENT: usize = 1 << 32;
 
-/// Where the clients of a daemon come in: Unix sockets, and one on which the order to stop comes.
+// The first number of a connection for orders.
+const FIRST_ORDER: usize = 1 << 62;
+
+// How many events a pause takes at most.
+const MAX_EVENTS: usize = 256;
+
+/// Where the clients of a daemon come in: Unix sockets, and one on which orders to stop come.
 ///
-/// One client is accepted ahead and waits for a place. While it waits, the client that has been idle for the longest
-/// time is dismissed, if that time is over the limit. A pause takes no processor time while nothing happens.
+/// Whoever comes is accepted at once, and waits outside until it has sent something. Places go in the order of
+/// acceptance ([`next_entry`]). While one that has sent something waits for a place, the client that has been idle for
+/// the longest time is dismissed, if that time is over the limit. If the system gives no further descriptor, the oldest
+/// connection that has sent nothing is dropped. A pause takes no processor time while nothing happens.
 #[derive(Drop)]
-pub struct SocketDoor<'a, C, J> {
+pub struct SocketDoor<'a, C, J, W> {
     clock: &'a C,
     journal: J,
+    watch: W,
     poll: Poll,
     events: Events,
     entrances: Vec<Entrance>,
     orders: StopOrders,
-    // The entrance that is asked next for a client.
-    turn: usize,
-    waiting: Option<Arrival>,
+    // A descriptor for an order to stop when there is no other.
+    spare: Option<Registry>,
+    waiting: Waiting,
     places: Places,
+    // The number of the next connection for orders, and that of the next client.
+    next_order: usize,
+    next_client: usize,
+    // Whether a connection couldn't be accepted in the last pause.
+    is_short: bool,
     // How long a client may be idle while another one waits.
     idle: Option<Duration>,
     // The place whose client is to be dismissed.
@@ -47,14 +67,19 @@ pub struct SocketDoor<'a, C, J> {
     now: Instant,
     // When a reading last found something.
     found: Instant,
+    // When it was last looked whether the store is in its place.
+    looked: Instant,
     // After the order to stop: until when clients may take their replies.
     until: Option<Instant>,
     has_failed: bool,
+    is_replaced: bool,
 }
 
-impl<'a, C: Clock, J: Journal + Drop> SocketDoor<'a, C, J> {
-    /// Makes a door with these entrances. A client that moves no byte for the time `idle` is dismissed when another one
-    /// waits; without that time no client is. Errors are those of the system, and `OutOfMemory`.
+impl<'a, C: Clock, J: Journal + Drop, W: Watch + Drop> SocketDoor<'a, C, J, W> {
+    /// Makes a door with these entrances: those of clients that only read come before the others. A client that moves
+    /// no byte for the time `idle` is dismissed when another one waits; without that time no client is. No reply leaves
+    /// once the watch has found that what is served isn't in its place. Errors are those of the system, and
+    /// `OutOfMemory`.
     pub fn new(
         net: &impl Net,
         clock: &'a C,
@@ -63,27 +88,39 @@ impl<'a, C: Clock, J: Journal + Drop> SocketDoor<'a, C, J> {
         orders: StopOrders,
         idle: Option<Duration>,
         journal: J,
-    ) -> io::Result<SocketDoor<'a, C, J>> {
+        watch: W,
+    ) -> io::Result<SocketDoor<'a, C, J, W>> {
         let now = Instant::now(clock)?;
         let Ok(events) = Events::with_capacity(alloc, MAX_EVENTS) else {
             return Err(io::Error::from(ErrorKind::OutOfMemory));
         };
+        let most = if entrances.len() > 1 {
+            MOST_OF_A_SIDE
+        } else {
+            SESSIONS
+        };
         let mut door = SocketDoor {
             clock,
             journal,
+            watch,
             poll: Poll::new(net)?,
             events,
             entrances,
             orders,
-            turn: 0,
-            waiting: None,
-            places: Places::new(now),
+            spare: None,
+            waiting: Waiting::new(alloc),
+            places: Places::new(most, now),
+            next_order: FIRST_ORDER,
+            next_client: FIRST_CLIENT,
+            is_short: false,
             idle,
             due: None,
             now,
             found: now,
+            looked: now,
             until: None,
             has_failed: false,
+            is_replaced: false,
         };
         door.register()?;
         Ok(door)
@@ -104,29 +141,128 @@ impl<'a, C: Clock, J: Journal + Drop> SocketDoor<'a, C, J> {
         self.has_failed
     }
 
+    /// Whether what is served isn't in its place, now or when it was last looked.
+    pub fn is_replaced(&mut self) -> bool {
+        self.is_replaced || !self.look()
+    }
+
     /// Closes the door, and returns the orders to stop, which are to be answered, and the journal.
     pub fn close(self) -> (StopOrders, J) {
         (self.orders, self.journal)
     }
 
-    // Accepts a client ahead, if none waits.
-    fn accept_ahead(&mut self) {
-        for _ in 0..=self.entrances.len() {
-            if self.waiting.is_none() {
-                self.waiting = self.accept_in_turn();
+    // Looks whether what is served is in its place.
+    fn look(&mut self) -> bool {
+        let is_in_place = self.watch.is_in_place();
+        self.is_replaced |= !is_in_place;
+        is_in_place
+    }
+
+    // Accepts the connections that may bring an order. One that can't be accepted takes the spare descriptor.
+    fn accept_orders(&mut self) {
+        if self.spare.is_none() {
+            self.spare = self.poll.registry().try_clone().ok();
+        }
+        for _ in 0..MAX_ORDERS {
+            match self.orders.incoming.accept() {
+                Accepted::One(stream) => {
+                    self.next_order = self.next_order.wrapping_add(1);
+                    self.orders
+                        .admit(stream, self.next_order, self.poll.registry());
+                }
+                Accepted::NoneLeft => return,
+                Accepted::Failed => {
+                    let had_spare = self.spare.take().is_some();
+                    if !had_spare && !self.drop_silent() {
+                        self.is_short = true;
+                        return;
+                    }
+                }
             }
         }
     }
 
-    // Asks the entrance whose turn it is. After the last one nobody is asked once.
-    fn accept_in_turn(&mut self) -> Option<Arrival> {
-        let number = self.turn;
-        let Some(entrance) = self.entrances.get_mut(number) else {
-            self.turn = 0;
+    // Accepts whoever has come. What came by a later entrance gets the lower numbers, since somebody may have come
+    // there, left, and come again by an earlier one.
+    fn accept_clients(&mut self) {
+        let entrances = self.entrances.len();
+        for place in 0..entrances {
+            let later = entrances - 1 - place;
+            self.accept_at(
+                place,
+                self.next_client
+                    .wrapping_add(later.wrapping_mul(MAX_ACCEPTED)),
+            );
+        }
+        self.next_client = self
+            .next_client
+            .wrapping_add(entrances.wrapping_mul(MAX_ACCEPTED));
+    }
+
+    // Accepts who has come by an entrance, and numbers them from here.
+    fn accept_at(&mut self, place: usize, first: usize) {
+        for at in 0..MAX_ACCEPTED {
+            let Some(arrival) = self.accept_one(place) else {
+                return;
+            };
+            self.admit(first.wrapping_add(at), arrival);
+        }
+    }
+
+    fn accept_one(&mut self, place: usize) -> Option<Arrival> {
+        for _ in 0..2 {
+            let entrance = self.entrances.get_mut(place)?;
+            match entrance.incoming.accept() {
+                Accepted::One(stream) => {
+                    return Some(Arrival {
+                        stream,
+                        rights: entrance.rights,
+                    });
+                }
+                Accepted::NoneLeft => return None,
+                Accepted::Failed if self.drop_silent() => {}
+                Accepted::Failed => break,
+            }
+        }
+        self.is_short = true;
+        None
+    }
+
+    // Drops the oldest connection that has sent nothing. Returns whether there was one.
+    fn drop_silent(&mut self) -> bool {
+        let is_dropped = self.waiting.drop_silent();
+        if is_dropped {
+            self.journal.note_silent();
+        }
+        is_dropped
+    }
+
+    fn admit(&mut self, number: usize, mut arrival: Arrival) {
+        let registry = self.poll.registry();
+        let is_watched = registry
+            .register(&mut arrival.stream, Token(number), Interest::READABLE)
+            .is_ok();
+        if !is_watched || !self.waiting.admit(number, arrival) {
+            self.journal.note(Departure::Memory, false);
+        }
+    }
+
+    // Gives a place to a connection, unless the system refuses to report on it.
+    fn seat(&mut self, place: usize, number: usize, mut arrival: Arrival) -> Option<Client> {
+        let both = Interest::READABLE | Interest::WRITABLE;
+        let registry = self.poll.registry();
+        if registry
+            .reregister(&mut arrival.stream, Token(number), both)
+            .is_err()
+        {
+            self.waiting.forget(number);
+            self.journal.note(Departure::Memory, false);
             return None;
-        };
-        self.turn = number + 1;
-        entrance.accept()
+        }
+        let only_reads = arrival.rights == Rights::Read;
+        self.places.take(place, number, only_reads, self.now);
+        let stream = Nonblocking::new(arrival.stream);
+        Some(Metered::new(Guarded::new(stream, arrival.rights)))
     }
 
     // How long a pause may last: without end while nothing is to be tried again and nobody is to be dismissed.
@@ -135,29 +271,42 @@ impl<'a, C: Clock, J: Journal + Drop> SocketDoor<'a, C, J> {
             return Some(until.duration_since(self.now));
         }
         if self.is_one_left() {
-            return Some(retry_time());
+            return Some(if self.is_short {
+                retry_time()
+            } else {
+                Duration::ZERO
+            });
         }
         self.time_to_dismissal()
     }
 
-    // Whether a connection may be there that couldn't be accepted: an order, or a client if none waits.
+    // Whether a connection may be there that wasn't accepted.
     fn is_one_left(&self) -> bool {
-        self.orders.incoming.may_have_some() || self.waiting.is_none() && self.is_client_left()
+        self.orders.incoming.may_have_some()
+            || self
+                .entrances
+                .iter()
+                .any(|entrance| entrance.incoming.may_have_some())
     }
 
-    fn is_client_left(&self) -> bool {
-        self.entrances
-            .iter()
-            .any(|entrance| entrance.incoming.may_have_some())
+    // Whose leaving would give a place to one that has sent something and waits for want of one.
+    fn candidates(&self) -> Candidates {
+        let taken = self.places.taken();
+        let is_full = taken.readers.wrapping_add(taken.others) >= SESSIONS;
+        let readers_full = taken.readers >= taken.most;
+        let others_full = taken.others >= taken.most;
+        let reader_waits = self.waiting.has_reader() && (is_full || readers_full);
+        let other_waits = self.waiting.has_other() && (is_full || others_full);
+        Candidates {
+            readers: reader_waits || other_waits && !others_full,
+            others: other_waits || reader_waits && !readers_full,
+        }
     }
 
     // When the client that has been idle for the longest time is to be dismissed, if another one waits.
     fn time_to_dismissal(&self) -> Option<Duration> {
-        if self.waiting.is_none() {
-            return None;
-        }
         let idle = self.idle?;
-        let (_, since) = self.places.longest_idle()?;
+        let (_, since) = self.places.longest_idle(self.candidates())?;
         Some(idle.saturating_sub(self.now.duration_since(since)))
     }
 
@@ -172,11 +321,20 @@ impl<'a, C: Clock, J: Journal + Drop> SocketDoor<'a, C, J> {
         self.now = Instant::now(self.clock)?;
         for event in self.events.iter() {
             let Token(number) = event.token();
-            if number == STOP {
+            if number >= FIRST_ORDER {
+                self.orders.announce(number);
+            } else if number >= FIRST_CLIENT {
+                let is_heard = self.waiting.hear(number);
+                if !is_heard {
+                    self.journal.note(Departure::Memory, false);
+                }
+                let is_other = self.places.is_other(number) || self.waiting.is_other(number);
+                if is_other && event.is_write_closed() {
+                    self.waiting.close(number);
+                }
+            } else if number == STOP {
                 self.orders.incoming.announce();
-            } else if number > STOP
-                && let Some(entrance) = self.entrances.get_mut(number - FIRST_ENTRANCE)
-            {
+            } else if let Some(entrance) = self.entrances.get_mut(number - FIRST_ENTRANCE) {
                 entrance.incoming.announce();
             }
         }
@@ -186,10 +344,8 @@ impl<'a, C: Clock, J: Journal + Drop> SocketDoor<'a, C, J> {
     // Chooses the client that is to be dismissed.
     fn choose_idle(&mut self) {
         self.due = None;
-        if self.waiting.is_none() {
-            return;
-        }
-        if let (Some(idle), Some((place, since))) = (self.idle, self.places.longest_idle()) {
+        let found = self.places.longest_idle(self.candidates());
+        if let (Some(idle), Some((place, since))) = (self.idle, found) {
             if self.now.duration_since(since) >= idle {
                 self.due = Some(place);
             }
@@ -210,24 +366,18 @@ impl<'a, C: Clock, J: Journal + Drop> SocketDoor<'a, C, J> {
     }
 }
 
-impl<C: Clock, J: Journal + Drop> Door for SocketDoor<'_, C, J> {
+impl<C: Clock, J: Journal + Drop, W: Watch + Drop> Door for SocketDoor<'_, C, J, W> {
     type Stream = Client;
 
     fn next_client(&mut self, place: usize) -> Option<Client> {
-        self.accept_ahead();
-        let mut arrival = self.waiting.take()?;
-        let both = Interest::READABLE | Interest::WRITABLE;
-        let registry = self.poll.registry();
-        if registry
-            .register(&mut arrival.stream, Token(place), both)
-            .is_err()
-        {
-            self.journal.note(Departure::Memory, false);
-            return None;
+        for _ in 0..SESSIONS {
+            let number = next_entry(self.waiting.heads(), self.places.taken())?;
+            let arrival = self.waiting.take(number)?;
+            if let Some(client) = self.seat(place, number, arrival) {
+                return Some(client);
+            }
         }
-        self.places.take(place, self.now);
-        let stream = Nonblocking::new(arrival.stream);
-        Some(Metered::new(Guarded::new(stream, arrival.rights)))
+        None
     }
 
     fn dismisses(&mut self, place: usize, client: &Client) -> bool {
@@ -245,20 +395,41 @@ impl<C: Clock, J: Journal + Drop> Door for SocketDoor<'_, C, J> {
         now.duration_since(self.found) < gathering_time()
     }
 
+    fn lets_reply(&mut self) -> bool {
+        if self.is_replaced {
+            return false;
+        }
+        let Ok(now) = Instant::now(self.clock) else {
+            return self.look();
+        };
+        if now.duration_since(self.looked) < looking_time() {
+            return true;
+        }
+        self.looked = now;
+        self.look()
+    }
+
     fn gone(&mut self, place: usize, client: Client, departure: Departure) {
-        self.places.leave(place);
+        if let Some(number) = self.places.leave(place) {
+            self.waiting.forget(number);
+        }
         self.journal.note(departure, client.inner().is_cut_off());
     }
 
     fn pause(&mut self, moved: bool) -> Next {
+        if self.is_replaced {
+            return Next::Stop;
+        }
         if self.wait(moved).is_err() {
             self.has_failed = true;
             return Next::Stop;
         }
+        self.is_short = false;
+        self.accept_orders();
         if self.orders.has_come() {
             return self.finish();
         }
-        self.accept_ahead();
+        self.accept_clients();
         self.choose_idle();
         Next::Again
     }

@@ -5,7 +5,7 @@ use Rattle.audit_wire.specs.Frame.{size_of}
 use Rattle.audit_serve_passes.specs.Steps.{StepData, bytes_fed, ends_in}
 use Rattle.audit_serve_passes.specs.Streams.{StreamCall, a_read, a_failed_read, a_write, a_failed_write, CallModel, bytes_read, bytes_sent, has_failed_write, AreWrittenWhole}
 use Rattle.audit_serve_passes.specs.Known.{has_read_at_end}
-use Rattle.audit_serve_ready.specs.Slot.{SlotData, serving, client_of, kept_of, is_shut, HasCalled}
+use Rattle.audit_serve_ready.specs.Slot.{SlotData, serving, client_of, unread_of, kept_of, is_shut, HasCalled}
 use Rattle.audit_serve_ready.specs.Places.{has_last_read, IsServedAt}
 use Rattle.audit_serve_rights.specs.declared.rights.Rights.{Rights}
 use Rattle.audit_serve_rights.specs.declared.position.Position.{Position}
@@ -139,7 +139,7 @@ module _ {S : Type 0} (N : CallModel S) where
 
 module _ {S T : Type 0} (N : CallModel S) (M : CallModel T) (guarded_of : T → Guarded S) (through : (one other : T) (calls : List StreamCall) → M.DidCalls one other calls → IsGuarded N (guarded_of one) (guarded_of other) calls) where
   served_allowed : (k : ℕ) (stream : S) (rights : Rights) (client now : T) (steps : List StepData) (sent : List ℕ) (calls : List StreamCall) (after : SlotData T) → IsNewGuarded stream rights (guarded_of client)
-      → IsServedAt M k steps [] sent calls (serving client []) after → client_of after ≡ Some now → IsGuarded N (guarded_of client) (guarded_of now) calls → IsServedAllowed N guarded_of k rights stream steps sent after
+      → IsServedAt M k steps [] sent calls (serving client [] []) after → client_of after ≡ Some now → IsGuarded N (guarded_of client) (guarded_of now) calls → IsServedAllowed N guarded_of k rights stream steps sent after
   served_allowed k stream rights client now steps sent calls after is served there did =
       let first = guarded_of client in
       let last = guarded_of now in
@@ -148,7 +148,7 @@ module _ {S T : Type 0} (N : CallModel S) (M : CallModel T) (guarded_of : T → 
         there = there;
         calls = did.inner;
         did = subst (λ (from : S). N.DidCalls from (stream_of last) did.inner) is.stream_is did.did;
-        fed = sym (append-nil (bytes_fed k steps)) ∙ sym served.read ∙ given_from_start N stream rights first last calls is did;
+        fed = ap (λ (bytes : List ℕ). bytes_fed k steps ++ bytes) (sym (append-nil (unread_of after))) ∙ sym served.read ∙ given_from_start N stream rights first last calls is did;
         ends = ends_from_start N stream rights first last calls is did (is_shut after) (ends_in k steps) served.ends;
         dropped = served.accounted.dropped;
         written = served.accounted.written
@@ -159,7 +159,7 @@ module _ {S T : Type 0} (N : CallModel S) (M : CallModel T) (guarded_of : T → 
       }
 
   pub served_is_allowed : (k : ℕ) (stream : S) (rights : Rights) (client : T) (steps : List StepData) (sent : List ℕ) (calls : List StreamCall) (after : SlotData T) → IsNewGuarded stream rights (guarded_of client)
-      → IsServedAt M k steps [] sent calls (serving client []) after → IsServedAllowed N guarded_of k rights stream steps sent after
+      → IsServedAt M k steps [] sent calls (serving client [] []) after → IsServedAllowed N guarded_of k rights stream steps sent after
   served_is_allowed k stream rights client steps sent calls after is served = by_client (client_of after) refl served.accounted.client
     where
       by_client : (there : Option T) → client_of after ≡ there → HasCalled M (Some client) there calls → IsServedAllowed N guarded_of k rights stream steps sent after

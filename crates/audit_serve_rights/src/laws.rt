@@ -37,19 +37,20 @@ pub fn only_allowed_requests_are_let_through()
 {}
 
 /// A client of which only allowed frames are let through, from its coming on, as long as it stays, whoever was in its
-/// place before. All bytes that were fed to its session are the longest front of those that its stream gave that ends
-/// before the first frame that isn't allowed; of a frame whose kind hasn't come nothing was fed unless the stream
-/// ended. Nobody else's bytes were fed to it, and what was taken of its output was written to its stream, or is kept
-/// for it, or was dropped when its place was shut. The client's stream is a [`Guarded`](crate::Guarded), or has one
-/// and hands its calls on to it.
+/// place before. All bytes that were fed to its session, and then those that it hasn't taken yet, are the longest front
+/// of those that its stream gave that ends before the first frame that isn't allowed; of a frame whose kind hasn't come
+/// nothing was fed unless the stream ended. Nobody else's bytes were fed to it, and what was taken of its output was
+/// written to its stream, or is kept for it, or was dropped when it took no more replies. The client's stream is a
+/// [`Guarded`](crate::Guarded), or has one and hands its calls on to it.
 pub fn only_what_is_allowed_is_fed<C: SessionCore, T: ReadyStream, S: ReadyStream>()
     ensures { (guarded_of : T → Guarded S)
         → ((one other : T) (calls : List StreamCall) → T.calls.DidCalls one other calls
         → IsGuarded S.calls (guarded_of one) (guarded_of other) calls)
         → (k : ℕ) (stream : S) (rights : Rights) (client : T) (changes : List (ClientChange T)) (old new : C)
-        (before after : List (SlotData T))
+        (before after : List (SlotData T)) (backlog first : ℕ)
         → IsNewGuarded stream rights (guarded_of client)
-        → AreChanges C.model T.calls (a_coming k client ∷ changes) old new before after → StaysAt k changes
+        → AreChanges C.model T.calls backlog first (a_coming k client ∷ changes) old new before after
+        → StaysAt k changes
         → IsServedAllowed S.calls guarded_of k rights stream (steps_in changes) (taken_in k changes)
         (slot_at k after) }
 {}

@@ -15,6 +15,7 @@ mod owner_only;
 mod replying;
 mod round_line;
 mod socket_file;
+mod socket_lock;
 
 pub use frame_line::bytes_of_line;
 pub use input_line::next_line;
@@ -25,4 +26,5 @@ pub use loop_fault::LoopError;
 pub use looping::run_lines;
 pub use replying::write_frames;
 pub use round_line::write_round;
-pub use socket_file::{OWNER_ONLY, SocketFile};
+pub use socket_file::{OWNER_ONLY, SocketFile, SocketName};
+pub use socket_lock::SocketLock;

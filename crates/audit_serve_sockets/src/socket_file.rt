@@ -1,4 +1,6 @@
 use crate::owner_only::OwnerOnly;
+use crate::socket_lock::{SocketLock, Taking, own_user, remove_own};
+use audit_disk::{FileIdentity, SystemFile};
 use std::alloc::Global;
 use std::fs::{self, Files, Permissions};
 use std::io::{self, ErrorKind};
@@ -13,24 +15,66 @@ pub const OWNER_ONLY: u32 = 0o600;
 #[derive(Drop)]
 pub struct SocketFile {
     listener: UnixListener,
+    name: SocketName,
+}
+
+/// The file of a socket that this program made.
+#[derive(Clone, Copy)]
+pub struct SocketName {
+    identity: FileIdentity,
+}
+
+impl SocketName {
+    /// Removes the socket's file, if its path still names it. Another file there is kept.
+    pub fn remove<R: Files>(self, rt: &R, path: &str) -> io::Result<()> {
+        remove_own(rt, path, self.identity)
+    }
 }
 
 impl SocketFile {
-    /// Makes the socket's file. Only its owner has access when it is created; then `mode` is set if it differs. A
-    /// socket of this user on which nobody listens is replaced: a program that was killed leaves such a file. Any
-    /// other existing file is an error, and is kept.
-    pub fn bind<F: Files + Net>(
-        rt: &F,
+    /// Makes the socket's file, and takes the lock beside it (`SOCKET.lock`) until its end. Only its owner has access
+    /// when it is created; then `mode` is set if it differs. A socket of this user beside a lock that nobody holds is
+    /// replaced: a program that was killed leaves such files. Any other existing file is an error, and is kept.
+    pub fn bind<R: Files + Net>(
+        rt: &R,
         alloc: Global,
         path: &str,
         mode: u32,
-    ) -> io::Result<SocketFile> {
-        let bound = bind_new(rt, alloc, path, mode);
-        if !is_in_use(&bound) || !is_abandoned(rt, path) {
-            return bound;
+    ) -> io::Result<(SocketFile, SocketLock<R::File>)>
+    where
+        R::File: SystemFile,
+    {
+        match SocketLock::<R::File>::take(rt, alloc, path)? {
+            Taking::Taken(mut lock) => match bind_under(rt, alloc, path, mode, lock.was_left()) {
+                Ok(bound) => {
+                    lock.has_own_socket();
+                    Ok((bound, lock))
+                }
+                Err(error) => {
+                    let _ = lock.remove(rt);
+                    Err(error)
+                }
+            },
+            Taking::Held => bind_displaced(rt, alloc, path, mode),
         }
-        fs::remove_file(rt, path)?;
-        bind_new(rt, alloc, path, mode)
+    }
+
+    /// Makes a further socket, which the lock of another one covers. Without a lock nothing is replaced.
+    pub fn bind_beside<R: Files + Net>(
+        rt: &R,
+        alloc: Global,
+        path: &str,
+        mode: u32,
+        lock: Option<&SocketLock<R::File>>,
+    ) -> io::Result<SocketFile>
+    where
+        R::File: SystemFile,
+    {
+        let was_left = match lock {
+            Some(lock) => lock.was_left(),
+            None => false,
+        };
+        bind_under(rt, alloc, path, mode, was_left)
     }
 
     /// Waits for the next connection.
@@ -39,29 +83,97 @@ impl SocketFile {
         Ok(stream)
     }
 
-    /// The listening socket. Its file is left to the caller, which removes it.
-    pub fn into_listener(self) -> UnixListener {
-        self.listener
+    /// The listening socket, and its file, which is left to the caller to remove.
+    pub fn into_parts(self) -> (UnixListener, SocketName) {
+        (self.listener, self.name)
     }
 
-    /// Removes the socket's file.
-    pub fn remove<F: Files>(self, rt: &F, path: &str) -> io::Result<()> {
-        fs::remove_file(rt, path)
+    /// Removes the socket's file and its lock, as far as they are still this program's. The first error is returned,
+    /// after both were tried.
+    pub fn remove<R: Files>(self, rt: &R, path: &str, lock: SocketLock<R::File>) -> io::Result<()>
+    where
+        R::File: SystemFile,
+    {
+        let removed = self.name.remove(rt, path);
+        removed.and(lock.remove(rt))
+    }
+}
+
+// Makes a socket's file under a lock. If a program that was killed left the lock, it left the socket there, too.
+fn bind_under<R: Files + Net>(
+    rt: &R,
+    alloc: Global,
+    path: &str,
+    mode: u32,
+    was_left: bool,
+) -> io::Result<SocketFile> {
+    let bound = bind_new(rt, alloc, path, mode);
+    if !is_in_use(&bound) || !was_left || !is_own_socket(rt, path).unwrap_or(false) {
+        return bound;
+    }
+    fs::remove_file(rt, path)?;
+    bind_new(rt, alloc, path, mode)
+}
+
+// Makes a socket's file although its lock is held, if there is none: somebody removed that of the program that holds
+// the lock. That program goes on, and the new socket gets a lock of its own.
+fn bind_displaced<R: Files + Net>(
+    rt: &R,
+    alloc: Global,
+    path: &str,
+    mode: u32,
+) -> io::Result<(SocketFile, SocketLock<R::File>)>
+where
+    R::File: SystemFile,
+{
+    let bound = bind_new(rt, alloc, path, mode)?;
+    match take_anew(rt, alloc, path) {
+        Ok(mut lock) => {
+            lock.has_own_socket();
+            Ok((bound, lock))
+        }
+        Err(error) => {
+            let _ = bound.name.remove(rt, path);
+            Err(error)
+        }
+    }
+}
+
+fn take_anew<R: Files>(rt: &R, alloc: Global, path: &str) -> io::Result<SocketLock<R::File>>
+where
+    R::File: SystemFile,
+{
+    SocketLock::<R::File>::displace(rt, alloc, path)?;
+    match SocketLock::<R::File>::take(rt, alloc, path)? {
+        Taking::Taken(lock) => Ok(lock),
+        Taking::Held => Err(io::Error::from(ErrorKind::AddrInUse)),
     }
 }
 
 // Makes a socket's file if no file exists at the path.
-fn bind_new<F: Files + Net>(
-    rt: &F,
+fn bind_new<R: Files + Net>(
+    rt: &R,
     alloc: Global,
     path: &str,
     mode: u32,
 ) -> io::Result<SocketFile> {
     let listener = UnixListener::bind(&OwnerOnly::new(rt, alloc), path)?;
+    match named(rt, path, mode) {
+        Ok(name) => Ok(SocketFile { listener, name }),
+        Err(error) => {
+            let _ = fs::remove_file(rt, path);
+            Err(error)
+        }
+    }
+}
+
+// The file of a socket that was just made, with these permissions.
+fn named<R: Files>(rt: &R, path: &str, mode: u32) -> io::Result<SocketName> {
+    let identity = FileIdentity::of(&fs::symlink_metadata(rt, path)?);
     if mode != OWNER_ONLY {
         fs::set_permissions(rt, path, Permissions::from_mode(mode))?;
     }
-    Ok(SocketFile { listener })
+    Ok(SocketName { identity })
 }
 
 // Returns whether making the socket failed because a file exists at its path.
@@ -72,21 +184,7 @@ fn is_in_use(bound: &io::Result<SocketFile>) -> bool {
     }
 }
 
-// Returns whether a socket of this user is at the path and nobody listens on it.
-fn is_abandoned<F: Files + Net>(rt: &F, path: &str) -> bool {
-    is_own_socket(rt, path).unwrap_or(false) && is_refused(rt, path)
-}
-
-fn is_refused<F: Net>(rt: &F, path: &str) -> bool {
-    match UnixStream::connect(rt, path) {
-        Ok(_) => false,
-        Err(error) => error.kind() == ErrorKind::ConnectionRefused,
-    }
-}
-
-// The folder of a process in /proc belongs to the user that the process runs as.
-fn is_own_socket<F: Files>(rt: &F, path: &str) -> io::Result<bool> {
+fn is_own_socket<R: Files>(rt: &R, path: &str) -> io::Result<bool> {
     let found = fs::symlink_metadata(rt, path)?;
-    let own = fs::metadata(rt, "/proc/self")?;
-    Ok(found.file_type().is_socket() && found.uid() == own.uid())
+    Ok(found.file_type().is_socket() && found.uid() == own_user(rt)?)
 }

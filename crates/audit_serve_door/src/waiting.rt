@@ -1,0 +1,106 @@
+use crate::choice::Heads;
+use crate::entrance::Arrival;
+use audit_serve_rights::Rights;
+use std::alloc::Global;
+use std::collections::{BTreeMap, BTreeSet};
+
+/// The connections that wait for a place, by the numbers in whose order they were accepted.
+#[derive(Drop)]
+pub(crate) struct Waiting {
+    // Those that have sent nothing.
+    silent: BTreeMap<usize, Arrival>,
+    // Those that have sent something, or have ended: those that only read, and the others.
+    readers: BTreeMap<usize, Arrival>,
+    others: BTreeMap<usize, Arrival>,
+    // The numbers of those that don't only read, have hung up and haven't left, whether they wait or have a place.
+    closing: BTreeSet<usize>,
+}
+
+impl Waiting {
+    /// Nobody.
+    pub(crate) fn new(alloc: Global) -> Waiting {
+        Waiting {
+            silent: BTreeMap::new(alloc),
+            readers: BTreeMap::new(alloc),
+            others: BTreeMap::new(alloc),
+            closing: BTreeSet::new(alloc),
+        }
+    }
+
+    /// Takes a connection that has sent nothing. Returns whether there was memory for it.
+    pub(crate) fn admit(&mut self, number: usize, arrival: Arrival) -> bool {
+        self.silent.insert(number, arrival).is_ok()
+    }
+
+    /// Notes that a connection has sent something, if it waits. Returns whether there was memory for that; if not, it
+    /// is dropped.
+    pub(crate) fn hear(&mut self, number: usize) -> bool {
+        let Some(arrival) = self.silent.remove(&number) else {
+            return true;
+        };
+        if arrival.rights == Rights::Read {
+            self.readers.insert(number, arrival).is_ok()
+        } else {
+            self.others.insert(number, arrival).is_ok()
+        }
+    }
+
+    /// Whether a connection waits that has sent something and doesn't only read.
+    pub(crate) fn is_other(&self, number: usize) -> bool {
+        self.others.contains_key(&number)
+    }
+
+    /// Notes that a connection that doesn't only read has hung up.
+    pub(crate) fn close(&mut self, number: usize) {
+        let _ = self.closing.insert(number);
+    }
+
+    /// Notes that a client has left, or that it was dropped.
+    pub(crate) fn forget(&mut self, number: usize) {
+        let _ = self.closing.remove(&number);
+    }
+
+    /// Drops the oldest connection that has sent nothing. Returns whether there was one.
+    pub(crate) fn drop_silent(&mut self) -> bool {
+        self.silent.pop_first().is_some()
+    }
+
+    /// Whether one waits that has sent something and only reads.
+    pub(crate) fn has_reader(&self) -> bool {
+        !self.readers.is_empty()
+    }
+
+    /// Whether another one waits that has sent something.
+    pub(crate) fn has_other(&self) -> bool {
+        !self.others.is_empty()
+    }
+
+    /// Those that come next.
+    pub(crate) fn heads(&self) -> Heads {
+        let closing = self.closing.first().copied();
+        Heads {
+            reader: first_of(&self.readers),
+            other: first_of(&self.others),
+            closing,
+            closing_waits: match closing {
+                Some(number) => self.is_other(number),
+                None => false,
+            },
+        }
+    }
+
+    /// Gives away a connection that has sent something.
+    pub(crate) fn take(&mut self, number: usize) -> Option<Arrival> {
+        match self.others.remove(&number) {
+            Some(arrival) => Some(arrival),
+            None => self.readers.remove(&number),
+        }
+    }
+}
+
+fn first_of(connections: &BTreeMap<usize, Arrival>) -> Option<usize> {
+    match connections.first_key_value() {
+        Some((number, _)) => Some(*number),
+        None => None,
+    }
+}

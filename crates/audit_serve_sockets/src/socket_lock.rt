@@ -1,0 +1,163 @@
+use audit_disk::{FileIdentity, SystemFile};
+use std::alloc::Global;
+use std::fs::{self, Files, OpenFile, OpenOptions, TryLockError};
+use std::io::{self, ErrorKind};
+use std::os::unix::fs::{MetadataExt, OpenOptionsExt};
+
+// What follows a socket's path in the path of its lock.
+const LOCK_SUFFIX: &str = ".lock";
+
+// The permissions of a lock's file.
+const LOCK_MODE: u32 = 0o600;
+
+// How often a lock is tried whose file is removed at the same time.
+const TRIES: usize = 16;
+
+/// An exclusive lock on a file beside a socket, `SOCKET.lock`, which whoever serves there holds until its end. If
+/// nobody holds the lock of an existing file, a program that served there was killed.
+#[derive(Drop)]
+pub struct SocketLock<F> {
+    // The lock is held until the file is dropped.
+    file: F,
+    path: String,
+    identity: FileIdentity,
+    // Whether a program that was killed left the file.
+    was_left: bool,
+    // Whether a socket may be there that the same program left.
+    guards_one: bool,
+}
+
+/// What was found at a lock's path.
+#[derive(Drop)]
+pub(crate) enum Taking<F> {
+    /// The lock, which is held from now on.
+    Taken(SocketLock<F>),
+    /// Another program holds it.
+    Held,
+}
+
+/// An open file of a lock, and whether it existed before.
+#[derive(Drop)]
+struct Opened<F> {
+    file: F,
+    existed: bool,
+}
+
+impl<F: SystemFile> SocketLock<F> {
+    /// Takes the lock of the socket at this path, without waiting. Its file is made if there is none. A file that isn't
+    /// this user's own is an error.
+    pub(crate) fn take<R: Files>(rt: &R, alloc: Global, socket: &str) -> io::Result<Taking<R::File>>
+    where
+        R::File: SystemFile,
+    {
+        let path = lock_path(alloc, socket)?;
+        for _ in 0..TRIES {
+            let Opened { file, existed } = open_lock(rt, path.as_str())?;
+            match file.try_lock() {
+                Ok(()) => {}
+                Err(TryLockError::WouldBlock) => return Ok(Taking::Held),
+                Err(TryLockError::Error(error)) => return Err(error),
+            }
+            let identity = FileIdentity::of(&file.metadata()?);
+            // Whoever held the lock may have removed its file in between.
+            if names(rt, path.as_str(), identity) {
+                return Ok(Taking::Taken(SocketLock {
+                    file,
+                    path,
+                    identity,
+                    was_left: existed,
+                    guards_one: existed,
+                }));
+            }
+        }
+        Err(io::Error::from(ErrorKind::AddrInUse))
+    }
+
+    /// Removes the file of a lock that another program holds, whose socket isn't there any more.
+    pub(crate) fn displace<R: Files>(rt: &R, alloc: Global, socket: &str) -> io::Result<()> {
+        fs::remove_file(rt, lock_path(alloc, socket)?.as_str())
+    }
+
+    /// Whether a program that was killed left the lock.
+    pub(crate) fn was_left(&self) -> bool {
+        self.was_left
+    }
+
+    /// Notes that the socket of the lock is this program's own.
+    pub(crate) fn has_own_socket(&mut self) {
+        self.guards_one = false;
+    }
+
+    /// Removes the lock's file, unless it shows that the socket beside it is abandoned, and unlocks it.
+    pub fn remove<R: Files>(self, rt: &R) -> io::Result<()> {
+        if self.guards_one {
+            return Ok(());
+        }
+        remove_own(rt, self.path.as_str(), self.identity)
+    }
+}
+
+fn lock_path(alloc: Global, socket: &str) -> io::Result<String> {
+    Ok(format!(in alloc; "{socket}{LOCK_SUFFIX}")?)
+}
+
+fn open_lock<R: Files>(rt: &R, path: &str) -> io::Result<Opened<R::File>>
+where
+    R::File: SystemFile,
+{
+    let made = OpenOptions::new()
+        .read(true)
+        .write(true)
+        .create_new(true)
+        .mode(LOCK_MODE)
+        .open(rt, path);
+    match made {
+        Ok(file) => Ok(Opened {
+            file,
+            existed: false,
+        }),
+        Err(error) if error.kind() == ErrorKind::AlreadyExists => open_existing(rt, path),
+        Err(error) => Err(error),
+    }
+}
+
+fn open_existing<R: Files>(rt: &R, path: &str) -> io::Result<Opened<R::File>>
+where
+    R::File: SystemFile,
+{
+    if !is_own_file(rt, path)? {
+        return Err(io::Error::from(ErrorKind::AddrInUse));
+    }
+    let file = OpenOptions::new().read(true).write(true).open(rt, path)?;
+    Ok(Opened {
+        file,
+        existed: true,
+    })
+}
+
+fn is_own_file<R: Files>(rt: &R, path: &str) -> io::Result<bool> {
+    let found = fs::symlink_metadata(rt, path)?;
+    Ok(found.is_file() && found.uid() == own_user(rt)?)
+}
+
+/// The user that the process runs as, to whom its folder in /proc belongs.
+pub(crate) fn own_user<R: Files>(rt: &R) -> io::Result<u32> {
+    Ok(fs::metadata(rt, "/proc/self")?.uid())
+}
+
+/// Whether a path names the file with this identity.
+pub(crate) fn names<R: Files>(rt: &R, path: &str, identity: FileIdentity) -> bool {
+    match fs::symlink_metadata(rt, path) {
+        Ok(found) => FileIdentity::of(&found) == identity,
+        Err(_) => false,
+    }
+}
+
+/// Removes a file if its path still names it. Another file there is kept.
+pub(crate) fn remove_own<R: Files>(rt: &R, path: &str, identity: FileIdentity) -> io::Result<()> {
+    if names(rt, path, identity) {
+        fs::remove_file(rt, path)
+    } else {
+        Ok(())
+    }
+}
