@@ -1,2 +1,4 @@
+mod CutShort
 pub mod ReadingBack
+mod SeenLetters
 pub mod TextEvents

@@ -1,2 +1,4 @@
+pub mod CutLines
 pub mod LineEvents
 pub mod PrintedText
+pub mod ShownText
