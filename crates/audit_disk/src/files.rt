@@ -1,14 +1,17 @@
 //! Devices in files of the operating system.
 //!
 //! Each device holds a lock on its file from before the first read or write until the device is dropped. A device that
-//! may write holds an exclusive lock.
+//! may write holds an exclusive lock. For a block device further locks are held, which whoever opens it by another node
+//! finds (see `guards`).
 ghost use Rattle.std.specs.Prelude.{◌≡◌, ◌≢◌, ◌⊎◌, ◌*◌, ◌/◌, ◌%◌, ◌^◌, ◌<◌, ◌≤◌, ◌↔◌};
 ghost use Rattle.std.specs.Prelude.{IfOk, IfErr, IsErrOf, replicate, length};
 ghost use Rattle.audit_base.specs.declared.limits.TheConstants.{SECTOR_SIZE};
 ghost use Rattle.audit_disk.specs.FileDisk.{IsFreshFile, file_disk_view};
+ghost use Rattle.audit_disk.specs.FileFaults.{IsLockingFault};
 ghost use Rattle.audit_disk.specs.MemDisk.{IsFresh};
 ghost use Rattle.audit_disk.specs.Positioned.{ShowsFront, IsUncalled};
 
+use crate::guards::{Guards, Hold};
 use crate::kept_row::KeptRow;
 use crate::os_file::OsFile;
 use crate::read_ahead::new_row;
@@ -16,9 +19,9 @@ use crate::{
     FileDisk, FileFault, FileIdentity, MemDisk, MemFile, PositionedFile, SECTOR_SIZE, SystemFile,
 };
 use std::alloc::{AllocError, Global};
-use std::fs::{self, Files, OpenFile, OpenOptions, Permissions};
+use std::fs::{self, Files, Metadata, OpenFile, OpenOptions, Permissions};
 use std::io;
-use std::os::unix::fs::{FileTypeExt, OpenOptionsExt, PermissionsExt};
+use std::os::unix::fs::{FileTypeExt, MetadataExt, OpenOptionsExt, PermissionsExt};
 use std::path::Path;
 
 /// The mode of a file that only its owner may read and write.
@@ -78,7 +81,7 @@ impl<F: SystemFile> FileDisk<OsFile<F>> {
     ) -> Result<FileDisk<OsFile<F>>, FileFault>
         ensures { IfOk result IsFreshFile }
     {
-        FileDisk::over_whole(alloc, open_alone(rt, path)?)
+        FileDisk::over_whole_of(alloc, open_locked(rt, alloc, path, Hold::Alone)?)
     }
 
     /// Opens a file or a block device of at least `sectors` whole sectors, as a device of the first `sectors` of them.
@@ -93,11 +96,11 @@ impl<F: SystemFile> FileDisk<OsFile<F>> {
         ensures fresh { IfOk result IsFreshFile }
         ensures small { IfErr result (λ fault. (held : _) → fault ≡ FileFault.TooSmall held → held < sectors) }
     {
-        FileDisk::over_front(alloc, open_alone(rt, path)?, sectors)
+        FileDisk::over_front_of(alloc, open_locked(rt, alloc, path, Hold::Alone)?, sectors)
     }
 
     /// Opens a file or a block device for reading only, so each write of the device fails. Others may have the file
-    /// open for reading at the same time, but not for writing. A directory or a pipe is a fault, and isn't opened.
+    /// open for reading at the same time, but not for writing.
     pub fn open_read_only<R: Files<File = F>>(
         rt: &R,
         alloc: Global,
@@ -105,13 +108,7 @@ impl<F: SystemFile> FileDisk<OsFile<F>> {
     ) -> Result<FileDisk<OsFile<F>>, FileFault>
         ensures { IfOk result IsFreshFile }
     {
-        let kind = fs::metadata(rt, path)?.file_type();
-        if kind.is_dir() || kind.is_fifo() {
-            return Err(FileFault::Io);
-        }
-        let file = OpenOptions::new().read(true).open(rt, path)?;
-        file.try_lock_shared()?;
-        FileDisk::over_whole(alloc, file)
+        FileDisk::over_whole_of(alloc, open_locked(rt, alloc, path, Hold::Shared)?)
     }
 
     /// Returns the identity of the device's file, from the metadata of the open file.
@@ -131,9 +128,22 @@ impl<F: PositionedFile + Drop> FileDisk<OsFile<F>> {
         ensures length { (F.positioned file).honest → IsErrOf result FileFault.Length
             → length (F.positioned file).bytes % SECTOR_SIZE ≢ 0 }
     {
-        let mut file = file;
+        FileDisk::over_whole_of(alloc, Locked { file, guards: None })
+    }
+
+    // The same for a file that was locked.
+    fn over_whole_of(alloc: Global, locked: Locked<F>) -> Result<FileDisk<OsFile<F>>, FileFault>
+        requires { IsUncalled (F.positioned locked.file) }
+        ensures fresh { IfOk result IsFreshFile }
+        ensures front { IfOk result (λ disk. ShowsFront (F.positioned locked.file) (file_disk_view disk)) }
+        ensures whole { (F.positioned locked.file).honest → IfOk result (λ disk.
+            length (F.positioned locked.file).bytes ≡ SECTOR_SIZE * (file_disk_view disk).size) }
+        ensures length { (F.positioned locked.file).honest → IsErrOf result FileFault.Length
+            → length (F.positioned locked.file).bytes % SECTOR_SIZE ≢ 0 }
+    {
+        let Locked { mut file, guards } = locked;
         let sectors = whole_sectors(file.length()?)?;
-        Ok(FileDisk::over(alloc, OsFile::new(file), sectors)?)
+        Ok(FileDisk::over(alloc, OsFile::guarded(file, guards), sectors)?)
     }
 
     /// Makes a device over the first `sectors` sectors of an open file, which must have that many whole sectors.
@@ -150,12 +160,29 @@ impl<F: PositionedFile + Drop> FileDisk<OsFile<F>> {
         ensures held { (F.positioned file).honest → IfErr result (λ fault. (held : _)
             → fault ≡ FileFault.TooSmall held → held ≡ length (F.positioned file).bytes / SECTOR_SIZE) }
     {
-        let mut file = file;
+        FileDisk::over_front_of(alloc, Locked { file, guards: None }, sectors)
+    }
+
+    // The same for a file that was locked.
+    fn over_front_of(
+        alloc: Global,
+        locked: Locked<F>,
+        sectors: u64,
+    ) -> Result<FileDisk<OsFile<F>>, FileFault>
+        requires { IsUncalled (F.positioned locked.file) }
+        ensures size { IfOk result (λ disk. (file_disk_view disk).size ≡ sectors) }
+        ensures fresh { IfOk result IsFreshFile }
+        ensures front { IfOk result (λ disk. ShowsFront (F.positioned locked.file) (file_disk_view disk)) }
+        ensures small { IfErr result (λ fault. (held : _) → fault ≡ FileFault.TooSmall held → held < sectors) }
+        ensures held { (F.positioned locked.file).honest → IfErr result (λ fault. (held : _)
+            → fault ≡ FileFault.TooSmall held → held ≡ length (F.positioned locked.file).bytes / SECTOR_SIZE) }
+    {
+        let Locked { mut file, guards } = locked;
         let held = file.length()? / SECTOR_SIZE as u64;
         if held < sectors {
             return Err(FileFault::TooSmall { sectors: held });
         }
-        Ok(FileDisk::over(alloc, OsFile::new(file), sectors)?)
+        Ok(FileDisk::over(alloc, OsFile::guarded(file, guards), sectors)?)
     }
 }
 
@@ -184,13 +211,49 @@ fn whole_sectors(length: u64) -> Result<u64, FileFault>
     Ok(length / SECTOR_SIZE as u64)
 }
 
-/// Opens an existing file for reading and writing, and locks it.
-fn open_alone<R: Files<File = F>, F: SystemFile>(rt: &R, path: &str) -> Result<F, FileFault>
-    ensures { IfErr result (λ fault. (fault ≡ FileFault.Io) ⊎ (fault ≡ FileFault.InUse)) }
+/// An open file, and the locks on its storage besides its own.
+#[derive(Drop)]
+struct Locked<F> {
+    file: F,
+    guards: Option<Guards<F>>,
+}
+
+/// Opens an existing file or block device and locks it: for reading and writing if the lock is held alone, else for
+/// reading. A pipe, a terminal or a socket is a fault, and isn't opened, since that might wait.
+fn open_locked<R: Files<File = F>, F: SystemFile>(
+    rt: &R,
+    alloc: Global,
+    path: &str,
+    hold: Hold,
+) -> Result<Locked<F>, FileFault>
+    ensures { IfErr result IsLockingFault }
 {
-    let file = OpenOptions::new().read(true).write(true).open(rt, path)?;
-    file.try_lock()?;
-    Ok(file)
+    let found = fs::metadata(rt, path)?;
+    let kind = found.file_type();
+    if kind.is_fifo()
+        || kind.is_char_device()
+        || kind.is_socket()
+        || hold == Hold::Shared && kind.is_dir()
+    {
+        return Err(FileFault::Io);
+    }
+    let guards = Guards::of(rt, alloc, &found, hold)?;
+    let mut options = OpenOptions::new();
+    options.read(true).write(hold == Hold::Alone);
+    let file = options.open(rt, path)?;
+    hold.take(&file)?;
+    if !is_same_inode(&file.metadata()?, &found) {
+        return Err(FileFault::Io);
+    }
+    Ok(Locked {
+        file,
+        guards: Some(guards),
+    })
+}
+
+/// Whether two metadata are of one inode, and of one device if that is a device's node.
+fn is_same_inode(one: &Metadata, other: &Metadata) -> bool {
+    one.dev() == other.dev() && one.ino() == other.ino() && one.rdev() == other.rdev()
 }
 
 /// Locks a new file, sets its mode and length, and syncs the file and its name.

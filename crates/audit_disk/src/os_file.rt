@@ -4,6 +4,7 @@ ghost use Rattle.audit_disk.specs.OsFile.{AnswersAlike};
 ghost use Rattle.audit_disk.specs.Positioned.{counted_file};
 
 use crate::counting::counted;
+use crate::guards::Guards;
 use crate::{DeviceFault, FileIdentity, PositionedFile, SECTOR_SIZE, SectorFile, SystemFile};
 use std::{io, slice};
 
@@ -12,6 +13,8 @@ use std::{io, slice};
 pub struct OsFile<F> {
     file: F,
     failures: u64,
+    // The locks that are held as long as the file is open, besides its own.
+    guards: Option<Guards<F>>,
 }
 
 impl<F: PositionedFile> OsFile<F> {
@@ -22,7 +25,19 @@ impl<F: PositionedFile> OsFile<F> {
         ensures failures { result.failures ≡ 0 }
         ensures file { file_below result ≡ file }
     {
-        OsFile { file, failures: 0 }
+        OsFile::guarded(file, None)
+    }
+
+    /// Wraps a file and its further locks, with no failed calls so far.
+    pub(crate) fn guarded(file: F, guards: Option<Guards<F>>) -> Self
+        ensures failures { result.failures ≡ 0 }
+        ensures file { file_below result ≡ file }
+    {
+        OsFile {
+            file,
+            failures: 0,
+            guards,
+        }
     }
 }
 
