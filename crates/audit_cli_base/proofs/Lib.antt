@@ -1,3 +1,4 @@
 pub mod KeyFiles
 pub mod Acks
+pub mod Blank
 pub mod Sectors

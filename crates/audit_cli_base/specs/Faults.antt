@@ -16,7 +16,7 @@ use Rattle.audit_cli_offline.specs.declared.fault.OfflineError.TheVariants as au
 use Rattle.audit_cli_base.specs.declared.status.Status.{Status}
 use Rattle.audit_cli_base.specs.declared.status.Status.TheVariants as ends
 use Rattle.audit_cli_base.specs.declared.fault.CommandError.{CommandError}
-use Rattle.audit_cli_base.specs.declared.fault.CommandError.TheVariants.{BadArgument, File, InUse}
+use Rattle.audit_cli_base.specs.declared.fault.CommandError.TheVariants.{BadArgument, File, InUse, Replaced}
 use Rattle.audit_cli_base.specs.declared.fault.CommandError.TheVariants.{TooSmall, Lines, Refused, Export}
 use Rattle.audit_cli_base.specs.declared.fault.CommandError.TheVariants.{BadProof}
 
@@ -52,6 +52,7 @@ abbrev pub status_of : CommandError → Status
 status_of BadArgument = ends.Usage
 status_of File = ends.Device
 status_of InUse = ends.Device
+status_of Replaced = ends.Device
 status_of (Lines cause) = status_of_lines cause
 status_of (Refused error) = status_of_refusal error
 status_of (Export fault) = status_of_cause fault.cause

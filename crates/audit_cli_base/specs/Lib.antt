@@ -1,5 +1,7 @@
 pub mod Faults
 pub mod Mode
+pub mod SocketPath
 pub mod Arguments
 pub mod KeyFile
 pub mod Acks
+pub mod Blank

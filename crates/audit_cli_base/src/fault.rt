@@ -28,6 +28,9 @@ pub enum CommandError {
     /// Another program has the store open.
     #[error("the store is in use")]
     InUse,
+    /// The path of the store that is served names another file by now, or none, or its length changed.
+    #[error("the store was replaced")]
+    Replaced,
     /// The file or device to be formatted in place has fewer sectors than requested.
     #[error("there are {sectors} sectors")]
     TooSmall {
@@ -65,7 +68,7 @@ impl CommandError {
         match self {
             CommandError::BadArgument => Status::Usage,
             CommandError::FileExists => Status::Refused,
-            CommandError::File | CommandError::InUse => Status::Device,
+            CommandError::File | CommandError::InUse | CommandError::Replaced => Status::Device,
             CommandError::TooSmall { .. } | CommandError::Salvaged => Status::Refused,
             CommandError::Lines(LinesError::Memory) => Status::Memory,
             CommandError::Lines(LinesError::Read | LinesError::Write) => Status::Device,

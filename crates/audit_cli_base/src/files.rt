@@ -1,14 +1,23 @@
 //! Stores in files.
-ghost use Rattle.std.specs.Prelude.{IfErr};
+ghost use Rattle.std.specs.Prelude.{◌≡◌, true, false, Ok, Err, IfOk, IfErr, IsTrue};
+ghost use Rattle.audit_cli_base.specs.Blank.{IsBlankUpTo};
 ghost use Rattle.audit_cli_base.specs.Faults.{IsNoWordFault};
 
 use crate::fault::CommandError;
-use audit_disk::{FileDisk, FileIdentity, OsFile, ReadOnly, SectorSource, SystemFile};
+use crate::system_use::is_used_by_system;
+use audit_base::are_zero;
+use audit_disk::{
+    FileDisk, FileFault, FileIdentity, OsFile, ReadOnly, SECTOR_SIZE, SectorSource, SystemFile,
+};
 use audit_disk_model::{DeviceFault, Sectors};
-use audit_log::{MAX_SECTORS, MIN_SECTORS, Slot, read_slot};
+use audit_log::MAX_SECTORS;
 use audit_store::{Store, StoreError};
 use std::alloc::Global;
-use std::fs::{self, Files};
+use std::fs::{self, Files, OpenFile, OpenOptions};
+
+/// How many sectors of a device are looked at before it is formatted: 1 MiB. File systems, partition tables and other
+/// formats have their marks there.
+const FRONT: u64 = 2048;
 
 /// A store in an open file.
 pub type FileStore<F> = Store<FileDisk<OsFile<F>>>;
@@ -75,6 +84,40 @@ where
     identified(FileDisk::open_read_only(rt, alloc, file)?)
 }
 
+/// Opens a file as `open_device_to_read` does, for the entries of a damaged store. Of a regular file whose length is no
+/// whole number of sectors the rest after the last whole one is left out.
+pub fn open_device_to_salvage<F: Files>(
+    rt: &F,
+    alloc: Global,
+    file: &str,
+) -> Result<Opened<FileDevice<F::File>>, CommandError>
+where
+    F::File: SystemFile,
+{
+    let found = fs::metadata(rt, file)?;
+    if !found.is_file() || found.len() % SECTOR_SIZE as u64 == 0 {
+        return open_device_to_read(rt, alloc, file);
+    }
+    let opened = OpenOptions::new().read(true).open(rt, file)?;
+    whole_sectors_of(alloc, opened)
+}
+
+// A device of the whole sectors of an open file, which is locked as one that is only read.
+fn whole_sectors_of<F: SystemFile + Drop>(
+    alloc: Global,
+    file: F,
+) -> Result<Opened<FileDevice<F>>, CommandError> {
+    if let Err(error) = file.try_lock_shared() {
+        return Err(CommandError::from(FileFault::from(error)));
+    }
+    let found = file.metadata()?;
+    if !found.is_file() {
+        return Err(CommandError::File);
+    }
+    let sectors = found.len() / SECTOR_SIZE as u64;
+    identified(FileDisk::over_front(alloc, file, sectors)?)
+}
+
 /// Opens the store on a device that is only read. Repairs are made only in memory.
 pub fn store_to_read<S: SectorSource>(
     alloc: Global,
@@ -86,8 +129,8 @@ pub fn store_to_read<S: SectorSource>(
     }
 }
 
-/// Makes a file of `sectors` zero sectors as a device, with these permissions. If the file already exists, the error
-/// is `FileExists` and the file is unchanged.
+/// Makes a file of `sectors` zero sectors as a device, with these permissions. If something already exists there, the
+/// error is `FileExists`, and it is neither changed nor opened.
 pub fn make_device<F: Files>(
     rt: &F,
     alloc: Global,
@@ -98,14 +141,15 @@ pub fn make_device<F: Files>(
 where
     F::File: SystemFile,
 {
-    if fs::open(rt, file).is_ok() {
+    if fs::metadata(rt, file).is_ok() {
         return Err(CommandError::FileExists);
     }
     Ok(FileDisk::create_with_mode(rt, alloc, file, sectors, mode)?)
 }
 
-/// Opens all of an existing file or block device as a device to be formatted. Errors: `TooSmall` if it has fewer than
-/// `sectors` sectors; `FileExists` if it holds a store, unless `erase` is set.
+/// Opens all of an existing file or block device as a device to be formatted. Errors: `InUse` if another program has it
+/// open as a store, or the system uses it; `TooSmall` if it has fewer than `sectors` sectors; `FileExists` if its first
+/// MiB, or all of a shorter one, isn't zeros, unless `erase` is set.
 pub fn device_in_place<F: Files>(
     rt: &F,
     alloc: Global,
@@ -116,20 +160,29 @@ pub fn device_in_place<F: Files>(
 where
     F::File: SystemFile,
 {
-    free_device(open_bounded(rt, alloc, file)?.content, sectors, erase)
+    let Opened { content, identity } = open_bounded(rt, alloc, file)?;
+    let used = is_used_by_system(rt, alloc, identity);
+    free_device(content, used, sectors, erase)
 }
 
 // Returns a device if a store may be made on it.
 fn free_device<D: Sectors + Drop>(
     mut disk: D,
+    used: Result<bool, CommandError>,
     sectors: u64,
     erase: bool,
-) -> Result<D, CommandError> {
+) -> Result<D, CommandError>
+    ensures blank { erase ≡ false → (D.view disk).honest → IfOk result (λ _. IsBlankUpTo (D.view disk) FRONT) }
+    ensures used { used ≡ Ok true → result ≡ Err CommandError.InUse }
+{
+    if used? {
+        return Err(CommandError::InUse);
+    }
     let size = disk.size();
     if size < sectors {
         return Err(CommandError::TooSmall { sectors: size });
     }
-    if !erase && holds_store(&mut disk)? {
+    if !erase && !is_blank(&mut disk)? {
         return Err(CommandError::FileExists);
     }
     Ok(disk)
@@ -170,19 +223,19 @@ fn bounded<F: SystemFile>(disk: FileDevice<F>, identity: FileIdentity) -> FileDe
     }
 }
 
-// Whether one of the header sectors contains a header.
-fn holds_store<D: Sectors>(disk: &mut D) -> Result<bool, CommandError> {
-    match are_headers(disk) {
-        Ok(found) => Ok(found),
-        Err(_) => Err(CommandError::Refused(StoreError::Device)),
+// Whether the front of a device is zeros.
+fn is_blank<D: Sectors>(disk: &mut D) -> Result<bool, DeviceFault>
+    ensures { (D.view disk.old).honest → IfOk result (λ blank. IsTrue blank → IsBlankUpTo (D.view disk.old) FRONT) }
+{
+    let mut sector = [0; SECTOR_SIZE];
+    for at in 0..FRONT {
+        if at >= disk.size() {
+            return Ok(true);
+        }
+        disk.read(at, &mut sector)?;
+        if !are_zero(&sector) {
+            return Ok(false);
+        }
     }
-}
-
-fn are_headers<D: Sectors>(disk: &mut D) -> Result<bool, DeviceFault> {
-    if disk.size() < MIN_SECTORS {
-        return Ok(false);
-    }
-    let first = read_slot(disk, 0)?;
-    let second = read_slot(disk, 1)?;
-    Ok(matches!(first, Slot::Valid(_)) || matches!(second, Slot::Valid(_)))
+    Ok(true)
 }

@@ -8,9 +8,14 @@ mod files;
 mod key_file;
 mod mode;
 mod output_file;
+mod replacing;
 mod reporting;
+mod socket_path;
 mod status;
+mod store_watch;
+mod system_use;
 mod text;
+mod watched_output;
 
 pub use acknowledging::{ACK_ROOM, write_acks};
 pub use arguments::{
@@ -19,12 +24,15 @@ pub use arguments::{
 };
 pub use fault::CommandError;
 pub use files::{
-    FileDevice, FileStore, Opened, device_in_place, make_device, open_device_to_read, open_store,
-    store_to_read,
+    FileDevice, FileStore, Opened, device_in_place, make_device, open_device_to_read,
+    open_device_to_salvage, open_store, store_to_read,
 };
 pub use key_file::{key_of_file, read_key};
 pub use mode::{OWNER_ONLY, mode_asked};
 pub use output_file::OutputFile;
 pub use reporting::{report, report_end, report_flush};
+pub use socket_path::{MAX_SOCKET_PATH, socket_path_asked};
 pub use status::Status;
+pub use store_watch::StoreWatch;
 pub use text::{write_exported, write_number};
+pub use watched_output::WatchedOutput;

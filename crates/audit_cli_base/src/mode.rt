@@ -1,20 +1,31 @@
 //! The permissions of a new file.
-ghost use Rattle.std.specs.Prelude.{◌≡◌, ℕ, IfOk, IfErr, Ok};
-ghost use Rattle.audit_cli_base.specs.Mode.{IsMode};
+ghost use Rattle.std.specs.Prelude.{◌≡◌, ℕ, IfOk, IfErr, Ok, bit_and};
+ghost use Rattle.audit_cli_base.specs.Mode.{IsMode, mode_digits};
 
 use crate::fault::CommandError;
 
 /// Reading and writing for the owner, and nothing for anyone else.
 pub const OWNER_ONLY: u32 = 0o600;
 
+/// Reading and writing for everyone.
+const ANYONE: u32 = 0o666;
+
+/// The permissions of a file that replaces one with the mode `replaced`: at most those, and never more than reading and
+/// writing. So nobody executes what was written, and no bit changes the user or the group of a program.
+pub(crate) fn replacing_mode(replaced: u32) -> u32
+    ensures { result ≡ bit_and replaced 0o666 }
+{
+    replaced & ANYONE
+}
+
 /// The permissions in a word: three octal digits, as in POSIX's `chmod`, of which the first is 6, because the owner
-/// reads and writes. Any other word is `BadArgument`.
+/// reads and writes. A zero may stand before them. Any other word is `BadArgument`.
 pub fn mode_asked(text: &str) -> Result<u32, CommandError>
     ensures mode { IfOk result (IsMode text.now) }
     ensures every { (mode : ℕ) → IsMode text.now mode → result ≡ Ok mode }
     ensures fault { IfErr result (λ fault. fault ≡ CommandError.BadArgument) }
 {
-    let digits = text.as_bytes();
+    let digits = mode_digits(text.as_bytes());
     if digits.len() != 3 || digits[0] != b'6' {
         return Err(CommandError::BadArgument);
     }
@@ -23,4 +34,15 @@ pub fn mode_asked(text: &str) -> Result<u32, CommandError>
         return Err(CommandError::BadArgument);
     }
     Ok(OWNER_ONLY + 8 * (group - b'0') as u32 + (others - b'0') as u32)
+}
+
+// The digits of a word for permissions, without a zero before three others.
+fn mode_digits(word: &[u8]) -> &[u8]
+    ensures { result.now ≡ mode_digits word.now }
+{
+    if word.len() == 4 && word[0] == b'0' {
+        &word[1..]
+    } else {
+        word
+    }
 }

@@ -21,6 +21,7 @@ pub fn report<M: Write>(fault: CommandError, messages: &mut M) -> Status
         CommandError::FileExists => writeln!(messages, "audit: file exists"),
         CommandError::File => writeln!(messages, "audit: file fault"),
         CommandError::InUse => writeln!(messages, "audit: store in use"),
+        CommandError::Replaced => writeln!(messages, "audit: store replaced"),
         CommandError::TooSmall { sectors } => print_too_small(sectors, messages),
         CommandError::Lines(cause) => print_lines_fault(cause, messages),
         CommandError::Refused(error) => print_refusal(error, messages),
@@ -63,6 +64,9 @@ pub fn report_flush<M: Write>(status: Status, flushed: io::Result<()>, messages:
 // A size that no store has, and then the number of sectors.
 fn print_too_small<M: Write>(sectors: u64, messages: &mut M) -> io::Result<()> {
     print_refusal(StoreError::BadSize, messages)?;
+    if sectors == 1 {
+        return writeln!(messages, "audit: there is 1 sector");
+    }
     writeln!(messages, "audit: there are {sectors} sectors")
 }
 

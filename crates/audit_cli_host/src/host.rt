@@ -1,9 +1,10 @@
 use crate::dial::Dial;
 use crate::noted_file::NotedFile;
 use crate::notes::Notes;
+use audit_disk::SystemFile;
 use mio::net::UnixStream as Dialed;
 use std::alloc::Allocator;
-use std::fs::{Files, Metadata, OpenFile, OpenOptions, Permissions};
+use std::fs::{Files, Metadata, OpenFile, OpenOptions, Permissions, TryLockError};
 use std::io::{self, ErrorKind};
 use std::net::{Net, SocketAddr};
 use std::os::fd::{BorrowedFd, OwnedFd};
@@ -31,7 +32,10 @@ impl<'n, 'w, R> Host<'n, 'w, R> {
     }
 }
 
-impl<'n, 'w, R: Files> Files for Host<'n, 'w, R> {
+impl<'n, 'w, R: Files> Files for Host<'n, 'w, R>
+where
+    R::File: SystemFile,
+{
     type File = NotedFile<'n, 'w, R::File>;
 
     type Dir = R::Dir;
@@ -64,7 +68,10 @@ impl<'n, 'w, R: Files> Files for Host<'n, 'w, R> {
         self.noted(to, self.rt.copy(from, to))
     }
 
+    // Every file that replaces another gets its name here. What another program has locked isn't replaced, and neither is
+    // a device: that is `AlreadyExists`.
     fn rename(&self, from: &str, to: &str) -> io::Result<()> {
+        self.noted(to, free_to_replace(self.rt, to))?;
         self.noted(to, self.rt.rename(from, to))
     }
 
@@ -139,6 +146,10 @@ impl<R: Net> Dial for Host<'_, '_, R> {
             Err(error) => self.noted(path, Err(error)),
         }
     }
+
+    fn note_count(&self, count: u64) {
+        self.notes.note_count(count);
+    }
 }
 
 impl<R: Clock> Clock for Host<'_, '_, R> {
@@ -152,6 +163,27 @@ impl<R: Clock> Clock for Host<'_, '_, R> {
 
     fn sleep(&self, duration: Duration) {
         self.rt.sleep(duration)
+    }
+}
+
+// Whether a path may be given to another file: it names nothing, a link, or a regular file that nobody has locked. The
+// lock is held no longer than this look takes.
+fn free_to_replace<R: Files>(rt: &R, path: &str) -> io::Result<()>
+where
+    R::File: SystemFile,
+{
+    match rt.symlink_metadata(path) {
+        Ok(found) if found.is_symlink() => return Ok(()),
+        Ok(found) if found.is_file() => {}
+        Ok(_) => return Err(io::Error::from(ErrorKind::AlreadyExists)),
+        Err(error) if error.kind() == ErrorKind::NotFound => return Ok(()),
+        Err(error) => return Err(error),
+    }
+    let file = OpenOptions::new().read(true).open(rt, path)?;
+    match file.try_lock() {
+        Err(TryLockError::WouldBlock) => Err(io::Error::from(ErrorKind::AlreadyExists)),
+        // A file system without locks.
+        Ok(()) | Err(TryLockError::Error(_)) => Ok(()),
     }
 }
 

@@ -4,12 +4,16 @@
 
 mod dial;
 mod host;
+mod key_text;
 mod noted_file;
 mod notes;
 mod progress;
+mod screen;
 
-pub use dial::Dial;
+pub use dial::{Dial, dial_within, retry_time};
 pub use host::Host;
+pub use key_text::{KEY_DIGITS, KeyText};
 pub use noted_file::NotedFile;
 pub use notes::{Extent, Notes, Subject};
 pub use progress::{Messages, Progress};
+pub use screen::Screen;

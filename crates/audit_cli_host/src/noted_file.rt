@@ -67,6 +67,9 @@ impl<F: Read> Read for NotedFile<'_, '_, F> {
         }
         let read = self.inner.read(into);
         self.notes.watch(self.subject, &read);
+        if let Ok(count) = read {
+            self.notes.read(self.subject, &into[..count]);
+        }
         self.went_on(Motion::Reading, &read);
         read
     }
@@ -165,10 +168,14 @@ impl<F: SystemFile> SystemFile for NotedFile<'_, '_, F> {
     ghost unknown = { λ it. F.unknown it.inner };
 
     fn try_lock(&self) -> Result<(), TryLockError> {
-        self.inner.try_lock()
+        let taken = self.inner.try_lock();
+        self.notes.watch_lock(self.subject, &taken);
+        taken
     }
 
     fn try_lock_shared(&self) -> Result<(), TryLockError> {
-        self.inner.try_lock_shared()
+        let taken = self.inner.try_lock_shared();
+        self.notes.watch_lock(self.subject, &taken);
+        taken
     }
 }

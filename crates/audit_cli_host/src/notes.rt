@@ -1,6 +1,8 @@
+use crate::key_text::KeyText;
 use crate::progress::{Motion, Progress};
 use std::cell::Cell;
-use std::io;
+use std::fs::TryLockError;
+use std::io::{self, ErrorKind};
 
 /// The subject of a call of the operating system.
 #[derive(Clone, Copy, PartialEq, Eq)]
@@ -34,11 +36,17 @@ struct Note {
 }
 
 /// What is noted of calls of the operating system: the last one that failed, for the line that explains a file fault,
-/// since the fault itself names neither path nor cause; and how far the main file of a command is read or written.
+/// since the fault itself names neither path nor cause; what else such lines say of what was read; and how far the main
+/// file of a command is read or written.
 #[derive(Drop)]
 pub struct Notes<'a> {
     words: &'a [String],
     last: Cell<Option<Note>>,
+    key_file: Cell<Option<Subject>>,
+    key_text: Cell<KeyText>,
+    in_use: Cell<Option<Subject>>,
+    count: Cell<Option<u64>>,
+    lacks_reader: Cell<bool>,
     main: Cell<Option<Subject>>,
     extent: Cell<Extent>,
     progress: &'a Progress<'a>,
@@ -50,6 +58,11 @@ impl<'a> Notes<'a> {
         Notes {
             words,
             last: Cell::new(None),
+            key_file: Cell::new(None),
+            key_text: Cell::new(KeyText::new()),
+            in_use: Cell::new(None),
+            count: Cell::new(None),
+            lacks_reader: Cell::new(false),
             main: Cell::new(None),
             extent: Cell::new(Extent::Store),
             progress,
@@ -104,11 +117,60 @@ impl<'a> Notes<'a> {
     /// Notes the error of a failed call.
     pub(crate) fn watch<T>(&self, subject: Subject, outcome: &io::Result<T>) {
         if let Err(error) = outcome {
+            if subject == Subject::Output && error.kind() == ErrorKind::BrokenPipe {
+                self.lacks_reader.set(true);
+            }
             self.last.set(Some(Note {
                 subject,
                 error: *error,
             }));
         }
+    }
+
+    /// Notes what is read of this file, which is to hold a key. No digit of it is kept.
+    pub fn watch_key(&self, file: Subject) {
+        self.key_file.set(Some(file));
+    }
+
+    /// Notes bytes that were read; none are the end of what is read.
+    pub(crate) fn read(&self, subject: Subject, bytes: &[u8]) {
+        if self.key_file.get() == Some(subject) {
+            let mut text = self.key_text.get();
+            text.take(bytes);
+            self.key_text.set(text);
+        }
+    }
+
+    /// What was read of the file that is to hold a key.
+    pub fn key_text(&self) -> KeyText {
+        self.key_text.get()
+    }
+
+    /// Notes that another program has a file locked.
+    pub(crate) fn watch_lock(&self, subject: Subject, taken: &Result<(), TryLockError>) {
+        if let Err(TryLockError::WouldBlock) = taken {
+            self.in_use.set(Some(subject));
+        }
+    }
+
+    /// The last file that another program had locked, as a word.
+    pub fn in_use(&self) -> Option<&'a str> {
+        Some(self.name(self.in_use.get()?))
+    }
+
+    /// Notes how many entries the log of a server has.
+    pub(crate) fn note_count(&self, count: u64) {
+        self.count.set(Some(count));
+    }
+
+    /// How many entries the log of a server has, if that was asked after a refusal.
+    pub fn count(&self) -> Option<u64> {
+        self.count.get()
+    }
+
+    /// Whether standard output is a pipe whose reader has gone.
+    pub fn lacks_reader(&self) -> bool {
+        self.lacks_reader.get()
     }
 
     /// Forgets the last failure. It wasn't a fault, because the program continued.
@@ -119,13 +181,15 @@ impl<'a> Notes<'a> {
     /// The word of the command line that names this path, or that names the file for which it is a temporary file.
     pub fn subject_of(&self, path: &str) -> Subject {
         let mut found = Subject::Other;
+        let mut length = 0;
         for (place, word) in self.words.iter().enumerate() {
             let word = word.as_str();
             if word == path {
                 return Subject::Word(place);
             }
-            if !word.is_empty() && path.starts_with(word) {
+            if word.len() > length && path.starts_with(word) {
                 found = Subject::Word(place);
+                length = word.len();
             }
         }
         found

@@ -1,4 +1,5 @@
 //! The line that shows how far a long command is.
+use audit_text_plain::Shown;
 use std::cell::Cell;
 use std::fmt;
 use std::io::{self, IsTerminal, Write};
@@ -103,7 +104,7 @@ impl<'r> Progress<'r> {
             Motion::Writing => "writing",
         };
         let mut messages = self.rt.stderr();
-        let _ = write!(messages, "{ERASE}audit: {verb} {name}: ");
+        let _ = write!(messages, "{ERASE}audit: {verb} {}: ", Shown(name));
         let rate = rate_of(
             place.saturating_sub(span.first),
             now.saturating_sub(span.begun),
