@@ -19,7 +19,7 @@ use Rattle.audit_cli_client.specs.declared.asking.TheConstants.{NEWEST_TAG, ASKE
 use Rattle.audit_cli_client.specs.declared.fault.ClientError.{ClientError}
 use Rattle.audit_cli_client.specs.declared.fault.ClientError.TheVariants.{BadReply}
 use Rattle.audit_cli_client.specs.Conversation.{ReadsReply, Converses}
-use Rattle.audit_cli_client.specs.Failing.{IsLost, Hears, FailsToRead, Exchanges, IsNoAnswer, IsAnsweredOtherwise, IsMemberReply, IsIncrementReply, newest_reply, IsNotJoined, FailsJoining, FailsEntry, FailsMember, FailsIncrement, FailsWatch}
+use Rattle.audit_cli_client.specs.Failing.{IsLost, Hears, FailsToRead, Exchanges, IsNoAnswer, IsAnsweredOtherwise, IsMemberReply, IsIncrementReply, newest_reply, IsNotJoined, FailsJoining, FailsJoiningBy, FailsEntry, FailsMember, FailsIncrement, Disbelieves}
 use Rattle.audit_cli_client.proofs.Conversations.{appends_more, consumes_more, converses_more}
 
 -- one request, and what was said to it
@@ -90,12 +90,12 @@ otherwise_after written_old written written_new read_old read read_new asked lat
   otherwise = k.otherwise;
 }
 
-pub fails_to_join : (written_old written_new read_old read_new : Option (List ℕ)) (older newer : Commitment) (error : ClientError)
+pub fails_to_join : (tag : ℕ) (written_old written_new read_old read_new : Option (List ℕ)) (older newer : Commitment) (error : ClientError)
     → IsLost error ⊎ IsAnsweredOtherwise written_old written_new read_old read_new
-    (request.Incremental JOIN_TAG older.count newer.count ∷ []) [] JOIN_TAG (IsIncrementReply JOIN_TAG) error
-    → FailsJoining written_old written_new read_old read_new older newer error
-fails_to_join written_old written_new read_old read_new older newer error (inl lost) = inl lost
-fails_to_join written_old written_new read_old read_new older newer error (inr other) = inr (inl other)
+    (request.Incremental tag older.count newer.count ∷ []) [] tag (IsIncrementReply tag) error
+    → FailsJoiningBy tag written_old written_new read_old read_new older newer error
+fails_to_join tag written_old written_new read_old read_new older newer error (inl lost) = inl lost
+fails_to_join tag written_old written_new read_old read_new older newer error (inr other) = inr (inl other)
 
 -- the same after a conversation
 not_joined_after : (written_old written written_new read_old read read_new : Option (List ℕ)) (asked : List Request) (given : List Reply) (older newer : Commitment) (error : ClientError)
@@ -112,10 +112,10 @@ not_joined_after written_old written written_new read_old read read_new asked gi
 pub fails_to_join_after : (written_old written written_new read_old read read_new : Option (List ℕ)) (kept newest : Commitment) (error : ClientError)
     → Converses written_old written read_old read (request.Commitment NEWEST_TAG ∷ []) (newest_reply newest ∷ [])
     → FailsJoining written written_new read read_new kept newest error
-    → FailsWatch written_old written_new read_old read_new (Some kept) error
-fails_to_join_after written_old written written_new read_old read read_new kept newest error h (inl lost) = inl (inl lost)
+    → IsLost error ⊎ Disbelieves written_old written_new read_old read_new kept newest error
+fails_to_join_after written_old written written_new read_old read read_new kept newest error h (inl lost) = inl lost
 fails_to_join_after written_old written written_new read_old read read_new kept newest error h (inr not_joined) =
-    inr (newest, kept, refl, inr (inr (not_joined_after written_old written written_new read_old read read_new _ _ kept newest error h not_joined)))
+    inr (inr (inr (not_joined_after written_old written written_new read_old read read_new _ _ kept newest error h not_joined)))
 
 -- a membership proof was asked for after the newest commitment was given, and something else came
 pub fails_to_prove_after : (written_old written written_new read_old read read_new : Option (List ℕ)) (newest : Commitment) (index : ℕ) (error : ClientError)

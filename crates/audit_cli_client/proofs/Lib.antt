@@ -9,3 +9,4 @@ pub mod Failures
 pub mod PutFiles
 pub mod FailedExports
 pub mod LongLines
+mod OneEntry

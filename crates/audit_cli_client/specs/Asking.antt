@@ -1,6 +1,7 @@
 -- What the answers to questions are, and under what they were accepted.
 use Rattle.std.specs.Prelude.{◌≡◌, ◌==◌, ℕ, Option, List, ◌∷◌, if◌then◌else◌}
 use Rattle.sha2.specs.Sha256.{sha256}
+use Rattle.audit_chain.specs.EntryForm.{EntryParts, AreParts, bytes_of_parts}
 use Rattle.audit_proof.specs.declared.commitment.Commitment.{Commitment}
 use Rattle.audit_proof.specs.ProofBytes.{Member, Increment}
 use Rattle.audit_proof.specs.Acceptance.{AcceptsMembership, AcceptsIncrement}
@@ -52,7 +53,11 @@ pub record AnswersIncrement (written_old written_new read_old read_new : Option 
       (record { count = proof.newer; root = newer_root }) proof.hashes
   pub vouched : IsVouchedFor (record { count = proof.newer; root = newer_root }) newest
 
--- the same of an entry: it is accepted under the newest commitment
+-- the bytes are those of one entry, and nothing else
+abbrev pub IsOneEntry : List ℕ → Type 0
+IsOneEntry bytes = (parts : EntryParts) × AreParts parts × (bytes ≡ bytes_of_parts parts)
+
+-- the same of an entry: it is accepted under the newest commitment, and is one entry alone
 pub record AnswersEntry (written_old written_new read_old read_new : Option (List ℕ)) (newest : Commitment)
     (index : ℕ) (entry : List ℕ) : Type 0 where
   pub asked : List Request
@@ -61,3 +66,4 @@ pub record AnswersEntry (written_old written_new read_old read_new : Option (Lis
   pub begins : OpensWithNewest newest asked given
   pub hashes : List (List ℕ)
   pub accepted : AcceptsMembership sha256 newest index entry hashes
+  pub alone : IsOneEntry entry

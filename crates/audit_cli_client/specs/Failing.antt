@@ -6,7 +6,7 @@ use Rattle.sha2.specs.Sha256.{sha256}
 use Rattle.audit_base.specs.declared.limits.TheConstants.{MAX_COUNT}
 use Rattle.audit_tree.specs.Subtree.{leaf_hash_of, root_of}
 use Rattle.audit_proof.specs.declared.commitment.Commitment.{Commitment}
-use Rattle.audit_proof.specs.Acceptance.{AcceptsMembership, AcceptsIncrement}
+use Rattle.audit_proof.specs.Acceptance.{commitment_to, AcceptsMembership, AcceptsIncrement}
 use Rattle.audit_wire.specs.declared.request.Request.{Request}
 use Rattle.audit_wire.specs.declared.request.Request.TheVariants as request
 use Rattle.audit_wire.specs.declared.reply.Reply.{Reply}
@@ -21,9 +21,10 @@ use Rattle.audit_cli_client.specs.declared.putting.AskError.{AskError}
 use Rattle.audit_cli_client.specs.declared.putting.AskError.TheVariants as asking
 use Rattle.audit_cli_client.specs.declared.keeping.WatchError.{WatchError}
 use Rattle.audit_cli_client.specs.declared.keeping.WatchError.TheVariants as watching
-use Rattle.audit_cli_client.specs.Asking.{not_due}
+use Rattle.audit_cli_client.specs.declared.watching.Unseen.{Unseen}
+use Rattle.audit_cli_client.specs.Asking.{not_due, IsOneEntry}
 use Rattle.audit_cli_client.specs.Conversation.{Converses}
-use Rattle.audit_cli_client.specs.Exporting.{entry_tag, entry_requests, entry_replies}
+use Rattle.audit_cli_client.specs.Exporting.{entry_tag, piece_tag, AreForEntries}
 
 -- the connection ended or was silent, or memory ran out, which may be at any time
 abbrev pub IsLost : ClientError → Type 0
@@ -99,40 +100,50 @@ abbrev pub FailsClosing : Option (List ℕ) → Option (List ℕ) → Option (Li
 FailsClosing written_old written_new read_old read_new error = IsLost error ⊎ IsAnsweredOtherwise
     written_old written_new read_old read_new (request.Close ASKED_TAG ∷ []) [] ASKED_TAG IsClosingReply error
 
--- After this conversation the increment between two commitments was asked for, and something else came; or it came, and
--- isn't accepted.
+-- After this conversation the increment between two commitments was asked for with this tag, and something else came;
+-- or it came, and isn't accepted.
+abbrev pub IsNotJoinedBy : ℕ → Option (List ℕ) → Option (List ℕ) → Option (List ℕ) → Option (List ℕ) → List Request
+    → List Reply → Commitment → Commitment → ClientError → Type 0
+IsNotJoinedBy tag written_old written_new read_old read_new asked given older newer error =
+    IsAnsweredOtherwise written_old written_new read_old read_new
+    (asked ++ request.Incremental tag older.count newer.count ∷ []) given tag (IsIncrementReply tag) error
+    ⊎ ((error ≡ client.NotAccepted) × (hashes : List (List ℕ)) × Converses written_old written_new read_old read_new
+    (asked ++ request.Incremental tag older.count newer.count ∷ []) (given ++ reply.Incremental tag hashes ∷ [])
+    × (AcceptsIncrement sha256 older newer hashes → ⊥))
+
 abbrev pub IsNotJoined : Option (List ℕ) → Option (List ℕ) → Option (List ℕ) → Option (List ℕ) → List Request
     → List Reply → Commitment → Commitment → ClientError → Type 0
 IsNotJoined written_old written_new read_old read_new asked given older newer error =
-    IsAnsweredOtherwise written_old written_new read_old read_new
-    (asked ++ request.Incremental JOIN_TAG older.count newer.count ∷ []) given JOIN_TAG (IsIncrementReply JOIN_TAG)
-    error
-    ⊎ ((error ≡ client.NotAccepted) × (hashes : List (List ℕ)) × Converses written_old written_new read_old read_new
-    (asked ++ request.Incremental JOIN_TAG older.count newer.count ∷ [])
-    (given ++ reply.Incremental JOIN_TAG hashes ∷ []) × (AcceptsIncrement sha256 older newer hashes → ⊥))
+    IsNotJoinedBy JOIN_TAG written_old written_new read_old read_new asked given older newer error
+
+abbrev pub FailsJoiningBy : ℕ → Option (List ℕ) → Option (List ℕ) → Option (List ℕ) → Option (List ℕ) → Commitment
+    → Commitment → ClientError → Type 0
+FailsJoiningBy tag written_old written_new read_old read_new older newer error =
+    IsLost error ⊎ IsNotJoinedBy tag written_old written_new read_old read_new [] [] older newer error
 
 abbrev pub FailsJoining : Option (List ℕ) → Option (List ℕ) → Option (List ℕ) → Option (List ℕ) → Commitment
     → Commitment → ClientError → Type 0
 FailsJoining written_old written_new read_old read_new older newer error =
-    IsLost error ⊎ IsNotJoined written_old written_new read_old read_new [] [] older newer error
+    FailsJoiningBy JOIN_TAG written_old written_new read_old read_new older newer error
 
 -- the reply with the newest commitment
 abbrev pub newest_reply : Commitment → Reply
 newest_reply newest = reply.Commitment NEWEST_TAG newest.count newest.root
 
 -- An entry was asked for, and something else came, before or after the newest commitment; or a proof came, and isn't
--- accepted under that commitment.
+-- accepted under that commitment, or what it is accepted for isn't one entry alone.
 abbrev pub FailsEntry : Option (List ℕ) → Option (List ℕ) → Option (List ℕ) → Option (List ℕ) → ℕ → ClientError → Type 0
 FailsEntry written_old written_new read_old read_new index error =
     FailsNewest written_old written_new read_old read_new error ⊎ ((newest : Commitment) × (
     IsAnsweredOtherwise written_old written_new read_old read_new
     (request.Commitment NEWEST_TAG ∷ request.Membership ASKED_TAG index newest.count ∷ [])
     (newest_reply newest ∷ []) ASKED_TAG IsMemberReply error
-    ⊎ ((error ≡ client.NotAccepted) × (hashes : List (List ℕ)) × (entry : List ℕ)
+    ⊎ ((hashes : List (List ℕ)) × (entry : List ℕ)
     × Converses written_old written_new read_old read_new
     (request.Commitment NEWEST_TAG ∷ request.Membership ASKED_TAG index newest.count ∷ [])
     (newest_reply newest ∷ reply.Membership ASKED_TAG hashes entry ∷ [])
-    × (AcceptsMembership sha256 newest index entry hashes → ⊥))))
+    × (((error ≡ client.NotAccepted) × (AcceptsMembership sha256 newest index entry hashes → ⊥))
+    ⊎ ((error ≡ client.BadReply) × AcceptsMembership sha256 newest index entry hashes × (IsOneEntry entry → ⊥))))))
 
 -- In this conversation a proof came that no commitment of this count accepts; or after it, the newest commitment
 -- doesn't vouch for the one that accepts it.
@@ -192,11 +203,24 @@ pub record LacksEntry (written_old written_new read_old read_new : Option (List 
   pub ahead : ℕ
   pub wanted : length entries < ahead
   pub within : ahead ≤ count
-  pub otherwise : IsAnsweredOtherwise written_old written_new read_old read_new (asked ++ entry_requests ahead)
-      (given ++ entry_replies 0 entries) (entry_tag (length entries)) (IsEntryReply (length entries)) error
+  pub requests : List Request
+  pub replies : List Reply
+  pub about : AreForEntries requests replies ahead entries
+  pub otherwise : IsAnsweredOtherwise written_old written_new read_old read_new (asked ++ requests)
+      (given ++ replies) (entry_tag (length entries)) (IsEntryReply (length entries)) error
 
--- The newest commitment is one of more entries than a log has; or an entry didn't come; or all came, and the newest
--- isn't the commitment to them.
+-- After this conversation some entries came, and the commitment to them isn't joined to the newest.
+pub record DoubtsEntries (written_old written_new read_old read_new : Option (List ℕ)) (asked : List Request)
+    (given : List Reply) (newest : Commitment) (error : ClientError) : Type 0 where
+  pub entries : List (List ℕ)
+  pub requests : List Request
+  pub replies : List Reply
+  pub about : AreForEntries requests replies (length entries) entries
+  pub doubted : IsNotJoinedBy (piece_tag (length entries)) written_old written_new read_old read_new
+      (asked ++ requests) (given ++ replies) (commitment_to entries) newest error
+
+-- The newest commitment is one of more entries than a log has; or an entry didn't come, or the entries up to one aren't
+-- joined to the newest; or all came, and the newest isn't the commitment to them.
 abbrev pub IsNoExport : Option (List ℕ) → Option (List ℕ) → Option (List ℕ) → Option (List ℕ) → Commitment → ClientError
     → Type 0
 IsNoExport written_old written_new read_old read_new newest error =
@@ -204,10 +228,13 @@ IsNoExport written_old written_new read_old read_new newest error =
     (request.Commitment NEWEST_TAG ∷ []) (newest_reply newest ∷ []))
     ⊎ (LacksEntry written_old written_new read_old read_new (request.Commitment NEWEST_TAG ∷ [])
     (newest_reply newest ∷ []) newest.count error
+    ⊎ (DoubtsEntries written_old written_new read_old read_new (request.Commitment NEWEST_TAG ∷ [])
+    (newest_reply newest ∷ []) newest error
     ⊎ ((error ≡ client.NotAccepted) × (entries : List (List ℕ)) × (newest.count ≡ length entries)
+    × (requests : List Request) × (replies : List Reply) × AreForEntries requests replies (length entries) entries
     × Converses written_old written_new read_old read_new
-    (request.Commitment NEWEST_TAG ∷ entry_requests (length entries)) (newest_reply newest ∷ entry_replies 0 entries)
-    × ((newest.root ≡ root_of sha256 (map leaf_hash_of entries)) → ⊥)))
+    (request.Commitment NEWEST_TAG ∷ requests) (newest_reply newest ∷ replies)
+    × ((newest.root ≡ root_of sha256 (map leaf_hash_of entries)) → ⊥))))
 
 -- All entries were asked for, and the newest commitment wasn't given, or they couldn't be written, or aren't accepted.
 abbrev pub FailsExport : Option (List ℕ) → Option (List ℕ) → Option (List ℕ) → Option (List ℕ) → ClientError → Type 0
@@ -237,15 +264,17 @@ Disbelieves written_old written_new read_old read_new kept newest error =
     ⊎ IsNotJoined written_old written_new read_old read_new (request.Commitment NEWEST_TAG ∷ [])
     (newest_reply newest ∷ []) kept newest error)
 
+-- No newest commitment was given, and that is why; or this one was, and isn't believed, or the connection was lost.
 abbrev pub FailsWatch : Option (List ℕ) → Option (List ℕ) → Option (List ℕ) → Option (List ℕ) → Option Commitment
-    → ClientError → Type 0
-FailsWatch written_old written_new read_old read_new kept error =
-    FailsNewest written_old written_new read_old read_new error ⊎ ((newest before : Commitment) × (kept ≡ Some before)
-    × Disbelieves written_old written_new read_old read_new before newest error)
+    → Unseen → Type 0
+FailsWatch written_old written_new read_old read_new kept unseen =
+    ((unseen.given ≡ None) × FailsNewest written_old written_new read_old read_new unseen.error)
+    ⊎ ((newest before : Commitment) × (kept ≡ Some before) × (unseen.given ≡ Some newest)
+    × (IsLost unseen.error ⊎ Disbelieves written_old written_new read_old read_new before newest unseen.error))
 
 -- the same of a witness that keeps what it sees
 abbrev pub FailsKeeping : {E : Type 0} → Option (List ℕ) → Option (List ℕ) → Option (List ℕ) → Option (List ℕ)
     → Option Commitment → WatchError E → Type 0
-FailsKeeping written_old written_new read_old read_new kept (watching.Client error) =
-    FailsWatch written_old written_new read_old read_new kept error
+FailsKeeping written_old written_new read_old read_new kept (watching.Client unseen) =
+    FailsWatch written_old written_new read_old read_new kept unseen
 FailsKeeping written_old written_new read_old read_new kept (watching.Kept error) = Unit {0}

@@ -60,6 +60,7 @@ refusal_word refusal.NoSuchVersion = codes "NoSuchVersion"
 refusal_word refusal.Worn = codes "Worn"
 refusal_word refusal.Device = codes "Device"
 refusal_word refusal.Closed = codes "Closed"
+refusal_word refusal.NotAllowed = codes "NotAllowed"
 refusal_word refusal.Malformed = codes "Malformed"
 
 -- the index of the event, the count after its batch, and the root
@@ -83,10 +84,15 @@ abbrev pub is_refusal : Reply → Bool
 is_refusal (reply.Refused tag code) = true
 is_refusal _ = false
 
--- an acknowledgement or a refusal with the tag of the request for the event of this line
+-- a refusal of one event: the server may take the next one
+abbrev pub is_of_event : Refusal → Bool
+is_of_event refusal.NotAllowed = false
+is_of_event _ = true
+
+-- an acknowledgement or a refusal with the tag of the request for the event of this line, and of that event alone
 abbrev pub AnswersLine : ℕ → Reply → Type 0
 AnswersLine line (reply.Acknowledgement tag index count root) = tag ≡ line_tag line
-AnswersLine line (reply.Refused tag code) = tag ≡ line_tag line
+AnswersLine line (reply.Refused tag code) = (tag ≡ line_tag line) × (is_of_event code ≡ true)
 AnswersLine line _ = ⊥
 
 -- each answers its own line, from the line after the first `before` on

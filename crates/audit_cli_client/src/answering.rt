@@ -2,7 +2,7 @@
 ghost use Rattle.std.specs.Prelude.{◌≡◌, ◌+◌, ◌<◌, ◌≤◌, if◌then◌else◌, OnOk, OnErr, IfOk, IfErr};
 ghost use Rattle.std.specs.Io.KnownBytes.{Appends};
 ghost use Rattle.audit_text.specs.Writing.{WritesInPart};
-ghost use Rattle.audit_cli_client.specs.Sending.{is_refusal, answer_line, acknowledgement_line, refusal_line};
+ghost use Rattle.audit_cli_client.specs.Sending.{is_refusal, is_of_event, answer_line, acknowledgement_line, refusal_line};
 ghost use Rattle.audit_cli_client.specs.Sending.{AnswersLine};
 ghost use Rattle.audit_cli_client.specs.Sending.{TakesAnswer, FailsAnswer, TakesAnswers};
 
@@ -111,7 +111,7 @@ fn print_line<O: Write>(output: &mut O, line: &[u8]) -> Result<(), SendError>
 }
 
 // Replaces the contents of the buffer with the line of an answer, if the reply is one to this line of the input.
-// Returns whether it is a refusal.
+// Returns whether it is a refusal. That no event is allowed is an error, since no later one would be.
 fn put_answer(line: &mut Vec<u8>, number: u64, given: &Reply) -> Result<bool, ClientError>
     ensures due { OnOk result (AnswersLine number given.now) }
     ensures put { OnOk result (line.new.items ≡ answer_line number given.now) }
@@ -127,12 +127,19 @@ fn put_answer(line: &mut Vec<u8>, number: u64, given: &Reply) -> Result<bool, Cl
             put_acknowledgement(line, *index, *count, root)?;
             Ok(false)
         }
-        Reply::Refused { tag, refusal } if *tag == line_tag(number) => {
+        Reply::Refused { tag, refusal } if *tag == line_tag(number) && is_of_event(*refusal) => {
             put_refusal(line, number, *refusal)?;
             Ok(true)
         }
         other => Err(not_due(line_tag(number), other)),
     }
+}
+
+// Whether a refusal is of one event, so that the server may take the next one.
+fn is_of_event(refusal: Refusal) -> bool
+    ensures { result ≡ is_of_event refusal }
+{
+    !matches!(refusal, Refusal::NotAllowed)
 }
 
 // `ack`, the index of the event, the count after its batch, and the root.

@@ -1,5 +1,5 @@
 //! Questions to a server, each answer checked under the commitment that the server gave before it.
-ghost use Rattle.std.specs.Prelude.{◌≡◌, ◌≤◌, ◌⊎◌, ◌∷◌, [], ℕ, List, IfOk, IfErr, OnOk, OnErr, vec_len};
+ghost use Rattle.std.specs.Prelude.{◌≡◌, ◌≤◌, ◌⊎◌, ◌↔◌, ◌∷◌, [], ℕ, List, IsTrue, IfOk, IfErr, OnOk, OnErr, vec_len};
 ghost use Rattle.audit_base.specs.declared.limits.TheConstants.{MAX_ENTRY, MAX_MEMBER_HASHES, MAX_INCREMENT_HASHES};
 ghost use Rattle.sha2.specs.Sha256.{sha256};
 ghost use Rattle.audit_proof.specs.Acceptance.{AcceptsMembership, AcceptsIncrement};
@@ -8,17 +8,19 @@ ghost use Rattle.audit_wire.specs.declared.reply.Reply.{Reply};
 ghost use Rattle.audit_wire.specs.declared.request.Request.{Request};
 ghost use Rattle.audit_wire.specs.declared.request.Request.TheVariants as request;
 ghost use Rattle.audit_wire.specs.declared.reply.Reply.TheVariants as reply;
-ghost use Rattle.audit_cli_client.specs.Asking.{not_due, AnswersMember, AnswersIncrement, AnswersEntry};
+ghost use Rattle.audit_cli_client.specs.Asking.{not_due, AnswersMember, AnswersIncrement, AnswersEntry, IsOneEntry};
 ghost use Rattle.audit_cli_client.specs.Conversation.{Converses};
 ghost use Rattle.audit_cli_client.specs.Failing.{IsLost, IsAnsweredOtherwise, IsNoAnswer, IsNewestReply};
 ghost use Rattle.audit_cli_client.specs.Failing.{IsClosingReply};
 ghost use Rattle.audit_cli_client.specs.Failing.{IsMemberReply, IsIncrementReply, FailsNewest, FailsClosing};
-ghost use Rattle.audit_cli_client.specs.Failing.{FailsJoining, FailsEntry, FailsMember, FailsIncrement};
+ghost use Rattle.audit_cli_client.specs.Failing.{FailsJoining, FailsJoiningBy, FailsEntry, FailsMember};
+ghost use Rattle.audit_cli_client.specs.Failing.{FailsIncrement};
 ghost use Rattle.audit_cli_client.specs.Joined.{IsVouchedFor};
 
 use crate::conversation::ask;
 use crate::fault::ClientError;
 use audit_base::Hash;
+use audit_chain::read_entry;
 use audit_proof::{
     Commitment, IncrementProof, MAX_ENTRY, MAX_INCREMENT_HASHES, MAX_MEMBER_HASHES, MemberProof,
     accepts_increment, accepts_member, root_of_membership, roots_of_increment, write_increment,
@@ -108,7 +110,8 @@ fn last_in(given: &Reply) -> Result<Commitment, ClientError>
     }
 }
 
-/// Asks for the entry of an index. It is accepted as that entry under the newest commitment.
+/// Asks for the entry of an index. It is accepted as that entry under the newest commitment, and is one entry alone:
+/// more than it, or less, is a bad reply.
 pub fn entry_of<W: Write, R: Read>(
     alloc: Global,
     to: &mut W,
@@ -125,7 +128,20 @@ pub fn entry_of<W: Write, R: Read>(
     if !accepts_member(&newest, index, &proof.entry, &proof.hashes) {
         return Err(ClientError::NotAccepted);
     }
+    if !is_one_entry(&proof.entry) {
+        return Err(ClientError::BadReply);
+    }
     Ok(proof.entry)
+}
+
+// Whether bytes are those of one entry, and nothing else.
+fn is_one_entry(bytes: &[u8]) -> bool
+    ensures { IsTrue result ↔ IsOneEntry bytes.now }
+{
+    match read_entry(bytes) {
+        Ok(entry) => entry.size() == bytes.len(),
+        Err(_) => false,
+    }
 }
 
 /// Asks for the membership (inclusion) proof of an entry under a count, and returns its bytes. The proof is accepted
@@ -213,7 +229,29 @@ pub fn join<W: Write, R: Read>(
     ensures fault { IfErr result (FailsJoining (W.contents to.old) (W.contents to.new) (R.remaining from.old)
         (R.remaining from.new) older.now newer.now) }
 {
-    let proof = ask_increment(alloc, to, from, JOIN_TAG, older.count, newer.count)?;
+    join_by(alloc, to, from, JOIN_TAG, older, newer)
+}
+
+// The same, with a tag of its own.
+pub(crate) fn join_by<W: Write, R: Read>(
+    alloc: Global,
+    to: &mut W,
+    from: &mut R,
+    own_tag: u32,
+    older: &Commitment,
+    newer: &Commitment,
+) -> Result<(), ClientError>
+    ensures done { OnOk result ((asked : List Request) × (given : List Reply) × (hashes : List (List ℕ))
+        × Converses (W.contents to.old) (W.contents to.new) (R.remaining from.old) (R.remaining from.new) asked given
+        × AcceptsIncrement sha256 older.now newer.now hashes) }
+    ensures asked { OnOk result ((hashes : List (List ℕ)) × Converses (W.contents to.old) (W.contents to.new)
+        (R.remaining from.old) (R.remaining from.new)
+        (request.Incremental own_tag older.now.count newer.now.count ∷ [])
+        (reply.Incremental own_tag hashes ∷ [])) }
+    ensures fault { IfErr result (FailsJoiningBy own_tag (W.contents to.old) (W.contents to.new)
+        (R.remaining from.old) (R.remaining from.new) older.now newer.now) }
+{
+    let proof = ask_increment(alloc, to, from, own_tag, older.count, newer.count)?;
     if accepts_increment(older, newer, &proof.hashes) {
         Ok(())
     } else {

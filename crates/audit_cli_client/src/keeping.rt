@@ -1,13 +1,12 @@
 //! A witness that keeps what it sees.
 ghost use Rattle.std.specs.Prelude.{◌≡◌, ◌⊎◌, ◌∷◌, ◌++◌, [], List, Err, IfOk, IfErr, OnOk, OnErr};
 ghost use Rattle.audit_proof.specs.declared.commitment.Commitment.{Commitment};
-ghost use Rattle.audit_cli_client.specs.declared.fault.ClientError.{ClientError};
 ghost use Rattle.audit_cli_client.specs.Failing.{FailsKeeping};
 ghost use Rattle.audit_cli_client.specs.Keeping.{last_kept, KeepsOn, KeepsSight};
 ghost use Rattle.audit_cli_client.specs.Watching.{Sees};
+ghost use Rattle.audit_cli_client.specs.declared.watching.Unseen.{Unseen};
 
-use crate::fault::ClientError;
-use crate::watching::{Sight, watch};
+use crate::watching::{Sight, Unseen, watch};
 use audit_proof::Commitment;
 use std::alloc::Global;
 use std::io::{Read, Write};
@@ -35,7 +34,7 @@ pub trait Kept {
 #[derive(Clone, Copy, Debug, PartialEq, Eq)]
 pub enum WatchError<E> {
     /// The server didn't answer, or its answer isn't believed.
-    Client(ClientError),
+    Client(Unseen),
     /// What it saw couldn't be kept.
     Kept(E),
 }
@@ -55,12 +54,12 @@ pub fn watch_and_keep<W: Write, R: Read, K: Kept>(
     // What isn't believed is why, and nothing is added then.
     ensures fault { IfErr result (FailsKeeping (W.contents to.old) (W.contents to.new) (R.remaining from.old)
         (R.remaining from.new) (last_kept (K.kept kept.old))) }
-    ensures untouched { (error : ClientError) → result ≡ Err (WatchError.Client error)
+    ensures untouched { (unseen : Unseen) → result ≡ Err (WatchError.Client unseen)
         → K.kept kept.new ≡ K.kept kept.old }
 {
     let sight = match watch(alloc, to, from, kept.newest()) {
         Ok(sight) => sight,
-        Err(error) => return Err(WatchError::Client(error)),
+        Err(unseen) => return Err(WatchError::Client(unseen)),
     };
     match sight {
         Sight::Same(_) => Ok(sight),

@@ -28,4 +28,4 @@ pub use putting::{AskError, Out, put_entry, put_export, put_increment, put_membe
 pub use refusal_word::word_of_refusal;
 pub use send_error::SendError;
 pub use sending::{SendEnd, send_events};
-pub use watching::{Sight, watch};
+pub use watching::{Sight, Unseen, watch};

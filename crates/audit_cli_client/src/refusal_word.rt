@@ -14,6 +14,7 @@ pub fn word_of_refusal(refusal: Refusal) -> &'static str
         Refusal::Worn => "Worn",
         Refusal::Device => "Device",
         Refusal::Closed => "Closed",
+        Refusal::NotAllowed => "NotAllowed",
         Refusal::Malformed => "Malformed",
     }
 }

@@ -14,6 +14,7 @@ returns-clause-done g c = (
     begins = record { requests = _; replies = _; first = refl; answer = refl };
     hashes = c.in_ok-proof.proof.hashes.items;
     accepted = rw (sym c.deref.ensures.value, sym c.deref-2.ensures.value) (c.accepts_member.ensures.exact.0 (search rules));
+    alone = rw (sym c.deref-3.ensures.value) (c.is_one_entry.ensures.0 (search rules));
   },
 )
 
@@ -31,10 +32,24 @@ pub returns-then-not-accepts_member-clause-fault : goal.returns-then-not-accepts
 returns-then-not-accepts_member-clause-fault g c = inr (
   c.in_ok-newest.newest,
   inr (
-    refl,
     c.in_ok-proof.proof.hashes.items,
     c.in_ok-proof.proof.entry.items,
     converses_more _ _ _ _ _ _ _ _ _ _ c.in_ok-newest.ensures.done c.in_ok-proof.ensures.done,
-    λ accepted. let is : IsTrue c.accepts_member.result = c.accepts_member.ensures.exact.1 (rw (c.deref.ensures.value, c.deref-2.ensures.value) accepted) in absurd (grind arith),
+    inl (refl, λ accepted. let is : IsTrue c.accepts_member.result = c.accepts_member.ensures.exact.1 (rw (c.deref.ensures.value, c.deref-2.ensures.value) accepted) in absurd (grind arith)),
+  ),
+)
+
+pub returns-then-not-is_one_entry-clause-fault : goal.returns-then-not-is_one_entry-clause-fault
+returns-then-not-is_one_entry-clause-fault g c = inr (
+  c.in_ok-newest.newest,
+  inr (
+    c.in_ok-proof.proof.hashes.items,
+    c.in_ok-proof.proof.entry.items,
+    converses_more _ _ _ _ _ _ _ _ _ _ c.in_ok-newest.ensures.done c.in_ok-proof.ensures.done,
+    inr (
+      refl,
+      rw (sym c.deref.ensures.value, sym c.deref-2.ensures.value) (c.accepts_member.ensures.exact.0 (search rules)),
+      λ one. let is : IsTrue c.is_one_entry.result = c.is_one_entry.ensures.1 (rw c.deref-3.ensures.value one) in absurd (grind arith),
+    ),
   ),
 )

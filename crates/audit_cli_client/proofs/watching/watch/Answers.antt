@@ -4,9 +4,9 @@ use Rattle.audit_cli_client.proofs.Conversations.{converses_more}
 use Rattle.audit_cli_client.proofs.Failures.{fails_to_join_after}
 use Rattle.audit_cli_client.proofs.watching.watch.Goals as goal
 
-pub returns-in_ok-join-clause-seen : goal.returns-in_ok-join-clause-seen
-returns-in_ok-join-clause-seen g c =
-    let j = c.in_ok-join.ensures.done in
+pub returns-in-Ok-clause-seen : goal.returns-in-Ok-clause-seen
+returns-in-Ok-clause-seen g c =
+    let j = c.in-Ok.ensures.done in
     rw c.in-Some.is (record {
       asked = _;
       given = _;
@@ -19,9 +19,14 @@ returns-in_ok-join-clause-seen g c =
 pub returns-in_err-newest-clause-fault : goal.returns-in_err-newest-clause-fault
 returns-in_err-newest-clause-fault g c =
     let p = err_from_is_err_and c.from_residual.result c.from_residual.ensures.1 in
-    rw (p.1, p.2) (inl c.in_err-newest.ensures.fault)
+    rw (p.1, p.2) (inl (refl, c.in_err-newest.ensures.fault))
 
-pub returns-in_err-join-clause-fault : goal.returns-in_err-join-clause-fault
-returns-in_err-join-clause-fault g c =
-    let p = err_from_is_err_and c.from_residual-in_err-join.result c.from_residual-in_err-join.ensures.1 in
-    rw (p.1, p.2) (rw c.in-Some.is (fails_to_join_after _ _ _ _ _ _ _ _ _ c.in_ok-newest.ensures.done c.in_err-join.ensures.fault))
+pub returns-in-Err-clause-fault : goal.returns-in-Err-clause-fault
+returns-in-Err-clause-fault g c =
+    rw c.in-Some.is (inr (
+      c.in_ok-newest.newest,
+      c.in-Some.kept,
+      refl,
+      c.not_seen-in-Err.ensures.given,
+      rw c.not_seen-in-Err.ensures.error (fails_to_join_after _ _ _ _ _ _ _ _ _ c.in_ok-newest.ensures.done c.in-Err.ensures.fault),
+    ))
