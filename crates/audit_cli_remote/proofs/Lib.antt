@@ -1,1 +1,2 @@
+mod AddedLines
 pub mod StateLines

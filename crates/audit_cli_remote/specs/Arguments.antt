@@ -4,11 +4,12 @@ use Rattle.std.specs.Prelude.{◌≡◌, ◌⊎◌, ℕ, nat_le, ◌&&◌, Optio
 use Rattle.std.specs.Prelude.{if◌then◌else◌}
 use Rattle.std.specs.Str.{bytes_eq}
 use Rattle.audit_text.specs.Number.{number_in_text}
-use Rattle.audit_text_plain.specs.LineEvents.{form_asked}
+use Rattle.audit_text_plain.specs.LineEvents.{form_asked, long_asked}
 use Rattle.audit_cli_base.specs.Arguments.{proof_asked}
 use Rattle.audit_cli_base.specs.declared.arguments.ProofRequest.{ProofRequest}
 use Rattle.audit_cli_base.specs.declared.fault.CommandError.{CommandError}
 use Rattle.audit_cli_base.specs.declared.fault.CommandError.TheVariants.{BadArgument}
+use Rattle.audit_cli_base.specs.SocketPath.{IsNoSocketPath}
 use Rattle.audit_cli_remote.specs.declared.arguments.TheConstants.{MAX_SECONDS, MAX_WINDOW}
 use Rattle.audit_cli_remote.specs.declared.arguments.Question.{Question}
 use Rattle.audit_cli_remote.specs.declared.arguments.Question.TheVariants as question
@@ -84,22 +85,33 @@ abbrev pub judged_question : Option Question → Result Question CommandError
 judged_question None = Err BadArgument
 judged_question (Some asked) = Ok asked
 
--- one of the words that are checked before the socket is opened is a wrong number
-abbrev pub HasWrongNumber : Request → Type 0
-HasWrongNumber (Ask socket question timeout) = AreNoSeconds timeout
-HasWrongNumber (Send socket text window timeout) = (form_asked text ≡ None) ⊎ (IsNoWindow window ⊎ AreNoSeconds timeout)
-HasWrongNumber (Watch socket state every timeout) = AreNoSeconds every ⊎ AreNoSeconds timeout
+-- one of the words of a task is wrong
+abbrev pub IsNoTask : Option (Bor (List ℕ)) → Option (Bor (List ℕ)) → Option (Bor (List ℕ)) → Option (Bor (List ℕ))
+    → Type 0
+IsNoTask text long window timeout =
+    (form_asked text ≡ None) ⊎ ((long_asked long text ≡ None) ⊎ (IsNoWindow window ⊎ AreNoSeconds timeout))
+
+-- one of the words that are checked before the socket is opened is wrong
+abbrev pub HasRefusedWord : Request → Type 0
+HasRefusedWord (Ask socket question timeout) = IsNoSocketPath socket.now 0 ⊎ AreNoSeconds timeout
+HasRefusedWord (Send socket text long window timeout) =
+    IsNoSocketPath socket.now 0 ⊎ IsNoTask text long window timeout
+HasRefusedWord (Watch socket state every timeout is_quiet) =
+    IsNoSocketPath socket.now 0 ⊎ (AreNoSeconds every ⊎ AreNoSeconds timeout)
 
 -- a task has the form and the numbers of the words
-abbrev pub HasTaskNumbers : Option (Bor (List ℕ)) → Option (Bor (List ℕ)) → Option (Bor (List ℕ)) → Task → Type 0
-HasTaskNumbers text window timeout task = (form_asked text ≡ Some task.form)
-    × (window_or_default window ≡ Ok task.window) × (seconds_or_default timeout ≡ Ok task.seconds)
+abbrev pub HasTaskNumbers : Option (Bor (List ℕ)) → Option (Bor (List ℕ)) → Option (Bor (List ℕ))
+    → Option (Bor (List ℕ)) → Task → Type 0
+HasTaskNumbers text long window timeout task = (form_asked text ≡ Some task.form)
+    × (long_asked long text ≡ Some task.long) × (window_or_default window ≡ Ok task.window)
+    × (seconds_or_default timeout ≡ Ok task.seconds)
 
 -- what is ordered has the question and the numbers of the words
 abbrev pub HasNumbersOf : Request → Order → Type 0
 HasNumbersOf (Ask socket words timeout) (order.Ask path asked seconds) =
     (question_in words.0.now words.1 words.2 words.3 ≡ Some asked) × (seconds_or_default timeout ≡ Ok seconds)
-HasNumbersOf (Send socket text window timeout) (order.Send path task) = HasTaskNumbers text window timeout task
-HasNumbersOf (Watch socket state every timeout) (order.Watch post pause) =
-    IsPause every pause × (seconds_or_default timeout ≡ Ok post.seconds)
+HasNumbersOf (Send socket text long window timeout) (order.Send path task) =
+    HasTaskNumbers text long window timeout task
+HasNumbersOf (Watch socket state every timeout is_quiet) (order.Watch post pause) =
+    IsPause every pause × (seconds_or_default timeout ≡ Ok post.seconds) × (post.is_quiet ≡ is_quiet)
 HasNumbersOf request other = ⊥

@@ -15,7 +15,7 @@ use Rattle.audit_cli_client.specs.declared.send_error.SendError.{SendError}
 use Rattle.audit_cli_client.specs.declared.send_error.SendError.TheVariants as sending
 use Rattle.audit_cli_remote.specs.declared.fault.RemoteError.{RemoteError}
 use Rattle.audit_cli_remote.specs.declared.fault.RemoteError.TheVariants.{Command, NoConnection, Server, BadStateLine}
-use Rattle.audit_cli_remote.specs.declared.fault.RemoteError.TheVariants.{NotAcknowledged}
+use Rattle.audit_cli_remote.specs.declared.fault.RemoteError.TheVariants.{Contradicted, NotAcknowledged, StateInUse}
 
 -- the error for refused memory
 abbrev pub no_memory : RemoteError
@@ -37,10 +37,17 @@ status_of_server _ = ends.Refused
 
 abbrev pub remote_status : RemoteError → Status
 remote_status (Command fault) = commands.status_of fault
-remote_status NoConnection = ends.Device
+remote_status (NoConnection kind) = ends.Device
 remote_status (Server error) = status_of_server error
+remote_status (Contradicted found) = ends.Refused
 remote_status (BadStateLine line) = ends.Refused
+remote_status StateInUse = ends.Device
 remote_status (NotAcknowledged lines first) = ends.Device
+
+-- there is no connection, for any cause
+abbrev pub IsNoConnection : RemoteError → Type 0
+IsNoConnection (NoConnection kind) = Unit {0}
+IsNoConnection _ = ⊥
 
 -- the command's error with the same meaning
 abbrev pub of_sending : SendError → RemoteError
@@ -61,6 +68,7 @@ judgment_in _ = None
 
 abbrev pub judgment_of : RemoteError → Option (List ℕ)
 judgment_of (Server error) = judgment_in error
+judgment_of (Contradicted found) = judgment_in found.error
 judgment_of _ = None
 
 -- the error isn't a judgment of the log

@@ -1,3 +1,6 @@
 pub mod Faults
+pub mod Frames
 pub mod Sent
+pub mod State
+pub mod Alarm
 pub mod Arguments

@@ -2,6 +2,7 @@
 use crate::arguments::{Evidence, Question};
 use crate::connection::{connect, socket_identity};
 use crate::fault::RemoteError;
+use crate::line::{LineEnd, Pace};
 use crate::out::{OutFile, is_standard_output};
 use audit_cli_base::{CommandError, ProofRequest, write_exported, write_number};
 use audit_cli_client::{
@@ -12,12 +13,14 @@ use audit_cli_host::Dial;
 use audit_disk::FileIdentity;
 use audit_proof::Commitment;
 use audit_text::{put_line, write_whole};
+use audit_wire::Refusal;
 use std::alloc::Global;
 use std::fs::{self, Files};
 use std::io::{BufReader, Read, Write};
 use std::time::Clock;
 
-/// Asks a server, writes the answer to its file, and prints its line.
+/// Asks a server, writes the answer to its file, and prints its line. If the server has no such entry or count, the
+/// count that it has is noted.
 pub fn ask_socket<F: Files + Dial + Clock, W: Write>(
     rt: &F,
     alloc: Global,
@@ -27,10 +30,16 @@ pub fn ask_socket<F: Files + Dial + Clock, W: Write>(
     output: &mut W,
 ) -> Result<(), RemoteError> {
     let identity = socket_identity(rt, socket)?;
-    let stream = connect(rt, socket, seconds)?;
-    let mut to = &stream;
-    let mut from = BufReader::new(alloc, &stream)?;
-    answer(rt, alloc, identity, &mut to, &mut from, question, output)
+    let line = connect(rt, socket, seconds, Pace::Question)?;
+    let mut to = LineEnd::of(&line);
+    let mut from = BufReader::new(alloc, LineEnd::of(&line))?;
+    let asked = answer(rt, alloc, identity, &mut to, &mut from, question, output);
+    if asked == Err(RemoteError::Server(ClientError::Refused(Refusal::NoSuchVersion)))
+        && let Ok(newest) = newest_commitment(alloc, &mut to, &mut from)
+    {
+        rt.note_count(newest.count);
+    }
+    asked
 }
 
 fn answer<F: Files, A: Write, B: Read, W: Write>(

@@ -1,65 +1,33 @@
 //! Connections to a server's socket.
 ghost use Rattle.std.specs.Prelude.{◌≡◌, ◌⊎◌, IfErr};
+ghost use Rattle.audit_cli_remote.specs.Faults.{IsNoConnection};
 
 use crate::fault::RemoteError;
+use crate::line::{Line, Pace};
 use audit_cli_client::ClientError;
-use audit_cli_host::Dial;
+use audit_cli_host::{Dial, dial_within};
 use audit_disk::FileIdentity;
 use std::fs::{self, Files};
-use std::io::{self, ErrorKind};
-use std::os::unix::net::UnixStream;
-use std::thread;
-use std::time::{Clock, Duration, Instant};
+use std::io::ErrorKind;
+use std::time::{Clock, Duration};
 
-// After which time a socket is tried again at which no more clients can wait.
-fn retry_time() -> Duration {
-    Duration::from_millis(20)
-}
-
-/// Connects to a socket. While no more clients can wait there, it tries again, until `seconds` have passed. Each read
-/// and each write fails once it has waited for `seconds`.
-pub fn connect<F: Dial + Clock>(
-    rt: &F,
+/// Connects to a socket. While no more clients can wait there, it tries again, until `seconds` have passed. What is
+/// written, and what is read after it by the pace, has `seconds` too.
+pub fn connect<'a, F: Dial + Clock>(
+    rt: &'a F,
     socket: &str,
     seconds: u64,
-) -> Result<UnixStream, RemoteError>
-    ensures { IfErr result (λ fault. (fault ≡ RemoteError.NoConnection)
-        ⊎ (fault ≡ RemoteError.Server ClientError.TimedOut)) }
+    pace: Pace,
+) -> Result<Line<'a, F>, RemoteError>
+    ensures { IfErr result (λ fault. IsNoConnection fault ⊎ (fault ≡ RemoteError.Server ClientError.TimedOut)) }
 {
-    match connect_timed(rt, socket, Duration::from_secs(seconds)) {
-        Ok(stream) => Ok(stream),
+    let limit = Duration::from_secs(seconds);
+    match dial_within(rt, socket, limit) {
+        Ok(stream) => Ok(Line::new(rt, stream, limit, pace)),
         Err(error) if error.kind() == ErrorKind::WouldBlock => {
             Err(RemoteError::Server(ClientError::TimedOut))
         }
-        Err(_) => Err(RemoteError::NoConnection),
-    }
-}
-
-fn connect_timed<F: Dial + Clock>(rt: &F, socket: &str, limit: Duration) -> io::Result<UnixStream> {
-    let stream = dial_in_time(rt, socket, limit)?;
-    stream.set_nonblocking(false)?;
-    stream.set_read_timeout(Some(limit))?;
-    stream.set_write_timeout(Some(limit))?;
-    Ok(stream)
-}
-
-// Dials until a client can wait at the socket. If none can until the time is over, the error is `WouldBlock`.
-fn dial_in_time<F: Dial + Clock>(rt: &F, socket: &str, limit: Duration) -> io::Result<UnixStream> {
-    let begun = Instant::now(rt)?;
-    for _ in 0..u64::MAX {
-        let dialed = rt.dial(socket);
-        if !is_full(&dialed) || begun.elapsed(rt)? >= limit {
-            return dialed;
-        }
-        thread::sleep(rt, retry_time());
-    }
-    Err(io::Error::from(ErrorKind::WouldBlock))
-}
-
-fn is_full(dialed: &io::Result<UnixStream>) -> bool {
-    match dialed {
-        Ok(_) => false,
-        Err(error) => error.kind() == ErrorKind::WouldBlock,
+        Err(error) => Err(RemoteError::NoConnection(error.kind())),
     }
 }
 
@@ -67,6 +35,6 @@ fn is_full(dialed: &io::Result<UnixStream>) -> bool {
 pub fn socket_identity<F: Files>(rt: &F, socket: &str) -> Result<FileIdentity, RemoteError> {
     match fs::metadata(rt, socket) {
         Ok(found) => Ok(FileIdentity::of(&found)),
-        Err(_) => Err(RemoteError::NoConnection),
+        Err(error) => Err(RemoteError::NoConnection(error.kind())),
     }
 }

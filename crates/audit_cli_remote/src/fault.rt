@@ -1,26 +1,31 @@
 ghost use Rattle.std.specs.Prelude.{◌≡◌, option_map};
 ghost use Rattle.audit_cli_remote.specs.Faults.{no_memory, remote_status, status_of_server, of_sending, judgment_of};
+ghost use Rattle.audit_cli_remote.specs.Faults.{judgment_in};
 
+use crate::contradiction::Contradiction;
 use audit_cli_base::{CommandError, Status, report};
 use audit_cli_client::{AskError, ClientError, SendError, word_of_refusal};
 use audit_store::StoreError;
 use audit_text::LinesError;
 use audit_wire::Refusal;
 use std::alloc::{AllocError, AllocFailed};
-use std::io;
-use std::io::Write;
+use std::io::{self, ErrorKind, Write};
 
 /// Why a command that asks a server failed.
 #[derive(Clone, Copy, Debug, PartialEq, Eq)]
 pub enum RemoteError {
     /// An error that other commands have too: an argument, a file, lines or memory.
     Command(CommandError),
-    /// There is no connection to the socket.
-    NoConnection,
+    /// There is no connection to the socket, and this is why.
+    NoConnection(ErrorKind),
     /// The server didn't answer, or its answer isn't accepted.
     Server(ClientError),
+    /// What the server gave contradicts what a witness holds.
+    Contradicted(Contradiction),
     /// The line with this number, counted from 1, of a witness's file isn't a commitment.
     BadStateLine(u64),
+    /// Another witness looks by the file, and didn't end in time.
+    StateInUse,
     /// As many lines were sent, from the line with this number on, and weren't acknowledged.
     NotAcknowledged {
         /// Their number.
@@ -37,9 +42,11 @@ impl RemoteError {
     {
         match self {
             RemoteError::Command(fault) => fault.status(),
-            RemoteError::NoConnection | RemoteError::NotAcknowledged { .. } => Status::Device,
+            RemoteError::NoConnection(_)
+            | RemoteError::StateInUse
+            | RemoteError::NotAcknowledged { .. } => Status::Device,
             RemoteError::Server(error) => status_of_server(error),
-            RemoteError::BadStateLine(_) => Status::Refused,
+            RemoteError::Contradicted(_) | RemoteError::BadStateLine(_) => Status::Refused,
         }
     }
 
@@ -53,11 +60,17 @@ impl RemoteError {
                 let _ = report(fault, messages);
                 Ok(())
             }
-            RemoteError::NoConnection => messages.write_all(b"audit: file fault\n"),
+            RemoteError::NoConnection(_) => messages.write_all(b"audit: file fault\n"),
             RemoteError::Server(error) => print_server_error(error, messages),
+            RemoteError::Contradicted(_) => Ok(()),
             RemoteError::BadStateLine(line) => {
                 writeln!(messages, "audit: line {line}: bad commitment line")
             }
+            RemoteError::StateInUse => messages.write_all(b"audit: witness file in use\n"),
+            RemoteError::NotAcknowledged { lines: 1, first } => writeln!(
+                messages,
+                "audit: 1 line from line {first} is not acknowledged"
+            ),
             RemoteError::NotAcknowledged { lines, first } => writeln!(
                 messages,
                 "audit: {lines} lines from line {first} are not acknowledged"
@@ -71,20 +84,31 @@ impl RemoteError {
         ensures { option_map (λ words. words.now) result ≡ judgment_of self }
     {
         match self {
-            RemoteError::Server(ClientError::NotAccepted) => Some("not accepted\n"),
-            RemoteError::Server(ClientError::Shorter) => Some("shorter\n"),
-            RemoteError::Server(ClientError::OtherRoot) => Some("other root\n"),
+            RemoteError::Server(error) => judgment_in(error),
+            RemoteError::Contradicted(found) => judgment_in(found.error),
             _ => None,
         }
     }
 
-    /// Whether a later try may succeed: the server isn't there, or doesn't answer.
+    /// Whether a later try may succeed: the server isn't there, or doesn't answer, or another witness looks.
     pub fn is_passing(self) -> bool {
         matches!(
             self,
-            RemoteError::NoConnection
+            RemoteError::NoConnection(_)
+                | RemoteError::StateInUse
                 | RemoteError::Server(ClientError::Ended | ClientError::TimedOut)
         )
+    }
+}
+
+fn judgment_in(error: ClientError) -> Option<&'static str>
+    ensures { option_map (λ words. words.now) result ≡ judgment_in error }
+{
+    match error {
+        ClientError::NotAccepted => Some("not accepted\n"),
+        ClientError::Shorter => Some("shorter\n"),
+        ClientError::OtherRoot => Some("other root\n"),
+        _ => None,
     }
 }
 

@@ -1,17 +1,25 @@
 //! The commands of the program `audit` that ask a running store over its socket: clients and witnesses.
 #![tactic(auto)]
 
+mod alarm;
+mod alarm_file;
 mod arguments;
 mod asking;
 mod connection;
+mod contradiction;
 mod draft;
 mod fault;
+mod frames;
 pub mod laws;
+mod line;
 mod out;
 mod request;
 mod sending;
 mod state_file;
+mod state_lines;
+mod state_lock;
 mod watching;
 
+pub use contradiction::Contradiction;
 pub use fault::RemoteError;
 pub use request::{Request, run};

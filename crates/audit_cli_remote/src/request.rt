@@ -2,22 +2,24 @@
 ghost use Rattle.std.specs.Prelude.{◌≡◌, ◌⊎◌, ℕ, List, Err, Some, None, IfOk, IfErr};
 ghost use Rattle.std.specs.Io.KnownBytes.{Appends, Keeps};
 ghost use Rattle.audit_text.specs.declared.fault.LinesError.{LinesError};
-ghost use Rattle.audit_text_plain.specs.LineEvents.{form_asked};
+ghost use Rattle.audit_text_plain.specs.LineEvents.{form_asked, long_asked};
 ghost use Rattle.audit_cli_remote.specs.declared.fault.RemoteError.{RemoteError};
 ghost use Rattle.audit_cli_remote.specs.Faults.{IsNoJudgment, judgment_of};
-ghost use Rattle.audit_cli_remote.specs.Arguments.{AreNoSeconds, IsNoWindow, HasWrongNumber, HasNumbersOf};
-ghost use Rattle.audit_cli_remote.specs.Arguments.{HasTaskNumbers};
+ghost use Rattle.audit_cli_remote.specs.Arguments.{AreNoSeconds, IsNoWindow, HasRefusedWord, HasNumbersOf};
+ghost use Rattle.audit_cli_remote.specs.Arguments.{HasTaskNumbers, IsNoTask};
 ghost use Rattle.audit_cli_remote.specs.Arguments.{IsPause, seconds_or_default, window_or_default};
 
+use crate::alarm::print_contradiction;
 use crate::arguments::{Question, QuestionWords, question_asked, seconds_asked, window_asked};
 use crate::asking::ask_socket;
 use crate::fault::RemoteError;
 use crate::sending::{Task, send_to_socket};
 use crate::watching::{Post, watch_for_ever, watch_once};
-use audit_cli_base::{CommandError, Status, report_flush};
+use audit_cli_base::{CommandError, Status, report_flush, socket_path_asked};
 use audit_cli_host::Dial;
+use audit_disk::SystemFile;
 use audit_text::write_whole;
-use audit_text_plain::{LineForm, form_asked};
+use audit_text_plain::{LineForm, LongLines, form_asked, long_asked};
 use std::alloc::Global;
 use std::fs::Files;
 use std::io::{Read, Write};
@@ -47,6 +49,8 @@ pub enum Request<'a> {
         socket: &'a str,
         /// The kind of the events, if the lines are their payloads.
         text: Option<&'a str>,
+        /// What becomes of lines that are too long: `refuse` or `cut`; refused if absent.
+        long: Option<&'a str>,
         /// How many lines are sent ahead of their answers; 64 if absent.
         window: Option<&'a str>,
         /// How many seconds an answer is waited for; 30 if absent.
@@ -62,6 +66,8 @@ pub enum Request<'a> {
         every: Option<&'a str>,
         /// How many seconds a reply is waited for; 30 if absent.
         timeout: Option<&'a str>,
+        /// Whether nothing is printed of a log that is the same or has grown.
+        is_quiet: bool,
     },
 }
 
@@ -75,9 +81,11 @@ pub fn run<F: Files + Dial + Clock, R: Read, W: Write, M: Write>(
     output: &mut W,
     messages: &mut M,
 ) -> Status
+where
+    F::File: SystemFile,
     // A wrong number ends the program before anything is written. An output that can't be flushed is another fault.
-    ensures words { HasWrongNumber request.entry → (result ≡ Status.Usage) ⊎ (result ≡ Status.Device) }
-    ensures unwritten { HasWrongNumber request.entry → Keeps (W.contents output.old) (W.contents output.new) }
+    ensures words { HasRefusedWord request.entry → (result ≡ Status.Usage) ⊎ (result ≡ Status.Device) }
+    ensures unwritten { HasRefusedWord request.entry → Keeps (W.contents output.old) (W.contents output.new) }
 {
     let done = perform(rt, alloc, request, input, output, messages);
     let judged = print_judgment(done, output);
@@ -86,7 +94,23 @@ pub fn run<F: Files + Dial + Clock, R: Read, W: Write, M: Write>(
         Ok(status) => status,
         Err(fault) => fault.report(messages),
     };
-    report_flush(status, flushed, messages)
+    let status = report_flush(status, flushed, messages);
+    report_alarm(alloc, request, done, messages);
+    status
+}
+
+// Prints what contradicts a witness, after the word on the output.
+fn report_alarm<M: Write>(
+    alloc: Global,
+    request: Request<'_>,
+    done: Result<Status, RemoteError>,
+    messages: &mut M,
+) {
+    if let Request::Watch { socket, state, .. } = request
+        && let Err(RemoteError::Contradicted(found)) = done
+    {
+        let _ = print_contradiction(alloc, socket, state, &found, messages);
+    }
 }
 
 // Prints the judgment of a log, if that is why the command failed.
@@ -133,8 +157,10 @@ fn perform<F: Files + Dial + Clock, R: Read, W: Write, M: Write>(
     output: &mut W,
     messages: &mut M,
 ) -> Result<Status, RemoteError>
-    ensures words { HasWrongNumber request.entry → result ≡ Err (RemoteError.Command CommandError.BadArgument) }
-    ensures unwritten { HasWrongNumber request.entry → Keeps (W.contents output.old) (W.contents output.new) }
+where
+    F::File: SystemFile,
+    ensures words { HasRefusedWord request.entry → result ≡ Err (RemoteError.Command CommandError.BadArgument) }
+    ensures unwritten { HasRefusedWord request.entry → Keeps (W.contents output.old) (W.contents output.new) }
 {
     match judge(request) {
         Ok(order) => carry_out(rt, alloc, order, input, output, messages),
@@ -143,7 +169,7 @@ fn perform<F: Files + Dial + Clock, R: Read, W: Write, M: Write>(
 }
 
 fn judge<'a>(request: Request<'a>) -> Result<Order<'a>, CommandError>
-    ensures wrong { HasWrongNumber request.entry → result ≡ Err CommandError.BadArgument }
+    ensures wrong { HasRefusedWord request.entry → result ≡ Err CommandError.BadArgument }
     ensures numbers { IfOk result (HasNumbersOf request.entry) }
 {
     match request {
@@ -151,18 +177,23 @@ fn judge<'a>(request: Request<'a>) -> Result<Order<'a>, CommandError>
             socket,
             question,
             timeout,
-        } => Ok(Order::Ask {
-            socket,
-            question: question_asked(question)?,
-            seconds: seconds_or_default(timeout)?,
-        }),
+        } => {
+            socket_path_asked(socket, 0)?;
+            Ok(Order::Ask {
+                socket,
+                question: question_asked(question)?,
+                seconds: seconds_or_default(timeout)?,
+            })
+        }
         Request::Send {
             socket,
             text,
+            long,
             window,
             timeout,
         } => {
-            let task = task_asked(text, window, timeout)?;
+            socket_path_asked(socket, 0)?;
+            let task = task_asked(text, long, window, timeout)?;
             Ok(Order::Send { socket, task })
         }
         Request::Watch {
@@ -170,12 +201,15 @@ fn judge<'a>(request: Request<'a>) -> Result<Order<'a>, CommandError>
             state,
             every,
             timeout,
+            is_quiet,
         } => {
+            socket_path_asked(socket, 0)?;
             let seconds = seconds_or_default(timeout)?;
             let post = Post {
                 socket,
                 state,
                 seconds,
+                is_quiet,
             };
             let every = pause_asked(every)?;
             Ok(Order::Watch { post, every })
@@ -185,19 +219,21 @@ fn judge<'a>(request: Request<'a>) -> Result<Order<'a>, CommandError>
 
 fn task_asked(
     text: Option<&str>,
+    long: Option<&str>,
     window: Option<&str>,
     timeout: Option<&str>,
 ) -> Result<Task, CommandError>
-    ensures wrong { (form_asked text.entry ≡ None) ⊎ (IsNoWindow window.entry ⊎ AreNoSeconds timeout.entry)
-        → result ≡ Err CommandError.BadArgument }
-    ensures asked { IfOk result (HasTaskNumbers text.entry window.entry timeout.entry) }
+    ensures wrong { IsNoTask text.entry long.entry window.entry timeout.entry → result ≡ Err CommandError.BadArgument }
+    ensures asked { IfOk result (HasTaskNumbers text.entry long.entry window.entry timeout.entry) }
     ensures fault { IfErr result (λ fault. fault ≡ CommandError.BadArgument) }
 {
     let form = form_or_fault(text)?;
+    let long = long_or_fault(long, text)?;
     let window = window_or_default(window)?;
     let seconds = seconds_or_default(timeout)?;
     Ok(Task {
         form,
+        long,
         window,
         seconds,
     })
@@ -210,7 +246,10 @@ fn carry_out<F: Files + Dial + Clock, R: Read, W: Write, M: Write>(
     input: &mut R,
     output: &mut W,
     messages: &mut M,
-) -> Result<Status, RemoteError> {
+) -> Result<Status, RemoteError>
+where
+    F::File: SystemFile,
+{
     let done = match order {
         Order::Ask {
             socket,
@@ -252,6 +291,17 @@ fn form_or_fault(word: Option<&str>) -> Result<LineForm, CommandError>
 {
     match form_asked(word) {
         Some(form) => Ok(form),
+        None => Err(CommandError::BadArgument),
+    }
+}
+
+fn long_or_fault(word: Option<&str>, text: Option<&str>) -> Result<LongLines, CommandError>
+    ensures asked { IfOk result (λ long. long_asked word.entry text.entry ≡ Some long) }
+    ensures wrong { long_asked word.entry text.entry ≡ None → result ≡ Err CommandError.BadArgument }
+    ensures fault { IfErr result (λ fault. fault ≡ CommandError.BadArgument) }
+{
+    match long_asked(word, text) {
+        Some(long) => Ok(long),
         None => Err(CommandError::BadArgument),
     }
 }

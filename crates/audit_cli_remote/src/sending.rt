@@ -4,13 +4,13 @@ ghost use Rattle.audit_cli_remote.specs.Sent.{status_of_sent};
 
 use crate::connection::connect;
 use crate::fault::RemoteError;
+use crate::line::{Line, LineEnd, Pace};
 use audit_cli_base::Status;
 use audit_cli_client::{SendEnd, send_events};
 use audit_cli_host::Dial;
-use audit_text_plain::LineForm;
+use audit_text_plain::{CutLines, LineForm, LongLines};
 use std::alloc::Global;
 use std::io::{BufReader, Read, Write};
-use std::os::unix::net::UnixStream;
 use std::time::Clock;
 
 // The size in bytes of the buffer for the input: the most that is read at a time.
@@ -21,6 +21,8 @@ const INPUT_ROOM: usize = 1 << 16;
 pub struct Task {
     /// How lines have their events.
     pub form: LineForm,
+    /// What becomes of lines that are too long.
+    pub long: LongLines,
     /// The most lines that are sent ahead of their answers.
     pub window: u64,
     /// How many seconds an answer is waited for.
@@ -38,21 +40,42 @@ pub fn send_to_socket<F: Dial + Clock, R: Read, W: Write, M: Write>(
     output: &mut W,
     messages: &mut M,
 ) -> Result<Status, RemoteError> {
-    let mut lines = BufReader::with_capacity(alloc, INPUT_ROOM, input)?;
-    let stream = connect(rt, socket, task.seconds)?;
-    let end = send_over(alloc, task, &mut lines, &stream, output)?;
+    match task.long {
+        LongLines::Refused => {
+            let mut lines = BufReader::with_capacity(alloc, INPUT_ROOM, input)?;
+            send_lines(rt, alloc, socket, task, &mut lines, output, messages)
+        }
+        LongLines::Cut => {
+            let cut = CutLines::new(alloc, input)?;
+            let mut lines = BufReader::with_capacity(alloc, INPUT_ROOM, cut)?;
+            send_lines(rt, alloc, socket, task, &mut lines, output, messages)
+        }
+    }
+}
+
+fn send_lines<F: Dial + Clock, R: Read, W: Write, M: Write>(
+    rt: &F,
+    alloc: Global,
+    socket: &str,
+    task: Task,
+    lines: &mut BufReader<R>,
+    output: &mut W,
+    messages: &mut M,
+) -> Result<Status, RemoteError> {
+    let line = connect(rt, socket, task.seconds, Pace::Reply)?;
+    let end = send_over(alloc, task, lines, &line, output)?;
     Ok(report_sent(&end, messages))
 }
 
-fn send_over<R: Read, W: Write>(
+fn send_over<C: Clock, R: Read, W: Write>(
     alloc: Global,
     task: Task,
     lines: &mut BufReader<R>,
-    stream: &UnixStream,
+    line: &Line<'_, C>,
     output: &mut W,
 ) -> Result<SendEnd, RemoteError> {
-    let mut to = stream;
-    let mut from = BufReader::new(alloc, stream)?;
+    let mut to = LineEnd::of(line);
+    let mut from = BufReader::new(alloc, LineEnd::of(line))?;
     Ok(send_events(
         alloc,
         task.form,

@@ -1,47 +1,56 @@
 //! The file of a witness: a line for each commitment that it saw, the newest last.
-ghost use Rattle.std.specs.Prelude.{◌≡◌, ◌⊎◌, ◌∷◌, ◌++◌, [], map, Some, IfOk, OnOk, OnErr};
-ghost use Rattle.audit_text.specs.Lines.{lines_of};
-ghost use Rattle.audit_cli_offline.specs.CommitmentWord.{commitment_in_word};
+ghost use Rattle.std.specs.Prelude.{◌≡◌, ◌⊎◌, ◌∷◌, ◌++◌, [], OnOk, OnErr};
 
 use crate::fault::RemoteError;
-use audit_cli_base::{CommandError, OutputFile};
+use crate::state_lines::{Tail, line_after, tail_in};
+use crate::state_lock::sync_folder;
 use audit_cli_client::Kept;
-use audit_cli_offline::commitment_in_word;
-use audit_disk::FileIdentity;
 use audit_proof::Commitment;
-use audit_text::{push_hex, push_number, read_input, split_at_first};
-use std::alloc::{AllocError, Global};
-use std::fs::{self, Files};
-use std::io::{self, ErrorKind, Write};
+use audit_text::{read_input, split_at_first};
+use std::alloc::Global;
+use std::fs::{Files, OpenFile};
+use std::io::{self, Read, Seek, SeekFrom, Write};
 
-/// What is in the file of a witness. The file is replaced whole when a line is added to it.
+// The most bytes at the end of the file that a look reads and judges.
+const TAIL_LEN: u64 = 1 << 16;
+
+// How many bytes are read at a time to number the lines before them.
+const PIECE_LEN: usize = 1 << 12;
+
+/// The file of a witness, open and locked, so that one witness at a time looks by it. Only its end is read, and each
+/// line is added at its end.
 #[derive(Drop)]
-pub struct StateFile<'a, F> {
-    rt: &'a F,
+pub struct StateFile<'a, R: Files> {
+    rt: &'a R,
     alloc: Global,
     path: &'a str,
-    socket: FileIdentity,
-    text: Vec<u8>,
+    file: R::File,
+    // The commitments in the lines that were read, and in those that were added.
     kept: Vec<Commitment>,
+    // The bytes up to the end of the last line, or of what is there of it.
+    end: u64,
+    lacks_feed: bool,
 }
 
-impl<'a, F: Files> StateFile<'a, F> {
-    /// Reads the file. One that doesn't exist yet has no lines.
+impl<'a, R: Files> StateFile<'a, R> {
+    /// Reads the end of an open file, which the caller has locked.
     pub fn read(
-        rt: &'a F,
+        rt: &'a R,
         alloc: Global,
         path: &'a str,
-        socket: FileIdentity,
-    ) -> Result<StateFile<'a, F>, RemoteError> {
-        let text = text_of_file(rt, alloc, path)?;
-        let kept = commitments_in(alloc, &text)?;
+        file: R::File,
+    ) -> Result<StateFile<'a, R>, RemoteError> {
+        let mut file = file;
+        let length = file.seek(SeekFrom::End(0))?;
+        let tail = tail_of(alloc, &mut file, length)?;
         Ok(StateFile {
             rt,
             alloc,
             path,
-            socket,
-            text,
-            kept,
+            file,
+            kept: tail.kept,
+            end: length.saturating_sub(tail.torn as u64),
+            lacks_feed: tail.lacks_feed,
         })
     }
 
@@ -52,25 +61,27 @@ impl<'a, F: Files> StateFile<'a, F> {
             ⊎ (self.new.kept.items ≡ self.old.kept.items ++ seen.now ∷ [])) }
     {
         self.kept.reserve(1)?;
-        self.text.reserve(line.len())?;
-        self.write(line)?;
+        self.append(line)?;
         self.kept.push_reserved(*seen);
-        self.text.extend_from_slice(line)?;
         Ok(())
     }
 
-    // Replaces the file by one with another line.
-    fn write(&self, line: &[u8]) -> Result<(), CommandError> {
-        let mut made = OutputFile::create(self.rt, self.alloc, self.socket, self.path)?;
-        if let Err(error) = write_both(&mut made, &self.text, line) {
-            made.discard(self.rt);
+    // Appends bytes to the file, in place of a line that was cut off, and syncs it and its name. After a fault they are
+    // cut off again, if the system allows it.
+    fn append(&mut self, line: &[u8]) -> Result<(), RemoteError>
+        ensures { self.new.kept ≡ self.old.kept }
+    {
+        if let Err(error) = write_at_end(&mut self.file, self.end, line) {
+            let _ = self.file.set_len(self.end);
             return Err(error.into());
         }
-        made.publish(self.rt)
+        self.end = self.end.saturating_add(line.len() as u64);
+        self.lacks_feed = false;
+        Ok(sync_folder(self.rt, self.path)?)
     }
 }
 
-impl<F: Files> Kept for StateFile<'_, F> {
+impl<R: Files> Kept for StateFile<'_, R> {
     type Error = RemoteError;
 
     ghost kept = { λ state. state.kept.items };
@@ -80,55 +91,59 @@ impl<F: Files> Kept for StateFile<'_, F> {
     }
 
     fn add(&mut self, seen: &Commitment) -> Result<(), RemoteError> {
-        let line = line_after(self.alloc, &self.text, seen)?;
+        let line = line_after(self.alloc, self.lacks_feed, seen)?;
         self.add_line(seen, &line)
     }
 }
 
-fn write_both<W: Write>(file: &mut W, text: &[u8], line: &[u8]) -> io::Result<()> {
-    file.write_all(text)?;
-    file.write_all(line)
+fn write_at_end<F: OpenFile + Write + Seek>(file: &mut F, end: u64, line: &[u8]) -> io::Result<()> {
+    file.set_len(end)?;
+    file.seek(SeekFrom::Start(end))?;
+    file.write_all(line)?;
+    file.sync_all()
 }
 
-fn text_of_file<F: Files>(rt: &F, alloc: Global, path: &str) -> Result<Vec<u8>, RemoteError> {
-    match fs::open(rt, path) {
-        Ok(mut file) => Ok(read_input(alloc, &mut file)?),
-        Err(error) if error.kind() == ErrorKind::NotFound => Ok(Vec::new(alloc)),
-        Err(_) => Err(RemoteError::Command(CommandError::File)),
+// What the end of a file of this length holds. Of a long file the line in which the end begins is left out.
+fn tail_of<F: Read + Seek>(alloc: Global, file: &mut F, length: u64) -> Result<Tail, RemoteError> {
+    let start = length.saturating_sub(TAIL_LEN);
+    file.seek(SeekFrom::Start(start))?;
+    let text = read_input(alloc, file)?;
+    if start == 0 {
+        return tail_in(alloc, &text);
+    }
+    let (_, lines) = split_at_first(&text, b'\n');
+    let (tail, before) = if lines.is_empty() {
+        (Err(RemoteError::BadStateLine(1)), start)
+    } else {
+        (
+            tail_in(alloc, lines),
+            length.saturating_sub(lines.len() as u64),
+        )
+    };
+    match tail {
+        Err(RemoteError::BadStateLine(line)) => {
+            let lines = feeds_before(file, before)?;
+            Err(RemoteError::BadStateLine(lines.saturating_add(line)))
+        }
+        other => other,
     }
 }
 
-// The commitments in the lines of a text.
-fn commitments_in(alloc: Global, text: &[u8]) -> Result<Vec<Commitment>, RemoteError>
-    ensures all { IfOk result (λ kept. map commitment_in_word (lines_of text.now) ≡ map (λ one. Some one) kept.items) }
-{
-    let mut kept = Vec::new(alloc);
-    let mut rest = text;
-    while !rest.is_empty() {
-        let (line, after) = split_at_first(rest, b'\n');
-        let Some(commitment) = commitment_in_word(line) else {
-            return Err(RemoteError::BadStateLine(kept.len() as u64 + 1));
-        };
-        kept.push(commitment)?;
-        rest = after;
+// How many lines end in the first bytes of a file.
+fn feeds_before<F: Read + Seek>(file: &mut F, bytes: u64) -> io::Result<u64> {
+    let mut piece = [0; PIECE_LEN];
+    let mut feeds = 0u64;
+    let mut left = bytes;
+    file.seek(SeekFrom::Start(0))?;
+    for _ in 0..bytes {
+        let most = left.min(PIECE_LEN as u64) as usize;
+        let taken = file.read(&mut piece[..most])?;
+        if taken == 0 {
+            return Ok(feeds);
+        }
+        let ended = piece[..taken].iter().filter(|byte| **byte == b'\n').count();
+        feeds = feeds.saturating_add(ended as u64);
+        left = left.saturating_sub(taken as u64);
     }
-    Ok(kept)
-}
-
-// The bytes that add the line of a commitment to a text, whose last line may lack its line feed.
-fn line_after(alloc: Global, text: &[u8], seen: &Commitment) -> Result<Vec<u8>, AllocError> {
-    let mut line = Vec::new(alloc);
-    if !text.is_empty() && !text.ends_with(b"\n") {
-        line.push(b'\n')?;
-    }
-    push_commitment_line(&mut line, seen)?;
-    Ok(line)
-}
-
-/// Appends a commitment as COUNT:ROOT, and a line feed.
-pub fn push_commitment_line(line: &mut Vec<u8>, seen: &Commitment) -> Result<(), AllocError> {
-    push_number(line, b"", seen.count)?;
-    line.extend_from_slice(b":")?;
-    push_hex(line, &seen.root)?;
-    line.extend_from_slice(b"\n")
+    Ok(feeds)
 }

@@ -1,18 +1,26 @@
 //! A witness of a log, which keeps what it sees in a file.
+use crate::alarm::{date_of_now, push_date};
+use crate::alarm_file::keep_alarm;
 use crate::connection::{connect, socket_identity};
+use crate::contradiction::fault_of_look;
 use crate::fault::RemoteError;
-use crate::state_file::{StateFile, push_commitment_line};
-use audit_cli_client::{Kept, Sight, WatchError, watch_and_keep};
+use crate::line::{LineEnd, Pace};
+use crate::state_file::StateFile;
+use crate::state_lines::push_commitment_line;
+use crate::state_lock::{Locked, lock_state, remove_made};
+use audit_cli_client::{ClientError, Kept, Sight, watch_and_keep};
 use audit_cli_host::Dial;
+use audit_disk::SystemFile;
 use audit_proof::Commitment;
 use audit_text::write_whole;
+use audit_text_plain::Shown;
 use std::alloc::Global;
 use std::fs::Files;
-use std::io::{BufReader, Write};
+use std::io::{self, BufReader, Write};
 use std::thread;
 use std::time::{Clock, Duration};
 
-/// What a witness needs: the server's socket, its own file, and how long it waits for a reply.
+/// What a witness needs: the server's socket, its own file, how long it waits for a reply, and what it prints.
 #[derive(Clone, Copy)]
 pub struct Post<'a> {
     /// The socket.
@@ -21,6 +29,8 @@ pub struct Post<'a> {
     pub state: &'a str,
     /// The seconds.
     pub seconds: u64,
+    /// Whether nothing is printed of a log that is the same or has grown.
+    pub is_quiet: bool,
 }
 
 /// Looks once, and prints what was seen.
@@ -29,13 +39,16 @@ pub fn watch_once<F: Files + Dial + Clock, W: Write>(
     alloc: Global,
     post: Post<'_>,
     output: &mut W,
-) -> Result<(), RemoteError> {
+) -> Result<(), RemoteError>
+where
+    F::File: SystemFile,
+{
     let sight = look(rt, alloc, post)?;
-    print_sight(alloc, sight, output)
+    print_sight(alloc, sight, post.is_quiet, output)
 }
 
 /// Looks again and again, pausing for `every` seconds after each look, and prints what has changed. A server that
-/// isn't there, or doesn't answer, is reported once until something else is seen.
+/// isn't there, or doesn't answer, is reported once until something else is seen, and so is its return.
 pub fn watch_for_ever<F: Files + Dial + Clock, W: Write, M: Write>(
     rt: &F,
     alloc: Global,
@@ -43,7 +56,10 @@ pub fn watch_for_ever<F: Files + Dial + Clock, W: Write, M: Write>(
     every: u64,
     output: &mut W,
     messages: &mut M,
-) -> Result<(), RemoteError> {
+) -> Result<(), RemoteError>
+where
+    F::File: SystemFile,
+{
     let mut reported = None;
     for _ in 0..u64::MAX {
         reported = look_again(rt, alloc, post, reported, output, messages)?;
@@ -60,17 +76,22 @@ fn look_again<F: Files + Dial + Clock, W: Write, M: Write>(
     reported: Option<RemoteError>,
     output: &mut W,
     messages: &mut M,
-) -> Result<Option<RemoteError>, RemoteError> {
+) -> Result<Option<RemoteError>, RemoteError>
+where
+    F::File: SystemFile,
+{
     match look(rt, alloc, post) {
-        Ok(Sight::Same(_)) => Ok(None),
         Ok(sight) => {
-            print_sight(alloc, sight, output)?;
-            output.flush()?;
+            if let Some(RemoteError::NoConnection(_) | RemoteError::Server(_)) = reported {
+                let _ = print_moment(rt, alloc, post.socket, "answers again", messages);
+            }
+            print_change(alloc, sight, post.is_quiet, output)?;
             Ok(None)
         }
         Err(fault) if fault.is_passing() => {
             if reported != Some(fault) {
                 fault.report(messages);
+                let _ = print_passing(rt, alloc, post, fault, messages);
             }
             Ok(Some(fault))
         }
@@ -78,14 +99,80 @@ fn look_again<F: Files + Dial + Clock, W: Write, M: Write>(
     }
 }
 
+// Prints what was seen, unless it is the same.
+fn print_change<W: Write>(
+    alloc: Global,
+    sight: Sight,
+    is_quiet: bool,
+    output: &mut W,
+) -> Result<(), RemoteError> {
+    if let Sight::Same(_) = sight {
+        return Ok(());
+    }
+    print_sight(alloc, sight, is_quiet, output)?;
+    Ok(output.flush()?)
+}
+
+// Prints of what a fault is, what it is, and when it came.
+fn print_passing<C: Clock, M: Write>(
+    clock: &C,
+    alloc: Global,
+    post: Post<'_>,
+    fault: RemoteError,
+    messages: &mut M,
+) -> io::Result<()> {
+    match fault {
+        RemoteError::NoConnection(kind) => {
+            let cause = format!(in alloc; "{kind}")?;
+            print_moment(clock, alloc, post.socket, &cause, messages)
+        }
+        RemoteError::StateInUse => { print_moment(clock, alloc, post.state, "in use", messages) }
+        RemoteError::Server(ClientError::TimedOut) => {
+            print_moment(clock, alloc, post.socket, "no reply in time", messages)
+        }
+        _ => print_moment(clock, alloc, post.socket, "connection ended", messages),
+    }
+}
+
+// Prints a line with the name of a file, what is said of it, and the date.
+fn print_moment<C: Clock, M: Write>(
+    clock: &C,
+    alloc: Global,
+    name: &str,
+    what: &str,
+    messages: &mut M,
+) -> io::Result<()> {
+    let mut line = Vec::new(alloc);
+    write!(line, "audit: {}: {what}, ", Shown(name))?;
+    push_date(&mut line, date_of_now(clock))?;
+    line.push(b'\n')?;
+    messages.write_all(&line)
+}
+
+// Looks by the file, which is locked meanwhile. One that was made for a look that kept nothing is removed. What
+// contradicts it is kept beside it.
 fn look<F: Files + Dial + Clock>(
     rt: &F,
     alloc: Global,
     post: Post<'_>,
-) -> Result<Sight, RemoteError> {
-    let identity = socket_identity(rt, post.socket)?;
-    let mut kept = StateFile::read(rt, alloc, post.state, identity)?;
-    look_and_keep(rt, alloc, post, &mut kept)
+) -> Result<Sight, RemoteError>
+where
+    F::File: SystemFile,
+{
+    socket_identity(rt, post.socket)?;
+    let Locked { file, is_made } = lock_state(rt, post.state, Duration::from_secs(post.seconds))?;
+    let mut kept = StateFile::read(rt, alloc, post.state, file)?;
+    let sight = look_and_keep(rt, alloc, post, &mut kept);
+    if is_made && sight.is_err() {
+        remove_made(rt, post.state);
+    }
+    match sight {
+        Err(RemoteError::Contradicted(mut found)) => {
+            found.is_kept = keep_alarm(rt, alloc, post.state, &found).is_ok();
+            Err(RemoteError::Contradicted(found))
+        }
+        other => other,
+    }
 }
 
 fn look_and_keep<F: Dial + Clock, K: Kept<Error = RemoteError>>(
@@ -94,20 +181,25 @@ fn look_and_keep<F: Dial + Clock, K: Kept<Error = RemoteError>>(
     post: Post<'_>,
     kept: &mut K,
 ) -> Result<Sight, RemoteError> {
-    let stream = connect(rt, post.socket, post.seconds)?;
-    let mut to = &stream;
-    let mut from = BufReader::new(alloc, &stream)?;
+    let line = connect(rt, post.socket, post.seconds, Pace::Question)?;
+    let mut to = LineEnd::of(&line);
+    let mut from = BufReader::new(alloc, LineEnd::of(&line))?;
     match watch_and_keep(alloc, &mut to, &mut from, kept) {
         Ok(sight) => Ok(sight),
-        Err(WatchError::Client(error)) => Err(RemoteError::Server(error)),
-        Err(WatchError::Kept(error)) => Err(error),
+        Err(error) => Err(fault_of_look(kept.newest(), error)),
     }
 }
 
-// Prints the line of what was seen.
-fn print_sight<W: Write>(alloc: Global, sight: Sight, output: &mut W) -> Result<(), RemoteError> {
+// Prints the line of what was seen; a quiet witness prints only its first commitment.
+fn print_sight<W: Write>(
+    alloc: Global,
+    sight: Sight,
+    is_quiet: bool,
+    output: &mut W,
+) -> Result<(), RemoteError> {
     match sight {
         Sight::Began(seen) => print_seen(alloc, b"began ", &seen, output),
+        Sight::Same(_) | Sight::Grew(_) if is_quiet => Ok(()),
         Sight::Same(_) => Ok(write_whole(output, b"same\n")?),
         Sight::Grew(seen) => print_seen(alloc, b"grew ", &seen, output),
     }
