@@ -1,3 +1,4 @@
 pub mod Leaf
 pub mod Sizes
 pub mod Held
+pub mod OwnKey

@@ -1,3 +1,5 @@
+pub mod Faults
+pub mod OwnKey
 pub mod Links
 pub mod Linked
 pub mod Lines

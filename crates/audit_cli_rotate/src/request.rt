@@ -2,11 +2,14 @@
 ghost use Rattle.std.specs.Prelude.{◌≡◌, ◌⊎◌, Err};
 ghost use Rattle.std.specs.Io.KnownBytes.{Keeps};
 ghost use Rattle.audit_cli_base.specs.declared.fault.CommandError.{CommandError};
-ghost use Rattle.audit_cli_base.specs.Arguments.{sectors_asked, RefusesWords};
+ghost use Rattle.audit_cli_base.specs.Arguments.{sectors_asked};
 ghost use Rattle.audit_cli_base.specs.Faults.{status_of};
+ghost use Rattle.audit_cli_rotate.specs.Faults.{rotation_status};
 
+use crate::fault::RotationError;
 use crate::files::rotate_file;
-use audit_cli_base::{CommandError, Status, read_key, report_end, sectors_asked};
+use audit_chain::Key;
+use audit_cli_base::{CommandError, Status, read_key, report_flush, sectors_asked};
 use audit_disk::SystemFile;
 use std::alloc::Global;
 use std::fs::{self, Files};
@@ -47,7 +50,22 @@ where
         → Keeps (W.contents output.old) (W.contents output.new) }
 {
     let done = perform(rt, alloc, request, output);
-    report_end(done, output.flush(), messages)
+    let flushed = output.flush();
+    let status = report_rotation(done, request, messages);
+    report_flush(status, flushed, messages)
+}
+
+fn report_rotation<M: Write>(
+    done: Result<(), RotationError>,
+    request: Request<'_>,
+    messages: &mut M,
+) -> Status
+    ensures { (fault : RotationError) → done ≡ Err fault → result ≡ rotation_status fault }
+{
+    match done {
+        Ok(()) => Status::Done,
+        Err(fault) => fault.report(request, messages),
+    }
 }
 
 // The words and the key are judged before any store is opened.
@@ -56,14 +74,16 @@ fn perform<F: Files, W: Write>(
     alloc: Global,
     request: Request<'_>,
     output: &mut W,
-) -> Result<(), CommandError>
+) -> Result<(), RotationError>
 where
     F::File: SystemFile,
-    ensures { RefusesWords (λ fault. sectors_asked request.entry.sectors.now ≡ Err fault) (W.contents output.old)
-        (W.contents output.new) result }
+    ensures words { (fault : CommandError) → sectors_asked request.entry.sectors.now ≡ Err fault
+        → result ≡ Err (RotationError.Command fault) }
+    ensures unwritten { (fault : CommandError) → sectors_asked request.entry.sectors.now ≡ Err fault
+        → Keeps (W.contents output.old) (W.contents output.new) }
 {
     let sectors = sectors_asked(request.sectors)?;
-    let first_key = read_key(alloc, &mut fs::open(rt, request.key_file)?)?;
+    let first_key = read_first_key(rt, alloc, request.key_file)?;
     rotate_file(
         rt,
         alloc,
@@ -73,4 +93,8 @@ where
         first_key,
         output,
     )
+}
+
+fn read_first_key<F: Files>(rt: &F, alloc: Global, key_file: &str) -> Result<Key, CommandError> {
+    read_key(alloc, &mut fs::open(rt, key_file)?)
 }
