@@ -1,5 +1,5 @@
 -- Serving a store to clients that come and go, by a new core.
-use Rattle.std.specs.Prelude.{◌≡◌, ◌⊎◌, ℕ, Option, List, replicate}
+use Rattle.std.specs.Prelude.{◌≡◌, ◌⊎◌, ℕ, Option, List, length, replicate}
 use Rattle.std.specs.Io.KnownBytes.{Appends}
 use Rattle.audit_base.specs.declared.limits.TheConstants.{SESSIONS}
 use Rattle.audit_disk_model.specs.declared.sectors.Sectors as sectors
@@ -10,6 +10,7 @@ use Rattle.audit_server_commit.specs.Committer.{store_of}
 use Rattle.audit_serve_passes.specs.Streams.{CallModel}
 use Rattle.audit_serve_ready.specs.Slot.{SlotData, vacant}
 use Rattle.audit_serve_ready.specs.Places.{WritesOn}
+use Rattle.audit_serve_ready.specs.Backlog.{OwesNothing, AreWithinBacklog}
 use Rattle.audit_serve_ready.specs.Clients.{ServesClients, StopsServing}
 use Rattle.audit_server_model.specs.Serving.{IsRefusedAs}
 use Rattle.audit_server.specs.declared.server_core.Core.{Core}
@@ -26,40 +27,48 @@ abbrev pub no_clients : {S : Type 0} → List (SlotData S)
 no_clients = replicate SESSIONS vacant
 
 module _ {D : Type 0} {g : sectors.Ghosts D} {S : Type 0} (N : CallModel S) where
-  -- clients were served as they came and went, and then took what was kept for them, as far as they did
-  pub record IsServedBy (old new : Core D g) (before after : List (SlotData S)) : Type 0 where
+  -- Clients were served as they came and went, and then took what was kept for them, as far as they did. At the end of
+  -- serving, whenever that was, each had at most the backlog or one longest reply kept for it, if it was so at the
+  -- start.
+  pub record IsServedBy (backlog : ℕ) (old new : Core D g) (before after : List (SlotData S)) : Type 0 where
     pub between : List (SlotData S)
-    pub served : ServesClients core_model N old new before between
+    pub turn : ℕ
+    pub served : ServesClients core_model N backlog 0 turn old new before between
+    pub within : OwesNothing core_model (length before) old → AreWithinBacklog core_model backlog old before
+        → AreWithinBacklog core_model backlog new between
     pub finished : WritesOn N between after
 
   -- the core refused a step
-  abbrev pub EndsByRefusal : Core D g → Core D g → List (SlotData S) → List (SlotData S) → CommandError → Type 0
-  EndsByRefusal old new before after fault = (error : StoreError) × (fault ≡ Refused error)
-      × StopsServing core_model N (λ first later. Refuses first later error) old new before after
+  abbrev pub EndsByRefusal : ℕ → Core D g → Core D g → List (SlotData S) → List (SlotData S) → CommandError → Type 0
+  EndsByRefusal backlog old new before after fault = (error : StoreError) × (fault ≡ Refused error)
+      × StopsServing core_model N backlog (λ first later. Refuses first later error) 0 old new before after
 
-  -- the same by a new core over the store, with this reserve
-  pub record ServesStore (reserve : ℕ) (old new : Store D g) : Type 0 where
+  -- the same by a new core over the store, with this reserve and backlog
+  pub record ServesStore (reserve backlog : ℕ) (old new : Store D g) : Type 0 where
     pub core : Core D g
     pub made : IsNewCore reserve old core
     pub last : Core D g
     pub left : new ≡ store_of (committer_of last)
     pub after : List (SlotData S)
-    pub served : IsServedBy core last no_clients after
+    pub served : IsServedBy backlog core last no_clients after
+    -- What was kept for each client, and what its session was owed, was at most the backlog or one longest reply.
+    pub within : AreWithinBacklog core_model backlog last served.between
 
   -- the same up to the pass in which the core refused a step
-  pub record StopsStore (reserve : ℕ) (error : StoreError) (old new : Store D g) : Type 0 where
+  pub record StopsStore (reserve backlog : ℕ) (error : StoreError) (old new : Store D g) : Type 0 where
     pub core : Core D g
     pub made : IsNewCore reserve old core
     pub last : Core D g
     pub left : new ≡ store_of (committer_of last)
     pub after : List (SlotData S)
-    pub stopped : StopsServing core_model N (λ first later. Refuses first later error) core last no_clients after
+    pub stopped : StopsServing core_model N backlog (λ first later. Refuses first later error) 0 core last no_clients
+        after
     pub refused : IsRefusedAs error old new
 
   -- Why the clients weren't served to the end: the first line wasn't written, or memory was refused before it; or the
   -- core refused a step.
-  abbrev pub StopsDaemon : ℕ → Store D g → Store D g → Option (List ℕ) → Option (List ℕ) → CommandError → Type 0
-  StopsDaemon reserve old new before after fault =
+  abbrev pub StopsDaemon : ℕ → ℕ → Store D g → Store D g → Option (List ℕ) → Option (List ℕ) → CommandError → Type 0
+  StopsDaemon reserve backlog old new before after fault =
       ((new ≡ old) × IsUnwritten before after fault)
-      ⊎ ((error : StoreError) × (fault ≡ Refused error) × StopsStore reserve error old new
+      ⊎ ((error : StoreError) × (fault ≡ Refused error) × StopsStore reserve backlog error old new
       × Appends before after (ready_line (active_header old)))

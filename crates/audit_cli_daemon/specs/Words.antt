@@ -5,9 +5,11 @@ use Rattle.audit_text.specs.Number.{number_in_text}
 use Rattle.audit_serve_ready.specs.declared.limits.TheConstants.{DEFAULT_BACKLOG, MAX_BACKLOG}
 use Rattle.audit_cli_base.specs.Arguments.{number_asked}
 use Rattle.audit_cli_base.specs.Mode.{IsMode}
+use Rattle.audit_cli_base.specs.SocketPath.{IsNoSocketPath}
 use Rattle.audit_cli_base.specs.declared.fault.CommandError.{CommandError}
 use Rattle.audit_cli_base.specs.declared.fault.CommandError.TheVariants.{BadArgument}
 use Rattle.audit_cli_daemon.specs.declared.arguments.TheConstants.{DEFAULT_IDLE, DEFAULT_RESERVE}
+use Rattle.audit_cli_daemon.specs.declared.sockets.TheConstants.{STOP_SUFFIX_LEN}
 use Rattle.audit_cli_daemon.specs.declared.request.Settings.{Settings}
 use Rattle.audit_cli_daemon.specs.declared.request.Request.{Request}
 use Rattle.audit_cli_daemon.specs.declared.request.Request.TheVariants.{Run, Stop}
@@ -26,13 +28,23 @@ abbrev pub IsNoMode : Option (Bor (List ℕ)) → Type 0
 IsNoMode None = ⊥
 IsNoMode (Some word) = (mode : ℕ) → IsMode word.now mode → ⊥
 
+-- there is a word for the readers' socket, and it is no socket's path
+abbrev pub IsNoReader : Option (Bor (List ℕ)) → Type 0
+IsNoReader None = ⊥
+IsNoReader (Some word) = IsNoSocketPath word.now 0
+
+-- one of the words for sockets is no socket's path: that for clients also names the socket for stop orders
+abbrev pub HasNoSocket : Settings → Type 0
+HasNoSocket settings = IsNoSocketPath settings.socket.now STOP_SUFFIX_LEN ⊎ IsNoReader settings.reader
+
 -- one of the words that are judged before the store is opened is wrong
 abbrev pub HasBadSetting : Settings → Type 0
 HasBadSetting settings =
     (number_asked settings.idle DEFAULT_IDLE ≡ Err BadArgument)
     ⊎ ((number_asked settings.reserve DEFAULT_RESERVE ≡ Err BadArgument)
-    ⊎ ((backlog_asked settings.backlog ≡ Err BadArgument) ⊎ IsNoMode settings.socket_mode))
+    ⊎ ((backlog_asked settings.backlog ≡ Err BadArgument)
+    ⊎ (IsNoMode settings.socket_mode ⊎ HasNoSocket settings)))
 
 abbrev pub HasBadWord : Request → Type 0
 HasBadWord (Run settings) = HasBadSetting settings
-HasBadWord (Stop socket) = ⊥
+HasBadWord (Stop socket) = IsNoSocketPath socket.now STOP_SUFFIX_LEN

@@ -1,19 +1,20 @@
 use audit_serve_door::Journal;
 use audit_serve_ready::Departure;
+use std::cell::RefCell;
 use std::io::Write;
 
 /// Counts the clients that were dropped or cut off, and prints a line for each where that is asked for.
 #[derive(Drop)]
-pub struct ClientJournal<'a, M> {
-    messages: &'a mut M,
+pub struct ClientJournal<'a, 'b, M> {
+    messages: &'a RefCell<&'b mut M>,
     explains: bool,
     dropped: u64,
     cut_off: u64,
 }
 
-impl<'a, M: Write> ClientJournal<'a, M> {
+impl<'a, 'b, M: Write> ClientJournal<'a, 'b, M> {
     /// A journal without clients. If `explains` is set, it prints a line for each.
-    pub fn new(messages: &'a mut M, explains: bool) -> ClientJournal<'a, M> {
+    pub fn new(messages: &'a RefCell<&'b mut M>, explains: bool) -> ClientJournal<'a, 'b, M> {
         ClientJournal {
             messages,
             explains,
@@ -25,30 +26,43 @@ impl<'a, M: Write> ClientJournal<'a, M> {
     /// Prints the counts, if lines are printed and there were such clients.
     pub fn print_counts(&mut self) {
         let (dropped, cut_off) = (self.dropped, self.cut_off);
-        if self.explains && (dropped > 0 || cut_off > 0) {
+        if self.explains
+            && (dropped > 0 || cut_off > 0)
+            && let Ok(mut messages) = self.messages.try_borrow_mut()
+        {
             let _ = writeln!(
-                self.messages,
+                *messages,
                 "audit: clients dropped: {dropped}, cut off: {cut_off}"
             );
         }
     }
 
+    fn drop_one(&mut self, why: &str) {
+        self.dropped = self.dropped.saturating_add(1);
+        self.print("dropped", why);
+    }
+
     fn print(&mut self, what: &str, why: &str) {
-        if self.explains {
-            let _ = writeln!(self.messages, "audit: client {what}: {why}");
+        if self.explains
+            && let Ok(mut messages) = self.messages.try_borrow_mut()
+        {
+            let _ = writeln!(*messages, "audit: client {what}: {why}");
         }
     }
 }
 
-impl<M: Write> Journal for ClientJournal<'_, M> {
+impl<M: Write> Journal for ClientJournal<'_, '_, M> {
     fn note(&mut self, departure: Departure, was_cut_off: bool) {
         if was_cut_off {
             self.cut_off = self.cut_off.saturating_add(1);
             self.print("cut off", "its socket doesn't allow the request");
         } else if let Some(why) = reason(departure) {
-            self.dropped = self.dropped.saturating_add(1);
-            self.print("dropped", why);
+            self.drop_one(why);
         }
+    }
+
+    fn note_silent(&mut self) {
+        self.drop_one("it had sent nothing, and no further one could be accepted");
     }
 }
 
@@ -59,7 +73,6 @@ fn reason(departure: Departure) -> Option<&'static str> {
         Departure::Malformed => Some("it sent no request"),
         Departure::ReadFailed => Some("a read from it failed"),
         Departure::WriteFailed => Some("a write to it failed"),
-        Departure::TooSlow => Some("it doesn't take its replies"),
         Departure::Dismissed => Some("it was idle while another one waited"),
         Departure::Memory => Some("memory was refused"),
     }

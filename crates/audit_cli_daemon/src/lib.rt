@@ -3,14 +3,20 @@
 
 mod arguments;
 mod client_journal;
+mod gauge;
 pub mod laws;
+mod marks;
 mod request;
 mod running;
 mod sockets;
+mod sparing;
 mod state_line;
 mod stopping;
+mod watched_store;
 
 pub use arguments::{DEFAULT_IDLE, DEFAULT_RESERVE, backlog_asked};
+pub use marks::{MARKS, mark_passed};
 pub use request::{Request, Settings, run};
 pub use running::serve_until_stopped;
+pub use sparing::Sparing;
 pub use state_line::write_state;

@@ -12,21 +12,34 @@ ghost use Rattle.audit_cli_daemon.specs.Words.{HasBadSetting, HasBadWord, backlo
 
 use crate::arguments::{DEFAULT_IDLE, DEFAULT_RESERVE, backlog_asked, socket_mode_asked};
 use crate::client_journal::ClientJournal;
+use crate::gauge::{Gauge, GaugedDoor};
 use crate::running::serve_until_stopped;
-use crate::sockets::{Listening, Sockets};
+use crate::sockets::{Listening, Made, STOP_SUFFIX_LEN, Sockets};
+use crate::sparing::Sparing;
 use crate::state_line::write_state;
 use crate::stopping::stop;
-use audit_cli_base::{CommandError, Status, number_asked, open_store, report, report_end};
+use crate::watched_store::WatchedStore;
+use audit_cli_base::{
+    CommandError, Opened, Status, StoreWatch, number_asked, open_store, report, report_end,
+    socket_path_asked,
+};
+use audit_cli_host::Dial;
 use audit_disk::SystemFile;
 use audit_disk_model::Sectors;
-use audit_serve_door::{SocketDoor, StopOrders};
+use audit_proof::Commitment;
+use audit_serve_door::{Room, SocketDoor, StopOrders};
 use audit_serve_rights::Rights;
 use audit_store::{Store, StoreError};
 use std::alloc::Global;
+use std::cell::RefCell;
 use std::fs::Files;
 use std::io::{self, ErrorKind, Write};
 use std::net::Net;
+use std::os::fd::RawFd;
 use std::time::{Clock, Duration};
+
+// The descriptor of standard output.
+const STANDARD_OUTPUT: RawFd = 1;
 
 /// A request about a daemon, with the words of the command line as they were given.
 #[derive(Clone, Copy)]
@@ -75,7 +88,7 @@ struct Judged {
 /// Carries out a request. Lines that begin with `audit: ` are written to `messages`, all others to `output`. If
 /// `explains` is set, there is a line for each client that was dropped or cut off, and their counts. Returns the status
 /// with which the program exits.
-pub fn run<F: Files + Net + Clock, W: Write, M: Write>(
+pub fn run<F: Files + Net + Dial + Clock, W: Write, M: Write>(
     rt: &F,
     alloc: Global,
     request: Request<'_>,
@@ -100,7 +113,7 @@ where
     }
 }
 
-// Whoever ordered the daemon to stop is answered last.
+// Once the words are judged, no message waits for its reader.
 fn run_daemon<F: Files + Net + Clock, W: Write, M: Write>(
     rt: &F,
     alloc: Global,
@@ -108,6 +121,27 @@ fn run_daemon<F: Files + Net + Clock, W: Write, M: Write>(
     explains: bool,
     output: &mut W,
     messages: &mut M,
+) -> Status
+where
+    F::File: SystemFile,
+    ensures words { HasBadSetting settings.entry → (result ≡ Status.Usage) ⊎ (result ≡ Status.Device) }
+    ensures only { result ≡ Status.Usage → HasBadSetting settings.entry }
+    ensures unwritten { HasBadSetting settings.entry → Keeps (W.contents output.old) (W.contents output.new) }
+{
+    let mut sparing = Sparing::new(messages);
+    let status = run_sparing(rt, alloc, settings, explains, output, &mut sparing);
+    sparing.report_left_out();
+    status
+}
+
+// Whoever ordered the daemon to stop is answered last.
+fn run_sparing<F: Files + Net + Clock, W: Write, M: Write>(
+    rt: &F,
+    alloc: Global,
+    settings: Settings<'_>,
+    explains: bool,
+    output: &mut W,
+    messages: &mut Sparing<'_, M>,
 ) -> Status
 where
     F::File: SystemFile,
@@ -131,7 +165,7 @@ fn perform<F: Files + Net + Clock, W: Write, M: Write>(
     settings: Settings<'_>,
     explains: bool,
     output: &mut W,
-    messages: &mut M,
+    messages: &mut Sparing<'_, M>,
     orders: &mut Option<StopOrders>,
 ) -> Result<(), CommandError>
 where
@@ -142,9 +176,14 @@ where
 {
     let judged = judge(settings)?;
     let sockets = Sockets::new(alloc, settings.socket, settings.reader)?;
-    let store = open_store(rt, alloc, settings.file)?.content;
-    let journal = ClientJournal::new(messages, explains);
-    serve_store(rt, alloc, store, &sockets, judged, output, journal, orders)
+    if let Err(error) = messages.spare(rt, alloc) {
+        return Err(fault_of(error.kind()));
+    }
+    let Opened { content, identity } = open_store(rt, alloc, settings.file)?;
+    let watch = StoreWatch::new(rt, settings.file, identity, content.sectors());
+    serve_store(
+        rt, alloc, content, watch, &sockets, judged, explains, output, messages, orders,
+    )
 }
 
 fn judge(settings: Settings<'_>) -> Result<Judged, CommandError>
@@ -159,6 +198,10 @@ fn judge(settings: Settings<'_>) -> Result<Judged, CommandError>
     ensures closing { IfOk result (λ judged. settings.entry.may_close ≡ true → judged.rights ≡ Rights.Close) }
     ensures appending { IfOk result (λ judged. settings.entry.may_close ≡ false → judged.rights ≡ Rights.Append) }
 {
+    socket_path_asked(settings.socket, STOP_SUFFIX_LEN)?;
+    if let Some(path) = settings.reader {
+        socket_path_asked(path, 0)?;
+    }
     Ok(Judged {
         idle: number_asked(settings.idle, DEFAULT_IDLE)?,
         reserve: number_asked(settings.reserve, DEFAULT_RESERVE)?,
@@ -187,99 +230,164 @@ fn fault_of(kind: ErrorKind) -> CommandError
     }
 }
 
-// The sockets' files are removed at the end, before the last line is written. The store stays locked until then.
+// Serves the store, and removes the sockets' files at the end. The store stays locked until then.
 fn serve_store<F: Files + Net + Clock, D: Sectors + Drop, W: Write, M: Write>(
     rt: &F,
     alloc: Global,
     store: Store<D>,
+    watch: StoreWatch<'_, F>,
     sockets: &Sockets<'_>,
     judged: Judged,
+    explains: bool,
     output: &mut W,
-    journal: ClientJournal<'_, M>,
+    messages: &mut Sparing<'_, M>,
     orders: &mut Option<StopOrders>,
 ) -> Result<(), CommandError>
+where
+    F::File: SystemFile,
     requires { judged.most ≤ MAX_BACKLOG }
     ensures cause { IfErr result IsNoWordFault }
 {
-    let listening = sockets.bind(rt, alloc, judged.mode, judged.rights)?;
-    let (store, served) = serve_listening(
-        rt, alloc, store, listening, judged, output, journal, orders,
-    );
-    let removed = sockets.remove(rt);
-    report_stopped(alloc, served, removed, &store, output)
+    let shared = RefCell::new(messages);
+    let mut made = Made::none();
+    let (store, served) = match sockets.bind(rt, alloc, judged.mode, judged.rights, &mut made) {
+        Ok(listening) => serve_listening(
+            rt, alloc, store, watch, listening, judged, explains, output, &shared, orders,
+        ),
+        Err(error) => (store, Err(fault_of(error.kind()))),
+    };
+    let removed = sockets.remove(rt, made);
+    report_stopped(rt, alloc, served, removed, closed(store), output, orders)
 }
 
-fn report_stopped<D: Sectors, W: Write>(
+// Closes the store, and returns its last state.
+fn closed<D: Sectors + Drop>(store: Store<D>) -> Commitment {
+    store.commitment()
+}
+
+fn report_stopped<N: Net, W: Write>(
+    rt: &N,
     alloc: Global,
     served: Result<(), CommandError>,
     removed: io::Result<()>,
-    store: &Store<D>,
+    state: Commitment,
     output: &mut W,
+    orders: &mut Option<StopOrders>,
 ) -> Result<(), CommandError>
     ensures { IfErr served IsNoWordFault → IfErr result IsNoWordFault }
 {
     served?;
     removed?;
-    write_state(alloc, b"stopped ", &store.commitment(), output)
+    answer_without_room(rt, alloc, orders);
+    write_state(alloc, b"stopped ", &state, output)
 }
 
-fn serve_listening<F: Net + Clock, D: Sectors + Drop, W: Write, M: Write>(
+// Whoever ordered the daemon to stop doesn't wait for the reader of its output longer than a second: then the orders
+// are answered before the last line is written.
+fn answer_without_room<N: Net>(rt: &N, alloc: Global, orders: &mut Option<StopOrders>) {
+    let has_room = match Room::new(rt, alloc, STANDARD_OUTPUT) {
+        Ok(mut room) => room.comes_within(Duration::from_secs(1)),
+        Err(_) => false,
+    };
+    if has_room {
+        return;
+    }
+    if let Some(orders) = orders.take() {
+        orders.answer(Status::Done.code());
+    }
+}
+
+fn serve_listening<F: Files + Net + Clock, D: Sectors + Drop, W: Write, M: Write>(
     rt: &F,
     alloc: Global,
     store: Store<D>,
+    watch: StoreWatch<'_, F>,
     listening: Listening,
     judged: Judged,
+    explains: bool,
     output: &mut W,
-    journal: ClientJournal<'_, M>,
+    messages: &RefCell<&mut M>,
     orders: &mut Option<StopOrders>,
 ) -> (Store<D>, Result<(), CommandError>)
+where
+    F::File: SystemFile,
     requires { judged.most ≤ MAX_BACKLOG }
     ensures cause { IfErr result.1 IsNoWordFault }
 {
-    let mut door = match open_door(rt, alloc, listening, time_of(judged.idle), journal) {
+    let gauge = gauge_of(&watch, judged.reserve, messages);
+    let journal = ClientJournal::new(messages, explains);
+    let watch = WatchedStore::new(watch);
+    let door = match open_door(rt, alloc, listening, time_of(judged.idle), journal, watch) {
         Ok(door) => door,
         Err(fault) => return (store, Err(fault)),
     };
+    let mut gauged = GaugedDoor::new(door, gauge);
     let (store, served) = serve_until_stopped(
         alloc,
         store,
         judged.reserve,
         judged.most,
-        &mut door,
+        &mut gauged,
         output,
     );
-    let closed = close_door(door, orders);
+    let closed = close_door(gauged.into_door(), orders);
     (store, served.and(closed))
 }
 
-fn open_door<'a, 'b, F: Net + Clock, M: Write>(
+// A gauge of the store, for the sectors beside the reserve. There is none if its file can't be opened once more.
+fn gauge_of<'n, 'a, 'b, F: Files, M: Write>(
+    watch: &StoreWatch<'n, F>,
+    reserve: u64,
+    messages: &'a RefCell<&'b mut M>,
+) -> Option<Gauge<'n, 'a, 'b, F::File, M>>
+where
+    F::File: SystemFile,
+{
+    let most = watch.sectors().saturating_sub(reserve);
+    Some(Gauge::new(watch.open()?, watch.path(), most, messages))
+}
+
+// The door of a daemon.
+type ServedDoor<'a, 'b, 'c, F, M> = SocketDoor<
+    'a,
+    F,
+    ClientJournal<'b, 'c, M>,
+    WatchedStore<'a, F>,
+>;
+
+fn open_door<'a, 'b, 'c, F: Files + Net + Clock, M: Write>(
     rt: &'a F,
     alloc: Global,
     listening: Listening,
     idle: Option<Duration>,
-    journal: ClientJournal<'b, M>,
-) -> Result<SocketDoor<'a, F, ClientJournal<'b, M>>, CommandError>
+    journal: ClientJournal<'b, 'c, M>,
+    watch: WatchedStore<'a, F>,
+) -> Result<ServedDoor<'a, 'b, 'c, F, M>, CommandError>
     ensures cause { IfErr result IsNoWordFault }
 {
     let Listening { entrances, orders } = listening;
-    match SocketDoor::new(rt, rt, alloc, entrances, orders, idle, journal) {
+    match SocketDoor::new(rt, rt, alloc, entrances, orders, idle, journal, watch) {
         Ok(door) => Ok(door),
         Err(error) => Err(fault_of(error.kind())),
     }
 }
 
-// Takes the orders to stop, which are answered last, and prints what clients did. A door that failed is a fault.
-fn close_door<F: Clock, M: Write>(
-    door: SocketDoor<'_, F, ClientJournal<'_, M>>,
+// Takes the orders to stop, which are answered last, and prints what clients did. A store that isn't in its place is a
+// fault, and so is a door that failed.
+fn close_door<F: Files + Clock, M: Write>(
+    mut door: ServedDoor<'_, '_, '_, F, M>,
     orders: &mut Option<StopOrders>,
 ) -> Result<(), CommandError>
     ensures cause { IfErr result IsNoWordFault }
 {
+    let is_replaced = door.is_replaced();
     let has_failed = door.has_failed();
     let (given, mut journal) = door.close();
     *orders = Some(given);
     journal.print_counts();
-    if has_failed {
+    if is_replaced {
+        Err(CommandError::Replaced)
+    } else if has_failed {
         Err(CommandError::File)
     } else {
         Ok(())

@@ -1,17 +1,19 @@
-ghost use Rattle.std.specs.Prelude.{IfErr};
-ghost use Rattle.audit_cli_base.specs.Faults.{IsNoWordFault};
-
-use audit_cli_base::{CommandError, OWNER_ONLY};
+use audit_cli_base::OWNER_ONLY;
+use audit_disk::SystemFile;
 use audit_serve_door::{Entrance, StopOrders};
 use audit_serve_rights::Rights;
-use audit_serve_sockets::SocketFile;
+use audit_serve_sockets::{SocketFile, SocketLock, SocketName};
 use std::alloc::{AllocError, Global};
-use std::fs::{self, Files};
+use std::fs::Files;
 use std::io;
 use std::net::Net;
+use std::os::unix::net::UnixListener;
 
 // What follows a socket's path in the path of the socket for stop orders.
 const STOP_SUFFIX: &str = ".stop";
+
+/// The length of what follows a socket's path in that of the socket for stop orders.
+pub const STOP_SUFFIX_LEN: usize = 5;
 
 /// The paths of a daemon's sockets.
 #[derive(Drop)]
@@ -30,9 +32,32 @@ pub struct Listening {
     pub orders: StopOrders,
 }
 
+/// The sockets' files that were made, and their locks.
+#[derive(Drop)]
+pub struct Made<F> {
+    clients: Option<SocketName>,
+    stop: Option<SocketName>,
+    readers: Option<SocketName>,
+    lock: Option<SocketLock<F>>,
+    readers_lock: Option<SocketLock<F>>,
+}
+
 /// The path of the socket for stop orders, which is beside the clients' socket.
 pub fn stop_path(alloc: Global, socket: &str) -> Result<String, AllocError> {
     format!(in alloc; "{socket}{STOP_SUFFIX}")
+}
+
+impl<F: SystemFile> Made<F> {
+    /// No file, before the first is made.
+    pub fn none() -> Made<F> {
+        Made {
+            clients: None,
+            stop: None,
+            readers: None,
+            lock: None,
+            readers_lock: None,
+        }
+    }
 }
 
 impl<'a> Sockets<'a> {
@@ -49,86 +74,125 @@ impl<'a> Sockets<'a> {
         })
     }
 
-    /// Makes the sockets' files, those for clients with this mode. If one can't be made, those that were made are
-    /// removed again.
-    pub fn bind<F: Files + Net>(
+    /// Makes the sockets' files, those for clients with this mode. What was made is noted in `made`, whatever happens,
+    /// and has to be removed in the end.
+    pub fn bind<R: Files + Net>(
         &self,
-        rt: &F,
+        rt: &R,
         alloc: Global,
         mode: u32,
         rights: Rights,
-    ) -> Result<Listening, CommandError>
-        ensures { IfErr result IsNoWordFault }
+        made: &mut Made<R::File>,
+    ) -> io::Result<Listening>
+    where
+        R::File: SystemFile,
     {
-        let clients = SocketFile::bind(rt, alloc, self.clients, mode)?;
-        let bound = match self.bind_stop(rt, alloc, mode) {
-            Ok((orders, readers)) => listen(alloc, clients, readers, orders, rights),
-            Err(fault) => Err(fault),
-        };
-        if bound.is_err() {
-            let _ = fs::remove_file(rt, self.clients);
-        }
-        bound
+        let clients = self.bind_clients(rt, alloc, mode, made)?;
+        let orders = self.bind_stop(rt, alloc, made)?;
+        let readers = self.bind_readers(rt, alloc, mode, made)?;
+        listen(alloc, clients, readers, orders, rights)
     }
 
-    fn bind_stop<F: Files + Net>(
+    fn bind_clients<R: Files + Net>(
         &self,
-        rt: &F,
+        rt: &R,
         alloc: Global,
         mode: u32,
-    ) -> Result<(SocketFile, Option<SocketFile>), CommandError>
-        ensures { IfErr result IsNoWordFault }
+        made: &mut Made<R::File>,
+    ) -> io::Result<UnixListener>
+    where
+        R::File: SystemFile,
     {
-        let stop = SocketFile::bind(rt, alloc, self.stop.as_str(), OWNER_ONLY)?;
-        match self.bind_readers(rt, alloc, mode) {
-            Ok(readers) => Ok((stop, readers)),
-            Err(fault) => {
-                let _ = stop.remove(rt, self.stop.as_str());
-                Err(fault.into())
-            }
-        }
+        let (bound, lock) = SocketFile::bind(rt, alloc, self.clients, mode)?;
+        let (listener, name) = bound.into_parts();
+        made.clients = Some(name);
+        made.lock = Some(lock);
+        Ok(listener)
     }
 
-    fn bind_readers<F: Files + Net>(
+    // The lock of the clients' socket covers it.
+    fn bind_stop<R: Files + Net>(
         &self,
-        rt: &F,
+        rt: &R,
+        alloc: Global,
+        made: &mut Made<R::File>,
+    ) -> io::Result<UnixListener>
+    where
+        R::File: SystemFile,
+    {
+        let path = self.stop.as_str();
+        let bound = SocketFile::bind_beside(rt, alloc, path, OWNER_ONLY, made.lock.as_ref())?;
+        let (listener, name) = bound.into_parts();
+        made.stop = Some(name);
+        Ok(listener)
+    }
+
+    fn bind_readers<R: Files + Net>(
+        &self,
+        rt: &R,
         alloc: Global,
         mode: u32,
-    ) -> io::Result<Option<SocketFile>> {
-        match self.readers {
-            Some(path) => Ok(Some(SocketFile::bind(rt, alloc, path, mode)?)),
-            None => Ok(None),
-        }
+        made: &mut Made<R::File>,
+    ) -> io::Result<Option<UnixListener>>
+    where
+        R::File: SystemFile,
+    {
+        let Some(path) = self.readers else {
+            return Ok(None);
+        };
+        let (bound, lock) = SocketFile::bind(rt, alloc, path, mode)?;
+        let (listener, name) = bound.into_parts();
+        made.readers = Some(name);
+        made.readers_lock = Some(lock);
+        Ok(Some(listener))
     }
 
-    /// Removes the sockets' files. The first error is returned, after all were tried.
-    pub fn remove<F: Files>(&self, rt: &F) -> io::Result<()> {
-        let clients = fs::remove_file(rt, self.clients);
-        let stop = fs::remove_file(rt, self.stop.as_str());
-        let readers = match self.readers {
-            Some(path) => fs::remove_file(rt, path),
-            None => Ok(()),
-        };
-        clients.and(stop).and(readers)
+    /// Removes the sockets' files that were made, and then their locks, as far as they are still this program's. The
+    /// first error is returned, after all were tried.
+    pub fn remove<R: Files>(&self, rt: &R, made: Made<R::File>) -> io::Result<()>
+    where
+        R::File: SystemFile,
+    {
+        let clients = remove_name(rt, self.clients, made.clients);
+        let stop = remove_name(rt, self.stop.as_str(), made.stop);
+        let readers = remove_name(rt, self.readers.unwrap_or(""), made.readers);
+        let lock = remove_lock(rt, made.lock);
+        let readers_lock = remove_lock(rt, made.readers_lock);
+        clients.and(stop).and(readers).and(lock).and(readers_lock)
+    }
+}
+
+fn remove_name<R: Files>(rt: &R, path: &str, name: Option<SocketName>) -> io::Result<()> {
+    match name {
+        Some(name) => name.remove(rt, path),
+        None => Ok(()),
+    }
+}
+
+fn remove_lock<R: Files>(rt: &R, lock: Option<SocketLock<R::File>>) -> io::Result<()>
+where
+    R::File: SystemFile,
+{
+    match lock {
+        Some(lock) => lock.remove(rt),
+        None => Ok(()),
     }
 }
 
 fn listen(
     alloc: Global,
-    clients: SocketFile,
-    readers: Option<SocketFile>,
-    orders: SocketFile,
+    clients: UnixListener,
+    readers: Option<UnixListener>,
+    orders: UnixListener,
     rights: Rights,
-) -> Result<Listening, CommandError>
-    ensures { IfErr result IsNoWordFault }
-{
+) -> io::Result<Listening> {
     let mut entrances = Vec::with_capacity(alloc, 2)?;
-    entrances.push_reserved(Entrance::new(clients.into_listener(), rights)?);
     if let Some(readers) = readers {
-        entrances.push_reserved(Entrance::new(readers.into_listener(), Rights::Read)?);
+        entrances.push_reserved(Entrance::new(readers, Rights::Read)?);
     }
+    entrances.push_reserved(Entrance::new(clients, rights)?);
     Ok(Listening {
         entrances,
-        orders: StopOrders::new(orders.into_listener())?,
+        orders: StopOrders::new(alloc, orders)?,
     })
 }

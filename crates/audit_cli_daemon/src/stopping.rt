@@ -1,26 +1,45 @@
 //! Stopping a daemon.
-ghost use Rattle.std.specs.Prelude.{◌≡◌, ◌↔◌, Some};
+ghost use Rattle.std.specs.Prelude.{◌≡◌, ◌↔◌, Some, Err};
 ghost use Rattle.audit_cli_base.specs.Faults.{exit_status_of};
 ghost use Rattle.audit_cli_base.specs.declared.status.Status.{Status};
+ghost use Rattle.audit_cli_base.specs.SocketPath.{IsNoSocketPath};
+ghost use Rattle.audit_cli_daemon.specs.declared.sockets.TheConstants.{STOP_SUFFIX_LEN};
 
-use crate::sockets::stop_path;
-use audit_cli_base::{CommandError, Status};
+use crate::sockets::{STOP_SUFFIX_LEN, stop_path};
+use audit_cli_base::{CommandError, Status, socket_path_asked};
+use audit_cli_host::{Dial, dial_within};
+use audit_serve_door::STOP_ORDER;
 use std::alloc::Global;
-use std::io::Read;
-use std::net::Net;
-use std::os::unix::net::UnixStream;
+use std::io::{Read, Write};
+use std::time::{Clock, Duration, Instant};
+
+// How many seconds the end of a daemon is waited for.
+const PATIENCE: u64 = 30;
 
 /// Orders the daemon at a socket to stop, waits for its end, and returns the status with which it exits. If no daemon
-/// is there, or if it ends without a status, the error is `File`.
-pub fn stop<N: Net>(rt: &N, alloc: Global, socket: &str) -> Result<Status, CommandError> {
+/// is there, if it ends without a status, or if it took no order or hasn't ended after 30 seconds, the error is `File`;
+/// if the word is no socket's path, `BadArgument`.
+pub fn stop<N: Dial + Clock>(rt: &N, alloc: Global, socket: &str) -> Result<Status, CommandError>
+    ensures { IsNoSocketPath socket.now STOP_SUFFIX_LEN → result ≡ Err CommandError.BadArgument }
+{
+    socket_path_asked(socket, STOP_SUFFIX_LEN)?;
     let path = stop_path(alloc, socket)?;
-    let mut order = UnixStream::connect(rt, path.as_str())?;
+    let begun = Instant::now(rt)?;
+    let mut order = dial_within(rt, path.as_str(), Duration::from_secs(PATIENCE))?;
+    order.set_read_timeout(Some(time_left(begun.elapsed(rt)?)))?;
+    order.write_all(STOP_ORDER)?;
     let mut answer = [0];
     order.read_exact(&mut answer)?;
     match status_of_code(answer[0]) {
         Some(status) => Ok(status),
         None => Err(CommandError::File),
     }
+}
+
+// How long the end of a daemon is still waited for. A stream can't wait for no time.
+fn time_left(elapsed: Duration) -> Duration {
+    let left = Duration::from_secs(PATIENCE).saturating_sub(elapsed);
+    left.max(Duration::from_millis(1))
 }
 
 // The status with this number.

@@ -2,6 +2,7 @@
 use denote.Ref.{Bor}
 use Rattle.std.specs.Prelude.{◌≡◌, ◌⊎◌, ℕ, Option, Some, None, Err, List}
 use Rattle.audit_cli_base.specs.Mode.{IsMode}
+use Rattle.audit_cli_base.specs.SocketPath.{IsNoSocketPath}
 use Rattle.audit_cli_base.specs.declared.fault.CommandError.TheVariants.{BadArgument}
 use Rattle.audit_cli_serve.specs.Arguments.{rounds_asked, sessions_asked}
 use Rattle.audit_cli_serve.specs.declared.request.Request.{Request}
@@ -20,5 +21,6 @@ IsWrongMode (Some word) = (mode : ℕ) → IsMode word.now mode → ⊥
 -- one of the words that are checked before the store is opened is wrong
 abbrev pub HasWrongWord : Request → Type 0
 HasWrongWord (Serve file socket rounds sessions mode) =
-    (rounds_asked rounds.now ≡ Err BadArgument) ⊎ (IsWrongNumber sessions ⊎ IsWrongMode mode)
-HasWrongWord (Loop file socket mode) = IsWrongMode mode
+    IsNoSocketPath socket.now 0
+    ⊎ ((rounds_asked rounds.now ≡ Err BadArgument) ⊎ (IsWrongNumber sessions ⊎ IsWrongMode mode))
+HasWrongWord (Loop file socket mode) = IsNoSocketPath socket.now 0 ⊎ IsWrongMode mode

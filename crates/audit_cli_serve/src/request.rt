@@ -1,17 +1,22 @@
 //! The requests to serve sessions, and how they are carried out.
-ghost use Rattle.std.specs.Prelude.{◌≡◌, ◌⊎◌, ◌≤◌, None, Ok, Err, IfSome, IfOk, IfErr};
+ghost use Rattle.std.specs.Prelude.{◌≡◌, ◌⊎◌, ◌≤◌, true, false, None, Ok, Err, IfSome, IfOk, IfErr};
 ghost use Rattle.std.specs.Io.KnownBytes.{Keeps};
 ghost use Rattle.audit_base.specs.declared.limits.TheConstants.{SESSIONS};
 ghost use Rattle.audit_cli_base.specs.Mode.{IsMode};
+ghost use Rattle.audit_cli_base.specs.declared.fault.CommandError.TheVariants.{Replaced};
 ghost use Rattle.audit_cli_base.specs.declared.mode.TheConstants.{OWNER_ONLY};
 ghost use Rattle.audit_cli_serve.specs.Faults.{IsNoWordError};
+ghost use Rattle.audit_cli_serve.specs.declared.fault.ServingError.TheVariants.{Command};
 ghost use Rattle.audit_cli_serve.specs.Words.{IsWrongNumber, IsWrongMode, HasWrongWord};
 
 use crate::arguments::{rounds_asked, sessions_asked};
 use crate::fault::ServingError;
 use crate::looping::loop_over;
 use crate::rounds::serve_rounds;
-use audit_cli_base::{CommandError, OWNER_ONLY, Status, mode_asked, open_store, report_flush};
+use audit_cli_base::{
+    CommandError, OWNER_ONLY, Opened, Status, StoreWatch, WatchedOutput, mode_asked, open_store,
+    report_flush, socket_path_asked,
+};
 use audit_disk::SystemFile;
 use audit_disk_model::Sectors;
 use audit_serve_sockets::{Link, SocketFile};
@@ -22,7 +27,7 @@ use std::fs::{self, Files};
 use std::io::{self, BufRead, BufReader, Read, Write};
 use std::net::Net;
 use std::os::unix::net::UnixStream;
-use std::time::Duration;
+use std::time::{Clock, Duration};
 
 // The length in bytes of the random text by which the program recognises its own connection.
 const TEXT_LEN: usize = 32;
@@ -58,9 +63,10 @@ pub enum Request<'a> {
 }
 
 /// Carries out a request. Lines that begin with `audit: ` are written to `messages`, all others to `output`. The
-/// output is flushed after each round, after the replies to each line, and at the end. Returns the status with which
-/// the program exits.
-pub fn run<F: Files + Net, R: Read, W: Write, M: Write>(
+/// output is flushed after each round, after the replies to each line, and at the end. Once the store isn't in its place,
+/// no line is written any more ([`WatchedOutput`]), and that is the fault. Returns the status with which the program
+/// exits.
+pub fn run<F: Files + Net + Clock, R: Read, W: Write, M: Write>(
     rt: &F,
     alloc: Global,
     request: Request<'_>,
@@ -86,7 +92,7 @@ where
 
 // The words are checked before the store is opened, and the store is opened before the socket's file is made. The
 // socket's file is removed at the end.
-fn perform<F: Files + Net, R: Read, W: Write>(
+fn perform<F: Files + Net + Clock, R: Read, W: Write>(
     rt: &F,
     alloc: Global,
     request: Request<'_>,
@@ -107,6 +113,7 @@ where
             sessions,
             socket_mode,
         } => {
+            socket_path_asked(socket, 0)?;
             let rounds = rounds_asked(rounds)?;
             let sessions = sessions_or_one(sessions)?;
             let mode = socket_mode_asked(socket_mode)?;
@@ -117,6 +124,7 @@ where
             socket,
             socket_mode,
         } => {
+            socket_path_asked(socket, 0)?;
             let mode = socket_mode_asked(socket_mode)?;
             loop_file(rt, alloc, file, socket, mode, input, output)
         }
@@ -146,7 +154,7 @@ fn socket_mode_asked(word: Option<&str>) -> Result<u32, CommandError>
     }
 }
 
-fn serve_file<F: Files + Net, W: Write>(
+fn serve_file<F: Files + Net + Clock, W: Write>(
     rt: &F,
     alloc: Global,
     file: &str,
@@ -161,11 +169,22 @@ where
     requires { sessions ≤ SESSIONS }
     ensures words { IfErr result IsNoWordError }
 {
-    let store = open_store(rt, alloc, file)?.content;
-    serve_store(rt, alloc, store, socket, mode, rounds, sessions, output)
+    let Opened { content, identity } = open_store(rt, alloc, file)?;
+    let watch = StoreWatch::new(rt, file, identity, content.sectors());
+    let mut watched = WatchedOutput::new(watch, output);
+    serve_store(
+        rt,
+        alloc,
+        content,
+        socket,
+        mode,
+        rounds,
+        sessions,
+        &mut watched,
+    )
 }
 
-fn serve_store<F: Files + Net, D: Sectors + Drop, W: Write>(
+fn serve_store<F: Files + Net + Clock, D: Sectors + Drop, W: Write>(
     rt: &F,
     alloc: Global,
     store: Store<D>,
@@ -173,15 +192,30 @@ fn serve_store<F: Files + Net, D: Sectors + Drop, W: Write>(
     mode: u32,
     rounds: u64,
     sessions: usize,
-    output: &mut W,
+    output: &mut WatchedOutput<'_, '_, F, W>,
 ) -> Result<(), ServingError>
+where
+    F::File: SystemFile,
     requires { sessions ≤ SESSIONS }
     ensures words { IfErr result IsNoWordError }
 {
-    let bound = SocketFile::bind(rt, alloc, socket, mode)?;
+    let (bound, lock) = SocketFile::bind(rt, alloc, socket, mode)?;
     // The store stays locked until the socket's file is removed.
     let (_store, served) = serve_rounds(alloc, store, &bound, rounds, sessions, output);
-    after_removing(served, bound.remove(rt, socket))
+    let served = unless_replaced(served, output.is_replaced());
+    after_removing(served, bound.remove(rt, socket, lock))
+}
+
+// How serving ended. That the store isn't in its place counts before all else.
+fn unless_replaced(served: Result<(), ServingError>, is_replaced: bool) -> Result<(), ServingError>
+    ensures replaced { is_replaced ≡ true → result ≡ Err (Command Replaced) }
+    ensures served { is_replaced ≡ false → result ≡ served }
+    ensures words { IfErr served IsNoWordError → IfErr result IsNoWordError }
+{
+    if is_replaced {
+        return Err(ServingError::Command(CommandError::Replaced));
+    }
+    served
 }
 
 // The result of serving, once the socket's file was removed.
@@ -195,7 +229,7 @@ fn after_removing(
     Ok(removed?)
 }
 
-fn loop_file<F: Files + Net, R: Read, W: Write>(
+fn loop_file<F: Files + Net + Clock, R: Read, W: Write>(
     rt: &F,
     alloc: Global,
     file: &str,
@@ -208,19 +242,23 @@ where
     F::File: SystemFile,
     ensures words { IfErr result IsNoWordError }
 {
-    let store = open_store(rt, alloc, file)?.content;
-    loop_store(rt, alloc, store, socket, mode, input, output)
+    let Opened { content, identity } = open_store(rt, alloc, file)?;
+    let watch = StoreWatch::new(rt, file, identity, content.sectors());
+    let mut watched = WatchedOutput::new(watch, output);
+    loop_store(rt, alloc, content, socket, mode, input, &mut watched)
 }
 
-fn loop_store<F: Files + Net, D: Sectors + Drop, R: Read, W: Write>(
+fn loop_store<F: Files + Net + Clock, D: Sectors + Drop, R: Read, W: Write>(
     rt: &F,
     alloc: Global,
     store: Store<D>,
     socket: &str,
     mode: u32,
     input: &mut R,
-    output: &mut W,
+    output: &mut WatchedOutput<'_, '_, F, W>,
 ) -> Result<(), ServingError>
+where
+    F::File: SystemFile,
     ensures words { IfErr result IsNoWordError }
 {
     // The input's buffer is allocated before the socket's file is made, so that the file is removed whatever is
@@ -228,10 +266,11 @@ fn loop_store<F: Files + Net, D: Sectors + Drop, R: Read, W: Write>(
     let Ok(mut reader) = BufReader::new(alloc, input) else {
         return Err(LinesError::Memory.into());
     };
-    let bound = SocketFile::bind(rt, alloc, socket, mode)?;
+    let (bound, lock) = SocketFile::bind(rt, alloc, socket, mode)?;
     // The store stays locked until the socket's file is removed.
     let (_store, served) = loop_bound(rt, alloc, store, &bound, socket, &mut reader, output);
-    after_removing(served, bound.remove(rt, socket))
+    let served = unless_replaced(served, output.is_replaced());
+    after_removing(served, bound.remove(rt, socket, lock))
 }
 
 fn loop_bound<F: Files + Net, D: Sectors + Drop, R: BufRead, W: Write>(

@@ -6,8 +6,8 @@ use crate::salvaging::{Salvaged, write_salvage_line, write_salvaged};
 use crate::show_form::ShowForm;
 use crate::showing::show;
 use audit_cli_base::{
-    CommandError, Opened, OutputFile, ProofRequest, open_device_to_read, open_store, store_to_read,
-    write_exported, write_number,
+    CommandError, Opened, OutputFile, ProofRequest, open_device_to_read, open_device_to_salvage,
+    open_store, store_to_read, write_exported, write_number,
 };
 use audit_disk::{FileIdentity, SharedDisk, SystemFile};
 use audit_disk_model::Sectors;
@@ -53,8 +53,12 @@ where
             let opened = open_store(rt, alloc, file)?;
             answer_opened(rt, alloc, opened, question, output)
         }
-        Access::ReadOnly | Access::Salvage => {
+        Access::ReadOnly => {
             let opened = open_device_to_read(rt, alloc, file)?;
+            answer_device(rt, alloc, opened, access, question, output)
+        }
+        Access::Salvage => {
+            let opened = open_device_to_salvage(rt, alloc, file)?;
             answer_device(rt, alloc, opened, access, question, output)
         }
     }
