@@ -114,10 +114,12 @@ fn lines_request<'a>(name: &str, given: &ArgMatches<'a>) -> Option<Lines<'a>> {
         text: given.get_str("text"),
         expect: given.get_str("expect"),
         follows: given.get_flag("follow"),
+        long: given.get_str("long"),
         reserve: given.get_str("reserve"),
     };
     let has_options = lines.follows
         || lines.text.is_some()
+        || lines.long.is_some()
         || lines.expect.is_some()
         || lines.reserve.is_some();
     has_options.then_some(lines)

@@ -1,108 +1,85 @@
-//! Printing causes and warnings, in separate lines.
+//! Printing the causes of what commands say, in separate lines.
+use crate::argument::explain_argument;
+use crate::cause::{explain_contents, print_cause};
 use crate::command::Asked;
+use crate::existing::explain_existing;
+use crate::heard::Said;
+use crate::outside::explain_outside;
+use crate::places::store_of;
+use crate::server::explain_server;
+use crate::wrong_word::wrong_word;
 use audit_cli_base::Status;
-use audit_cli_daemon::Request as Daemon;
 use audit_cli_host::Notes;
-use audit_cli_serve::Request as Serving;
+use audit_cli_offline::commitment_in_word;
 use audit_cli_store::Request;
-use std::fs::{self, Files};
+use audit_text_plain::Shown;
+use std::alloc::Global;
+use std::fs::Files;
 use std::io::{self, Write};
-use std::os::unix::fs::PermissionsExt;
 
-// The permissions of a file for everyone but its owner.
-const OTHERS: u32 = 0o077;
-
-// The bytes of a sector: a store's file has whole sectors.
-const SECTOR_LEN: u64 = 512;
-
-/// The files of a command that may contain keys.
-#[derive(Clone, Copy)]
-struct KeyPlaces<'a> {
-    store: Option<&'a str>,
-    key_file: Option<&'a str>,
-}
-
-/// Prints the cause of a file or device fault, if it is known, and a warning for each file with a key that others than
-/// its owner can access.
-pub fn explain<F: Files, M: Write>(
+/// Prints why a command failed, in a line after the one in which it said that it did, if more is known.
+pub(crate) fn explain_fault<F: Files, M: Write>(
     rt: &F,
+    alloc: Global,
     asked: Asked<'_>,
+    said: Option<Said>,
     status: Status,
     notes: &Notes<'_>,
     messages: &mut M,
 ) -> io::Result<()> {
-    let places = key_places(asked);
-    if status == Status::Device {
-        print_cause(rt, places.store, notes, messages)?;
+    match said {
+        Some(Said::BadArgument) => explain_argument(rt, asked, notes, messages),
+        Some(Said::FileFault | Said::DeviceFault) => print_cause(rt, alloc, asked, notes, messages),
+        Some(Said::BadEntry) if status == Status::Device => {
+            print_cause(rt, alloc, asked, notes, messages)
+        }
+        Some(Said::FileExists) => explain_existing(rt, asked, messages),
+        Some(Said::InUse) => explain_use(asked, notes, messages),
+        Some(Said::NoSuchVersion) => explain_outside(rt, asked, notes, messages),
+        Some(Said::BadSize) => match wrong_word(asked) {
+            Some(wrong) => writeln!(messages, "audit: {wrong}"),
+            None => Ok(()),
+        },
+        Some(Said::NotAStore | Said::BadProof | Said::BadEntry) => {
+            explain_contents(rt, alloc, asked, messages)
+        }
+        Some(Said::NotAllowed | Said::NoReply | Said::Ended) => {
+            explain_server(asked, said, messages)
+        }
+        None if status == Status::Refused => explain_order(asked, messages),
+        None => Ok(()),
     }
-    warn(rt, places.store, messages)?;
-    warn(rt, places.key_file, messages)
 }
 
-fn print_cause<F: Files, M: Write>(
-    rt: &F,
-    store: Option<&str>,
-    notes: &Notes<'_>,
-    messages: &mut M,
-) -> io::Result<()> {
-    if let Some((name, error)) = notes.last() {
-        return writeln!(messages, "audit: {name}: {error}");
+// Which store is in use. That of a rotation is the one that was locked; any other may be locked under another name.
+fn explain_use<M: Write>(asked: Asked<'_>, notes: &Notes<'_>, messages: &mut M) -> io::Result<()> {
+    let cause = match asked {
+        Asked::Plain(Request::Format { .. }) =>
+            "another program has it open, or the system uses it",
+        _ => "another program has it open",
+    };
+    let store = match asked {
+        Asked::Rotation(_) => notes.in_use(),
+        _ => store_of(asked),
+    };
+    match store {
+        Some(store) => writeln!(messages, "audit: {}: {cause}", Shown(store)),
+        None => Ok(()),
     }
-    let Some(store) = store else {
+}
+
+// That an older commitment counts more than a newer one, if a proof wasn't accepted under them.
+fn explain_order<M: Write>(asked: Asked<'_>, messages: &mut M) -> io::Result<()> {
+    let Asked::Plain(Request::Check { older, newer, .. }) = asked else {
         return Ok(());
     };
-    match fs::metadata(rt, store) {
-        Ok(found) if found.len() % SECTOR_LEN != 0 => {
-            writeln!(
-                messages,
-                "audit: {store}: its length is no multiple of {SECTOR_LEN} bytes"
-            )
-        }
+    let newer = newer.and_then(|word| commitment_in_word(word.as_bytes()));
+    match (commitment_in_word(older.as_bytes()), newer) {
+        (Some(older), Some(newer)) if older.count > newer.count => writeln!(
+            messages,
+            "audit: OLDER counts {} and NEWER {}: the older commitment comes first",
+            older.count, newer.count
+        ),
         _ => Ok(()),
-    }
-}
-
-// Warns if others than the owner can access a file.
-fn warn<F: Files, M: Write>(rt: &F, file: Option<&str>, messages: &mut M) -> io::Result<()> {
-    let Some(file) = file else {
-        return Ok(());
-    };
-    let Ok(found) = fs::metadata(rt, file) else {
-        return Ok(());
-    };
-    let mode = found.permissions().mode() & 0o777;
-    if found.is_dir() || mode & OTHERS == 0 {
-        return Ok(());
-    }
-    writeln!(
-        messages,
-        "audit: {file}: holds a key, and others can reach it (mode {mode:o})"
-    )
-}
-
-fn key_places(asked: Asked<'_>) -> KeyPlaces<'_> {
-    let (store, key_file) = match asked {
-        Asked::Plain(request) => places_of(request),
-        Asked::Lines(lines) => (Some(lines.file), None),
-        Asked::Rotation(rotation) => (Some(rotation.old), Some(rotation.key_file)),
-        Asked::Remote(_) => (None, None),
-        Asked::Serving(Serving::Serve { file, .. } | Serving::Loop { file, .. }) => {
-            (Some(file), None)
-        }
-        Asked::Daemon(Daemon::Run(settings)) => (Some(settings.file), None),
-        Asked::Daemon(Daemon::Stop { .. }) => (None, None),
-    };
-    KeyPlaces { store, key_file }
-}
-
-fn places_of<'a>(request: Request<'a>) -> (Option<&'a str>, Option<&'a str>) {
-    match request {
-        Request::Format { file, key_file, .. } => (Some(file), Some(key_file)),
-        Request::Append { file } | Request::Close { file } => (Some(file), None),
-        Request::Show { file, .. } | Request::Export { file, .. } | Request::Prove { file, .. } => {
-            (Some(file), None)
-        }
-        Request::Verify { key_file, .. } => (None, Some(key_file)),
-        Request::Replay | Request::Check { .. } => (None, None),
     }
 }

@@ -123,7 +123,7 @@ static FORMAT: Form = Form {
         Choice {
             name: "erase",
             value: None,
-            help: "With --in-place: even if FILE holds a store",
+            help: "With --in-place: even if FILE holds something",
             needs: Some("in-place"),
             excludes: None,
         },
@@ -152,6 +152,13 @@ static APPEND: Form = Form {
             value: None,
             help: "Appends lines as they come, and prints the line of each batch at once",
             needs: None,
+            excludes: None,
+        },
+        Choice {
+            name: "long",
+            value: Some("HOW"),
+            help: "With --text, cut or refuse a line of more than 32696 bytes [default: refuse]",
+            needs: Some("follow"),
             excludes: None,
         },
         Choice {

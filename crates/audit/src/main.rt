@@ -1,21 +1,35 @@
 //! The program `audit`: a tamper-evident audit store.
 #![tactic(auto)]
 
+mod argument;
+mod bytes;
+mod cause;
 mod command;
+mod contents;
+mod ending;
+mod existing;
 mod explaining;
+mod form;
 mod forms;
+mod heard;
+mod outside;
+mod places;
 mod program;
+mod question;
 mod remote_command;
 mod remote_forms;
+mod server;
 mod streams;
+mod warning;
 mod words;
+mod wrong_word;
 
 use audit_cli_base::{CommandError, Status, report};
 use audit_cli_host::{Host, Messages, NotedFile, Notes, Progress, Subject};
 use audit_store::StoreError;
-use program::run;
+use program::{Terminals, run};
 use std::env::Args;
-use std::io::{self, BufWriter, ErrorKind, IsTerminal};
+use std::io::{self, BufWriter, ErrorKind, IsTerminal, Write};
 use std::process::ExitCode;
 use streams::hold_standard_streams;
 use words::words;
@@ -64,7 +78,11 @@ fn run_noted(
         alloc,
         words,
         notes,
-        rt.stderr().is_terminal(),
+        Terminals {
+            input: rt.stdin().is_terminal(),
+            output: rt.stdout().is_terminal(),
+            messages: rt.stderr().is_terminal(),
+        },
         &mut input,
         &mut output,
         &mut Messages::new(progress),
@@ -78,5 +96,9 @@ fn explain_start(rt: &HostRuntime, error: &io::Error) -> Status {
     } else {
         CommandError::BadArgument
     };
-    report(fault, &mut rt.stderr())
+    let status = report(fault, &mut rt.stderr());
+    if status == Status::Usage && rt.stderr().is_terminal() {
+        let _ = writeln!(rt.stderr(), "audit: a word of the command line isn't UTF-8");
+    }
+    status
 }

@@ -1,30 +1,47 @@
-use crate::command::{Asked, request_of};
-use crate::explaining::explain;
+use crate::command::{Asked, CommandLine, request_of};
+use crate::ending::{End, explain_end};
+use crate::heard::Heard;
+use crate::places::key_file_of;
 use audit_cli_base::{CommandError, Status, report};
 use audit_cli_daemon::{Request as Daemon, Settings};
-use audit_cli_host::{Dial, Extent, Notes, Subject};
+use audit_cli_host::{Dial, Extent, Notes, Screen, Subject};
+use audit_cli_offline::ReportForm;
 use audit_cli_remote::Request as Remote;
 use audit_cli_serve::Request as Serving;
 use audit_cli_store::Request;
 use audit_disk::SystemFile;
 use audit_store::StoreError;
+use audit_text_plain::Shown;
 use clap::Error;
 use clap::error::ErrorKind;
-use std::alloc::Global;
+use std::alloc::{AllocError, Global};
 use std::fs::Files;
 use std::io::{Read, Write};
 use std::net::Net;
 use std::time::Clock;
 
+/// Which streams of the program are terminals.
+#[derive(Clone, Copy)]
+pub struct Terminals {
+    /// Whether its input is one.
+    pub input: bool,
+    /// Whether its output is one.
+    pub output: bool,
+    /// Whether standard error is one.
+    pub messages: bool,
+}
+
 /// Runs the program on the words of a command line, of which the first is its name. Lines that begin with `audit: `,
 /// and clap's usage, are written to `messages`. All other text is written to `output`, which is flushed at the end.
-/// Causes and warnings follow if `messages` is a terminal, or if the command line requests them.
+/// Causes and warnings follow if `messages` is a terminal, or if the command line requests them; causes also if the
+/// command serves, asks or rotates, since its messages are mostly read later, in a journal. Payloads that are printed
+/// as text are escaped if `output` is a terminal.
 pub fn run<F: Files + Net + Clock + Dial, R: Read, W: Write, M: Write>(
     rt: &F,
     alloc: Global,
     words: &[String],
     notes: &Notes<'_>,
-    is_terminal: bool,
+    terminals: Terminals,
     input: &mut R,
     output: &mut W,
     messages: &mut M,
@@ -34,17 +51,71 @@ where
 {
     let line = match request_of(alloc, words) {
         Ok(line) => line,
-        Err(error) => return print_usage(&error, output, messages),
+        Err(error) => return explain_words(alloc, words, &error, notes, output, messages),
     };
-    let explains = is_terminal || line.explain;
+    if words.len() < 2 && terminals.input && terminals.messages {
+        hint(messages);
+    }
+    run_line(rt, alloc, line, notes, terminals, input, output, messages)
+}
+
+// Runs the command of a command line, and explains its end.
+fn run_line<F: Files + Net + Clock + Dial, R: Read, W: Write, M: Write>(
+    rt: &F,
+    alloc: Global,
+    line: CommandLine<'_>,
+    notes: &Notes<'_>,
+    terminals: Terminals,
+    input: &mut R,
+    output: &mut W,
+    messages: &mut M,
+) -> Status
+where
+    F::File: SystemFile,
+{
+    let asked = line.asked;
+    let explains = terminals.messages || line.explain;
     if line.shows_progress {
-        show_progress(line.asked, notes);
+        show_progress(asked, notes);
     }
-    let status = carry_out(rt, alloc, line.asked, explains, input, output, messages);
-    if explains {
-        let _ = explain(rt, line.asked, status, notes, messages);
+    if let Some(file) = key_file_of(asked) {
+        notes.watch_key(notes.subject_of(file));
     }
+    let mut heard = Heard::new(messages, notes, only_answers(asked));
+    let status = if terminals.output && prints_text(asked) {
+        let mut screen = Screen::new(alloc, output);
+        carry_out(rt, alloc, asked, explains, input, &mut screen, &mut heard)
+    } else {
+        carry_out(rt, alloc, asked, explains, input, output, &mut heard)
+    };
+    let said = heard.said();
+    let end = End {
+        said,
+        status,
+        explains,
+    };
+    explain_end(rt, alloc, asked, end, notes, messages);
     status
+}
+
+// Without words the program seals what it reads, which nobody expects who typed its name alone.
+fn hint<M: Write>(messages: &mut M) {
+    let _ = writeln!(
+        messages,
+        "audit: waiting for a replay on standard input; 'audit --help' prints the commands"
+    );
+}
+
+// Whether a command changes nothing, and only prints an answer.
+fn only_answers(asked: Asked<'_>) -> bool {
+    match asked {
+        Asked::Plain(Request::Format { .. } | Request::Append { .. } | Request::Close { .. }) => {
+            false
+        }
+        Asked::Plain(_) => true,
+        Asked::Remote(Remote::Ask { question, .. }) => question.0 != "close",
+        _ => false,
+    }
 }
 
 // Carries out what a command line asks for.
@@ -76,6 +147,17 @@ where
             audit_cli_daemon::run(rt, alloc, request, explains, output, messages)
         }
     }
+}
+
+// Whether payloads are printed as lines of text.
+fn prints_text(asked: Asked<'_>) -> bool {
+    matches!(
+        asked,
+        Asked::Plain(Request::Verify {
+            form: ReportForm::Text,
+            ..
+        })
+    )
 }
 
 // Shows how far a command is that may take long, by the file that it reads or writes most.
@@ -118,8 +200,42 @@ fn show_progress(asked: Asked<'_>, notes: &Notes<'_>) {
     }
 }
 
+// Prints what is wrong with the words of a command line. Their escapes are parsed in their place, since it names them.
+fn explain_words<W: Write, M: Write>(
+    alloc: Global,
+    words: &[String],
+    error: &Error,
+    notes: &Notes<'_>,
+    output: &mut W,
+    messages: &mut M,
+) -> Status {
+    let Ok(shown) = shown_words(alloc, words) else {
+        return report(CommandError::Refused(StoreError::Memory), messages);
+    };
+    match request_of(alloc, &shown) {
+        Ok(_) => report(CommandError::BadArgument, messages),
+        Err(shown) if shown.kind() == error.kind() => {
+            print_usage(&shown, notes, output, messages)
+        }
+        Err(_) => report(CommandError::BadArgument, messages),
+    }
+}
+
+fn shown_words(alloc: Global, words: &[String]) -> Result<Vec<String>, AllocError> {
+    let mut shown = Vec::new(alloc);
+    for word in words {
+        shown.push(format!(in alloc; "{}", Shown(word.as_str()))?)?;
+    }
+    Ok(shown)
+}
+
 // Prints clap's help or usage, or reports that memory ran out.
-fn print_usage<W: Write, M: Write>(error: &Error, output: &mut W, messages: &mut M) -> Status {
+fn print_usage<W: Write, M: Write>(
+    error: &Error,
+    notes: &Notes<'_>,
+    output: &mut W,
+    messages: &mut M,
+) -> Status {
     if error.kind() == ErrorKind::OutOfMemory {
         return report(CommandError::Refused(StoreError::Memory), messages);
     }
@@ -128,7 +244,7 @@ fn print_usage<W: Write, M: Write>(error: &Error, output: &mut W, messages: &mut
         return Status::Usage;
     }
     if write!(output, "{error}").is_err() || output.flush().is_err() {
-        return report(CommandError::File, messages);
+        return report(CommandError::File, &mut Heard::new(messages, notes, true));
     }
     Status::Done
 }

@@ -21,6 +21,7 @@ pub fn remote_request<'a>(name: &str, given: &ArgMatches<'a>) -> Option<Remote<'
         "send" => Some(Remote::Send {
             socket,
             text: given.get_str("text"),
+            long: given.get_str("long"),
             window: given.get_str("window"),
             timeout,
         }),
@@ -29,6 +30,7 @@ pub fn remote_request<'a>(name: &str, given: &ArgMatches<'a>) -> Option<Remote<'
             state: word(given, "STATE"),
             every: given.get_str("every"),
             timeout,
+            is_quiet: given.get_flag("quiet"),
         }),
         _ => None,
     }

@@ -19,6 +19,13 @@ static SEND: Form = Form {
             excludes: None,
         },
         Choice {
+            name: "long",
+            value: Some("HOW"),
+            help: "With --text, cut or refuse a line of more than 32696 bytes [default: refuse]",
+            needs: None,
+            excludes: None,
+        },
+        Choice {
             name: "window",
             value: Some("N"),
             help: "How many events are sent ahead of their answers, 1 to 1024 [default: 64]",
@@ -28,7 +35,7 @@ static SEND: Form = Form {
         Choice {
             name: "timeout",
             value: Some("SECONDS"),
-            help: "How long the server may stay silent, 1 to 86400 [default: 30]",
+            help: "How long the server has for each reply, 1 to 86400 [default: 30]",
             needs: None,
             excludes: None,
         },
@@ -71,7 +78,7 @@ static ASK: Form = Form {
     options: &[Choice {
         name: "timeout",
         value: Some("SECONDS"),
-        help: "How long the server may stay silent, 1 to 86400 [default: 30]",
+        help: "How long the server has for each reply, 1 to 86400 [default: 30]",
         needs: None,
         excludes: None,
     }],
@@ -104,7 +111,14 @@ static WATCH: Form = Form {
         Choice {
             name: "timeout",
             value: Some("SECONDS"),
-            help: "How long the server may stay silent, 1 to 86400 [default: 30]",
+            help: "How long the server has for each reply, 1 to 86400 [default: 30]",
+            needs: None,
+            excludes: None,
+        },
+        Choice {
+            name: "quiet",
+            value: None,
+            help: "Prints neither `same` nor `grew`",
             needs: None,
             excludes: None,
         },

@@ -371,7 +371,7 @@ fn a_commitment_has_the_bytes_of_the_formats(rt: HostRuntime) {
     check_reply(&rt, rt.alloc(), &commitment, &EMPTY_COMMITMENT);
 }
 
-const REFUSALS: [(u8, Refusal, u8); 7] = [
+const REFUSALS: [(u8, Refusal, u8); 8] = [
     (0, Refusal::Malformed, 20),
     (2, Refusal::Full, 7),
     (3, Refusal::DamagedLog, 4),
@@ -379,6 +379,7 @@ const REFUSALS: [(u8, Refusal, u8); 7] = [
     (5, Refusal::Worn, 9),
     (6, Refusal::Device, 11),
     (7, Refusal::Closed, 13),
+    (8, Refusal::NotAllowed, 16),
 ];
 
 #[test]

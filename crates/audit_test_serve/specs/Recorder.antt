@@ -1,13 +1,16 @@
 -- For the tests: a core whose sessions end only by `end`.
-use Rattle.std.specs.Prelude.{◌≡◌, ℕ, Bool, true, false, ◌||◌, List, [], ◌∷◌, ◌++◌, slice_index_or, slice_set}
-use Rattle.std.proofs.Common.{refl, sym, ap, ◌∙◌}
-use Rattle.std.proofs.lemmas.Bool.{ne_eqb}
+use Rattle.std.specs.Prelude.{◌≡◌, ℕ, ◌+◌, Bool, true, false, ◌||◌, if◌then◌else◌, List, [], ◌∷◌, ◌++◌, length}
+use Rattle.std.specs.Prelude.{slice_index_or, slice_set}
+use Rattle.std.proofs.Common.{refl, sym, ap, ◌∙◌, arith}
+use Rattle.std.proofs.lemmas.Bool.{ne_eqb, false≢true}
+use Rattle.std.proofs.lemmas.List.{get_or-set_other}
 use Rattle.audit_serve_passes.specs.Steps.{StepData, a_piece, an_end, a_flush, IsAbout, is_end, has_end}
 use Rattle.audit_serve_passes.specs.Core.{CoreModel}
 
--- which sessions have ended, and the bytes that wait for each
+-- which sessions have ended, which were fed since the last flush, and the bytes that wait for each
 pub record RecorderData : Type 0 where
   pub ended : List Bool
+  pub fed : List Bool
   pub outputs : List (List ℕ)
 
 abbrev pub has_ended : RecorderData → ℕ → Bool
@@ -15,6 +18,17 @@ has_ended core k = slice_index_or core.ended k false
 
 abbrev pub recorded_output : RecorderData → ℕ → List ℕ
 recorded_output core k = slice_index_or core.outputs k []
+
+abbrev pub was_fed : RecorderData → ℕ → Bool
+was_fed core k = slice_index_or core.fed k false
+
+-- no session was fed since the last flush
+abbrev pub IsRecorderIdle : RecorderData → Type 0
+IsRecorderIdle core = (k : ℕ) → was_fed core k ≡ false
+
+-- the bytes that wait, and one more for a session that was fed
+abbrev pub recorded_owed : RecorderData → ℕ → ℕ
+recorded_owed core k = length (recorded_output core k) + (if was_fed core k then 1 else 0)
 
 -- a session has ended afterwards if it had ended before or the steps contain its end
 abbrev pub EndedBy : RecorderData → RecorderData → List StepData → Type 0
@@ -44,16 +58,28 @@ pub ended_then : (had : Bool) (k : ℕ) (steps later : List StepData)
 ended_then had k steps later = sym (or_assoc had (has_end k steps) (has_end k later))
     ∙ ap (λ (more : Bool). had || more) (ends_joined k steps later)
 
+pub or_true : (x y : Bool) → x ≡ true → (x || y) ≡ true
+or_true true y is = refl
+or_true false y is = absurd (false≢true is)
+
+pub nothing_fed : (bytes : ℕ) → bytes + 0 ≡ bytes
+nothing_fed bytes = omega arith
+
 -- a session is live again, and the outputs are unchanged
 pub record IsLiveAgain (k : ℕ) (old new : RecorderData) : Type 0 where
   pub ended : new.ended ≡ slice_set old.ended k false
+  pub fed : new.fed ≡ old.fed
   pub outputs : new.outputs ≡ old.outputs
 
 abbrev pub recorder_model : CoreModel RecorderData
 recorder_model = record {
   ended = λ core steps k. has_ended core k || has_end k steps;
   output = recorded_output;
-  Idle = λ core. Unit {0};
+  Idle = IsRecorderIdle;
+  owed = recorded_owed;
+  requests = λ core k bytes. length bytes;
+  longest = 1;
+  refusal = 0;
   Begins = IsLiveAgain;
   DidSteps = λ old new steps taken. EndedBy old new steps;
   DidStepsInPart = λ old new steps taken. Unit {0};
@@ -66,6 +92,14 @@ recorder_model = record {
       sym (ended_then (has_ended core k) k steps (step ∷ []))
       ∙ ap (λ (last : Bool). (has_ended core k || has_end k steps) || (last || false)) (no_end k step other)
       ∙ sym (or_none (has_ended core k || has_end k steps));
+  ended_stays = λ core steps later k ended.
+      sym (ended_then (has_ended core k) k steps later)
+      ∙ or_true (has_ended core k || has_end k steps) (has_end k later) ended;
+  begun_alone = λ old new k other begun apart. ap (λ (ended : List Bool). slice_index_or ended other false || false)
+      begun.ended ∙ ap (λ (had : Bool). had || false) (get_or-set_other old.ended k other false false apart);
+  owed_idle = λ core k idle.
+      ap (λ (fed : Bool). length (recorded_output core k) + (if fed then 1 else 0)) (idle k)
+      ∙ nothing_fed (length (recorded_output core k));
   done_in_part = λ old new steps taken did. tt;
   then_in_part = λ old mid new steps later taken more first second. tt;
 }

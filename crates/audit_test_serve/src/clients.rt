@@ -85,6 +85,10 @@ impl Door for Clients {
         self.replies = self.replies.saturating_add(client.taken);
     }
 
+    fn lets_reply(&mut self) -> bool {
+        true
+    }
+
     fn asks_again(&mut self, found: bool) -> bool {
         found
     }
@@ -105,7 +109,7 @@ impl Door for Clients {
 fn clients_come_and_go(rt: HostRuntime) {
     let alloc: Global = rt.alloc();
     let mut core = Recorder::new(&rt, alloc, usize::MAX);
-    let mut slots = vacant_slots(alloc, SESSIONS, DEFAULT_BACKLOG).expect(&rt, "memory");
+    let mut slots = vacant_slots(alloc, SESSIONS).expect(&rt, "memory");
     let mut door = Clients {
         coming: 40,
         came: 0,
@@ -114,7 +118,7 @@ fn clients_come_and_go(rt: HostRuntime) {
         dismissed: 0,
         replies: 0,
     };
-    assert!(rt; serve_clients(&mut core, &mut slots, &mut door).is_ok());
+    assert!(rt; serve_clients(&mut core, &mut slots, &mut door, DEFAULT_BACKLOG).is_ok());
     finish_writing(&mut slots, &mut door);
     assert!(rt; door.finished == 39);
     assert!(rt; door.dismissed == 1);

@@ -57,6 +57,10 @@ impl Door for Crowd {
 
     fn gone(&mut self, _place: usize, _client: Client, _departure: Departure) {}
 
+    fn lets_reply(&mut self) -> bool {
+        true
+    }
+
     fn asks_again(&mut self, _found: bool) -> bool {
         true
     }
@@ -83,13 +87,13 @@ const SILENT: Reads = [None, None, None];
 fn one_flush_has_what_comes_meanwhile(rt: HostRuntime) {
     let alloc = rt.alloc();
     let mut core = Recorder::new(&rt, alloc, usize::MAX);
-    let mut slots = vacant_slots(alloc, 3, DEFAULT_BACKLOG).expect(&rt, "memory");
+    let mut slots = vacant_slots(alloc, 3).expect(&rt, "memory");
     let mut door = Crowd {
         clients: [LATE, EARLY, SILENT],
         came: 0,
         passes: 4,
     };
-    assert!(rt; serve_clients(&mut core, &mut slots, &mut door).is_ok());
+    assert!(rt; serve_clients(&mut core, &mut slots, &mut door, DEFAULT_BACKLOG).is_ok());
     assert!(rt;
         core.was_asked(&[
             Asked::End { session: 0 },

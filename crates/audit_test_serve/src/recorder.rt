@@ -1,12 +1,12 @@
 //! A core that records the steps that it is asked to do.
-ghost use Rattle.std.specs.Prelude.{◌≡◌, ◌<◌, ℕ, [], ◌∷◌, OnOk, length, map};
+ghost use Rattle.std.specs.Prelude.{◌≡◌, ◌<◌, ◌≤◌, ℕ, true, [], ◌∷◌, OnOk, length, map, slice_set};
 ghost use Rattle.audit_base.specs.declared.limits.TheConstants.{SESSIONS};
 ghost use Rattle.audit_serve_passes.specs.Steps.{a_piece, an_end, a_flush};
 ghost use Rattle.audit_serve_passes.specs.Core.{CoreModel, no_bytes, bytes_for};
-ghost use Rattle.audit_test_serve.specs.Recorder.{recorder_model};
+ghost use Rattle.audit_test_serve.specs.Recorder.{recorder_model, IsRecorderIdle, recorded_owed};
 
 use audit_base::SESSIONS;
-use audit_serve_passes::SessionCore;
+use audit_serve_passes::{Allowance, Demand, SessionCore};
 use std::alloc::{AllocError, Global};
 use std::marker::Model;
 use std::mem;
@@ -43,7 +43,11 @@ impl Model for Recorder {
 
     ghost Value = { RecorderData };
 
-    ghost view = { λ core. record { ended = core.ended; outputs = map (λ output. output.items) core.outputs.items } };
+    ghost view = { λ core. record {
+      ended = core.ended;
+      fed = core.fed;
+      outputs = map (λ output. output.items) core.outputs.items;
+    } };
 
     ghost invariant = { λ core. length core.outputs.items ≡ SESSIONS };
 }
@@ -96,14 +100,31 @@ impl Recorder {
     }
 
     fn reply(&mut self) -> Result<(), AllocError>
-        ensures { self.new.ended ≡ self.old.ended }
+        ensures ended { self.new.ended ≡ self.old.ended }
+        ensures none { OnOk result (IsRecorderIdle self.new) }
+        ensures owes { OnOk result ((k : ℕ) → recorded_owed self.new k ≤ recorded_owed self.old k) }
     {
-        for (session, output) in self.outputs.iter_mut().enumerate() {
-            if session < SESSIONS && self.fed[session] {
-                output.push(self.total)?;
+        for session in 0..SESSIONS {
+            if self.fed[session] {
+                self.outputs[session].push(self.total)?;
+                self.fed[session] = false;
             }
         }
-        self.fed = [false; SESSIONS];
+        Ok(())
+    }
+
+    fn take(&mut self, session: usize, piece: &[u8]) -> Result<(), AllocError>
+        requires { session < SESSIONS }
+        ensures ended { self.new.ended ≡ self.old.ended }
+        ensures outputs { OnOk result (self.new.outputs ≡ self.old.outputs) }
+        ensures fed { OnOk result (self.new.fed ≡ slice_set self.old.fed session true) }
+    {
+        self.ask(Asked::Feed {
+            session,
+            size: piece.len(),
+        })?;
+        self.fed[session] = true;
+        self.total = self.total.wrapping_add((piece.len() % 256) as u8);
         Ok(())
     }
 }
@@ -117,13 +138,29 @@ impl SessionCore for Recorder {
     ghost refuses = { λ old new error. Unit {0} };
 
     fn feed(&mut self, session: usize, piece: &[u8]) -> Result<(), AllocError> {
-        self.ask(Asked::Feed {
-            session,
-            size: piece.len(),
-        })?;
-        self.fed[session] = true;
-        self.total = self.total.wrapping_add((piece.len() % 256) as u8);
-        Ok(())
+        self.take(session, piece)
+    }
+
+    // A piece is a request, whose reply has one byte.
+    fn feed_within(
+        &mut self,
+        session: usize,
+        piece: &[u8],
+        allowance: &mut Allowance,
+    ) -> Result<usize, AllocError> {
+        if piece.is_empty() {
+            return Ok(0);
+        }
+        let demand = Demand {
+            reply: 1,
+            question: None,
+        };
+        if !allowance.admits(demand) {
+            return Ok(0);
+        }
+        self.take(session, piece)?;
+        *allowance = allowance.spent(demand);
+        Ok(piece.len())
     }
 
     fn end(&mut self, session: usize) -> Result<(), AllocError> {

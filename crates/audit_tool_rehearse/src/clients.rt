@@ -67,8 +67,9 @@ pub fn serve_run<D: Sectors>(
 ) -> Result<ServedRun, AllocError> {
     let mut random = random;
     let mut slots = some_slots(alloc, &mut random)?;
+    let backlog = some_backlog(&mut random);
     let mut door = RandomDoor::new(alloc, random);
-    let refused = core.serve_clients(&mut slots, &mut door).err();
+    let refused = core.serve_clients(&mut slots, &mut door, backlog).err();
     if refused.is_none() {
         finish_writing(&mut slots, &mut door);
     }
@@ -107,15 +108,19 @@ fn some_start(random: &mut Random) -> Start {
     }
 }
 
-// One to sixteen places, with a backlog that many clients, some or none exceed.
+// One to sixteen places.
 fn some_slots(alloc: Global, random: &mut Random) -> Result<Vec<Slot<Visitor>>, AllocError>
     ensures { IfOk result (λ slots. length slots.items ≤ SESSIONS) }
 {
     let places = (random.up_to(SESSIONS as u64) as usize).min(SESSIONS);
-    let most = match random.below(3) {
+    vacant_slots(alloc, places)
+}
+
+// A backlog that many clients, some or none exceed.
+fn some_backlog(random: &mut Random) -> usize {
+    match random.below(3) {
         0 => 60,
         1 => 2_000,
         _ => MAX_BACKLOG,
-    };
-    vacant_slots(alloc, places, most.min(MAX_BACKLOG))
+    }
 }

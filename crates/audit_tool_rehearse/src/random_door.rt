@@ -84,6 +84,10 @@ impl Door for RandomDoor {
         self.random.below(100) == 0
     }
 
+    fn lets_reply(&mut self) -> bool {
+        true
+    }
+
     fn asks_again(&mut self, found: bool) -> bool {
         self.note(4, usize::from(found));
         self.random.below(4) > 0
@@ -118,7 +122,6 @@ fn code_of(departure: Departure) -> u8 {
         Departure::Malformed => 1,
         Departure::ReadFailed => 2,
         Departure::WriteFailed => 3,
-        Departure::TooSlow => 4,
         Departure::Dismissed => 5,
         Departure::Memory => 6,
     }

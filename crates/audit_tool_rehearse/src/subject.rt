@@ -109,10 +109,11 @@ impl<D: Sectors> Core<D> {
         &mut self,
         slots: &mut [Slot<G::Stream>],
         door: &mut G,
+        backlog: usize,
     ) -> Result<(), StoreError>
         requires { length slots.old ≤ SESSIONS }
     {
-        audit_serve_ready::serve_clients(&mut self.inner, slots, door)
+        audit_serve_ready::serve_clients(&mut self.inner, slots, door, backlog)
     }
 
     pub fn take_output(&mut self, session: usize) -> Vec<u8> {

@@ -133,15 +133,20 @@ fn a_store_in_a_file(rt: HostRuntime) {
     remove(&rt, &rt, [file.as_str(), key.as_str(), out.as_str()]);
 }
 
-// Words, and the permissions they denote, as POSIX's chmod reads them if the owner reads and writes.
-const MODES: [(&str, Option<u32>); 12] = [
+// Words, and the permissions they denote, as POSIX's chmod reads them if the owner reads and writes: three digits, or a
+// zero and three.
+const MODES: [(&str, Option<u32>); 16] = [
     ("600", Some(384)),
     ("640", Some(416)),
     ("666", Some(438)),
     ("677", Some(447)),
     ("", None),
     ("60", None),
-    ("0600", None),
+    ("0600", Some(384)),
+    ("0677", Some(447)),
+    ("0700", None),
+    ("1600", None),
+    ("00600", None),
     ("700", None),
     ("400", None),
     ("680", None),

@@ -1,0 +1,77 @@
+//! What is wrong with a word of a command line, or with a key file.
+use crate::bytes::Bytes;
+use crate::command::Asked;
+use crate::form::key_flaw;
+use crate::places::key_file_of;
+use crate::question::bad_question;
+use crate::wrong_word::wrong_word;
+use audit_cli_host::Notes;
+use audit_cli_remote::Request as Remote;
+use audit_cli_store::Request;
+use audit_disk::FileIdentity;
+use audit_text_plain::Shown;
+use std::fs::{self, Files};
+use std::io::{self, Write};
+
+/// Prints which word has another form, or that the key file holds no key.
+pub(crate) fn explain_argument<F: Files, M: Write>(
+    rt: &F,
+    asked: Asked<'_>,
+    notes: &Notes<'_>,
+    messages: &mut M,
+) -> io::Result<()> {
+    if let Some(file) = key_file_of(asked)
+        && notes.key_text().is_no_key()
+    {
+        return explain_key(file, notes, messages);
+    }
+    if let Some(wrong) = wrong_word(asked) {
+        return writeln!(messages, "audit: {wrong}");
+    }
+    match asked {
+        Asked::Remote(Remote::Ask { question, .. }) => {
+            writeln!(messages, "audit: {}", bad_question(question))
+        }
+        Asked::Plain(Request::Check { proof, newer, .. }) => {
+            let (kind, number) = match newer {
+                Some(_) => ("an inclusion proof", "one commitment"),
+                None => ("a consistency proof", "two commitments, OLDER and NEWER"),
+            };
+            let shown = Shown(proof);
+            writeln!(
+                messages,
+                "audit: {shown}: {kind}, which is checked under {number}"
+            )
+        }
+        Asked::Rotation(rotation) if is_same(rt, rotation.old, rotation.new) => {
+            writeln!(messages, "audit: {}: NEW is OLD", Shown(rotation.new))
+        }
+        _ => Ok(()),
+    }
+}
+
+// Whether two paths lead to one file.
+fn is_same<F: Files>(rt: &F, one: &str, other: &str) -> bool {
+    match (fs::metadata(rt, one), fs::metadata(rt, other)) {
+        (Ok(one), Ok(other)) => FileIdentity::of(&one) == FileIdentity::of(&other),
+        _ => false,
+    }
+}
+
+fn explain_key<M: Write>(file: &str, notes: &Notes<'_>, messages: &mut M) -> io::Result<()> {
+    let text = notes.key_text();
+    let (shown, length) = (Shown(file), Bytes(text.length()));
+    let verb = if text.length() == 1 {
+        "isn't"
+    } else {
+        "aren't"
+    };
+    write!(
+        messages,
+        "audit: {shown}: {length} that {verb} 64 hex digits"
+    )?;
+    if let Some(odd) = text.odd() {
+        write!(messages, ": {}", key_flaw(odd))?;
+    }
+    writeln!(messages)
+}

@@ -1,0 +1,123 @@
+//! What is known of the cause of a file fault, and of what a file is.
+use crate::bytes::Bytes;
+use crate::command::Asked;
+use crate::contents::{Contents, contents_of};
+use crate::places::store_of;
+use audit_cli_daemon::Request as Daemon;
+use audit_cli_host::Notes;
+use audit_cli_remote::Request as Remote;
+use audit_cli_store::{Access, Request};
+use audit_text_plain::Shown;
+use std::alloc::Global;
+use std::fs::{self, Files};
+use std::io::{self, Write};
+use std::os::unix::fs::FileTypeExt;
+
+// The bytes of a sector: a store's file has whole sectors.
+const SECTOR_LEN: u64 = 512;
+
+/// Prints the last call of the system that failed, or else what is wrong with the file that was to be a store, or a
+/// witness's.
+pub(crate) fn print_cause<F: Files, M: Write>(
+    rt: &F,
+    alloc: Global,
+    asked: Asked<'_>,
+    notes: &Notes<'_>,
+    messages: &mut M,
+) -> io::Result<()> {
+    if let Some((name, error)) = notes.last() {
+        return writeln!(messages, "audit: {}: {error}", Shown(name));
+    }
+    match asked {
+        Asked::Daemon(Daemon::Stop { socket }) => {
+            let shown = Shown(socket);
+            writeln!(
+                messages,
+                "audit: {shown}: the daemon didn't answer within 30 seconds that it ended"
+            )
+        }
+        Asked::Remote(Remote::Watch { state, .. }) => print_kind(rt, alloc, state, true, messages),
+        _ => match store_of(asked) {
+            Some(store) => print_kind(rt, alloc, store, false, messages),
+            None => Ok(()),
+        },
+    }
+}
+
+// What is wrong with the kind or the length of a file, which is a witness's or to be a store.
+fn print_kind<F: Files, M: Write>(
+    rt: &F,
+    alloc: Global,
+    file: &str,
+    is_state: bool,
+    messages: &mut M,
+) -> io::Result<()> {
+    let shown = Shown(file);
+    let Ok(found) = fs::metadata(rt, file) else {
+        return Ok(());
+    };
+    let is_file = found.is_file();
+    if !is_file && (is_state || !found.file_type().is_block_device()) {
+        return writeln!(messages, "audit: {shown}: it is no regular file");
+    }
+    if !is_file || is_state || found.len() % SECTOR_LEN == 0 {
+        return Ok(());
+    }
+    match contents_of(rt, alloc, file) {
+        Some(Contents::Store) | None => writeln!(
+            messages,
+            "audit: {shown}: its length is no multiple of {SECTOR_LEN} bytes"
+        ),
+        Some(other) => writeln!(messages, "audit: {shown}: {other}"),
+    }
+}
+
+/// Prints what a file is that was given in the place of a store, an export or a proof.
+pub(crate) fn explain_contents<F: Files, M: Write>(
+    rt: &F,
+    alloc: Global,
+    asked: Asked<'_>,
+    messages: &mut M,
+) -> io::Result<()> {
+    let (path, wanted) = match asked {
+        Asked::Plain(Request::Check { proof, .. }) => (Some(proof), Contents::Proof),
+        Asked::Plain(Request::Verify { export, .. }) => (Some(export), Contents::Export),
+        _ => (store_of(asked), Contents::Store),
+    };
+    let Some(path) = path else {
+        return Ok(());
+    };
+    match contents_of(rt, alloc, path) {
+        Some(found) if found != wanted => writeln!(messages, "audit: {}: {found}", Shown(path)),
+        _ => Ok(()),
+    }
+}
+
+/// Prints how much of the file of a damaged store was left out, since it is no whole sector.
+pub(crate) fn explain_rest<F: Files, M: Write>(
+    rt: &F,
+    asked: Asked<'_>,
+    messages: &mut M,
+) -> io::Result<()> {
+    let Asked::Plain(
+        Request::Export {
+            file,
+            access: Access::Salvage,
+            ..
+        },
+    ) = asked
+    else {
+        return Ok(());
+    };
+    match fs::metadata(rt, file) {
+        Ok(found) if found.is_file() && found.len() % SECTOR_LEN != 0 => {
+            let rest = Bytes(found.len() % SECTOR_LEN);
+            let shown = Shown(file);
+            writeln!(
+                messages,
+                "audit: {shown}: left out after the last whole sector: {rest}"
+            )
+        }
+        _ => Ok(()),
+    }
+}

@@ -1,0 +1,40 @@
+//! The files of a command that may hold keys.
+use crate::command::Asked;
+use audit_cli_daemon::Request as Daemon;
+use audit_cli_serve::Request as Serving;
+use audit_cli_store::Request;
+
+/// The file of the store that a command opens, or formats.
+pub(crate) fn store_of<'a>(asked: Asked<'a>) -> Option<&'a str> {
+    match asked {
+        Asked::Plain(request) => store_of_plain(request),
+        Asked::Lines(lines) => Some(lines.file),
+        Asked::Rotation(rotation) => Some(rotation.old),
+        Asked::Serving(Serving::Serve { file, .. } | Serving::Loop { file, .. }) => Some(file),
+        Asked::Daemon(Daemon::Run(settings)) => Some(settings.file),
+        Asked::Daemon(Daemon::Stop { .. }) | Asked::Remote(_) => None,
+    }
+}
+
+fn store_of_plain<'a>(request: Request<'a>) -> Option<&'a str> {
+    match request {
+        Request::Format { file, .. }
+        | Request::Append { file }
+        | Request::Close { file }
+        | Request::Show { file, .. }
+        | Request::Export { file, .. }
+        | Request::Prove { file, .. } => Some(file),
+        Request::Replay | Request::Check { .. } | Request::Verify { .. } => None,
+    }
+}
+
+/// The file from which a command reads a key.
+pub(crate) fn key_file_of<'a>(asked: Asked<'a>) -> Option<&'a str> {
+    match asked {
+        Asked::Plain(Request::Format { key_file, .. } | Request::Verify { key_file, .. }) => {
+            Some(key_file)
+        }
+        Asked::Rotation(rotation) => Some(rotation.key_file),
+        _ => None,
+    }
+}
