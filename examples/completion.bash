@@ -1,43 +1,61 @@
 # Bash completion for `audit`: `source examples/completion.bash`.
 _audit() {
-    local word=${COMP_WORDS[COMP_CWORD]} command=${COMP_WORDS[1]}
-    local commands="replay format append close rotate show prove check export verify serve loop daemon stop send ask watch"
-    if [ "$COMP_CWORD" -eq 1 ]; then
-        mapfile -t COMPREPLY < <(compgen -W "$commands --help --version" -- "$word")
-        return
-    fi
-    if [[ $word == -* ]]; then
-        local options="--explain --no-progress --help"
-        case $command in
-        format) options="$options --mode --in-place --erase" ;;
-        append) options="$options --text --follow --expect --reserve" ;;
-        show) options="$options --free --read-only" ;;
-        prove) options="$options --read-only" ;;
-        check) options="$options --print" ;;
-        verify) options="$options --text" ;;
-        export) options="$options --read-only --salvage" ;;
-        serve) options="$options --sessions --socket-mode" ;;
-        loop) options="$options --socket-mode" ;;
-        daemon) options="$options --reader --allow-close --idle --backlog --reserve --socket-mode" ;;
-        send) options="$options --text --window --timeout" ;;
-        ask) options="$options --timeout" ;;
-        watch) options="$options --every --timeout" ;;
-        esac
-        mapfile -t COMPREPLY < <(compgen -W "$options" -- "$word")
-        return
-    fi
-    if [[ ${COMP_WORDS[COMP_CWORD - 1]} == --reader ]]; then
-        mapfile -t COMPREPLY < <(compgen -f -- "$word")
-        return
-    fi
-    case $command:$COMP_CWORD in
-    serve:[5-9]) mapfile -t COMPREPLY < <(compgen -W "--sessions --socket-mode" -- "$word") ;;
-    ask:3) mapfile -t COMPREPLY < <(compgen -W "commitment entry member increment export close" -- "$word") ;;
-    prove:3) mapfile -t COMPREPLY < <(compgen -W "member increment" -- "$word") ;;
-    format:2 | append:2 | close:2 | rotate:[235] | show:2 | prove:2 | prove:6 | check:2 | export:[23] | verify:2 | serve:[23] | loop:[23] | daemon:[23] | stop:2 | format:4 | verify:3 | send:2 | ask:[24567] | watch:[23])
-        mapfile -t COMPREPLY < <(compgen -f -- "$word")
-        ;;
-    *) COMPREPLY=() ;;
+    local word=${COMP_WORDS[COMP_CWORD]} before=${COMP_WORDS[COMP_CWORD - 1]} command=${COMP_WORDS[1]}
+    local commands="replay format append close rotate show prove check export verify serve loop daemon stop send ask watch help"
+    local valued="--mode --long --expect --reserve --sessions --socket-mode --reader --idle --backlog --window --timeout --every"
+    local options="--explain --no-progress --help" choices= files= place=0 question= index
+    [ "$command" = verify ] || valued="$valued --text"
+    # Which word of the command this is: options and their values aren't counted.
+    for ((index = 2; index < COMP_CWORD; index++)); do
+        if [[ " $valued " == *" ${COMP_WORDS[index]} "* ]]; then
+            index=$((index + 1))
+        elif [[ ${COMP_WORDS[index]} != -* ]]; then
+            place=$((place + 1))
+            [ "$place" -ne 2 ] || question=${COMP_WORDS[index]}
+        fi
+    done
+    case $command in
+    format) options="$options --mode --in-place --erase" ;;
+    append) options="$options --text --follow --long --expect --reserve" ;;
+    show) options="$options --free --read-only" ;;
+    prove) options="$options --read-only" ;;
+    check) options="$options --print" ;;
+    verify) options="$options --text" ;;
+    export) options="$options --read-only --salvage" ;;
+    serve) options="$options --sessions --socket-mode" ;;
+    loop) options="$options --socket-mode" ;;
+    daemon) options="$options --reader --allow-close --idle --backlog --reserve --socket-mode" ;;
+    send) options="$options --text --long --window --timeout" ;;
+    ask) options="$options --timeout" ;;
+    watch) options="$options --every --timeout --quiet" ;;
+    help) options= ;;
     esac
+    if [ "$COMP_CWORD" -eq 1 ]; then
+        choices="$commands --help --version"
+    elif [[ " $valued " == *" $before "* ]]; then
+        case $before in
+        --reader) files=1 ;;
+        --long) choices="cut refuse" ;;
+        --mode | --socket-mode) choices="600 640 660" ;;
+        esac
+    elif [[ $word == -* ]]; then
+        choices=$options
+    else
+        case $command:$place:$question in
+        format:[02]: | format:2:* | append:0: | close:0: | rotate:[01]: | rotate:3:* | show:0: | check:0: | export:[01]: | \
+            verify:[01]: | serve:[01]: | loop:[01]: | daemon:[01]: | stop:0: | send:0: | watch:[01]: | prove:0: | ask:0: | \
+            prove:4:* | ask:2:export | ask:3:entry | ask:4:member | ask:4:increment) files=1 ;;
+        prove:1:) choices="member increment" ;;
+        ask:1:) choices="commitment entry member increment export close" ;;
+        help:0:) choices=$commands ;;
+        esac
+    fi
+    if [ -n "$files" ]; then
+        # Names are quoted, and folders end in a slash.
+        compopt -o filenames 2>/dev/null
+        mapfile -t COMPREPLY < <(compgen -f -- "$word")
+    else
+        mapfile -t COMPREPLY < <(compgen -W "$choices" -- "$word")
+    fi
 }
-complete -F _audit audit bin/audit
+complete -F _audit audit
