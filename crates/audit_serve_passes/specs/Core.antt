@@ -1,5 +1,6 @@
 -- A core that serves sessions, as contracts see it.
 use Rattle.std.specs.Prelude.{◌≡◌, ℕ, ◌==◌, Bool, true, if◌then◌else◌, List, [], ◌∷◌, ◌++◌, length}
+use Rattle.audit_serve_passes.specs.declared.rights.Rights.{Rights}
 use Rattle.audit_serve_passes.specs.Steps.{StepData, IsAbout, IsPartOf}
 
 -- bytes for each session: none, or those of one session
@@ -24,8 +25,8 @@ pub record CoreModel (C : Type 0) : Type 1 where
   -- the longest reply to a request, and what a session is sent if the end of its stream cuts a request off
   pub longest : ℕ
   pub refusal : ℕ
-  -- from the first state to the second a session was started anew, and nothing else has changed
-  pub Begins : ℕ → C → C → Type 0
+  -- from the first state to the second a session was started anew with these rights, and nothing else has changed
+  pub Begins : ℕ → Rights → C → C → Type 0
   -- the core did these steps from the first state to the second, and these bytes were taken from each session's output
   pub DidSteps : C → C → List StepData → (ℕ → List ℕ) → Type 0
   -- from the first state to the second the core did these steps, of which the last may be a part of a refused step,
@@ -44,7 +45,7 @@ pub record CoreModel (C : Type 0) : Type 1 where
   pub ended_stays : (core : C) (steps later : List StepData) (k : ℕ) → ended core steps k ≡ true
       → ended core (steps ++ later) k ≡ true
   -- a session that is started anew doesn't change whether another has ended
-  pub begun_alone : (old new : C) (k other : ℕ) → Begins k old new → (other ≡ k → ⊥)
+  pub begun_alone : (old new : C) (k other : ℕ) (rights : Rights) → Begins k rights old new → (other ≡ k → ⊥)
       → ended new [] other ≡ ended old [] other
   -- if nothing waits to be answered, a session is owed what waits for it
   pub owed_idle : (core : C) (k : ℕ) → Idle core → owed core k ≡ length (output core k)

@@ -1,4 +1,5 @@
 pub mod Allowance
+pub mod Rights
 pub mod Steps
 pub mod Streams
 pub mod Known

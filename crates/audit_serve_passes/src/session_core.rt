@@ -5,6 +5,7 @@ ghost use Rattle.audit_serve_passes.specs.Core.{CoreModel, GoesBy, no_bytes, byt
 ghost use Rattle.audit_serve_passes.specs.Owing.{OwesNoMore, OwesWithin, OwesAtEnd, IsBeyondAllowance};
 
 use crate::allowance::Allowance;
+use crate::rights::Rights;
 use std::alloc::AllocError;
 
 /// A core that serves the requests of sessions. It takes their bytes in pieces of any size, and keeps the bytes of the
@@ -78,23 +79,29 @@ pub trait SessionCore {
         ensures others { (other : ℕ) → (other ≡ session → ⊥)
             → model.output self.new other ≡ model.output self.old other };
 
-    /// Starts an ended session anew, for another client. Nothing may wait to be answered, and the session's output
-    /// must be empty, so that no reply to the earlier client goes to the next one. The only error is that memory is
-    /// refused; nothing has then changed.
-    fn reopen(&mut self, session: usize) -> Result<(), AllocError>
+    /// Starts an ended session anew, for another client with these rights. Nothing may wait to be answered, and the
+    /// session's output must be empty, so that no reply to the earlier client goes to the next one. The only error is
+    /// that memory is refused; nothing has then changed.
+    fn reopen(&mut self, session: usize, rights: Rights) -> Result<(), AllocError>
         requires session { session < SESSIONS }
         requires ended { model.ended self.old [] session ≡ true }
         requires idle { model.Idle self.old }
         requires empty { model.output self.old session ≡ [] }
-        ensures begun { OnOk result (model.Begins session self.old self.new) }
+        ensures begun { OnOk result (model.Begins session rights self.old self.new) }
         ensures idle { model.Idle self.new }
         ensures outputs { (other : ℕ) → model.output self.new other ≡ model.output self.old other }
         ensures refused { OnErr result (model.DidSteps self.old self.new [] no_bytes) };
 
-    /// Returns whether a session has ended, by `end` or by bytes that aren't a request.
+    /// Returns whether a session has ended: by `end`, by bytes that aren't a request, or by a request that its rights
+    /// don't allow.
     fn ended(&self, session: usize) -> bool
         requires { session < SESSIONS }
         ensures { result ≡ model.ended self.now [] session };
+
+    /// Returns whether a session has ended by a request that its rights don't allow.
+    fn is_cut_off(&self, session: usize) -> bool
+        requires { session < SESSIONS }
+        ensures { result ≡ true → model.ended self.now [] session ≡ true };
 
     // If a refusal follows other steps, what it states holds from before those steps too.
     ghost refuses_after: { (old mid new : Self) (steps : List StepData) (taken : ℕ → List ℕ) (error : Self.Error)

@@ -4,6 +4,7 @@ use Rattle.std.proofs.lemmas.Bool.{cases_eq}
 use Rattle.std.proofs.lemmas.List.{length-set, length-append, get_or-set_same, get_or-set_other}
 use Rattle.audit_serve_passes.specs.Steps.{StepData, a_flush}
 use Rattle.audit_serve_passes.specs.Streams.{StreamCall, CallModel, bytes_sent}
+use Rattle.audit_serve_passes.specs.declared.rights.Rights.{Rights}
 use Rattle.audit_serve_passes.specs.Core.{CoreModel, no_bytes}
 use Rattle.audit_serve_passes.proofs.Transitions.{in_any}
 use Rattle.audit_serve_passes.specs.declared.allowance.Share.{Share}
@@ -198,13 +199,13 @@ module _ {C S : Type 0} (M : CoreModel C) (backlog : ℕ) where
   refused_within old new slots idle still outputs did were = within_flushed old new slots [] no_bytes (λ k. owes_same M k old new idle still (outputs k)) did were
 
   -- a client came, for which nothing is kept and to whose session nothing is owed
-  pub come_within : (k : ℕ) (old new : C) (slots : List (SlotData S)) (after : SlotData S) → k < length slots → M.Idle old → M.Idle new → M.output old k ≡ [] → ((other : ℕ) → M.output new other ≡ M.output old other) → M.Begins k old new → kept_of after ≡ []
+  pub come_within : (k : ℕ) (rights : Rights) (old new : C) (slots : List (SlotData S)) (after : SlotData S) → k < length slots → M.Idle old → M.Idle new → M.output old k ≡ [] → ((other : ℕ) → M.output new other ≡ M.output old other) → M.Begins k rights old new → kept_of after ≡ []
       → AreWithinBacklog M backlog old slots → AreWithinBacklog M backlog new (set slots k after)
-  come_within k old new slots after within idle still taken outputs begun none were = λ other inside. elim (cases_eq other k) [
+  come_within k rights old new slots after within idle still taken outputs begun none were = λ other inside. elim (cases_eq other k) [
     | inl same ↦ subst (λ (j : ℕ). IsWithinBacklog M backlog j new (slot_at j (set slots k after))) (sym same) (subst (λ (slot : SlotData S). IsWithinBacklog M backlog k new slot) (sym (get_or-set_same slots k after vacant within))
         (inl (omega (arith, ap length none, M.owed_idle new k still, ap length (outputs k), ap length taken))))
     | inr apart ↦ subst (λ (slot : SlotData S). IsWithinBacklog M backlog other new slot) (sym (get_or-set_other slots k other after vacant apart))
-        (within_less other old new (slot_at other slots) (slot_at other slots) (omega (arith, owes_same M other old new idle still (outputs other))) (λ ended. M.begun_alone old new k other begun apart ∙ ended) (were other (omega (arith, inside, length-set slots k after))))
+        (within_less other old new (slot_at other slots) (slot_at other slots) (omega (arith, owes_same M other old new idle still (outputs other))) (λ ended. M.begun_alone old new k other rights begun apart ∙ ended) (were other (omega (arith, inside, length-set slots k after))))
   ]
 
   -- what a session took of what was unread at its place, as the code reads the place

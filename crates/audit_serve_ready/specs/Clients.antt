@@ -5,6 +5,7 @@ use Rattle.audit_base.specs.declared.limits.TheConstants.{SESSIONS}
 use Rattle.audit_serve_passes.specs.Steps.{StepData}
 use Rattle.audit_serve_passes.specs.Streams.{StreamCall, CallModel}
 use Rattle.audit_serve_passes.specs.Core.{CoreModel, no_bytes}
+use Rattle.audit_serve_ready.specs.declared.newcomer.Newcomer.{Newcomer}
 use Rattle.audit_serve_ready.specs.Slot.{SlotData, vacant, serving, has_client, kept_of}
 use Rattle.audit_serve_ready.specs.Places.{slot_at, IsReadyPass, StopsAtPlaces}
 use Rattle.audit_serve_ready.specs.Backlog.{TakesTurn}
@@ -13,10 +14,10 @@ pub data ClientChange (S : Type 0) : Type 0 where
   -- the clients that are there were served: these steps were done, these bytes were taken of the sessions' outputs, and
   -- the clients' streams had these calls
   a_pass : List StepData → (ℕ → List ℕ) → (ℕ → List StreamCall) → ClientChange S
-  -- a client came to a place
-  a_coming : ℕ → S → ClientChange S
+  -- a client came to a place, with its rights
+  a_coming : ℕ → Newcomer S → ClientChange S
   -- a client came to a place and went, since memory was refused for its session
-  a_refusal : ℕ → S → ClientChange S
+  a_refusal : ℕ → Newcomer S → ClientChange S
   -- the client of a place went
   a_going : ℕ → ClientChange S
 
@@ -42,15 +43,15 @@ module _ {C S : Type 0} (M : CoreModel C) (N : CallModel S) (backlog : ℕ) wher
     pub turn : first < length before → TakesTurn M backlog first old (slot_at first before) (slot_at first after)
 
   -- A session begins anew only where it has ended, nothing waits to be answered, its output was taken, and its place
-  -- is vacant. The client gets the place with nothing unread or kept in it.
-  pub record IsComing (k : ℕ) (client : S) (old new : C) (before after : List (SlotData S)) : Type 0 where
+  -- is vacant. It has the client's rights. The client gets the place with nothing unread or kept in it.
+  pub record IsComing (k : ℕ) (client : Newcomer S) (old new : C) (before after : List (SlotData S)) : Type 0 where
     pub ended : M.ended old [] k ≡ true
     pub idle : M.Idle old
     pub taken : M.output old k ≡ []
     pub within : k < length before
     pub vacant : has_client (slot_at k before) ≡ false
-    pub begun : M.Begins k old new
-    pub place : after ≡ slice_set before k (serving client [] [])
+    pub begun : M.Begins k client.rights old new
+    pub place : after ≡ slice_set before k (serving client.stream [] [])
 
   -- nothing was done
   pub record IsTurnedAway (old new : C) (before after : List (SlotData S)) : Type 0 where

@@ -22,10 +22,15 @@ fn may_go<C: SessionCore, S: ReadyStream + Drop>(core: &C, place: usize, slot: &
     core.ended(place) && slot.has_client() && slot.is_written()
 }
 
-fn part_with<D: Door>(place: usize, slot: &mut Slot<D::Stream>, door: &mut D)
+fn part_with<D: Door>(place: usize, slot: &mut Slot<D::Stream>, is_cut_off: bool, door: &mut D)
     ensures { slot.new ≡ vacant }
 {
     if let Some((client, departure)) = slot.leave() {
+        let departure = if is_cut_off {
+            Departure::CutOff
+        } else {
+            departure
+        };
         door.gone(place, client, departure);
     }
 }
@@ -46,7 +51,7 @@ pub(crate) fn let_go<C: SessionCore, D: Door>(
     let mut moved = false;
     for place in 0..slots.len() {
         if may_go(core, place, &slots[place]) {
-            part_with(place, &mut slots[place], door);
+            part_with(place, &mut slots[place], core.is_cut_off(place), door);
             moved = true;
         }
     }
@@ -82,14 +87,14 @@ fn let_in_at<C: SessionCore, D: Door>(
     ensures within { (backlog : ℕ) → AreWithinBacklog C.model backlog core.old slots.old
         → AreWithinBacklog C.model backlog core.new slots.new }
 {
-    let Some(client) = door.next_client(place) else {
+    let Some(newcomer) = door.next_client(place) else {
         return false;
     };
-    if core.reopen(place).is_err() {
-        door.gone(place, client, Departure::Memory);
+    if core.reopen(place, newcomer.rights).is_err() {
+        door.gone(place, newcomer.stream, Departure::Memory);
         return true;
     }
-    slots[place].admit(client);
+    slots[place].admit(newcomer.stream);
     true
 }
 

@@ -5,6 +5,8 @@ pub enum Departure {
     Finished,
     /// It sent bytes that are no request, and took every reply.
     Malformed,
+    /// It made a request that its rights don't allow.
+    CutOff,
     /// A read of its stream failed.
     ReadFailed,
     /// A write to its stream failed. All that it had sent was read, unless a read failed too.

@@ -1,4 +1,5 @@
 use crate::departure::Departure;
+use crate::newcomer::Newcomer;
 use crate::ready_stream::ReadyStream;
 
 /// What is to be done after a pause.
@@ -16,7 +17,7 @@ pub trait Door {
     type Stream: ReadyStream + Drop;
 
     /// The next client, for a place that is vacant, or none if no further client has come.
-    fn next_client(&mut self, place: usize) -> Option<Self::Stream>;
+    fn next_client(&mut self, place: usize) -> Option<Newcomer<Self::Stream>>;
 
     /// Whether the client at a place has to go, as one that has been idle while another one waits. It is asked for each
     /// client in each pass.

@@ -1,6 +1,7 @@
 //! Laws of serving, each the contract of a function that does nothing.
 ghost use Rattle.std.specs.Prelude.{ℕ, ◌*◌, ◌<◌, ◌≤◌, List, [], ◌∷◌};
 ghost use Rattle.audit_base.specs.declared.limits.TheConstants.{SESSIONS};
+ghost use Rattle.audit_serve_ready.specs.declared.newcomer.Newcomer.{Newcomer};
 ghost use Rattle.audit_serve_ready.specs.Slot.{SlotData, serving};
 ghost use Rattle.audit_serve_ready.specs.Places.{slot_at, IsServedAt};
 ghost use Rattle.audit_serve_ready.specs.Clients.{ClientChange, a_coming, AreChanges};
@@ -15,12 +16,12 @@ use audit_serve_passes::SessionCore;
 /// stream gave, in order. All that was taken of its session's output was written to its own stream, or is kept for it,
 /// or was dropped when it took no more replies.
 pub fn a_client_is_served_from_its_coming<C: SessionCore, S: ReadyStream>()
-    ensures { (k : ℕ) (client : S) (changes : List (ClientChange S)) (old new : C)
+    ensures { (k : ℕ) (client : Newcomer S) (changes : List (ClientChange S)) (old new : C)
         (before after : List (SlotData S)) (backlog first : ℕ)
         → AreChanges C.model S.calls backlog first (a_coming k client ∷ changes) old new before after
         → StaysAt k changes
         → IsServedAt S.calls k (steps_in changes) [] (taken_in k changes) (calls_in k changes)
-        (serving client [] []) (slot_at k after) }
+        (serving client.stream [] []) (slot_at k after) }
 {}
 
 /// A session has the first turn once in as many passes as there are sessions, whoever comes and goes. Whoever has it

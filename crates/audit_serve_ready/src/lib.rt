@@ -2,8 +2,8 @@
 //!
 //! A client has a place, which is that of a session, from its coming to its going. In each pass what clients have sent
 //! is read, one piece of each, then the core flushes, and then each client takes what it can of the replies:
-//! [`serve_clients`]. Nobody waits for a client. A stream is a [`ReadyStream`], clients come in by a [`Door`], and what
-//! decides on the bytes of the sessions is a [`SessionCore`](audit_serve_passes::SessionCore).
+//! [`serve_clients`]. Nobody waits for a client. A stream is a [`ReadyStream`], clients come in by a [`Door`], each with
+//! its [`Rights`](audit_serve_passes::Rights), and what decides on the bytes of the sessions is a [`SessionCore`](audit_serve_passes::SessionCore).
 #![tactic(auto)]
 
 mod backlog;
@@ -13,6 +13,7 @@ mod door;
 mod gathering;
 pub mod laws;
 mod limits;
+mod newcomer;
 mod ready_stream;
 mod reception;
 mod serving;
@@ -23,6 +24,7 @@ mod unread;
 pub use departure::Departure;
 pub use door::{Door, Next};
 pub use limits::{DEFAULT_BACKLOG, MAX_ASKED, MAX_BACKLOG};
+pub use newcomer::Newcomer;
 pub use ready_stream::ReadyStream;
 pub use serving::{finish_writing, serve_clients};
 pub use slot::{Slot, vacant_slots};
