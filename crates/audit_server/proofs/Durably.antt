@@ -17,7 +17,7 @@ use Rattle.audit_server_commit.specs.Committer.{store_of, state_of}
 use Rattle.audit_server_commit.specs.Durable.{IsDurable}
 use Rattle.audit_serve_passes.specs.Steps.{StepData, a_piece, an_end, a_flush, IsPartOf}
 use Rattle.audit_serve_passes.specs.Core.{GoesBy, no_bytes}
-use Rattle.audit_server_model.specs.Sessions.{SessionData, ended_session, sessions_run, arrivals_by_piece, arrivals_run}
+use Rattle.audit_server_model.specs.Sessions.{SessionData, no_session, sessions_run, arrivals_by_piece, arrivals_run}
 use Rattle.audit_server_model.specs.Serving.{CoreData, IsDurablyServed}
 use Rattle.audit_server_model.proofs.Serving.{put_back_none, durably_none, durably_more}
 use Rattle.audit_server.specs.declared.step.Step.{Step}
@@ -103,7 +103,7 @@ module _ {D : Type 0} {g : sectors.Ghosts D} where
   pub end_durably : (k : ℕ) (old new : Core D g) (result : Result (Unit {0}) StoreError) → EndOutcome k old new result → IsSound old → IsDurablyServed (data_of old) (data_of new) (whole_done (an_end k) result) no_bytes
   end_durably k old new (Ok done) end sound = done_durably old new sound (end_done k old new (Ok done) end sound)
   end_durably k old new (Err error) end sound =
-      durably_by (data_of old) (data_of new) sound (end.only ∙ ap (slice_set (sessions_of old) k) end.ended.session ∙ set-get_or (sessions_of old) k ended_session) (λ origin events holds.
+      durably_by (data_of old) (data_of new) sound (end.only ∙ ap (slice_set (sessions_of old) k) end.ended.session ∙ set-get_or (sessions_of old) k no_session) (λ origin events holds.
       let one = end.ended.frame.refused origin events holds in
       (one.0, one.1.durable))
 

@@ -1,15 +1,14 @@
 -- What the calls of a core make its sessions owed.
-use Rattle.std.proofs.Common.{◌≡◌, ◌∙◌, inl, inr, ◌⊎◌, ℕ, ◌+◌, ◌-◌, ◌<◌, ◌≤◌, Bool, true, false, ◌||◌, ◌&&◌, cond, eqb, leb, Result, Ok, Err, OnOk, List, [], ◌∷◌, ◌++◌, length, map, take, refl, sym, ap, subst, arith, true≢false}
+use Rattle.std.proofs.Common.{◌≡◌, ◌∙◌, inl, inr, ◌⊎◌, ℕ, ◌+◌, ◌-◌, ◌<◌, ◌≤◌, Bool, true, false, ◌||◌, ◌&&◌, cond, eqb, leb, Option, Some, None, Result, Ok, Err, OnOk, List, [], ◌∷◌, ◌++◌, length, map, take, refl, sym, ap, subst, arith, true≢false}
 use Rattle.std.specs.List.{AllByRecursion}
 use Rattle.std.proofs.lemmas.Bool.{eqb-true, leb-true}
 use Rattle.audit_disk_model.specs.declared.sectors.Sectors as sectors
 use Rattle.audit_wire.specs.declared.limits.TheConstants.{MAX_MEMBERSHIP_FRAME, REFUSAL_FRAME}
 use Rattle.audit_wire.specs.declared.request.Request.{Request}
 use Rattle.audit_wire.specs.declared.request.Request.TheVariants as request
-use Rattle.audit_wire.specs.Stream.{Framed}
 use Rattle.audit_server_queue.specs.declared.question.Query.{Query}
 use Rattle.audit_server_queue.specs.declared.question.Query.TheVariants as query
-use Rattle.audit_server_queue.specs.Arrivals.{Arrival, an_append, a_question, arrival_of, malformed_from, arrivals_in}
+use Rattle.audit_server_queue.specs.Arrivals.{Arrival, an_append, a_question, arrival_of}
 use Rattle.audit_server_queue.specs.Owing.{longest_answer, longest_reply, comes_from, share_of, owed_for}
 use Rattle.audit_store.specs.Store.{is_broken}
 use Rattle.audit_store.specs.declared.store_error.StoreError.{StoreError}
@@ -23,7 +22,8 @@ use Rattle.audit_serve_passes.specs.declared.allowance.Share.{Share}
 use Rattle.audit_serve_passes.specs.declared.allowance.Allowance.{Allowance}
 use Rattle.audit_serve_passes.specs.Allowance.{has_room, has_room_to_ask, spent}
 use Rattle.audit_serve_passes.specs.Owing.{GrowsWithin, OwesNoMore, OwesWithin, OwesAtEnd, IsBeyondAllowance}
-use Rattle.audit_server_model.specs.Sessions.{SessionData, arrivals_by_piece, arrivals_of_rest, arrivals_by_end, framed_after}
+use Rattle.audit_server_model.specs.Sessions.{SessionData, arrivals_by_piece, arrivals_of_rest, arrivals_by_end, heard_after}
+use Rattle.audit_server_model.specs.Heard.{Heard, last_arrival, arrivals_heard}
 use Rattle.audit_server.specs.declared.limit.Limit.{Limit}
 use Rattle.audit_server.specs.declared.limit.Limit.TheVariants as limit
 use Rattle.audit_server.specs.declared.server_core.Core.{Core}
@@ -77,20 +77,20 @@ request_from k (request.Incremental tag older newer) = refl
 request_from k (request.Entry tag index) = refl
 request_from k (request.Close tag) = refl
 
-arrivals_from : (k : ℕ) (requests : List Request) (malformed : Bool) → ComeFrom k (map (arrival_of k) requests ++ cond malformed (malformed_from k ∷ []) [])
-arrivals_from k [] true = (refl, tt)
-arrivals_from k [] false = tt
-arrivals_from k (one ∷ requests) malformed = (request_from k one, arrivals_from k requests malformed)
+arrivals_from : (k : ℕ) (requests : List Request) (last : Option Query) → ComeFrom k (map (arrival_of k) requests ++ last_arrival k last)
+arrivals_from k [] (Some asked) = (refl, tt)
+arrivals_from k [] None = tt
+arrivals_from k (one ∷ requests) last = (request_from k one, arrivals_from k requests last)
 
 piece_from : (k : ℕ) (piece : List ℕ) (session : SessionData) → ComeFrom k (arrivals_by_piece k piece session)
 piece_from k piece session = by session.ended
   where
-    framed : Framed Request
-    framed = framed_after session piece
+    heard : Heard
+    heard = heard_after session piece
 
-    by : (ended : Bool) → ComeFrom k (cond ended [] (arrivals_in k framed))
+    by : (ended : Bool) → ComeFrom k (cond ended [] (arrivals_heard k heard))
     by true = tt
-    by false = arrivals_from k framed.items framed.malformed
+    by false = arrivals_from k heard.requests heard.last
 
 end_from : (k : ℕ) (session : SessionData) → ComeFrom k (arrivals_by_end k session)
 end_from k session = by session.ended session.rest
@@ -116,6 +116,7 @@ longest_query (query.Membership tag index count) = omega arith
 longest_query (query.Incremental tag older newer) = omega arith
 longest_query (query.Entry tag index) = omega arith
 longest_query query.Malformed = omega arith
+longest_query (query.NotAllowed tag) = omega arith
 
 longest_arrival : (arrival : Arrival) → longest_reply arrival ≤ MAX_MEMBERSHIP_FRAME
 longest_arrival (an_append append) = omega arith

@@ -7,10 +7,14 @@ use Rattle.audit_wire.specs.declared.request.Request.{Request}
 use Rattle.audit_wire.specs.declared.fed.Fed.{Fed}
 use Rattle.audit_wire.specs.declared.fed.Fed.TheVariants as fed
 use Rattle.audit_wire.specs.Request.{request_in}
-use Rattle.audit_wire.specs.Stream.{Framed, rest_alone, spoiled, in_front, all_in_front, read_first, framed_requests}
+use Rattle.audit_wire.specs.Stream.{Framed, read_first, framed_requests}
 use Rattle.audit_wire.specs.Progress.{DecoderProgress, reading, whole, malformed, closed, rest_of, body_of, is_spoiled, IsDecoderFed, PutsBack}
-use Rattle.audit_wire.proofs.Framing.{requests_partial}
-use Rattle.audit_server_queue.specs.Arrivals.{Arrival, arrival_of, malformed_from, arrivals_in}
+use Rattle.audit_server_queue.specs.declared.question.Query.{Query}
+use Rattle.audit_server_queue.specs.declared.question.Query.TheVariants.{NotAllowed}
+use Rattle.audit_serve_passes.specs.declared.rights.Rights.{Rights}
+use Rattle.audit_server_model.specs.Heard.{Heard, allows, request_tag, heard_rest, stops_with, request_in_front, requests_in_front, heard_of, heard, last_arrival, arrivals_heard}
+use Rattle.audit_server_model.proofs.Hearing.{heard_partial}
+use Rattle.audit_server_queue.specs.Arrivals.{Arrival, a_question, arrival_of, malformed_from}
 use Rattle.audit_store.specs.Store.{is_broken}
 use Rattle.audit_store.specs.declared.store_error.StoreError.{StoreError}
 use Rattle.audit_server_commit.specs.declared.committer.Committer.{Committer}
@@ -18,12 +22,12 @@ use Rattle.audit_server_commit.specs.Committer.{store_of}
 use Rattle.audit_server_commit.specs.Entering.{IsArrivalEnd}
 use Rattle.audit_server.specs.Ending.{IsFrameEnd}
 use Rattle.audit_server.specs.declared.feed_fault.FeedFault.{FeedFault}
-use Rattle.audit_server_model.specs.Sessions.{SessionData, ended_session, framed_after, session_after, with_piece, arrivals_by_piece, arrivals_of_rest, arrivals_by_end}
+use Rattle.audit_server_model.specs.Sessions.{SessionData, ended_session, heard_after, session_after, with_piece, arrivals_by_piece, arrivals_of_rest, arrivals_by_end}
 use Rattle.audit_server.specs.Running.{HaveEntered, IsRefusedAfter, Run}
-use Rattle.audit_server.specs.Entering.{arrival_by, Enters}
+use Rattle.audit_server.specs.Entering.{arrival_by, item_heard, Enters}
 use Rattle.audit_server.specs.declared.limit.Limit.{Limit}
 use Rattle.audit_server.specs.Limit.{IsNotAdmitted, AreAdmitted}
-use Rattle.audit_server.specs.Feeding.{session_view, IsLive, place_after, IsHeldBack, IsPart, IsWholeFeed, IsSpoiled, IsUntaken, IsWithheld, IsFedWhole, IsFedUpTo, IsFedUpToRefusal}
+use Rattle.audit_server.specs.Feeding.{session_view, IsLive, place_after, IsHeldBack, IsPart, IsWholeFeed, IsLast, IsUntaken, IsWithheld, IsFedWhole, IsFedUpTo, IsFedUpToRefusal}
 use Rattle.audit_server.proofs.Limits.{taken_append, taken_as}
 use Rattle.audit_server.proofs.Sound.{entered_sound, arrival_not_broken, request_not_broken}
 use Rattle.audit_server.proofs.Runs.{run_none, run_more, run_as, run_refused}
@@ -31,28 +35,49 @@ use Rattle.audit_server.proofs.Fronts.{no_request, StaysPart, front_more, EndsFr
 
 -- ---- a live session, by its decoder
 
-pub record Shows (progress : DecoderProgress) (ended : Bool) (session : SessionData) : Type 0 where
-  pub view : session_view progress ended ≡ session
+pub record Shows (allowed : Rights) (progress : DecoderProgress) (ended : Bool) (session : SessionData) : Type 0 where
+  pub view : session_view allowed progress ended ≡ session
   pub live : session.ended ≡ false
   pub inside : IsLive progress ended
 
-not_ended : {progress : DecoderProgress} {ended : Bool} {session : SessionData} → Shows progress ended session → ended ≡ false
-not_ended shows = ap (λ (s : SessionData). s.ended) shows.view ∙ shows.live
+rest_shown : (allowed : Rights) (progress : DecoderProgress) (ended : Bool) → ended ≡ false → (session_view allowed progress ended).rest ≡ rest_of progress
+rest_shown allowed progress ended is = ap (λ (b : Bool). if b then [] else rest_of progress) is
 
-pub unspoiled : {progress : DecoderProgress} {ended : Bool} {session : SessionData} → Shows progress ended session → is_spoiled progress ≡ false
-unspoiled shows = shows.inside (not_ended shows)
+heard_by : (allowed : Rights) (progress : DecoderProgress) (ended : Bool) (bytes : List ℕ) → ended ≡ false → heard_after (session_view allowed progress ended) bytes ≡ heard allowed (rest_of progress ++ bytes)
+heard_by allowed progress ended bytes is = ap (λ (rest : List ℕ). heard allowed (rest ++ bytes)) (rest_shown allowed progress ended is)
 
-rest_shown : (progress : DecoderProgress) (ended : Bool) → ended ≡ false → (session_view progress ended).rest ≡ rest_of progress
-rest_shown progress ended is = ap (λ (b : Bool). if b then [] else rest_of progress) is
+module _ {allowed : Rights} {progress : DecoderProgress} {ended : Bool} {session : SessionData} where
+  not_ended : Shows allowed progress ended session → ended ≡ false
+  not_ended shows = ap (λ (s : SessionData). s.ended) shows.view ∙ shows.live
 
-rest_is : {progress : DecoderProgress} {ended : Bool} {session : SessionData} → Shows progress ended session → session.rest ≡ rest_of progress
-rest_is {progress = progress} {ended = ended} shows = ap (λ (s : SessionData). s.rest) (sym shows.view) ∙ rest_shown progress ended (not_ended shows)
+  pub unspoiled : Shows allowed progress ended session → is_spoiled progress ≡ false
+  unspoiled shows = shows.inside (not_ended shows)
 
-framed_by : (progress : DecoderProgress) (ended : Bool) (bytes : List ℕ) → ended ≡ false → framed_after (session_view progress ended) bytes ≡ framed_requests (rest_of progress ++ bytes)
-framed_by progress ended bytes is = ap (λ (rest : List ℕ). framed_requests (rest ++ bytes)) (rest_shown progress ended is)
+  rights_are : Shows allowed progress ended session → allowed ≡ session.allowed
+  rights_are shows = ap (λ (s : SessionData). s.allowed) shows.view
 
-framed_shown : {progress : DecoderProgress} {ended : Bool} {session : SessionData} (bytes : List ℕ) → Shows progress ended session → framed_after session bytes ≡ framed_requests (rest_of progress ++ bytes)
-framed_shown {progress = progress} {ended = ended} bytes shows = ap (λ (s : SessionData). framed_after s bytes) (sym shows.view) ∙ framed_by progress ended bytes (not_ended shows)
+  rest_is : Shows allowed progress ended session → session.rest ≡ rest_of progress
+  rest_is shows = ap (λ (s : SessionData). s.rest) (sym shows.view) ∙ rest_shown allowed progress ended (not_ended shows)
+
+  heard_shown : (bytes : List ℕ) → Shows allowed progress ended session → heard_after session bytes ≡ heard allowed (rest_of progress ++ bytes)
+  heard_shown bytes shows =
+      ap (λ (s : SessionData). heard_after s bytes) (sym shows.view) ∙ heard_by allowed progress ended bytes (not_ended shows)
+
+-- what is taken of a body, followed by what is taken of the bytes after it
+abbrev first_heard : Result Request Query → Heard → Heard
+first_heard (Ok asked) following = request_in_front asked following
+first_heard (Err last) following = stops_with last
+
+heard_first : (allowed : Rights) (read : Option Request) (after : Framed Request) → heard_of allowed (read_first read after) ≡ first_heard (item_heard allowed read) (heard_of allowed after)
+heard_first allowed None after = refl
+heard_first allowed (Some asked) after = by (allows allowed asked)
+  where
+    refused : Query
+    refused = NotAllowed (request_tag asked)
+
+    by : (may : Bool) → (if may then request_in_front asked (heard_of allowed after) else stops_with refused) ≡ first_heard (if may then Ok asked else Err refused) (heard_of allowed after)
+    by true = refl
+    by false = refl
 
 -- ---- the start of a piece
 
@@ -61,18 +86,19 @@ part_more fed.More is = refl
 part_more (fed.Body taken) is = absurd (cc is)
 part_more (fed.Malformed taken) is = absurd (cc is)
 
-none_some : {P : Type 0} (request : Request) → None ≡ Some request → P
-none_some request is = absurd (cc is)
+none_some : {P : Type 0} (allowed : Rights) (read : Option Request) (asked : Request) → read ≡ None → item_heard allowed read ≡ Ok asked → P
+none_some allowed None asked none is = absurd (cc is)
+none_some allowed (Some request) asked none is = absurd (cc none)
 
-pub not_spoiled : (progress : DecoderProgress) (request : Request) → request_in (body_of progress) ≡ Some request → is_spoiled progress ≡ false
-not_spoiled (reading held) request is = refl
-not_spoiled (whole body) request is = refl
-not_spoiled (malformed held) request is = none_some request (sym no_request ∙ is)
-not_spoiled closed request is = none_some request (sym no_request ∙ is)
+pub not_spoiled : (allowed : Rights) (progress : DecoderProgress) (asked : Request) → item_heard allowed (request_in (body_of progress)) ≡ Ok asked → is_spoiled progress ≡ false
+not_spoiled allowed (reading held) asked is = refl
+not_spoiled allowed (whole body) asked is = refl
+not_spoiled allowed (malformed held) asked is = none_some allowed (request_in []) asked no_request is
+not_spoiled allowed closed asked is = none_some allowed (request_in []) asked no_request is
 
-arrivals_first : (k : ℕ) (read : Option Request) → arrivals_in k (read_first read (rest_alone [])) ≡ arrival_by k read ∷ []
-arrivals_first k (Some request) = refl
-arrivals_first k None = refl
+arrivals_first : (k : ℕ) (found : Result Request Query) → arrivals_heard k (first_heard found (heard_rest [])) ≡ arrival_by k found ∷ []
+arrivals_first k (Ok asked) = refl
+arrivals_first k (Err last) = refl
 
 -- ---- the incomplete frame
 
@@ -86,17 +112,16 @@ not_pending_so false is here p = absurd (cc (is.1 p))
 
 -- ---- what arrives
 
-arrivals_all : (k : ℕ) (items : List Request) (framed : Framed Request) → arrivals_in k (all_in_front items framed) ≡ map (arrival_of k) items ++ arrivals_in k framed
-arrivals_all k items framed =
-    let place : List Arrival = if framed.malformed then malformed_from k ∷ [] else [] in
-    ap (λ (all : List Arrival). all ++ place) (map-append (arrival_of k) items framed.items)
-    ∙ append_assoc (map (arrival_of k) items) (map (arrival_of k) framed.items) place
+arrivals_all : (k : ℕ) (items : List Request) (now : Heard) → arrivals_heard k (requests_in_front items now) ≡ map (arrival_of k) items ++ arrivals_heard k now
+arrivals_all k items now =
+    ap (λ (all : List Arrival). all ++ last_arrival k now.last) (map-append (arrival_of k) items now.requests)
+    ∙ append_assoc (map (arrival_of k) items) (map (arrival_of k) now.requests) (last_arrival k now.last)
 
-by_piece : (k : ℕ) (piece : List ℕ) (session : SessionData) → session.ended ≡ false → arrivals_by_piece k piece session ≡ arrivals_in k (framed_after session piece)
-by_piece k piece session live = ap (λ (b : Bool). if b then [] else arrivals_in k (framed_after session piece)) live
+by_piece : (k : ℕ) (piece : List ℕ) (session : SessionData) → session.ended ≡ false → arrivals_by_piece k piece session ≡ arrivals_heard k (heard_after session piece)
+by_piece k piece session live = ap (λ (b : Bool). if b then [] else arrivals_heard k (heard_after session piece)) live
 
-with_live : (piece : List ℕ) (session : SessionData) → session.ended ≡ false → with_piece piece session ≡ session_after (framed_after session piece)
-with_live piece session live = ap (λ (b : Bool). if b then session else session_after (framed_after session piece)) live
+with_live : (piece : List ℕ) (session : SessionData) → session.ended ≡ false → with_piece piece session ≡ session_after session.allowed (heard_after session piece)
+with_live piece session live = ap (λ (b : Bool). if b then session else session_after session.allowed (heard_after session piece)) live
 
 no_rest : (k : ℕ) (rest : List ℕ) → (rest ≢ [] → ⊥) → arrivals_of_rest k rest ≡ []
 no_rest k [] none = refl
@@ -109,87 +134,97 @@ some_rest k (byte ∷ rest) some = refl
 by_end : (k : ℕ) (session : SessionData) → session.ended ≡ false → arrivals_by_end k session ≡ arrivals_of_rest k session.rest
 by_end k session live = ap (λ (b : Bool). if b then [] else arrivals_of_rest k session.rest) live
 
-begun_arrives : {progress : DecoderProgress} {ended : Bool} {session : SessionData} (k : ℕ) → Shows progress ended session → rest_of progress ≢ [] → arrivals_by_end k session ≡ malformed_from k ∷ []
+begun_arrives : {allowed : Rights} {progress : DecoderProgress} {ended : Bool} {session : SessionData} (k : ℕ) → Shows allowed progress ended session → rest_of progress ≢ [] → arrivals_by_end k session ≡ malformed_from k ∷ []
 begun_arrives {progress = progress} {session = session} k shows some = by_end k session shows.live ∙ ap (arrivals_of_rest k) (rest_is shows) ∙ some_rest k (rest_of progress) some
 
-held_back : {old : DecoderProgress} {ended : Bool} {session : SessionData} (k : ℕ) (mid new : DecoderProgress) (piece : List ℕ) (answer : Fed) (taken : ℕ) → Shows old ended session → EndsFrame old mid piece taken
+held_back : {allowed : Rights} {old : DecoderProgress} {ended : Bool} {session : SessionData} (k : ℕ) (mid new : DecoderProgress) (piece : List ℕ) (answer : Fed) (taken : ℕ) → Shows allowed old ended session → EndsFrame old mid piece taken
     → IsDecoderFed old piece answer mid → place_after answer ≡ Some taken → PutsBack mid new
-    → IsHeldBack k piece (taken - 1) (arrival_by k (request_in (body_of mid))) session (session_view new ended)
-held_back {old = old} {ended = ended} {session = session} k mid new piece answer taken shows ends h is back =
+    → IsHeldBack k piece (taken - 1) (arrival_by k (item_heard allowed (request_in (body_of mid)))) session (session_view allowed new ended)
+held_back {allowed = allowed} {old = old} {ended = ended} {session = session} k mid new piece answer taken shows ends h is back =
     let undone : GoesBack old new piece taken = front_undone old mid new piece answer taken (unspoiled shows) h is ends.just back in
     let one_more : 1 + (taken - 1) ≡ taken = omega (arith, ends.some) in
     record {
       within = omega (arith, ends.some, ends.within);
       live = not_ended shows;
-      framed = λ later. framed_shown (take (taken - 1) piece ++ later) shows ∙ undone.framed later ∙ sym (framed_by new ended later (not_ended shows));
+      rights = rights_are shows;
+      heard = λ later. heard_shown (take (taken - 1) piece ++ later) shows ∙ ap (heard_of allowed) (undone.framed later) ∙ sym (heard_by allowed new ended later (not_ended shows));
       partial =
-          framed_by new ended [] (not_ended shows)
-          ∙ ap framed_requests (append-nil (rest_of new))
-          ∙ undone.partial
-          ∙ ap rest_alone (sym (rest_shown new ended (not_ended shows)));
+          heard_by allowed new ended [] (not_ended shows)
+          ∙ ap (heard allowed) (append-nil (rest_of new))
+          ∙ ap (heard_of allowed) undone.partial
+          ∙ ap (λ (b : Bool). heard_rest (if b then [] else rest_of new)) (sym (not_ended shows));
       next =
           ap (λ (n : ℕ). arrivals_by_piece k (take n piece) session) one_more
-          ∙ ap (λ (b : Bool). if b then [] else arrivals_in k (framed_after session (take taken piece))) shows.live
-          ∙ ap (λ (bytes : List ℕ). arrivals_in k (framed_after session bytes)) (sym (append-nil (take taken piece)))
-          ∙ ap (arrivals_in k) (framed_shown (take taken piece ++ []) shows ∙ ends.framed [])
-          ∙ ap (λ (later : Framed Request). arrivals_in k (read_first (request_in (body_of mid)) later)) (requests_partial [] tt)
-          ∙ arrivals_first k (request_in (body_of mid));
+          ∙ by_piece k (take taken piece) session shows.live
+          ∙ ap (λ (bytes : List ℕ). arrivals_heard k (heard_after session bytes)) (sym (append-nil (take taken piece)))
+          ∙ ap (arrivals_heard k) (heard_shown (take taken piece ++ []) shows ∙ ap (heard_of allowed) (ends.framed []) ∙ heard_first allowed (request_in (body_of mid)) (framed_requests []))
+          ∙ ap (λ (later : Heard). arrivals_heard k (first_heard (item_heard allowed (request_in (body_of mid))) later)) (heard_partial allowed [] tt)
+          ∙ arrivals_first k (item_heard allowed (request_in (body_of mid)));
     }
 
-module _ {D : Type 0} {g : sectors.Ghosts D} where
-  pub part_done : {old : DecoderProgress} {ended : Bool} {session : SessionData} (new : DecoderProgress) (piece : List ℕ) (answer : Fed) (committer : Committer D g) (bound : Limit) → Shows old ended session → IsDecoderFed old piece answer new → place_after answer ≡ None
-      → IsPart piece session (session_view new ended) committer committer bound bound
-  part_done {old = old} {ended = ended} new piece answer committer bound shows h is =
+-- what is taken of the bytes up to the end of a frame, followed by others
+frame_heard : {allowed : Rights} {old : DecoderProgress} {ended : Bool} {session : SessionData} (new : DecoderProgress) (piece : List ℕ) (taken : ℕ) (later : List ℕ) → Shows allowed old ended session → EndsFrame old new piece taken
+    → heard_after session (take taken piece ++ later) ≡ first_heard (item_heard allowed (request_in (body_of new))) (heard allowed later)
+frame_heard {allowed = allowed} new piece taken later shows ends =
+    heard_shown (take taken piece ++ later) shows ∙ ap (heard_of allowed) (ends.framed later) ∙ heard_first allowed (request_in (body_of new)) (framed_requests later)
+
+module _ {D : Type 0} {g : sectors.Ghosts D} {allowed : Rights} {old : DecoderProgress} {ended : Bool} {session : SessionData} where
+  pub part_done : (new : DecoderProgress) (piece : List ℕ) (answer : Fed) (committer : Committer D g) (bound : Limit) → Shows allowed old ended session → IsDecoderFed old piece answer new → place_after answer ≡ None
+      → IsPart piece session (session_view allowed new ended) committer committer bound bound
+  part_done new piece answer committer bound shows h is =
       let part : StaysPart old new piece = front_more old new piece (unspoiled shows) (subst (λ (a : Fed). IsDecoderFed old piece a new) (part_more answer is) h) in
       record {
         live = not_ended shows;
-        framed = framed_shown piece shows ∙ part.framed ∙ ap rest_alone (sym (rest_shown new ended (not_ended shows)));
+        rights = rights_are shows;
+        heard = heard_shown piece shows ∙ ap (heard_of allowed) part.framed ∙ ap (λ (b : Bool). heard_rest (if b then [] else rest_of new)) (sym (not_ended shows));
         same = refl;
         unspent = refl;
       }
 
-  pub whole_done : {old : DecoderProgress} {ended : Bool} {session : SessionData} (k : ℕ) (new : DecoderProgress) (piece : List ℕ) (taken : ℕ) (before after : Committer D g) (request : Request) → Shows old ended session → EndsFrame old new piece taken
-      → request_in (body_of new) ≡ Some request → Enters (arrival_of k request) before after (Ok tt) → {bound left : Limit} → AreAdmitted (arrival_of k request ∷ []) bound left → IsWholeFeed k piece taken session (session_view new ended) before after bound left
-  whole_done {old = old} {ended = ended} k new piece taken before after request shows ends is enters spent = record {
+  pub whole_done : (k : ℕ) (new : DecoderProgress) (piece : List ℕ) (taken : ℕ) (before after : Committer D g) (request : Request) → Shows allowed old ended session → EndsFrame old new piece taken
+      → item_heard allowed (request_in (body_of new)) ≡ Ok request → Enters (arrival_of k request) before after (Ok tt) → {bound left : Limit} → AreAdmitted (arrival_of k request ∷ []) bound left → IsWholeFeed k piece taken session (session_view allowed new ended) before after bound left
+  whole_done k new piece taken before after request shows ends is enters spent = record {
     some = ends.some;
     within = ends.within;
     live = not_ended shows;
+    rights = rights_are shows;
     request = request;
-    framed = λ later.
-        framed_shown (take taken piece ++ later) shows
-        ∙ ends.framed later
-        ∙ ap (λ (read : Option Request). read_first read (framed_requests later)) is
-        ∙ ap (λ (rest : List ℕ). in_front request (framed_requests (rest ++ later))) (sym ends.rest)
-        ∙ ap (in_front request) (sym (framed_by new ended later (not_ended shows)));
+    heard = λ later.
+        frame_heard new piece taken later shows ends
+        ∙ ap (λ (found : Result Request Query). first_heard found (heard allowed later)) is
+        ∙ ap (λ (rest : List ℕ). request_in_front request (heard allowed (rest ++ later))) (sym ends.rest)
+        ∙ ap (request_in_front request) (sym (heard_by allowed new ended later (not_ended shows)));
     enters = enters;
     spent = spent;
   }
 
-  pub spoiled_done : {old : DecoderProgress} {ended : Bool} {session : SessionData} (k : ℕ) (new : DecoderProgress) (piece : List ℕ) (taken : ℕ) (before after : Committer D g) → Shows old ended session → EndsFrame old new piece taken
-      → request_in (body_of new) ≡ None → Enters (malformed_from k) before after (Ok tt) → {bound left : Limit} → AreAdmitted (malformed_from k ∷ []) bound left → IsSpoiled k piece session ended_session before after bound left
-  spoiled_done {session = session} k new piece taken before after shows ends is enters spent = record {
-    ended = refl;
-    framed =
-        ap (framed_after session) (sym (take-append-drop taken piece))
-        ∙ framed_shown (take taken piece ++ drop taken piece) shows
-        ∙ ends.framed (drop taken piece)
-        ∙ ap (λ (read : Option Request). read_first read (framed_requests (drop taken piece))) is;
+  pub last_done : (k : ℕ) (new : DecoderProgress) (piece : List ℕ) (taken : ℕ) (before after : Committer D g) (last : Query) → Shows allowed old ended session → EndsFrame old new piece taken
+      → item_heard allowed (request_in (body_of new)) ≡ Err last → Enters (a_question (record { session = k; query = last })) before after (Ok tt) → {bound left : Limit} → AreAdmitted (a_question (record { session = k; query = last }) ∷ []) bound left
+      → IsLast k piece session (ended_session allowed) before after bound left
+  last_done k new piece taken before after last shows ends is enters spent = record {
+    ended = ap ended_session (rights_are shows);
+    last = last;
+    heard =
+        ap (heard_after session) (sym (take-append-drop taken piece))
+        ∙ frame_heard new piece taken (drop taken piece) shows ends
+        ∙ ap (λ (found : Result Request Query). first_heard found (heard allowed (drop taken piece))) is;
     enters = enters;
     spent = spent;
   }
 
-  pub untaken_done : {old : DecoderProgress} {ended : Bool} {session : SessionData} (k : ℕ) (mid new : DecoderProgress) (piece : List ℕ) (answer : Fed) (taken : ℕ) (before after : Committer D g) (error : StoreError) → Shows old ended session → EndsFrame old mid piece taken
-      → IsDecoderFed old piece answer mid → place_after answer ≡ Some taken → PutsBack mid new → Enters (arrival_by k (request_in (body_of mid))) before after (Err error) → {bound left : Limit} → left ≡ bound
-      → IsUntaken k piece (record { taken = taken - 1; error = error }) session (session_view new ended) before after bound left
+  pub untaken_done : (k : ℕ) (mid new : DecoderProgress) (piece : List ℕ) (answer : Fed) (taken : ℕ) (before after : Committer D g) (error : StoreError) → Shows allowed old ended session → EndsFrame old mid piece taken
+      → IsDecoderFed old piece answer mid → place_after answer ≡ Some taken → PutsBack mid new → Enters (arrival_by k (item_heard allowed (request_in (body_of mid)))) before after (Err error) → {bound left : Limit} → left ≡ bound
+      → IsUntaken k piece (record { taken = taken - 1; error = error }) session (session_view allowed new ended) before after bound left
   untaken_done k mid new piece answer taken before after error shows ends h is back enters unspent =
-      record { arrival = arrival_by k (request_in (body_of mid)); held = held_back k mid new piece answer taken shows ends h is back; enters = enters; unspent = unspent }
+      record { arrival = arrival_by k (item_heard allowed (request_in (body_of mid))); held = held_back k mid new piece answer taken shows ends h is back; enters = enters; unspent = unspent }
 
-  pub withheld_done : {old : DecoderProgress} {ended : Bool} {session : SessionData} (k : ℕ) (mid new : DecoderProgress) (piece : List ℕ) (answer : Fed) (taken : ℕ) (before after : Committer D g) → Shows old ended session → EndsFrame old mid piece taken
-      → IsDecoderFed old piece answer mid → place_after answer ≡ Some taken → PutsBack mid new → after ≡ before → {bound left : Limit} → left ≡ bound → IsNotAdmitted (arrival_by k (request_in (body_of mid))) bound
-      → IsWithheld k piece (taken - 1) session (session_view new ended) before after bound left
+  pub withheld_done : (k : ℕ) (mid new : DecoderProgress) (piece : List ℕ) (answer : Fed) (taken : ℕ) (before after : Committer D g) → Shows allowed old ended session → EndsFrame old mid piece taken
+      → IsDecoderFed old piece answer mid → place_after answer ≡ Some taken → PutsBack mid new → after ≡ before → {bound left : Limit} → left ≡ bound → IsNotAdmitted (arrival_by k (item_heard allowed (request_in (body_of mid)))) bound
+      → IsWithheld k piece (taken - 1) session (session_view allowed new ended) before after bound left
   withheld_done k mid new piece answer taken before after shows ends h is back same unspent over =
-      record { arrival = arrival_by k (request_in (body_of mid)); held = held_back k mid new piece answer taken shows ends h is back; same = same; unspent = unspent; over = over }
+      record { arrival = arrival_by k (item_heard allowed (request_in (body_of mid))); held = held_back k mid new piece answer taken shows ends h is back; same = same; unspent = unspent; over = over }
 
+module _ {D : Type 0} {g : sectors.Ghosts D} where
   -- ---- a whole piece, frame by frame
 
   -- the requests in the first bytes have entered, and the session is live
@@ -198,8 +233,9 @@ module _ {D : Type 0} {g : sectors.Ghosts D} where
     pub was_live : old.ended ≡ false
     pub live : now.ended ≡ false
     pub sound : is_broken (store_of after) ≡ false
+    pub rights : now.allowed ≡ old.allowed
     pub items : List Request
-    pub ahead : (later : List ℕ) → framed_after old (take taken piece ++ later) ≡ all_in_front items (framed_after now later)
+    pub ahead : (later : List ℕ) → heard_after old (take taken piece ++ later) ≡ requests_in_front items (heard_after now later)
     pub run : Run (map (arrival_of k) items) before after
     pub spent : AreAdmitted (map (arrival_of k) items) bound left
 
@@ -217,28 +253,34 @@ module _ {D : Type 0} {g : sectors.Ghosts D} where
 
   module _ (k : ℕ) (piece : List ℕ) (taken : ℕ) (old now new : SessionData) (before mid after : Committer D g) (bound left later_left : Limit) (fed : HasFed k piece taken old now before mid bound left) where
     -- the arrivals in the whole piece
-    all_framed : (framed : Framed Request) → framed_after now (drop taken piece) ≡ framed → framed_after old piece ≡ all_in_front fed.items framed
-    all_framed framed is = ap (framed_after old) (sym (take-append-drop taken piece)) ∙ fed.ahead (drop taken piece) ∙ ap (all_in_front fed.items) is
+    all_heard : (rest : Heard) → heard_after now (drop taken piece) ≡ rest → heard_after old piece ≡ requests_in_front fed.items rest
+    all_heard rest is = ap (heard_after old) (sym (take-append-drop taken piece)) ∙ fed.ahead (drop taken piece) ∙ ap (requests_in_front fed.items) is
 
-    all_arrivals : (framed : Framed Request) → framed_after now (drop taken piece) ≡ framed → arrivals_by_piece k piece old ≡ map (arrival_of k) fed.items ++ arrivals_in k framed
-    all_arrivals framed is = by_piece k piece old fed.was_live ∙ ap (arrivals_in k) (all_framed framed is) ∙ arrivals_all k fed.items framed
+    all_arrivals : (rest : Heard) → heard_after now (drop taken piece) ≡ rest → arrivals_by_piece k piece old ≡ map (arrival_of k) fed.items ++ arrivals_heard k rest
+    all_arrivals rest is = by_piece k piece old fed.was_live ∙ ap (arrivals_heard k) (all_heard rest is) ∙ arrivals_all k fed.items rest
+
+    -- the session after it, if it still has its rights
+    session_left : (allowed : Rights) (ended : Bool) → allowed ≡ now.allowed → ended ≡ false → ◌≡◌ {A = SessionData} (record { allowed = old.allowed; rest = new.rest; ended = false }) (record { allowed = allowed; rest = new.rest; ended = ended })
+    session_left allowed ended same live =
+        ◌∙◌ {A = SessionData} (ap (λ (r : Rights). record { allowed = r; rest = new.rest; ended = false }) (sym (same ∙ fed.rights))) (ap (λ (b : Bool). record { allowed = allowed; rest = new.rest; ended = b }) (sym live))
 
     pub fed_part : IsPart (drop taken piece) now new mid after left later_left → IsFedUpTo k piece (length piece) old new before after bound later_left
     fed_part part =
-        let arrivals : arrivals_by_piece k piece old ≡ map (arrival_of k) fed.items = all_arrivals (rest_alone new.rest) part.framed ∙ append-nil (map (arrival_of k) fed.items) in
+        let arrivals : arrivals_by_piece k piece old ≡ map (arrival_of k) fed.items = all_arrivals (heard_rest new.rest) part.heard ∙ append-nil (map (arrival_of k) fed.items) in
         all_taken k piece old new before after bound later_left (record {
           session =
-              sym (with_live piece old fed.was_live ∙ ap session_after (all_framed (rest_alone new.rest) part.framed) ∙ ap (λ (b : Bool). record { rest = new.rest; ended = b }) (sym part.live));
+              sym (with_live piece old fed.was_live ∙ ap (session_after old.allowed) (all_heard (heard_rest new.rest) part.heard) ∙ session_left new.allowed new.ended part.rights part.live);
           run = subst (λ (c : Committer D g). Run (arrivals_by_piece k piece old) before c) (sym part.same) (run_as (sym arrivals) fed.run);
         }) (taken_as bound later_left (sym arrivals) (subst (λ (l : Limit). AreAdmitted (map (arrival_of k) fed.items) bound l) (sym part.unspent) fed.spent))
 
-    pub fed_spoiled : IsSpoiled k (drop taken piece) now new mid after left later_left → IsFedUpTo k piece (length piece) old new before after bound later_left
-    fed_spoiled bad =
-        let arrivals : arrivals_by_piece k piece old ≡ map (arrival_of k) fed.items ++ malformed_from k ∷ [] = all_arrivals spoiled bad.framed in
+    pub fed_last : IsLast k (drop taken piece) now new mid after left later_left → IsFedUpTo k piece (length piece) old new before after bound later_left
+    fed_last bad =
+        let arrival : Arrival = a_question (record { session = k; query = bad.last }) in
+        let arrivals : arrivals_by_piece k piece old ≡ map (arrival_of k) fed.items ++ arrival ∷ [] = all_arrivals (stops_with bad.last) bad.heard in
         all_taken k piece old new before after bound later_left (record {
-          session = bad.ended ∙ sym (with_live piece old fed.was_live ∙ ap session_after (all_framed spoiled bad.framed));
-          run = run_as (sym arrivals) (run_more (malformed_from k) fed.run bad.enters);
-        }) (taken_as bound later_left (sym arrivals) (taken_append (map (arrival_of k) fed.items) (malformed_from k ∷ []) bound left later_left fed.spent bad.spent))
+          session = bad.ended ∙ ap ended_session fed.rights ∙ sym (with_live piece old fed.was_live ∙ ap (session_after old.allowed) (all_heard (stops_with bad.last) bad.heard));
+          run = run_as (sym arrivals) (run_more arrival fed.run bad.enters);
+        }) (taken_as bound later_left (sym arrivals) (taken_append (map (arrival_of k) fed.items) (arrival ∷ []) bound left later_left fed.spent bad.spent))
 
     pub fed_more : (more : ℕ) → IsWholeFeed k (drop taken piece) more now new mid after left later_left → HasFed k piece (taken + more) old new before after bound later_left
     fed_more more front = record {
@@ -246,14 +288,15 @@ module _ {D : Type 0} {g : sectors.Ghosts D} where
       was_live = fed.was_live;
       live = front.live;
       sound = entered_sound (arrival_of k front.request) mid after front.enters.end fed.sound;
+      rights = front.rights ∙ fed.rights;
       items = fed.items ++ front.request ∷ [];
       ahead = λ later.
-          let next : Framed Request = framed_after new later in
-          ap (λ (bytes : List ℕ). framed_after old (bytes ++ later)) (take-add taken more piece)
-          ∙ ap (framed_after old) (append_assoc (take taken piece) (take more (drop taken piece)) later)
+          let next : Heard = heard_after new later in
+          ap (λ (bytes : List ℕ). heard_after old (bytes ++ later)) (take-add taken more piece)
+          ∙ ap (heard_after old) (append_assoc (take taken piece) (take more (drop taken piece)) later)
           ∙ fed.ahead (take more (drop taken piece) ++ later)
-          ∙ ap (all_in_front fed.items) (front.framed later)
-          ∙ ap (λ (items : List Request). record { items = items; malformed = next.malformed; rest = next.rest }) (sym (append_assoc fed.items (front.request ∷ []) next.items));
+          ∙ ap (requests_in_front fed.items) (front.heard later)
+          ∙ ap (λ (items : List Request). record { requests = items; last = next.last; rest = next.rest }) (sym (append_assoc fed.items (front.request ∷ []) next.requests));
       run = run_as (sym (map-append (arrival_of k) fed.items (front.request ∷ []))) (run_more (arrival_of k front.request) fed.run front.enters);
       spent = taken_as bound later_left (sym (map-append (arrival_of k) fed.items (front.request ∷ []))) (taken_append (map (arrival_of k) fed.items) (arrival_of k front.request ∷ []) bound left later_left fed.spent front.spent);
     }
@@ -261,24 +304,24 @@ module _ {D : Type 0} {g : sectors.Ghosts D} where
     -- ---- the next arrival was held back
 
     module _ (first : ℕ) (arrival : Arrival) (held : IsHeldBack k (drop taken piece) first arrival now new) where
-      held_framed : framed_after old (take (taken + first) piece) ≡ all_in_front fed.items (rest_alone new.rest)
-      held_framed =
-          ap (framed_after old) (take-add taken first piece ∙ ap (λ (bytes : List ℕ). take taken piece ++ bytes) (sym (append-nil (take first (drop taken piece)))))
+      held_heard : heard_after old (take (taken + first) piece) ≡ requests_in_front fed.items (heard_rest new.rest)
+      held_heard =
+          ap (heard_after old) (take-add taken first piece ∙ ap (λ (bytes : List ℕ). take taken piece ++ bytes) (sym (append-nil (take first (drop taken piece)))))
           ∙ fed.ahead (take first (drop taken piece) ++ [])
-          ∙ ap (all_in_front fed.items) (held.framed [] ∙ held.partial)
+          ∙ ap (requests_in_front fed.items) (held.heard [] ∙ held.partial)
 
       held_arrivals : arrivals_by_piece k (take (taken + first) piece) old ≡ map (arrival_of k) fed.items
       held_arrivals =
           by_piece k (take (taken + first) piece) old fed.was_live
-          ∙ ap (arrivals_in k) held_framed
-          ∙ arrivals_all k fed.items (rest_alone new.rest)
+          ∙ ap (arrivals_heard k) held_heard
+          ∙ arrivals_all k fed.items (heard_rest new.rest)
           ∙ append-nil (map (arrival_of k) fed.items)
 
       held_within : taken + first ≤ length piece
       held_within = omega (arith, fed.within, held.within, length-drop taken piece)
 
       held_session : new ≡ with_piece (take (taken + first) piece) old
-      held_session = sym (with_live (take (taken + first) piece) old fed.was_live ∙ ap session_after held_framed ∙ ap (λ (b : Bool). record { rest = new.rest; ended = b }) (sym held.live))
+      held_session = sym (with_live (take (taken + first) piece) old fed.was_live ∙ ap (session_after old.allowed) held_heard ∙ session_left new.allowed new.ended held.rights held.live)
 
       held_next : arrivals_by_piece k (take (1 + (taken + first)) piece) old ≡ arrivals_by_piece k (take (taken + first) piece) old ++ arrival ∷ []
       held_next =
@@ -286,9 +329,9 @@ module _ {D : Type 0} {g : sectors.Ghosts D} where
           let one_more : 1 + (taken + first) ≡ taken + (1 + first) = omega (arith) in
           ap (λ (n : ℕ). arrivals_by_piece k (take n piece) old) one_more
           ∙ by_piece k (take (taken + (1 + first)) piece) old fed.was_live
-          ∙ ap (λ (bytes : List ℕ). arrivals_in k (framed_after old bytes)) (take-add taken (1 + first) piece)
-          ∙ ap (arrivals_in k) (fed.ahead (take (1 + first) rest))
-          ∙ arrivals_all k fed.items (framed_after now (take (1 + first) rest))
+          ∙ ap (λ (bytes : List ℕ). arrivals_heard k (heard_after old bytes)) (take-add taken (1 + first) piece)
+          ∙ ap (arrivals_heard k) (fed.ahead (take (1 + first) rest))
+          ∙ arrivals_all k fed.items (heard_after now (take (1 + first) rest))
           ∙ ap (λ (later : List Arrival). map (arrival_of k) fed.items ++ later) (sym (by_piece k (take (1 + first) rest) now fed.live) ∙ held.next)
           ∙ ap (λ (all : List Arrival). all ++ arrival ∷ []) (sym held_arrivals)
 
@@ -333,6 +376,7 @@ module _ {D : Type 0} {g : sectors.Ghosts D} where
     was_live = live;
     live = live;
     sound = sound;
+    rights = refl;
     items = [];
     ahead = λ later. refl;
     run = run_none committer;
@@ -342,9 +386,9 @@ module _ {D : Type 0} {g : sectors.Ghosts D} where
   -- bytes after the end are dropped
   pub fed_ended : (k : ℕ) (piece : List ℕ) (session : SessionData) (committer : Committer D g) (bound : Limit) → session.ended ≡ true → IsFedUpTo k piece (length piece) session session committer committer bound bound
   fed_ended k piece session committer bound ended =
-      let none : arrivals_by_piece k piece session ≡ [] = ap (λ (b : Bool). if b then [] else arrivals_in k (framed_after session piece)) ended in
+      let none : arrivals_by_piece k piece session ≡ [] = ap (λ (b : Bool). if b then [] else arrivals_heard k (heard_after session piece)) ended in
       all_taken k piece session session committer committer bound bound (record {
-        session = sym (ap (λ (b : Bool). if b then session else session_after (framed_after session piece)) ended);
+        session = sym (ap (λ (b : Bool). if b then session else session_after session.allowed (heard_after session piece)) ended);
         run = run_as (sym none) (run_none committer);
       }) (taken_as bound bound (sym none) refl)
 
@@ -353,11 +397,11 @@ module _ {D : Type 0} {g : sectors.Ghosts D} where
   pub end_ended : (k : ℕ) (session : SessionData) (committer : Committer D g) → session.ended ≡ true → Run (arrivals_by_end k session) committer committer
   end_ended k session committer ended = run_as (sym (ap (λ (b : Bool). if b then [] else arrivals_of_rest k session.rest) ended)) (run_none committer)
 
-  pub end_idle : {progress : DecoderProgress} {ended : Bool} {session : SessionData} (k : ℕ) (committer : Committer D g) → Shows progress ended session → (rest_of progress ≢ [] → ⊥) → Run (arrivals_by_end k session) committer committer
+  pub end_idle : {allowed : Rights} {progress : DecoderProgress} {ended : Bool} {session : SessionData} (k : ℕ) (committer : Committer D g) → Shows allowed progress ended session → (rest_of progress ≢ [] → ⊥) → Run (arrivals_by_end k session) committer committer
   end_idle {progress = progress} {ended = ended} {session = session} k committer shows none =
       run_as (sym (by_end k session shows.live ∙ ap (arrivals_of_rest k) (rest_is shows) ∙ no_rest k (rest_of progress) none)) (run_none committer)
 
-  pub end_begun : {progress : DecoderProgress} {ended : Bool} {session : SessionData} (k : ℕ) (before after : Committer D g) (result : Result (Unit {0}) StoreError) → Shows progress ended session → rest_of progress ≢ [] → is_broken (store_of before) ≡ false
+  pub end_begun : {allowed : Rights} {progress : DecoderProgress} {ended : Bool} {session : SessionData} (k : ℕ) (before after : Committer D g) (result : Result (Unit {0}) StoreError) → Shows allowed progress ended session → rest_of progress ≢ [] → is_broken (store_of before) ≡ false
       → Enters (malformed_from k) before after result → IsArrivalEnd (malformed_from k) before after result → IsFrameEnd k session before after result
   end_begun {progress = progress} {session = session} k before after (Ok done) shows some sound enters end =
       run_as (sym (begun_arrives k shows some)) (run_more (malformed_from k) (run_none before) enters)

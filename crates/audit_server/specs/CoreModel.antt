@@ -10,9 +10,10 @@ use Rattle.audit_server_queue.specs.Owing.{owed_for_waiting}
 use Rattle.audit_server_commit.specs.Owing.{owed_of}
 use Rattle.audit_server_commit.specs.Committer.{waiting_of, outputs_of}
 use Rattle.audit_serve_passes.specs.Steps.{StepData}
+use Rattle.audit_serve_passes.specs.declared.rights.Rights.{Rights}
 use Rattle.audit_serve_passes.specs.Core.{CoreModel}
 use Rattle.audit_server.specs.declared.server_core.Core.{Core}
-use Rattle.audit_server_model.specs.Sessions.{SessionData, new_session, ended_session, session_at, sessions_run}
+use Rattle.audit_server_model.specs.Sessions.{SessionData, begun_session, no_session, session_at, sessions_run}
 use Rattle.audit_server_model.specs.Sessions.{arrivals_by_piece}
 use Rattle.audit_server.specs.Core.{committer_of, sessions_of, data_of, Refuses}
 use Rattle.audit_server_model.specs.Serving.{HasServed, IsDurablyServed}
@@ -31,10 +32,10 @@ module _ {D : Type 0} {g : sectors.Ghosts D} where
   abbrev pub output_of : Core D g → ℕ → List ℕ
   output_of core k = slice_index_or (outputs_of (committer_of core)) k []
 
-  -- a session is at the start of its stream again, and nothing else has changed
-  pub record IsBegunAnew (k : ℕ) (old new : Core D g) : Type 0 where
+  -- a session with these rights is at the start of its stream, and nothing else has changed
+  pub record IsBegunAnew (k : ℕ) (allowed : Rights) (old new : Core D g) : Type 0 where
     pub committer : committer_of new ≡ committer_of old
-    pub sessions : sessions_of new ≡ slice_set (sessions_of old) k new_session
+    pub sessions : sessions_of new ≡ slice_set (sessions_of old) k (begun_session allowed)
 
   abbrev pub core_model : CoreModel (Core D g)
   core_model = record {
@@ -55,10 +56,10 @@ module _ {D : Type 0} {g : sectors.Ghosts D} where
         ap (λ (sessions : List SessionData). (session_at k sessions).ended)
         (sessions-append steps later (sessions_of core))
         ∙ ended_through later (sessions_run steps (sessions_of core)) k ended;
-    begun_alone = λ old new k other begun apart.
+    begun_alone = λ old new k other allowed begun apart.
         ap (λ (sessions : List SessionData). (session_at other sessions).ended) begun.sessions
         ∙ ap (λ (session : SessionData). session.ended)
-        (get_or-set_other (sessions_of old) k other new_session ended_session apart);
+        (get_or-set_other (sessions_of old) k other (begun_session allowed) no_session apart);
     owed_idle = λ core k idle.
         ap (λ (waiting : Waiting). length (output_of core k) + owed_for_waiting k waiting) idle
         ∙ nothing_more (length (output_of core k));

@@ -1,11 +1,16 @@
 -- How a session's request or malformed place enters the queue.
-use Rattle.std.specs.Prelude.{◌≡◌, ◌⊎◌, ℕ, Result, Ok, Err, Option, Some, None, List, [], ◌∷◌}
+use Rattle.std.specs.Prelude.{◌≡◌, ◌⊎◌, ℕ, if◌then◌else◌, Result, Ok, Err, Option, Some, None, List, [], ◌∷◌}
 use Rattle.audit_disk_model.specs.declared.sectors.Sectors as sectors
 use Rattle.audit_chain.specs.Event.{EventData}
 use Rattle.audit_store_images.specs.Origin.{Origin}
 use Rattle.audit_wire.specs.declared.request.Request.{Request}
-use Rattle.audit_wire.specs.Request.{request_in}
-use Rattle.audit_server_queue.specs.Arrivals.{Arrival, arrival_of, malformed_from}
+use Rattle.audit_wire.specs.declared.view.RequestView.{RequestView}
+use Rattle.audit_wire.specs.View.{request_shown}
+use Rattle.audit_server_queue.specs.declared.question.Query.{Query}
+use Rattle.audit_server_queue.specs.declared.question.Query.TheVariants as query
+use Rattle.audit_server_queue.specs.Arrivals.{Arrival, a_question, arrival_of}
+use Rattle.audit_serve_passes.specs.declared.rights.Rights.{Rights}
+use Rattle.audit_server_model.specs.Heard.{allows, request_tag}
 use Rattle.audit_store.specs.Store.{Holds}
 use Rattle.audit_store.specs.declared.store_error.StoreError.{StoreError}
 use Rattle.audit_store.specs.declared.store_error.StoreError.TheVariants.{Memory}
@@ -17,10 +22,21 @@ use Rattle.audit_server.specs.Limit.{IsNotAdmitted, AreAdmitted}
 use Rattle.audit_server.specs.declared.entering.Item.{Item}
 use Rattle.audit_server.specs.declared.entering.Item.TheVariants as item
 
--- the arrival in a body: its request, or a malformed place if it has none
-abbrev pub arrival_by : ℕ → Option Request → Arrival
-arrival_by k (Some request) = arrival_of k request
-arrival_by k None = malformed_from k
+-- what a session with these rights takes of a body: the request in it, or else the query with which it ends
+abbrev pub item_heard : Rights → Option Request → Result Request Query
+item_heard allowed (Some asked) =
+    if allows allowed asked then Ok asked else Err (query.NotAllowed (request_tag asked))
+item_heard allowed None = Err query.Malformed
+
+-- the same with a view of the request
+abbrev pub item_shown : Result RequestView Query → Result Request Query
+item_shown (Ok view) = Ok (request_shown view)
+item_shown (Err last) = Err last
+
+-- how it arrives
+abbrev pub arrival_by : ℕ → Result Request Query → Arrival
+arrival_by k (Ok asked) = arrival_of k asked
+arrival_by k (Err last) = a_question (record { session = k; query = last })
 
 module _ {D : Type 0} {g : sectors.Ghosts D} where
   -- memory may also be refused earlier; the committer is then unchanged
@@ -36,18 +52,20 @@ module _ {D : Type 0} {g : sectors.Ghosts D} where
         → (after : List EventData) × IsEntered origin arrival old new events after result
 
   -- what was found in a body and entered
-  abbrev pub IsEnteredItem : ℕ → Option Request → Committer D g → Committer D g → Result Item StoreError → Type 0
-  IsEnteredItem k found old new (Ok item.Request) = (request : Request) × (found ≡ Some request)
-      × Enters (arrival_of k request) old new (Ok tt)
-  IsEnteredItem k found old new (Ok item.Malformed) = (found ≡ None) × Enters (malformed_from k) old new (Ok tt)
+  abbrev pub IsEnteredItem : ℕ → Result Request Query → Committer D g → Committer D g → Result Item StoreError
+      → Type 0
+  IsEnteredItem k found old new (Ok item.Request) = (asked : Request) × (found ≡ Ok asked)
+      × Enters (arrival_of k asked) old new (Ok tt)
+  IsEnteredItem k found old new (Ok (item.Last is_cut_off)) = (last : Query) × (found ≡ Err last)
+      × Enters (a_question (record { session = k; query = last })) old new (Ok tt)
   IsEnteredItem k found old new (Ok item.Withheld) = ⊥
   IsEnteredItem k found old new (Err error) = Enters (arrival_by k found) old new (Err error)
 
   -- the same under a limit
-  abbrev pub IsItem : ℕ → List ℕ → Committer D g → Committer D g → Limit → Limit → Result Item StoreError → Type 0
-  IsItem k body old new limit left (Ok item.Withheld) = (new ≡ old) × (left ≡ limit)
-      × IsNotAdmitted (arrival_by k (request_in body)) limit
-  IsItem k body old new limit left (Ok found) = IsEnteredItem k (request_in body) old new (Ok found)
-      × AreAdmitted (arrival_by k (request_in body) ∷ []) limit left
-  IsItem k body old new limit left (Err error) = IsEnteredItem k (request_in body) old new (Err error)
-      × (left ≡ limit)
+  abbrev pub IsItem : ℕ → Result Request Query → Committer D g → Committer D g → Limit → Limit
+      → Result Item StoreError → Type 0
+  IsItem k found old new limit left (Ok item.Withheld) = (new ≡ old) × (left ≡ limit)
+      × IsNotAdmitted (arrival_by k found) limit
+  IsItem k found old new limit left (Ok entered) = IsEnteredItem k found old new (Ok entered)
+      × AreAdmitted (arrival_by k found ∷ []) limit left
+  IsItem k found old new limit left (Err error) = IsEnteredItem k found old new (Err error) × (left ≡ limit)

@@ -5,23 +5,26 @@ use Rattle.audit_disk_model.specs.declared.sectors.Sectors as sectors
 use Rattle.audit_wire.specs.declared.request.Request.{Request}
 use Rattle.audit_wire.specs.declared.fed.Fed.{Fed}
 use Rattle.audit_wire.specs.declared.fed.Fed.TheVariants as fed
-use Rattle.audit_wire.specs.Stream.{rest_alone, spoiled, in_front}
 use Rattle.audit_wire.specs.Progress.{DecoderProgress, rest_of, is_spoiled}
-use Rattle.audit_server_queue.specs.Arrivals.{Arrival, arrival_of, malformed_from}
+use Rattle.audit_server_queue.specs.declared.question.Query.{Query}
+use Rattle.audit_server_queue.specs.Arrivals.{Arrival, a_question, arrival_of}
+use Rattle.audit_serve_passes.specs.declared.rights.Rights.{Rights}
+use Rattle.audit_server_model.specs.Heard.{heard_rest, stops_with, request_in_front}
 use Rattle.audit_store.specs.declared.store_error.StoreError.TheVariants.{Broken}
 use Rattle.audit_server_commit.specs.declared.committer.Committer.{Committer}
 use Rattle.audit_server.specs.declared.feed_fault.FeedFault.{FeedFault}
 use Rattle.audit_server.specs.declared.session.Front.{Front}
 use Rattle.audit_server.specs.declared.session.Front.TheVariants as front
-use Rattle.audit_server_model.specs.Sessions.{SessionData, ended_session, framed_after, with_piece, arrivals_by_piece}
+use Rattle.audit_server_model.specs.Sessions.{SessionData, ended_session, heard_after, with_piece, arrivals_by_piece}
 use Rattle.audit_server.specs.declared.limit.Limit.{Limit}
 use Rattle.audit_server.specs.Limit.{IsNotAdmitted, AreAdmitted}
 use Rattle.audit_server.specs.Running.{HaveEntered, Run, IsRefusedAfter}
 use Rattle.audit_server.specs.Entering.{IsRequestEnd, Enters}
 
--- a session as contracts see it, given its decoder; nothing is kept of a session that has ended
-abbrev pub session_view : DecoderProgress → Bool → SessionData
-session_view progress ended = record { rest = if ended then [] else rest_of progress; ended = ended }
+-- a session as contracts see it, given its decoder; no bytes are kept of a session that has ended
+abbrev pub session_view : Rights → DecoderProgress → Bool → SessionData
+session_view allowed progress ended =
+    record { allowed = allowed; rest = if ended then [] else rest_of progress; ended = ended }
 
 -- a session that has not ended can continue its incomplete frame
 abbrev pub IsLive : DecoderProgress → Bool → Type 0
@@ -38,8 +41,9 @@ place_after (fed.Malformed taken) = Some taken
 pub record IsHeldBack (k : ℕ) (piece : List ℕ) (taken : ℕ) (arrival : Arrival) (old new : SessionData) : Type 0 where
   pub within : taken < length piece
   pub live : new.ended ≡ false
-  pub framed : (later : List ℕ) → framed_after old (take taken piece ++ later) ≡ framed_after new later
-  pub partial : framed_after new [] ≡ rest_alone new.rest
+  pub rights : new.allowed ≡ old.allowed
+  pub heard : (later : List ℕ) → heard_after old (take taken piece ++ later) ≡ heard_after new later
+  pub partial : heard_after new [] ≡ heard_rest new.rest
   pub next : arrivals_by_piece k (take (1 + taken) piece) old ≡ arrival ∷ []
 
 -- The next byte of a piece completes an arrival that the limit doesn't admit.
@@ -54,7 +58,8 @@ module _ {D : Type 0} {g : sectors.Ghosts D} where
   pub record IsPart (piece : List ℕ) (old new : SessionData) (before after : Committer D g)
       (limit left : Limit) : Type 0 where
     pub live : new.ended ≡ false
-    pub framed : framed_after old piece ≡ rest_alone new.rest
+    pub rights : new.allowed ≡ old.allowed
+    pub heard : heard_after old piece ≡ heard_rest new.rest
     pub same : after ≡ before
     pub unspent : left ≡ limit
 
@@ -64,19 +69,21 @@ module _ {D : Type 0} {g : sectors.Ghosts D} where
     pub some : 0 < taken
     pub within : taken ≤ length piece
     pub live : new.ended ≡ false
+    pub rights : new.allowed ≡ old.allowed
     pub request : Request
-    pub framed : (later : List ℕ)
-        → framed_after old (take taken piece ++ later) ≡ in_front request (framed_after new later)
+    pub heard : (later : List ℕ)
+        → heard_after old (take taken piece ++ later) ≡ request_in_front request (heard_after new later)
     pub enters : Enters (arrival_of k request) before after (Ok tt)
     pub spent : AreAdmitted (arrival_of k request ∷ []) limit left
 
-  -- or a malformed place,
-  pub record IsSpoiled (k : ℕ) (piece : List ℕ) (old new : SessionData) (before after : Committer D g)
+  -- or a malformed place or a request that isn't allowed, which ends the session,
+  pub record IsLast (k : ℕ) (piece : List ℕ) (old new : SessionData) (before after : Committer D g)
       (limit left : Limit) : Type 0 where
-    pub ended : new ≡ ended_session
-    pub framed : framed_after old piece ≡ spoiled
-    pub enters : Enters (malformed_from k) before after (Ok tt)
-    pub spent : AreAdmitted (malformed_from k ∷ []) limit left
+    pub ended : new ≡ ended_session old.allowed
+    pub last : Query
+    pub heard : heard_after old piece ≡ stops_with last
+    pub enters : Enters (a_question (record { session = k; query = last })) before after (Ok tt)
+    pub spent : AreAdmitted (a_question (record { session = k; query = last }) ∷ []) limit left
 
   -- or an arrival that the limit doesn't admit.
   pub record IsWithheld (k : ℕ) (piece : List ℕ) (taken : ℕ) (old new : SessionData)
@@ -100,8 +107,7 @@ module _ {D : Type 0} {g : sectors.Ghosts D} where
   IsFront k piece old new before after limit left (Ok front.Part) = IsPart piece old new before after limit left
   IsFront k piece old new before after limit left (Ok (front.Request taken)) =
       IsWholeFeed k piece taken old new before after limit left
-  IsFront k piece old new before after limit left (Ok front.Malformed) =
-      IsSpoiled k piece old new before after limit left
+  IsFront k piece old new before after limit left (Ok front.Last) = IsLast k piece old new before after limit left
   IsFront k piece old new before after limit left (Ok (front.Withheld taken)) =
       IsWithheld k piece taken old new before after limit left
   IsFront k piece old new before after limit left (Err fault) =

@@ -5,6 +5,7 @@ use crate::entering::{Item, enter_body};
 use crate::feed_fault::FeedFault;
 use crate::limit::Limit;
 use audit_disk_model::Sectors;
+use audit_serve_passes::Rights;
 use audit_server_commit::Committer;
 use audit_server_queue::{Query, Question};
 use audit_store::StoreError;
@@ -19,18 +20,21 @@ pub(crate) enum Front {
     Part,
     /// A request, which was queued. It took the first `taken` bytes of the piece.
     Request { taken: usize },
-    /// A malformed place, which was queued. The session has ended.
-    Malformed,
+    /// A malformed place, or a request that isn't allowed, which was queued. The session has ended.
+    Last,
     /// A request or a malformed place that the limit doesn't admit. The first `taken` bytes of the piece were taken, up
     /// to the one that completes it.
     Withheld { taken: usize },
 }
 
-/// What a core keeps of a session: its decoder, and whether it has ended.
+/// What a core keeps of a session: its rights, its decoder, whether it has ended, and whether it made a request that
+/// isn't allowed.
 #[derive(Drop)]
 pub(crate) struct Session {
+    rights: Rights,
     decoder: Decoder,
     ended: bool,
+    cut_off: bool,
 }
 
 // The number of bytes of a piece up to the end of a frame or of a malformed length.
@@ -49,28 +53,30 @@ impl Model for Session {
 
     ghost Value = { SessionData };
 
-    ghost view = { λ session. session_view session.decoder session.ended };
+    ghost view = { λ session. session_view session.rights session.decoder session.ended };
 
     ghost invariant = { λ session. IsLive session.decoder session.ended };
 }
 
 impl Session {
-    ghost use Rattle.std.specs.Prelude.{◌≡◌, ◌<◌, ℕ, false, IfOk};
+    ghost use Rattle.std.specs.Prelude.{◌≡◌, ◌<◌, ℕ, false, true, IfOk};
     ghost use Rattle.audit_base.specs.declared.limits.TheConstants.{SESSIONS};
     ghost use Rattle.audit_store.specs.Store.{is_broken};
     ghost use Rattle.audit_server_commit.specs.Committer.{store_of};
-    ghost use Rattle.audit_server_model.specs.Sessions.{new_session, ended_session};
+    ghost use Rattle.audit_server_model.specs.Sessions.{begun_session, ended_session};
     ghost use Rattle.audit_server.specs.Feeding.{IsFront, IsFedWithin};
     ghost use Rattle.audit_server.specs.Ending.{IsFrameEnd, IsEnd};
 
-    /// Makes a session at the start of its stream. It reserves all the capacity that it will need. The only error is
-    /// that memory is refused.
-    pub(crate) fn new(alloc: Global) -> Result<Session, AllocError>
-        ensures { IfOk result (λ session. session ≡ new_session) }
+    /// Makes a session with these rights at the start of its stream. It reserves all the capacity that it will need.
+    /// The only error is that memory is refused.
+    pub(crate) fn new(alloc: Global, rights: Rights) -> Result<Session, AllocError>
+        ensures { IfOk result (λ session. session ≡ begun_session rights) }
     {
         Ok(Session {
+            rights,
             decoder: Decoder::new(alloc)?,
             ended: false,
+            cut_off: false,
         })
     }
 
@@ -78,6 +84,13 @@ impl Session {
         ensures { result ≡ self.now.ended }
     {
         self.ended
+    }
+
+    /// Whether it has ended by a request that isn't allowed.
+    pub(crate) fn is_cut_off(&self) -> bool
+        ensures { result ≡ true → self.now.ended ≡ true }
+    {
+        self.ended && self.cut_off
     }
 
     /// Takes the next bytes of the session, whose number is `session`, up to the first request or malformed place that
@@ -122,7 +135,7 @@ impl Session {
                 Ok(Front::Request { taken: more }) => taken += more,
                 Ok(Front::Withheld { taken: more }) => return Ok(taken + more),
                 Ok(Front::Part) => return Ok(piece.len()),
-                Ok(Front::Malformed) => return Ok(piece.len()),
+                Ok(Front::Last) => return Ok(piece.len()),
                 Err(fault) => {
                     return Err(FeedFault {
                         taken: taken + fault.taken,
@@ -151,16 +164,24 @@ impl Session {
             return Ok(Front::Part);
         };
         // A malformed length leaves the body empty, and an empty body isn't a request.
-        match enter_body(committer, alloc, session, self.decoder.body(), limit) {
+        match enter_body(
+            committer,
+            alloc,
+            session,
+            self.rights,
+            self.decoder.body(),
+            limit,
+        ) {
             Ok(Item::Request) => Ok(Front::Request { taken }),
             Ok(Item::Withheld) => {
                 self.decoder.put_back();
                 let taken = taken - 1;
                 Ok(Front::Withheld { taken })
             }
-            Ok(Item::Malformed) => {
+            Ok(Item::Last { is_cut_off }) => {
                 self.ended = true;
-                Ok(Front::Malformed)
+                self.cut_off = is_cut_off;
+                Ok(Front::Last)
             }
             Err(error) => {
                 self.decoder.put_back();

@@ -1,6 +1,6 @@
 use crate::server_core::Core;
 use audit_disk_model::Sectors;
-use audit_serve_passes::{Allowance, SessionCore};
+use audit_serve_passes::{Allowance, Rights, SessionCore};
 use audit_store::StoreError;
 use std::alloc::AllocError;
 
@@ -45,12 +45,16 @@ impl<D: Sectors> SessionCore for Core<D> {
         self.take_output(session)
     }
 
-    fn reopen(&mut self, session: usize) -> Result<(), AllocError> {
-        self.reopen(session)
+    fn reopen(&mut self, session: usize, rights: Rights) -> Result<(), AllocError> {
+        self.reopen(session, rights)
     }
 
     fn ended(&self, session: usize) -> bool {
         self.ended(session)
+    }
+
+    fn is_cut_off(&self, session: usize) -> bool {
+        self.is_cut_off(session)
     }
 
     ghost refuses_after = { refuses_after };

@@ -3,7 +3,7 @@ use Rattle.std.proofs.lemmas.List.{take_all}
 use Rattle.audit_server.specs.declared.session.Front.{Front}
 use Rattle.audit_server.specs.declared.session.Front.TheVariants as front
 use Rattle.audit_server.specs.Feeding.{IsFront, IsWholeFeed}
-use Rattle.audit_server.proofs.Pieces.{fed_start, fed_more, fed_part, fed_spoiled, fed_withheld, fed_err}
+use Rattle.audit_server.proofs.Pieces.{fed_start, fed_more, fed_part, fed_last, fed_withheld, fed_err}
 use Rattle.audit_server.proofs.session.Session.feed_live.Goals as goal
 
 tail_is : (taken : ℕ) (piece : List ℕ) → taken ≤ length piece → take (length piece - taken) (drop taken piece) ≡ drop taken piece
@@ -40,12 +40,12 @@ returns-in-Ok-Part g c =
     (subst (λ (tail : List ℕ). P tail front.Part) (tail_is c.loop-more.taken c.args.piece.now c.loop-more.invariant.within)
     (subst (P (take (length c.args.piece.now - c.loop-more.taken) (drop c.loop-more.taken c.args.piece.now))) c.in-Ok-Part.field-0-is c.in-Ok-Part.ensures))
 
-pub returns-in-Ok-Malformed : goal.returns-in-Ok-Malformed
-returns-in-Ok-Malformed g c =
+pub returns-in-Ok-Last : goal.returns-in-Ok-Last
+returns-in-Ok-Last g c =
     let P : List ℕ → Front → Type 0 = λ tail it. IsFront c.args.session tail c.loop-more.self c.take_front.new.self c.loop-more.committer c.take_front.new.committer c.loop-more.limit c.take_front.new.limit (Ok it) in
-    fed_spoiled c.args.session c.args.piece.now c.loop-more.taken c.args.self.now c.loop-more.self c.take_front.new.self c.args.committer.now c.loop-more.committer c.take_front.new.committer c.args.limit.now c.loop-more.limit c.take_front.new.limit c.loop-more.invariant
-    (subst (λ (tail : List ℕ). P tail front.Malformed) (tail_is c.loop-more.taken c.args.piece.now c.loop-more.invariant.within)
-    (subst (P (take (length c.args.piece.now - c.loop-more.taken) (drop c.loop-more.taken c.args.piece.now))) c.in-Ok-Malformed.field-0-is c.in-Ok-Malformed.ensures))
+    fed_last c.args.session c.args.piece.now c.loop-more.taken c.args.self.now c.loop-more.self c.take_front.new.self c.args.committer.now c.loop-more.committer c.take_front.new.committer c.args.limit.now c.loop-more.limit c.take_front.new.limit c.loop-more.invariant
+    (subst (λ (tail : List ℕ). P tail front.Last) (tail_is c.loop-more.taken c.args.piece.now c.loop-more.invariant.within)
+    (subst (P (take (length c.args.piece.now - c.loop-more.taken) (drop c.loop-more.taken c.args.piece.now))) c.in-Ok-Last.field-0-is c.in-Ok-Last.ensures))
 
 pub returns-in-Ok-Withheld : goal.returns-in-Ok-Withheld
 returns-in-Ok-Withheld g c =
