@@ -52,8 +52,8 @@ impl<'a, 'b, M: Write> ClientJournal<'a, 'b, M> {
 }
 
 impl<M: Write> Journal for ClientJournal<'_, '_, M> {
-    fn note(&mut self, departure: Departure, was_cut_off: bool) {
-        if was_cut_off {
+    fn note(&mut self, departure: Departure) {
+        if departure == Departure::CutOff {
             self.cut_off = self.cut_off.saturating_add(1);
             self.print("cut off", "its socket doesn't allow the request");
         } else if let Some(why) = reason(departure) {
@@ -69,7 +69,7 @@ impl<M: Write> Journal for ClientJournal<'_, '_, M> {
 // Why a client was dropped; none if it left by itself.
 fn reason(departure: Departure) -> Option<&'static str> {
     match departure {
-        Departure::Finished => None,
+        Departure::Finished | Departure::CutOff => None,
         Departure::Malformed => Some("it sent no request"),
         Departure::ReadFailed => Some("a read from it failed"),
         Departure::WriteFailed => Some("a write to it failed"),

@@ -1,6 +1,6 @@
 //! A look at how full a store is while it is served.
 use crate::marks::mark_passed;
-use audit_serve_ready::{Departure, Door, Next};
+use audit_serve_ready::{Departure, Door, Newcomer, Next};
 use audit_text_plain::Shown;
 use std::cell::RefCell;
 use std::io::{self, Read, Seek, SeekFrom, Write};
@@ -97,7 +97,7 @@ impl<'n, 'a, 'b, E, F: Drop, M> GaugedDoor<'n, 'a, 'b, E, F, M> {
 impl<E: Door, F: Read + Seek, M: Write> Door for GaugedDoor<'_, '_, '_, E, F, M> {
     type Stream = E::Stream;
 
-    fn next_client(&mut self, place: usize) -> Option<E::Stream> {
+    fn next_client(&mut self, place: usize) -> Option<Newcomer<E::Stream>> {
         self.door.next_client(place)
     }
 

@@ -28,7 +28,7 @@ use audit_disk::SystemFile;
 use audit_disk_model::Sectors;
 use audit_proof::Commitment;
 use audit_serve_door::{Room, SocketDoor, StopOrders};
-use audit_serve_rights::Rights;
+use audit_serve_passes::Rights;
 use audit_store::{Store, StoreError};
 use std::alloc::Global;
 use std::cell::RefCell;

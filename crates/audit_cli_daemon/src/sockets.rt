@@ -1,7 +1,7 @@
 use audit_cli_base::OWNER_ONLY;
 use audit_disk::SystemFile;
 use audit_serve_door::{Entrance, StopOrders};
-use audit_serve_rights::Rights;
+use audit_serve_passes::Rights;
 use audit_serve_sockets::{SocketFile, SocketLock, SocketName};
 use std::alloc::{AllocError, Global};
 use std::fs::Files;

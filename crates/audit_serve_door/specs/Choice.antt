@@ -1,5 +1,5 @@
 -- Who gets a vacant place. Connections have numbers in the order in which they were accepted.
-use Rattle.std.specs.Prelude.{Bool, true, ℕ, nat_le, nat_lt, Option, Some, None, ◌&&◌, if◌then◌else◌}
+use Rattle.std.specs.Prelude.{Bool, true, ℕ, nat_le, nat_lt, Option, Some, None, if◌then◌else◌}
 use Rattle.audit_serve_door.specs.declared.choice.Heads.{Heads}
 use Rattle.audit_serve_door.specs.declared.choice.Taken.{Taken}
 

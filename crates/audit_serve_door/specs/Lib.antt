@@ -1,3 +1,4 @@
+pub mod Entrances
 pub mod Moves
 pub mod Metered
 pub mod Orders

@@ -1,5 +1,5 @@
 use crate::incoming::Incoming;
-use audit_serve_rights::Rights;
+use audit_serve_passes::Rights;
 use mio::net::UnixStream;
 use std::io;
 use std::os::unix::net::UnixListener;
@@ -19,8 +19,13 @@ pub(crate) struct Arrival {
 }
 
 impl Entrance {
+    ghost use Rattle.std.specs.Prelude.{◌≡◌, IfOk};
+    ghost use Rattle.audit_serve_door.specs.Entrances.{rights_of};
+
     /// Makes an entrance of a socket that listens.
-    pub fn new(listener: UnixListener, rights: Rights) -> io::Result<Entrance> {
+    pub fn new(listener: UnixListener, rights: Rights) -> io::Result<Entrance>
+        ensures { IfOk result (λ entrance. rights_of entrance ≡ rights) }
+    {
         Ok(Entrance {
             incoming: Incoming::new(listener)?,
             rights,

@@ -14,8 +14,8 @@ use crate::stop_orders::StopOrders;
 use crate::waiting::Waiting;
 use crate::watch::Watch;
 use audit_base::SESSIONS;
-use audit_serve_ready::{Departure, Door, Next};
-use audit_serve_rights::{Guarded, Rights};
+use audit_serve_passes::Rights;
+use audit_serve_ready::{Departure, Door, Newcomer, Next};
 use mio::{Events, Interest, Poll, Registry, Token};
 use std::alloc::Global;
 use std::io::{self, ErrorKind};
@@ -76,6 +76,8 @@ pub struct SocketDoor<'a, C, J, W> {
 }
 
 impl<'a, C: Clock, J: Journal + Drop, W: Watch + Drop> SocketDoor<'a, C, J, W> {
+    ghost use Rattle.std.specs.Prelude.{◌≡◌, IfSome};
+
     /// Makes a door with these entrances: those of clients that only read come before the others. A client that moves
     /// no byte for the time `idle` is dismissed when another one waits; without that time no client is. No reply leaves
     /// once the watch has found that what is served isn't in its place. Errors are those of the system, and
@@ -243,12 +245,19 @@ impl<'a, C: Clock, J: Journal + Drop, W: Watch + Drop> SocketDoor<'a, C, J, W> {
             .register(&mut arrival.stream, Token(number), Interest::READABLE)
             .is_ok();
         if !is_watched || !self.waiting.admit(number, arrival) {
-            self.journal.note(Departure::Memory, false);
+            self.journal.note(Departure::Memory);
         }
     }
 
     // Gives a place to a connection, unless the system refuses to report on it.
-    fn seat(&mut self, place: usize, number: usize, mut arrival: Arrival) -> Option<Client> {
+    fn seat(
+        &mut self,
+        place: usize,
+        number: usize,
+        mut arrival: Arrival,
+    ) -> Option<Newcomer<Client>>
+        ensures { IfSome result (λ newcomer. newcomer.rights ≡ arrival.rights) }
+    {
         let both = Interest::READABLE | Interest::WRITABLE;
         let registry = self.poll.registry();
         if registry
@@ -256,13 +265,15 @@ impl<'a, C: Clock, J: Journal + Drop, W: Watch + Drop> SocketDoor<'a, C, J, W> {
             .is_err()
         {
             self.waiting.forget(number);
-            self.journal.note(Departure::Memory, false);
+            self.journal.note(Departure::Memory);
             return None;
         }
         let only_reads = arrival.rights == Rights::Read;
         self.places.take(place, number, only_reads, self.now);
-        let stream = Nonblocking::new(arrival.stream);
-        Some(Metered::new(Guarded::new(stream, arrival.rights)))
+        Some(Newcomer {
+            stream: Metered::new(Nonblocking::new(arrival.stream)),
+            rights: arrival.rights,
+        })
     }
 
     // How long a pause may last: without end while nothing is to be tried again and nobody is to be dismissed.
@@ -326,7 +337,7 @@ impl<'a, C: Clock, J: Journal + Drop, W: Watch + Drop> SocketDoor<'a, C, J, W> {
             } else if number >= FIRST_CLIENT {
                 let is_heard = self.waiting.hear(number);
                 if !is_heard {
-                    self.journal.note(Departure::Memory, false);
+                    self.journal.note(Departure::Memory);
                 }
                 let is_other = self.places.is_other(number) || self.waiting.is_other(number);
                 if is_other && event.is_write_closed() {
@@ -369,12 +380,12 @@ impl<'a, C: Clock, J: Journal + Drop, W: Watch + Drop> SocketDoor<'a, C, J, W> {
 impl<C: Clock, J: Journal + Drop, W: Watch + Drop> Door for SocketDoor<'_, C, J, W> {
     type Stream = Client;
 
-    fn next_client(&mut self, place: usize) -> Option<Client> {
+    fn next_client(&mut self, place: usize) -> Option<Newcomer<Client>> {
         for _ in 0..SESSIONS {
             let number = next_entry(self.waiting.heads(), self.places.taken())?;
             let arrival = self.waiting.take(number)?;
-            if let Some(client) = self.seat(place, number, arrival) {
-                return Some(client);
+            if let Some(newcomer) = self.seat(place, number, arrival) {
+                return Some(newcomer);
             }
         }
         None
@@ -409,11 +420,11 @@ impl<C: Clock, J: Journal + Drop, W: Watch + Drop> Door for SocketDoor<'_, C, J,
         self.look()
     }
 
-    fn gone(&mut self, place: usize, client: Client, departure: Departure) {
+    fn gone(&mut self, place: usize, _client: Client, departure: Departure) {
         if let Some(number) = self.places.leave(place) {
             self.waiting.forget(number);
         }
-        self.journal.note(departure, client.inner().is_cut_off());
+        self.journal.note(departure);
     }
 
     fn pause(&mut self, moved: bool) -> Next {

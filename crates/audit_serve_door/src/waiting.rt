@@ -1,6 +1,6 @@
 use crate::choice::Heads;
 use crate::entrance::Arrival;
-use audit_serve_rights::Rights;
+use audit_serve_passes::Rights;
 use std::alloc::Global;
 use std::collections::{BTreeMap, BTreeSet};
 
