@@ -5,6 +5,7 @@ use Rattle.std.proofs.Common.{refl, sym, ap, ◌∙◌, arith}
 use Rattle.std.proofs.lemmas.Bool.{ne_eqb, false≢true}
 use Rattle.std.proofs.lemmas.List.{get_or-set_other}
 use Rattle.audit_serve_passes.specs.Steps.{StepData, a_piece, an_end, a_flush, IsAbout, is_end, has_end}
+use Rattle.audit_serve_passes.specs.declared.rights.Rights.{Rights}
 use Rattle.audit_serve_passes.specs.Core.{CoreModel}
 
 -- which sessions have ended, which were fed since the last flush, and the bytes that wait for each
@@ -65,8 +66,8 @@ or_true false y is = absurd (false≢true is)
 pub nothing_fed : (bytes : ℕ) → bytes + 0 ≡ bytes
 nothing_fed bytes = omega arith
 
--- a session is live again, and the outputs are unchanged
-pub record IsLiveAgain (k : ℕ) (old new : RecorderData) : Type 0 where
+-- a session is live again, whatever its rights, and the outputs are unchanged
+pub record IsLiveAgain (k : ℕ) (allowed : Rights) (old new : RecorderData) : Type 0 where
   pub ended : new.ended ≡ slice_set old.ended k false
   pub fed : new.fed ≡ old.fed
   pub outputs : new.outputs ≡ old.outputs
@@ -95,7 +96,7 @@ recorder_model = record {
   ended_stays = λ core steps later k ended.
       sym (ended_then (has_ended core k) k steps later)
       ∙ or_true (has_ended core k || has_end k steps) (has_end k later) ended;
-  begun_alone = λ old new k other begun apart. ap (λ (ended : List Bool). slice_index_or ended other false || false)
+  begun_alone = λ old new k other allowed begun apart. ap (λ (ended : List Bool). slice_index_or ended other false || false)
       begun.ended ∙ ap (λ (had : Bool). had || false) (get_or-set_other old.ended k other false false apart);
   owed_idle = λ core k idle.
       ap (λ (fed : Bool). length (recorded_output core k) + (if fed then 1 else 0)) (idle k)

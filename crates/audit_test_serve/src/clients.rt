@@ -3,9 +3,9 @@ ghost use Rattle.audit_serve_passes.specs.Pairs.{unknown_calls};
 
 use crate::recorder::Recorder;
 use audit_base::SESSIONS;
-use audit_serve_passes::StreamError;
+use audit_serve_passes::{Rights, StreamError};
 use audit_serve_ready::{
-    DEFAULT_BACKLOG, Departure, Door, Next, ReadyStream, finish_writing, serve_clients,
+    DEFAULT_BACKLOG, Departure, Door, Newcomer, Next, ReadyStream, finish_writing, serve_clients,
     vacant_slots,
 };
 use std::alloc::Global;
@@ -57,18 +57,20 @@ struct Clients {
 impl Door for Clients {
     type Stream = Client;
 
-    fn next_client(&mut self, _place: usize) -> Option<Client> {
+    fn next_client(&mut self, _place: usize) -> Option<Newcomer<Client>> {
         if self.came >= self.coming {
             return None;
         }
         self.came += 1;
         let room = if self.came == 3 { 0 } else { 100 };
-        Some(Client {
+        let stream = Client {
             left: 3,
             waits: false,
             room,
             taken: 0,
-        })
+        };
+        let rights = Rights::Close;
+        Some(Newcomer { stream, rights })
     }
 
     fn dismisses(&mut self, _place: usize, client: &Client) -> bool {

@@ -3,9 +3,9 @@
 ghost use Rattle.audit_serve_passes.specs.Pairs.{unknown_calls};
 
 use crate::recorder::{Asked, Recorder};
-use audit_serve_passes::StreamError;
+use audit_serve_passes::{Rights, StreamError};
 use audit_serve_ready::{
-    DEFAULT_BACKLOG, Departure, Door, Next, ReadyStream, serve_clients, vacant_slots,
+    DEFAULT_BACKLOG, Departure, Door, Newcomer, Next, ReadyStream, serve_clients, vacant_slots,
 };
 
 /// How many bytes each of the first reads of a client's stream returns: none where nothing is there, zero at its end.
@@ -45,10 +45,12 @@ struct Crowd {
 impl Door for Crowd {
     type Stream = Client;
 
-    fn next_client(&mut self, _place: usize) -> Option<Client> {
+    fn next_client(&mut self, _place: usize) -> Option<Newcomer<Client>> {
         let reads = self.clients.get(self.came).copied()?;
         self.came = self.came.saturating_add(1);
-        Some(Client { reads, done: 0 })
+        let stream = Client { reads, done: 0 };
+        let rights = Rights::Close;
+        Some(Newcomer { stream, rights })
     }
 
     fn dismisses(&mut self, _place: usize, _client: &Client) -> bool {

@@ -6,7 +6,7 @@ ghost use Rattle.audit_serve_passes.specs.Core.{CoreModel, no_bytes, bytes_for};
 ghost use Rattle.audit_test_serve.specs.Recorder.{recorder_model, IsRecorderIdle, recorded_owed};
 
 use audit_base::SESSIONS;
-use audit_serve_passes::{Allowance, Demand, SessionCore};
+use audit_serve_passes::{Allowance, Demand, Rights, SessionCore};
 use std::alloc::{AllocError, Global};
 use std::marker::Model;
 use std::mem;
@@ -178,13 +178,17 @@ impl SessionCore for Recorder {
         mem::replace(&mut self.outputs[session], Vec::new(self.alloc))
     }
 
-    fn reopen(&mut self, session: usize) -> Result<(), AllocError> {
+    fn reopen(&mut self, session: usize, _rights: Rights) -> Result<(), AllocError> {
         self.ended[session] = false;
         Ok(())
     }
 
     fn ended(&self, session: usize) -> bool {
         self.ended[session]
+    }
+
+    fn is_cut_off(&self, _session: usize) -> bool {
+        false
     }
 
     ghost refuses_after = { λ old mid new steps taken error did refused. tt };

@@ -1,116 +1,228 @@
-// What is let through of a stream, by hand from the rule: frames up to the first one that isn't allowed.
-ghost use Rattle.audit_serve_passes.specs.Pairs.{unknown_calls};
-
-use audit_serve_passes::StreamError;
-use audit_serve_ready::ReadyStream;
-use audit_serve_rights::{Guarded, Rights};
+// What a session with certain rights answers, by hand from the formats: everything up to the first request that isn't
+// allowed, which gets the refusal 16 with its own tag; nothing after it is read.
+use audit_chain::Key;
+use audit_disk::MemDisk;
+use audit_serve_passes::{Allowance, Rights, SessionCore, Share};
+use audit_server::Core;
+use audit_store::Store;
 use std::alloc::Global;
 use std::process::Abort;
 
-/// A stream that gives at most `most` bytes a read, with nothing there at every other read, and takes every byte.
-#[derive(Drop)]
-struct Source<'a> {
-    bytes: &'a [u8],
-    most: usize,
-    waits: bool,
-}
-
-impl ReadyStream for Source<'_> {
-    ghost calls = { unknown_calls };
-
-    fn read_ready(&mut self, buffer: &mut [u8]) -> Option<Result<usize, StreamError>> {
-        self.waits = !self.waits;
-        if self.waits {
-            return None;
-        }
-        let count = self.bytes.len().min(self.most).min(buffer.len());
-        buffer[..count].copy_from_slice(&self.bytes[..count]);
-        self.bytes = &self.bytes[count..];
-        Some(Ok(count))
-    }
-
-    fn write_ready(&mut self, bytes: &[u8]) -> Result<usize, StreamError> {
-        Ok(bytes.len())
-    }
-}
-
-/// What a guarded stream gave, whether it gave the end, and whether it was cut off.
-#[derive(Drop)]
-struct Output {
-    bytes: Vec<u8>,
+// A stream, whether it ends, and the replies that are expected to it, with whether the session has ended and was cut
+// off.
+#[derive(Clone, Copy)]
+struct Case<'a> {
+    sent: &'a [u8],
+    ends: bool,
+    replies: &'a [Said],
     ended: bool,
     cut_off: bool,
 }
 
-// What is given of these bytes, if they come in pieces of at most `most`. Of a stream that doesn't end, what comes
-// after them is a wait without end.
-fn given(rt: &impl Abort, alloc: Global, sent: &[u8], most: usize, rights: Rights) -> Output {
-    let source = Source {
-        bytes: sent,
-        most,
-        waits: false,
-    };
-    let mut guarded = Guarded::new(source, rights);
-    let mut bytes = Vec::new(alloc);
-    let mut buffer = [0; 24];
-    for _ in 0..200 {
-        match guarded.read_ready(&mut buffer) {
-            Some(Ok(0)) => {
-                return Output {
-                    bytes,
-                    ended: true,
-                    cut_off: guarded.is_cut_off(),
-                };
-            }
-            Some(Ok(count)) => bytes
-                .extend_from_slice(&buffer[..count])
-                .expect(rt, "memory"),
-            Some(Err(_)) | None => {}
-        }
+// The kind of a reply, its tag, and the code of a refusal.
+#[derive(Clone, Copy, Debug, PartialEq, Eq)]
+struct Said {
+    kind: u8,
+    tag: u8,
+    code: u8,
+}
+
+// The replies to the requests in the streams below, and the refusal of what is no request.
+const APPENDED: Said = Said {
+    kind: 0x81,
+    tag: 1,
+    code: 0,
+};
+
+const CLOSED: Said = Said {
+    kind: 0x81,
+    tag: 5,
+    code: 0,
+};
+
+const ANSWERED: Said = Said {
+    kind: 0x82,
+    tag: 9,
+    code: 0,
+};
+
+const NO_APPEND: Said = Said {
+    kind: 0xff,
+    tag: 1,
+    code: 16,
+};
+
+const NO_CLOSE: Said = Said {
+    kind: 0xff,
+    tag: 5,
+    code: 16,
+};
+
+const MALFORMED: [Said; 1] = [Said {
+    kind: 0xff,
+    tag: 0,
+    code: 20,
+}];
+
+// Starts session 0 anew with these rights.
+fn begin<C: SessionCore>(core: &mut C, rights: Rights) -> bool
+where
+    C::Error: Drop,
+{
+    if core.end(0).is_err() || core.flush().is_err() {
+        return false;
     }
-    Output {
-        bytes,
-        ended: false,
-        cut_off: guarded.is_cut_off(),
+    let _ = core.take_output(0);
+    core.ended(0) && core.reopen(0, rights).is_ok()
+}
+
+fn core_with(rt: &impl Abort, alloc: Global, rights: Rights) -> Core<MemDisk> {
+    let disk = MemDisk::new(alloc, 64).expect(rt, "a device");
+    let store = match Store::format(alloc, disk, Key::from_bytes([0; 32])) {
+        Ok(store) => store,
+        Err(failed) => panic!(rt; "a store: {}", failed.error),
+    };
+    let Ok(mut core) = Core::new(alloc, store) else {
+        panic!(rt; "memory");
+    };
+    assert!(rt; begin(&mut core, rights));
+    core
+}
+
+// How a stream is fed.
+#[derive(Clone, Copy, PartialEq, Eq)]
+enum Feeding {
+    // Without a limit.
+    Freely,
+    // Each piece under an allowance of one reply.
+    OneByOne,
+}
+
+// Feeds a piece, whatever it takes.
+fn feed(rt: &impl Abort, core: &mut Core<MemDisk>, piece: &[u8], how: Feeding) {
+    if how == Feeding::Freely {
+        assert!(rt; core.feed(0, piece).is_ok());
+        return;
+    }
+    let mut rest = piece;
+    for _ in 0..piece.len() {
+        rest = feed_one(rt, core, rest);
+    }
+    assert!(rt; rest.is_empty());
+}
+
+// Feeds a piece up to the second request in it, and returns the rest.
+fn feed_one<'a>(rt: &impl Abort, core: &mut Core<MemDisk>, piece: &'a [u8]) -> &'a [u8] {
+    let one = Share {
+        left: 0,
+        is_whole: true,
+    };
+    let mut allowance = Allowance {
+        session: one,
+        questions: one,
+    };
+    match core.feed_within(0, piece, &mut allowance) {
+        Ok(count) => piece.get(count..).unwrap_or(&[]),
+        Err(_) => panic!(rt; "a piece was refused"),
     }
 }
 
-// An append of `h` under kind 7, a commitment and a close, each with its tag.
-const APPEND: [u8; 12] = [0, 10, 1, 0, 0, 0, 1, 0, 0, 0, 7, b'h'];
+// Whether the output is these replies.
+fn says(output: &[u8], replies: &[Said]) -> bool {
+    let mut rest = output;
+    for reply in replies {
+        let [high, low, kind, _, _, _, tag, following @ ..] = rest else {
+            return false;
+        };
+        let code = if *kind == 0xff {
+            following.first().copied().unwrap_or(0)
+        } else {
+            0
+        };
+        let said = Said {
+            kind: *kind,
+            tag: *tag,
+            code,
+        };
+        let size = usize::from(u16::from_be_bytes([*high, *low])) + 2;
+        if said != *reply || size > rest.len() {
+            return false;
+        }
+        rest = &rest[size..];
+    }
+    rest.is_empty()
+}
 
-const COMMITMENT: [u8; 7] = [0, 5, 2, 0, 0, 0, 9];
-
-// Whether the first `passed` bytes are let through, however the stream is cut, and then the end is given.
-fn passes(
+// Whether a case holds, if its stream comes in pieces of at most `most` bytes.
+fn holds(
     rt: &impl Abort,
     alloc: Global,
     rights: Rights,
-    sent: &[u8],
-    passed: usize,
-    cut_off: bool,
+    case: &Case,
+    most: usize,
+    how: Feeding,
 ) -> bool {
-    for most in 1..20 {
-        let given = given(rt, alloc, sent, most, rights);
-        let front = sent.get(..passed).unwrap_or(&[]);
-        if given.bytes.as_slice() != front || !given.ended || given.cut_off != cut_off {
-            return false;
+    let mut core = core_with(rt, alloc, rights);
+    for piece in case.sent.chunks(most.max(1)) {
+        feed(rt, &mut core, piece, how);
+    }
+    if case.ends {
+        assert!(rt; core.end(0).is_ok());
+    }
+    let ended = core.ended(0);
+    let cut_off = core.is_cut_off(0);
+    assert!(rt; core.flush().is_ok());
+    let output = core.take_output(0);
+    ended == case.ended && cut_off == case.cut_off && says(&output, case.replies)
+}
+
+fn all_hold(rt: &impl Abort, alloc: Global, rights: Rights, cases: &[Case]) -> bool {
+    for case in cases {
+        for most in 1..20 {
+            if !holds(rt, alloc, rights, case, most, Feeding::Freely)
+                || !holds(rt, alloc, rights, case, most, Feeding::OneByOne)
+            {
+                return false;
+            }
         }
     }
     true
 }
 
-// A stream, how many of its bytes are let through, and whether it is cut off then.
-type Case<'a> = (&'a [u8], usize, bool);
-
-fn all_pass(rt: &impl Abort, alloc: Global, rights: Rights, cases: &[Case]) -> bool {
-    for (sent, passed, cut_off) in cases {
-        if !passes(rt, alloc, rights, sent, *passed, *cut_off) {
-            return false;
-        }
+// A case of a stream that doesn't end, all of which is answered.
+fn live<'a>(sent: &'a [u8], replies: &'a [Said]) -> Case<'a> {
+    Case {
+        sent,
+        ends: false,
+        replies,
+        ended: false,
+        cut_off: false,
     }
-    true
 }
 
+// A case of a stream that doesn't end, of which one request isn't allowed.
+fn cut_off<'a>(sent: &'a [u8], replies: &'a [Said]) -> Case<'a> {
+    Case {
+        sent,
+        ends: false,
+        replies,
+        ended: true,
+        cut_off: true,
+    }
+}
+
+// A case of a stream that is malformed, and may end in the middle of a frame.
+fn malformed(sent: &[u8], ends: bool) -> Case<'_> {
+    Case {
+        sent,
+        ends,
+        replies: &MALFORMED,
+        ended: true,
+        cut_off: false,
+    }
+}
+
+// A commitment with tag 9, an append of `h` under kind 7 with tag 1, a close with tag 5.
 const COMMITMENT_APPEND: [u8; 26] = [
     0, 5, 2, 0, 0, 0, 9, 0, 10, 1, 0, 0, 0, 1, 0, 0, 0, 7, b'h', 0, 5, 2, 0, 0, 0, 9,
 ];
@@ -119,104 +231,70 @@ const APPEND_CLOSE: [u8; 26] = [
     0, 10, 1, 0, 0, 0, 1, 0, 0, 0, 7, b'h', 0, 5, 6, 0, 0, 0, 5, 0, 5, 2, 0, 0, 0, 9,
 ];
 
-// Each right lets through what it includes. The frames after one that isn't allowed are lost with it.
+const ASKED: [Said; 2] = [ANSWERED, NO_APPEND];
+
+const APPENDED_FIRST: [Said; 3] = [APPENDED, ANSWERED, ANSWERED];
+
+const APPENDED_ALONE: [Said; 2] = [APPENDED, NO_CLOSE];
+
+const ALL_DONE: [Said; 3] = [APPENDED, CLOSED, ANSWERED];
+
+// Each right allows what it includes. Nothing is read after a request that isn't allowed.
 #[test]
 fn readers_only_ask(rt: HostRuntime) {
-    let cases: [Case; 2] = [(&COMMITMENT_APPEND, 7, true), (&APPEND_CLOSE, 0, true)];
-    assert!(rt; all_pass(&rt, rt.alloc(), Rights::Read, &cases));
+    let cases = [
+        cut_off(&COMMITMENT_APPEND, &ASKED),
+        cut_off(&APPEND_CLOSE, &ASKED[1..]),
+    ];
+    assert!(rt; all_hold(&rt, rt.alloc(), Rights::Read, &cases));
 }
 
+// Appends are answered before questions, and the refusal is an answer to a question.
 #[test]
 fn appenders_do_not_close(rt: HostRuntime) {
-    let cases: [Case; 2] = [(&COMMITMENT_APPEND, 26, false), (&APPEND_CLOSE, 12, true)];
-    assert!(rt; all_pass(&rt, rt.alloc(), Rights::Append, &cases));
+    let cases = [
+        live(&COMMITMENT_APPEND, &APPENDED_FIRST),
+        cut_off(&APPEND_CLOSE, &APPENDED_ALONE),
+    ];
+    assert!(rt; all_hold(&rt, rt.alloc(), Rights::Append, &cases));
 }
 
 #[test]
 fn closers_may_do_everything(rt: HostRuntime) {
-    let cases: [Case; 2] = [(&COMMITMENT_APPEND, 26, false), (&APPEND_CLOSE, 26, false)];
-    assert!(rt; all_pass(&rt, rt.alloc(), Rights::Close, &cases));
+    let cases = [
+        live(&COMMITMENT_APPEND, &APPENDED_FIRST),
+        live(&APPEND_CLOSE, &ALL_DONE),
+    ];
+    assert!(rt; all_hold(&rt, rt.alloc(), Rights::Close, &cases));
 }
 
 const UNKNOWN: [u8; 15] = [0, 0, 0, 2, 99, 1, 0, 0, 0, 5, 2, 0, 0, 0, 9];
 
 const LONG_CLOSE: [u8; 5] = [255, 255, 6, 0, 0];
 
-const LONG_APPEND: [u8; 5] = [255, 255, 1, 0, 0];
+const SHORT_APPEND: [u8; 7] = [0, 5, 1, 0, 0, 0, 1];
 
-// What is no request is let through: an empty frame, an unknown kind, a length over the limit. Of a frame over the
-// limit whose kind isn't allowed nothing is.
+// What is no request is malformed, whatever it would have asked for: an empty frame, a length over the limit, an append
+// that is too short.
 #[test]
 fn frames_that_are_no_requests(rt: HostRuntime) {
-    let cases: [Case; 4] = [
-        (&[], 0, false),
-        (&UNKNOWN, 15, false),
-        (&LONG_CLOSE, 0, true),
-        (&LONG_APPEND, 5, false),
+    let cases = [
+        live(&[], &[]),
+        malformed(&UNKNOWN, false),
+        malformed(&LONG_CLOSE, false),
+        malformed(&SHORT_APPEND, false),
     ];
-    assert!(rt; all_pass(&rt, rt.alloc(), Rights::Append, &cases));
+    assert!(rt; all_hold(&rt, rt.alloc(), Rights::Read, &cases));
 }
 
-// What is held back is given when the stream ends. The third byte of a frame decides on it.
+// A frame is judged when it is whole. One that the end of the stream cuts off is malformed.
 #[test]
-fn streams_that_end_in_a_length(rt: HostRuntime) {
-    let cases: [Case; 4] = [
-        (&[0], 1, false),
-        (&[0, 5], 2, false),
-        (&[0, 5, 1], 0, true),
-        (&[0, 5, 2, 0], 4, false),
+fn streams_that_end_in_a_frame(rt: HostRuntime) {
+    let cases = [
+        malformed(&APPEND_CLOSE[..1], true),
+        malformed(&APPEND_CLOSE[..2], true),
+        malformed(&APPEND_CLOSE[..11], true),
+        live(&APPEND_CLOSE[..11], &[]),
     ];
-    assert!(rt; all_pass(&rt, rt.alloc(), Rights::Read, &cases));
-}
-
-/// A stream that gives a question with the first byte of the next frame, then nothing, and then fails.
-#[derive(Drop)]
-struct Failing {
-    reads: usize,
-}
-
-impl ReadyStream for Failing {
-    ghost calls = { unknown_calls };
-
-    fn read_ready(&mut self, buffer: &mut [u8]) -> Option<Result<usize, StreamError>> {
-        self.reads = self.reads.saturating_add(1);
-        match self.reads {
-            1 => {
-                let count = buffer.len().min(8);
-                buffer[..count].copy_from_slice(&COMMITMENT_APPEND[..count]);
-                Some(Ok(count))
-            }
-            2 => None,
-            _ => Some(Err(StreamError)),
-        }
-    }
-
-    fn write_ready(&mut self, bytes: &[u8]) -> Result<usize, StreamError> {
-        Ok(bytes.len().min(1))
-    }
-}
-
-// A length that is held back is nothing as yet, and a fault is that of the inner stream.
-#[test]
-fn a_length_is_held_back(rt: HostRuntime) {
-    let mut guarded = Guarded::new(Failing { reads: 0 }, Rights::Append);
-    let mut buffer = [0; 24];
-    let first = guarded.read_ready(&mut buffer);
-    let second = guarded.read_ready(&mut buffer);
-    let third = guarded.read_ready(&mut buffer);
-    assert!(rt; first == Some(Ok(7)));
-    assert!(rt; second == None);
-    assert!(rt; third == Some(Err(StreamError)));
-    assert!(rt; guarded.into_stream().reads == 3);
-}
-
-// Writes are those of the inner stream. A buffer of two bytes gets nothing.
-#[test]
-fn writes_and_short_buffers(rt: HostRuntime) {
-    let mut guarded = Guarded::new(Failing { reads: 0 }, Rights::Append);
-    let mut buffer = [0; 2];
-    assert!(rt; guarded.read_ready(&mut buffer) == None);
-    assert!(rt; guarded.stream().reads == 0);
-    assert!(rt; guarded.write_ready(&buffer) == Ok(1));
-    assert!(rt; guarded.rights() == Rights::Append);
+    assert!(rt; all_hold(&rt, rt.alloc(), Rights::Read, &cases));
 }

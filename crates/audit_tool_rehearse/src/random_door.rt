@@ -2,7 +2,8 @@
 use crate::random::Random;
 use crate::streams::stream_of;
 use crate::visitor::Visitor;
-use audit_serve_ready::{Departure, Door, Next};
+use audit_serve_passes::Rights;
+use audit_serve_ready::{Departure, Door, Newcomer, Next};
 use sha2::{Digest, Sha256};
 use std::alloc::{AllocError, Global};
 
@@ -70,14 +71,17 @@ impl RandomDoor {
 impl Door for RandomDoor {
     type Stream = Visitor;
 
-    fn next_client(&mut self, place: usize) -> Option<Visitor> {
+    fn next_client(&mut self, place: usize) -> Option<Newcomer<Visitor>> {
         if self.came >= CLIENTS || self.random.below(4) == 0 {
             return None;
         }
         let visitor = self.new_visitor().ok()?;
         self.came = self.came.saturating_add(1);
         self.note(1, place);
-        Some(visitor)
+        Some(Newcomer {
+            stream: visitor,
+            rights: Rights::Close,
+        })
     }
 
     fn dismisses(&mut self, _place: usize, _client: &Visitor) -> bool {
@@ -122,6 +126,7 @@ fn code_of(departure: Departure) -> u8 {
         Departure::Malformed => 1,
         Departure::ReadFailed => 2,
         Departure::WriteFailed => 3,
+        Departure::CutOff => 4,
         Departure::Dismissed => 5,
         Departure::Memory => 6,
     }
