@@ -5,6 +5,7 @@ ghost use Rattle.audit_cli_offline.specs.ProofLines.{head_text, member_line, inc
 
 use crate::checking::Proof;
 use audit_base::{ENTRY_OVERHEAD, u32_at};
+use audit_chain::stated_length;
 use audit_proof::{IncrementProof, MemberProof};
 use audit_text::push_number;
 use std::alloc::AllocError;
@@ -49,7 +50,7 @@ fn push_head(line: &mut Vec<u8>, entry: &[u8]) -> Result<(), AllocError>
         return line.extend_from_slice(b" kind - bytes -");
     }
     push_number(line, b" kind ", u64::from(u32_at(entry, 0)))?;
-    push_number(line, b" bytes ", u64::from(u32_at(entry, 4)))
+    push_number(line, b" bytes ", stated_length(entry) as u64)
 }
 
 // Whether bytes are one entry, as long as its head states.
@@ -57,5 +58,5 @@ fn push_head(line: &mut Vec<u8>, entry: &[u8]) -> Result<(), AllocError>
 fn is_one_entry(entry: &[u8]) -> bool
     ensures { result ≡ is_one_entry entry.now }
 {
-    entry.len() >= ENTRY_OVERHEAD && entry.len() == ENTRY_OVERHEAD + u32_at(entry, 4) as usize
+    entry.len() >= ENTRY_OVERHEAD && entry.len() == ENTRY_OVERHEAD + stated_length(entry)
 }
