@@ -1,4 +1,3 @@
 pub mod KeyFiles
-pub mod Acks
 pub mod Blank
 pub mod Sectors

@@ -55,6 +55,11 @@ asked_or_bad (Some commitment) = Ok commitment
 abbrev pub commitment_asked : List ℕ → Result Commitment CommandError
 commitment_asked word = asked_or_bad (commitment_in_word word)
 
+-- there is a word for permissions, and it gives none
+abbrev pub IsNoMode : Option (Bor (List ℕ)) → Type 0
+IsNoMode None = ⊥
+IsNoMode (Some word) = (mode : ℕ) → IsMode word.now mode → ⊥
+
 -- The words for a new file have this fault. The permissions are checked before the number of sectors.
 abbrev pub IsNewFileFault : Option (Bor (List ℕ)) → List ℕ → CommandError → Type 0
 IsNewFileFault None sectors fault = sectors_asked sectors ≡ Err fault
@@ -73,7 +78,6 @@ IsCommitmentAsked None asked = asked ≡ None
 IsCommitmentAsked (Some word) asked = asked ≡ commitment_in_word word.now
 
 -- a fault of the words is returned, and nothing is written
-abbrev pub RefusesWords : (CommandError → Type 0) → Option (List ℕ) → Option (List ℕ) → Result Unit CommandError
-    → Type 0
-RefusesWords IsFault before after result = (fault : CommandError) → IsFault fault
+abbrev pub RefusesWords : {T E : Type 0} → (E → Type 0) → Option (List ℕ) → Option (List ℕ) → Result T E → Type 0
+RefusesWords {E = E} IsFault before after result = (fault : E) → IsFault fault
     → (result ≡ Err fault) × Keeps before after

@@ -3,5 +3,4 @@ pub mod Mode
 pub mod SocketPath
 pub mod Arguments
 pub mod KeyFile
-pub mod Acks
 pub mod Blank

@@ -2,13 +2,14 @@
 ghost use Rattle.std.specs.Prelude.{◌≡◌, Some, None, Ok, Err, IfSome, IfOk, IfErr};
 ghost use Rattle.audit_cli_offline.specs.CommitmentWord.{commitment_in_word};
 ghost use Rattle.audit_cli_base.specs.Arguments.{number_asked, sectors_asked, proof_asked, commitment_asked};
-ghost use Rattle.audit_cli_base.specs.Arguments.{IsNewFileFault, AreNoCommitments, IsCommitmentAsked};
+ghost use Rattle.audit_cli_base.specs.Arguments.{IsNewFileFault, IsNoMode, AreNoCommitments, IsCommitmentAsked};
 ghost use Rattle.audit_cli_base.specs.Mode.{IsMode};
-ghost use Rattle.audit_cli_base.specs.declared.mode.TheConstants.{OWNER_ONLY};
+ghost use Rattle.audit_disk.specs.declared.files.TheConstants.{OWNER_ONLY};
 
 use crate::fault::CommandError;
-use crate::mode::{OWNER_ONLY, mode_asked};
+use crate::mode::mode_asked;
 use audit_cli_offline::commitment_in_word;
+use audit_disk::OWNER_ONLY;
 use audit_log::{MAX_SECTORS, MIN_SECTORS};
 use audit_proof::Commitment;
 use audit_store::StoreError;
@@ -109,6 +110,20 @@ pub fn new_file_asked(mode: Option<&str>, sectors: &str) -> Result<(u32, u64), C
         None => OWNER_ONLY,
     };
     Ok((mode, sectors_asked(sectors)?))
+}
+
+/// The permissions of a socket's file that a word asks for. Without a word only the owner has access. The only error is
+/// `BadArgument`, exactly if the word gives no permissions.
+pub fn socket_mode_asked(word: Option<&str>) -> Result<u32, CommandError>
+    ensures none { word.entry ≡ None → result ≡ Ok OWNER_ONLY }
+    ensures mode { IfOk result (λ mode. IfSome word.entry (λ word. IsMode word.now mode)) }
+    ensures wrong { IsNoMode word.entry → result ≡ Err CommandError.BadArgument }
+    ensures fault { IfErr result (λ fault. (fault ≡ CommandError.BadArgument) × IsNoMode word.entry) }
+{
+    match word {
+        Some(word) => mode_asked(word),
+        None => Ok(OWNER_ONLY),
+    }
 }
 
 /// Parses one or two commitments. If one of the words isn't a commitment, the error is `BadArgument`.

@@ -37,6 +37,12 @@ pub enum CommandError {
         /// The number of its sectors.
         sectors: u64,
     },
+    /// The store holds another number of events than the one that was expected.
+    #[error("there are {count} events")]
+    OtherCount {
+        /// The number that it holds.
+        count: u64,
+    },
     /// The store is damaged, and the entries that could still be read were written.
     #[error("the store is damaged")]
     Salvaged,
@@ -69,7 +75,9 @@ impl CommandError {
             CommandError::BadArgument => Status::Usage,
             CommandError::FileExists => Status::Refused,
             CommandError::File | CommandError::InUse | CommandError::Replaced => Status::Device,
-            CommandError::TooSmall { .. } | CommandError::Salvaged => Status::Refused,
+            CommandError::TooSmall { .. }
+            | CommandError::OtherCount { .. }
+            | CommandError::Salvaged => Status::Refused,
             CommandError::Lines(LinesError::Memory) => Status::Memory,
             CommandError::Lines(LinesError::Read | LinesError::Write) => Status::Device,
             CommandError::Lines(LinesError::InputTooLong | LinesError::Line { .. }) => {

@@ -1,7 +1,6 @@
 //! What the commands share: words, errors, statuses, files and lines.
 #![tactic(auto)]
 
-mod acknowledging;
 mod arguments;
 mod fault;
 mod files;
@@ -11,16 +10,16 @@ mod output_file;
 mod replacing;
 mod reporting;
 mod socket_path;
+mod standard_output;
 mod status;
 mod store_watch;
 mod system_use;
 mod text;
 mod watched_output;
 
-pub use acknowledging::{ACK_ROOM, write_acks};
 pub use arguments::{
     ProofRequest, commitment_asked, commitments_asked, new_file_asked, number_asked, proof_request,
-    sectors_asked,
+    sectors_asked, socket_mode_asked,
 };
 pub use fault::CommandError;
 pub use files::{
@@ -28,10 +27,11 @@ pub use files::{
     open_device_to_salvage, open_store, store_to_read,
 };
 pub use key_file::{key_of_file, read_key};
-pub use mode::{OWNER_ONLY, mode_asked};
+pub use mode::mode_asked;
 pub use output_file::OutputFile;
 pub use reporting::{report, report_end, report_flush};
 pub use socket_path::{MAX_SOCKET_PATH, socket_path_asked};
+pub use standard_output::{STANDARD_OUTPUT, is_standard_output};
 pub use status::Status;
 pub use store_watch::StoreWatch;
 pub use text::{write_exported, write_number};

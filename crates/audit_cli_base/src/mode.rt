@@ -3,9 +3,7 @@ ghost use Rattle.std.specs.Prelude.{◌≡◌, ℕ, IfOk, IfErr, Ok, bit_and};
 ghost use Rattle.audit_cli_base.specs.Mode.{IsMode, mode_digits};
 
 use crate::fault::CommandError;
-
-/// Reading and writing for the owner, and nothing for anyone else.
-pub const OWNER_ONLY: u32 = 0o600;
+use audit_disk::OWNER_ONLY;
 
 /// Reading and writing for everyone.
 const ANYONE: u32 = 0o666;

@@ -23,6 +23,7 @@ pub fn report<M: Write>(fault: CommandError, messages: &mut M) -> Status
         CommandError::InUse => writeln!(messages, "audit: store in use"),
         CommandError::Replaced => writeln!(messages, "audit: store replaced"),
         CommandError::TooSmall { sectors } => print_too_small(sectors, messages),
+        CommandError::OtherCount { count } => writeln!(messages, "audit: count is {count}"),
         CommandError::Lines(cause) => print_lines_fault(cause, messages),
         CommandError::Refused(error) => print_refusal(error, messages),
         CommandError::Export(fault) => print_export_fault(fault, messages),

@@ -4,8 +4,8 @@ use Rattle.std.specs.Prelude.{Result, Ok, Err, IfSome, List, [], ◌∷◌, ◌+
 use Rattle.std.specs.List.{flat_map}
 use Rattle.std.specs.Fmt.{decimal}
 use Rattle.std.specs.Io.KnownBytes.{Appends, Keeps, IsAtEnd}
-use Rattle.hex.specs.Hex.{encode_lower}
 use Rattle.audit_chain.specs.EventData.{EventData}
+use Rattle.audit_text.specs.AckLine.{ack_line}
 use Rattle.audit_text.specs.Lines.{lines_of}
 use Rattle.audit_text.specs.Writing.{WritesInPart}
 use Rattle.audit_text.specs.declared.fault.LineError.{LineError}
@@ -63,11 +63,6 @@ refusal_word refusal.Closed = codes "Closed"
 refusal_word refusal.NotAllowed = codes "NotAllowed"
 refusal_word refusal.Malformed = codes "Malformed"
 
--- the index of the event, the count after its batch, and the root
-unfoldable pub acknowledgement_line : ℕ → ℕ → List ℕ → List ℕ
-acknowledgement_line index count root =
-    codes "ack " ++ decimal index ++ codes " " ++ decimal count ++ codes " " ++ encode_lower root ++ codes "\n"
-
 -- the number of the line, and the number and name of the refusal
 unfoldable pub refusal_line : ℕ → Refusal → List ℕ
 refusal_line line code =
@@ -76,7 +71,7 @@ refusal_line line code =
 
 -- the line that is printed for an answer to the event of a line
 abbrev pub answer_line : ℕ → Reply → List ℕ
-answer_line line (reply.Acknowledgement tag index count root) = acknowledgement_line index count root
+answer_line line (reply.Acknowledgement tag index count root) = ack_line index count root
 answer_line line (reply.Refused tag code) = refusal_line line code
 answer_line line _ = []
 

@@ -2,7 +2,7 @@
 ghost use Rattle.std.specs.Prelude.{◌≡◌, ◌+◌, ◌<◌, ◌≤◌, if◌then◌else◌, OnOk, OnErr, IfOk, IfErr};
 ghost use Rattle.std.specs.Io.KnownBytes.{Appends};
 ghost use Rattle.audit_text.specs.Writing.{WritesInPart};
-ghost use Rattle.audit_cli_client.specs.Sending.{is_refusal, is_of_event, answer_line, acknowledgement_line, refusal_line};
+ghost use Rattle.audit_cli_client.specs.Sending.{is_refusal, is_of_event, answer_line, refusal_line};
 ghost use Rattle.audit_cli_client.specs.Sending.{AnswersLine};
 ghost use Rattle.audit_cli_client.specs.Sending.{TakesAnswer, FailsAnswer, TakesAnswers};
 
@@ -12,7 +12,7 @@ use crate::fault::ClientError;
 use crate::refusal_word::word_of_refusal;
 use crate::send_error::SendError;
 use crate::taking::line_tag;
-use audit_text::{push_hex, push_number, write_whole};
+use audit_text::{push_ack, push_number, write_whole};
 use audit_wire::{Refusal, Reply};
 use std::alloc::{AllocError, Global};
 use std::io::{Read, Write};
@@ -124,7 +124,8 @@ fn put_answer(line: &mut Vec<u8>, number: u64, given: &Reply) -> Result<bool, Cl
             count,
             root,
         } if *tag == line_tag(number) => {
-            put_acknowledgement(line, *index, *count, root)?;
+            line.clear();
+            push_ack(line, *index, *count, root)?;
             Ok(false)
         }
         Reply::Refused { tag, refusal } if *tag == line_tag(number) && is_of_event(*refusal) => {
@@ -140,24 +141,6 @@ fn is_of_event(refusal: Refusal) -> bool
     ensures { result ≡ is_of_event refusal }
 {
     !matches!(refusal, Refusal::NotAllowed)
-}
-
-// `ack`, the index of the event, the count after its batch, and the root.
-#[tactic(auto, unfolding(crate::specs::Sending::acknowledgement_line))]
-fn put_acknowledgement(
-    line: &mut Vec<u8>,
-    index: u64,
-    count: u64,
-    root: &[u8],
-) -> Result<(), AllocError>
-    ensures { OnOk result (line.new.items ≡ acknowledgement_line index count root.now) }
-{
-    line.clear();
-    push_number(line, b"ack ", index)?;
-    push_number(line, b" ", count)?;
-    line.extend_from_slice(b" ")?;
-    push_hex(line, root)?;
-    line.extend_from_slice(b"\n")
 }
 
 // `refused`, the number of the line, and the number and name of the refusal.

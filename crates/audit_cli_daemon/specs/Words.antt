@@ -3,8 +3,7 @@ use denote.Ref.{Bor}
 use Rattle.std.specs.Prelude.{◌≡◌, ◌⊎◌, ℕ, nat_le, Option, Some, None, Result, Ok, Err, List, if◌then◌else◌}
 use Rattle.audit_text.specs.Number.{number_in_text}
 use Rattle.audit_serve_ready.specs.declared.limits.TheConstants.{DEFAULT_BACKLOG, MAX_BACKLOG}
-use Rattle.audit_cli_base.specs.Arguments.{number_asked}
-use Rattle.audit_cli_base.specs.Mode.{IsMode}
+use Rattle.audit_cli_base.specs.Arguments.{number_asked, IsNoMode}
 use Rattle.audit_cli_base.specs.SocketPath.{IsNoSocketPath}
 use Rattle.audit_cli_base.specs.declared.fault.CommandError.{CommandError}
 use Rattle.audit_cli_base.specs.declared.fault.CommandError.TheVariants.{BadArgument}
@@ -22,11 +21,6 @@ bytes_judged (Some bytes) = if nat_le bytes MAX_BACKLOG then Ok bytes else Err B
 abbrev pub backlog_asked : Option (Bor (List ℕ)) → Result ℕ CommandError
 backlog_asked None = Ok DEFAULT_BACKLOG
 backlog_asked (Some word) = bytes_judged (number_in_text word.now)
-
--- there is a word for permissions, and it gives none
-abbrev pub IsNoMode : Option (Bor (List ℕ)) → Type 0
-IsNoMode None = ⊥
-IsNoMode (Some word) = (mode : ℕ) → IsMode word.now mode → ⊥
 
 -- there is a word for the readers' socket, and it is no socket's path
 abbrev pub IsNoReader : Option (Bor (List ℕ)) → Type 0
@@ -48,3 +42,6 @@ HasBadSetting settings =
 abbrev pub HasBadWord : Request → Type 0
 HasBadWord (Run settings) = HasBadSetting settings
 HasBadWord (Stop socket) = IsNoSocketPath socket.now STOP_SUFFIX_LEN
+
+abbrev pub IsDaemonFault : Settings → CommandError → Type 0
+IsDaemonFault settings fault = HasBadSetting settings × (fault ≡ BadArgument)

@@ -1,11 +1,9 @@
 //! Arguments that are judged here rather than by the parser of the command line.
-ghost use Rattle.std.specs.Prelude.{◌≡◌, ◌≤◌, None, Ok, Err, IfSome, IfOk, IfErr};
+ghost use Rattle.std.specs.Prelude.{◌≡◌, ◌≤◌, IfOk, IfErr};
 ghost use Rattle.audit_serve_ready.specs.declared.limits.TheConstants.{MAX_BACKLOG};
-ghost use Rattle.audit_cli_base.specs.Mode.{IsMode};
-ghost use Rattle.audit_cli_base.specs.declared.mode.TheConstants.{OWNER_ONLY};
-ghost use Rattle.audit_cli_daemon.specs.Words.{backlog_asked, IsNoMode};
+ghost use Rattle.audit_cli_daemon.specs.Words.{backlog_asked};
 
-use audit_cli_base::{CommandError, OWNER_ONLY, mode_asked};
+use audit_cli_base::CommandError;
 use audit_serve_ready::{DEFAULT_BACKLOG, MAX_BACKLOG};
 use audit_text::number_in_text;
 
@@ -28,19 +26,5 @@ pub fn backlog_asked(word: Option<&str>) -> Result<usize, CommandError>
     match number_in_text(word.as_bytes()) {
         Some(bytes) if bytes <= MAX_BACKLOG as u64 => Ok(bytes as usize),
         _ => Err(CommandError::BadArgument),
-    }
-}
-
-/// Returns the permissions of the sockets' files that a word asks for. Without a word only the owner has access. The
-/// only error is `BadArgument`, exactly if the word gives no permissions.
-pub fn socket_mode_asked(word: Option<&str>) -> Result<u32, CommandError>
-    ensures none { word.entry ≡ None → result ≡ Ok OWNER_ONLY }
-    ensures mode { IfOk result (λ mode. IfSome word.entry (λ word. IsMode word.now mode)) }
-    ensures wrong { IsNoMode word.entry → result ≡ Err CommandError.BadArgument }
-    ensures fault { IfErr result (λ fault. (fault ≡ CommandError.BadArgument) × IsNoMode word.entry) }
-{
-    match word {
-        Some(word) => mode_asked(word),
-        None => Ok(OWNER_ONLY),
     }
 }

@@ -2,15 +2,15 @@
 ghost use Rattle.std.specs.Prelude.{◌≡◌, ◌⊎◌, ◌≤◌, true, false, None, Ok, Err, IfSome, IfOk, IfErr};
 ghost use Rattle.std.specs.Io.KnownBytes.{Keeps};
 ghost use Rattle.audit_serve_ready.specs.declared.limits.TheConstants.{MAX_BACKLOG};
-ghost use Rattle.audit_cli_base.specs.Arguments.{number_asked};
+ghost use Rattle.audit_cli_base.specs.Arguments.{number_asked, RefusesWords};
 ghost use Rattle.audit_cli_base.specs.Faults.{IsNoWordFault};
 ghost use Rattle.audit_cli_base.specs.Mode.{IsMode};
 ghost use Rattle.audit_cli_daemon.specs.declared.request.Settings.{Settings};
-ghost use Rattle.audit_cli_base.specs.declared.mode.TheConstants.{OWNER_ONLY};
+ghost use Rattle.audit_disk.specs.declared.files.TheConstants.{OWNER_ONLY};
 ghost use Rattle.audit_cli_daemon.specs.declared.arguments.TheConstants.{DEFAULT_IDLE, DEFAULT_RESERVE};
-ghost use Rattle.audit_cli_daemon.specs.Words.{HasBadSetting, HasBadWord, backlog_asked};
+ghost use Rattle.audit_cli_daemon.specs.Words.{HasBadSetting, HasBadWord, IsDaemonFault, backlog_asked};
 
-use crate::arguments::{DEFAULT_IDLE, DEFAULT_RESERVE, backlog_asked, socket_mode_asked};
+use crate::arguments::{DEFAULT_IDLE, DEFAULT_RESERVE, backlog_asked};
 use crate::client_journal::ClientJournal;
 use crate::gauge::{Gauge, GaugedDoor};
 use crate::running::serve_until_stopped;
@@ -21,7 +21,7 @@ use crate::stopping::stop;
 use crate::watched_store::WatchedStore;
 use audit_cli_base::{
     CommandError, Opened, Status, StoreWatch, number_asked, open_store, report, report_end,
-    socket_path_asked,
+    socket_mode_asked, socket_path_asked,
 };
 use audit_cli_host::Dial;
 use audit_disk::SystemFile;
@@ -39,7 +39,7 @@ use std::os::fd::RawFd;
 use std::time::{Clock, Duration};
 
 // The descriptor of standard output.
-const STANDARD_OUTPUT: RawFd = 1;
+const OUTPUT_DESCRIPTOR: RawFd = 1;
 
 /// A request about a daemon, with the words of the command line as they were given.
 #[derive(Clone, Copy)]
@@ -170,9 +170,8 @@ fn perform<F: Files + Net + Clock, W: Write, M: Write>(
 ) -> Result<(), CommandError>
 where
     F::File: SystemFile,
-    ensures words { HasBadSetting settings.entry → result ≡ Err CommandError.BadArgument }
+    ensures words { RefusesWords (IsDaemonFault settings.entry) (W.contents output.old) (W.contents output.new) result }
     ensures only { result ≡ Err CommandError.BadArgument → HasBadSetting settings.entry }
-    ensures unwritten { HasBadSetting settings.entry → Keeps (W.contents output.old) (W.contents output.new) }
 {
     let judged = judge(settings)?;
     let sockets = Sockets::new(alloc, settings.socket, settings.reader)?;
@@ -285,7 +284,7 @@ fn report_stopped<N: Net, W: Write>(
 // Whoever ordered the daemon to stop doesn't wait for the reader of its output longer than a second: then the orders
 // are answered before the last line is written.
 fn answer_without_room<N: Net>(rt: &N, alloc: Global, orders: &mut Option<StopOrders>) {
-    let has_room = match Room::new(rt, alloc, STANDARD_OUTPUT) {
+    let has_room = match Room::new(rt, alloc, OUTPUT_DESCRIPTOR) {
         Ok(mut room) => room.comes_within(Duration::from_secs(1)),
         Err(_) => false,
     };

@@ -1,5 +1,4 @@
-use audit_cli_base::OWNER_ONLY;
-use audit_disk::SystemFile;
+use audit_disk::{OWNER_ONLY, SystemFile};
 use audit_serve_door::{Entrance, StopOrders};
 use audit_serve_passes::Rights;
 use audit_serve_sockets::{SocketFile, SocketLock, SocketName};

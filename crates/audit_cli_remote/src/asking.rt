@@ -3,8 +3,10 @@ use crate::arguments::{Evidence, Question};
 use crate::connection::{connect, socket_identity};
 use crate::fault::RemoteError;
 use crate::line::{LineEnd, Pace};
-use crate::out::{OutFile, is_standard_output};
-use audit_cli_base::{CommandError, ProofRequest, write_exported, write_number};
+use crate::out::OutFile;
+use audit_cli_base::{
+    CommandError, ProofRequest, is_standard_output, write_exported, write_number,
+};
 use audit_cli_client::{
     AskError, ClientError, Export, Out, close_log, newest_commitment, put_entry, put_export,
     put_increment, put_member,

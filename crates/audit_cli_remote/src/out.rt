@@ -3,18 +3,12 @@ ghost use Rattle.std.specs.Prelude.{◌≡◌, ◌⊎◌, [], Some, None, IfOk, 
 
 use crate::draft::Draft;
 use crate::fault::RemoteError;
-use audit_cli_base::OutputFile;
+use audit_cli_base::{OutputFile, STANDARD_OUTPUT, is_standard_output};
 use audit_cli_client::Out;
 use audit_disk::FileIdentity;
 use std::alloc::Global;
 use std::fs::Files;
 use std::io::{BufWriter, Write};
-
-// The word that selects standard output instead of a file. Nothing else is then written there.
-const STANDARD_OUTPUT: &str = "-";
-
-// Standard output as a path. It may be a regular file, which must not be replaced by another.
-const OUTPUT_DEVICE: &str = "/dev/stdout";
 
 // The size in bytes of the buffer for a file.
 const FILE_ROOM: usize = 1 << 16;
@@ -56,11 +50,6 @@ impl<'a, F: Files> OutFile<'a, F> {
     pub fn takes_line(&self) -> bool {
         self.path != STANDARD_OUTPUT
     }
-}
-
-/// Whether a path selects standard output.
-pub fn is_standard_output(path: &str) -> bool {
-    path == STANDARD_OUTPUT || path == OUTPUT_DEVICE
 }
 
 /// Nothing is known of the bytes of a file.

@@ -2,8 +2,8 @@
 use Rattle.std.specs.Prelude.{ℕ, List, ◌++◌, codes}
 use Rattle.std.specs.Fmt.{decimal}
 use Rattle.audit_log.specs.declared.header.Header.{Header}
+use Rattle.audit_text.specs.AckLine.{ack_line}
 use Rattle.audit_text.specs.NumberedLine.{numbered_line}
-use Rattle.audit_cli_base.specs.Acks.{ack_line}
 
 -- what formatting a device prints
 abbrev pub formatted_line : ℕ → List ℕ
@@ -13,4 +13,4 @@ formatted_line sectors = codes "formatted " ++ decimal sectors ++ codes "\n"
 unfoldable pub rotated_lines : Header → Header → List ℕ
 rotated_lines old new =
     numbered_line (codes "closed ") old.count old.root ++ formatted_line new.sectors
-    ++ ack_line (record { first = 0; count = new.count; root = new.root })
+    ++ ack_line 0 new.count new.root

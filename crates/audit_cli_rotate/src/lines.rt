@@ -4,14 +4,13 @@ ghost use Rattle.std.specs.Fmt.{decimal};
 ghost use Rattle.std.specs.Io.KnownBytes.{Appends};
 ghost use Rattle.audit_text.specs.Writing.{WritesInPart};
 ghost use Rattle.audit_store.specs.Store.{active_header};
-ghost use Rattle.audit_cli_base.specs.Acks.{ack_line};
 ghost use Rattle.audit_cli_base.specs.Faults.{IsUnwritten};
 ghost use Rattle.audit_cli_rotate.specs.Lines.{rotated_lines, formatted_line};
 
 use audit_cli_base::CommandError;
 use audit_disk_model::Sectors;
-use audit_store::{Receipt, Store};
-use audit_text::{push_hex, push_number, put_line, write_whole};
+use audit_store::Store;
+use audit_text::{push_ack, push_number, put_line, write_whole};
 use std::alloc::{AllocError, Global};
 use std::io::Write;
 
@@ -46,12 +45,7 @@ fn lines_of<O: Sectors, N: Sectors>(
     put_line(&mut lines, b"closed ", closed.count, &closed.root)?;
     push_formatted(&mut lines, new.sectors())?;
     let (count, root) = (linked.count, linked.root);
-    let receipt = Receipt {
-        first: 0,
-        count,
-        root,
-    };
-    push_ack(&mut lines, &receipt)?;
+    push_ack(&mut lines, 0, count, &root)?;
     Ok(lines)
 }
 
@@ -60,18 +54,6 @@ fn push_formatted(lines: &mut Vec<u8>, sectors: u64) -> Result<(), AllocError>
     ensures { OnOk result (lines.new.items ≡ lines.old.items ++ formatted_line sectors) }
 {
     push_number(lines, b"formatted ", sectors)?;
-    lines.extend_from_slice(b"\n")?;
-    Ok(())
-}
-
-// Appends the line of a receipt.
-fn push_ack(lines: &mut Vec<u8>, receipt: &Receipt) -> Result<(), AllocError>
-    ensures { OnOk result (lines.new.items ≡ lines.old.items ++ ack_line receipt.now) }
-{
-    push_number(lines, b"ack ", receipt.first)?;
-    push_number(lines, b" ", receipt.count)?;
-    lines.extend_from_slice(b" ")?;
-    push_hex(lines, &receipt.root)?;
     lines.extend_from_slice(b"\n")?;
     Ok(())
 }

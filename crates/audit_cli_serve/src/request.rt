@@ -2,20 +2,19 @@
 ghost use Rattle.std.specs.Prelude.{◌≡◌, ◌⊎◌, ◌≤◌, true, false, None, Ok, Err, IfSome, IfOk, IfErr};
 ghost use Rattle.std.specs.Io.KnownBytes.{Keeps};
 ghost use Rattle.audit_base.specs.declared.limits.TheConstants.{SESSIONS};
-ghost use Rattle.audit_cli_base.specs.Mode.{IsMode};
+ghost use Rattle.audit_cli_base.specs.Arguments.{RefusesWords};
 ghost use Rattle.audit_cli_base.specs.declared.fault.CommandError.TheVariants.{Replaced};
-ghost use Rattle.audit_cli_base.specs.declared.mode.TheConstants.{OWNER_ONLY};
 ghost use Rattle.audit_cli_serve.specs.Faults.{IsNoWordError};
 ghost use Rattle.audit_cli_serve.specs.declared.fault.ServingError.TheVariants.{Command};
-ghost use Rattle.audit_cli_serve.specs.Words.{IsWrongNumber, IsWrongMode, HasWrongWord};
+ghost use Rattle.audit_cli_serve.specs.Words.{IsWrongNumber, HasWrongWord, IsServingFault};
 
 use crate::arguments::{rounds_asked, sessions_asked};
 use crate::fault::ServingError;
 use crate::looping::loop_over;
 use crate::rounds::serve_rounds;
 use audit_cli_base::{
-    CommandError, OWNER_ONLY, Opened, Status, StoreWatch, WatchedOutput, mode_asked, open_store,
-    report_flush, socket_path_asked,
+    CommandError, Opened, Status, StoreWatch, WatchedOutput, open_store, report_flush,
+    socket_mode_asked, socket_path_asked,
 };
 use audit_disk::SystemFile;
 use audit_disk_model::Sectors;
@@ -101,9 +100,8 @@ fn perform<F: Files + Net + Clock, R: Read, W: Write>(
 ) -> Result<(), ServingError>
 where
     F::File: SystemFile,
-    ensures words { HasWrongWord request.entry → result ≡ Err (ServingError.Command CommandError.BadArgument) }
+    ensures words { RefusesWords (IsServingFault request.entry) (W.contents output.old) (W.contents output.new) result }
     ensures only { result ≡ Err (ServingError.Command CommandError.BadArgument) → HasWrongWord request.entry }
-    ensures unwritten { HasWrongWord request.entry → Keeps (W.contents output.old) (W.contents output.new) }
 {
     match request {
         Request::Serve {
@@ -139,18 +137,6 @@ fn sessions_or_one(word: Option<&str>) -> Result<usize, CommandError>
     match word {
         Some(word) => sessions_asked(word),
         None => Ok(1),
-    }
-}
-
-fn socket_mode_asked(word: Option<&str>) -> Result<u32, CommandError>
-    ensures none { word.entry ≡ None → result ≡ Ok OWNER_ONLY }
-    ensures mode { IfOk result (λ mode. IfSome word.entry (λ word. IsMode word.now mode)) }
-    ensures wrong { IsWrongMode word.entry → result ≡ Err CommandError.BadArgument }
-    ensures fault { IfErr result (λ fault. (fault ≡ CommandError.BadArgument) × IsWrongMode word.entry) }
-{
-    match word {
-        Some(word) => mode_asked(word),
-        None => Ok(OWNER_ONLY),
     }
 }
 

@@ -24,8 +24,8 @@ use std::io;
 use std::os::unix::fs::{FileTypeExt, MetadataExt, OpenOptionsExt, PermissionsExt};
 use std::path::Path;
 
-/// The mode of a file that only its owner may read and write.
-const OWNER_ONLY: u32 = 0o600;
+/// The permissions of a file that only its owner may read and write.
+pub const OWNER_ONLY: u32 = 0o600;
 
 impl<F: SystemFile> FileDisk<OsFile<F>> {
     /// Creates a file of `sectors` zero sectors and locks it. From the start only its owner can open it (0600),

@@ -38,6 +38,7 @@ pub use fail_once::FailOnce;
 pub use file_disk::FileDisk;
 pub use file_fault::FileFault;
 pub use file_identity::FileIdentity;
+pub use files::OWNER_ONLY;
 pub use fuse::Fuse;
 pub use mem_disk::MemDisk;
 pub use mem_file::MemFile;

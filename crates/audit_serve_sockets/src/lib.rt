@@ -26,5 +26,5 @@ pub use loop_fault::LoopError;
 pub use looping::run_lines;
 pub use replying::write_frames;
 pub use round_line::write_round;
-pub use socket_file::{OWNER_ONLY, SocketFile, SocketName};
+pub use socket_file::{SocketFile, SocketName};
 pub use socket_lock::SocketLock;

@@ -1,4 +1,4 @@
-use crate::socket_file::OWNER_ONLY;
+use audit_disk::OWNER_ONLY;
 use std::alloc::{Allocator, Global};
 use std::fs::{Files, Metadata, OpenOptions, Permissions};
 use std::io;

@@ -1,15 +1,12 @@
 use crate::owner_only::OwnerOnly;
 use crate::socket_lock::{SocketLock, Taking, own_user, remove_own};
-use audit_disk::{FileIdentity, SystemFile};
+use audit_disk::{FileIdentity, OWNER_ONLY, SystemFile};
 use std::alloc::Global;
 use std::fs::{self, Files, Permissions};
 use std::io::{self, ErrorKind};
 use std::net::Net;
 use std::os::unix::fs::{FileTypeExt, MetadataExt, PermissionsExt};
 use std::os::unix::net::{UnixListener, UnixStream};
-
-/// The default permissions of a socket's file: only its owner may connect.
-pub const OWNER_ONLY: u32 = 0o600;
 
 /// A Unix socket at a path, on which connections arrive.
 #[derive(Drop)]

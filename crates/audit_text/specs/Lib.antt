@@ -6,4 +6,5 @@ pub mod Reading
 pub mod Writing
 pub mod Script
 pub mod NumberedLine
+pub mod AckLine
 pub mod Number

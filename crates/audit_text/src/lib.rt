@@ -13,10 +13,9 @@ mod script;
 mod split;
 
 pub use event_line::event_of_line;
-pub use events::read_events;
 pub use fault::{LineError, LinesError, ParseError};
 pub use input::{INPUT_LIMIT, read_input};
 pub use number::number_in_text;
-pub use output::{push_hex, push_number, put_line, write_whole};
+pub use output::{push_ack, push_hex, push_number, put_line, write_whole};
 pub use script::{Script, read_script};
-pub use split::split_at_first;
+pub use split::{split_at_first, split_line};

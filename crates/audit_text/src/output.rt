@@ -2,6 +2,7 @@ ghost use Rattle.std.specs.Prelude.{◌≡◌, ◌+◌, ◌≤◌, ◌++◌, len
 ghost use Rattle.std.specs.Io.KnownBytes.{Appends, Keeps};
 ghost use Rattle.std.specs.Fmt.{decimal};
 ghost use Rattle.hex.specs.Hex.{encode_lower};
+ghost use Rattle.audit_text.specs.AckLine.{ack_line};
 ghost use Rattle.audit_text.specs.NumberedLine.{numbered_line};
 ghost use Rattle.audit_text.specs.Writing.{WritesInPart};
 
@@ -25,6 +26,20 @@ pub fn put_line(
     push_number(line, word, number)?;
     line.extend_from_slice(b" ")?;
     push_hex(line, bytes)?;
+    line.extend_from_slice(b"\n")?;
+    Ok(())
+}
+
+/// Appends the line that acknowledges events: the index of the first of them, the count of all events with them, and
+/// the root of these.
+#[tactic(auto, unfolding(crate::specs::AckLine::ack_line))]
+pub fn push_ack(line: &mut Vec<u8>, first: u64, count: u64, root: &[u8]) -> Result<(), AllocError>
+    ensures { OnOk result (line.new.items ≡ line.old.items ++ ack_line first count root.now) }
+{
+    push_number(line, b"ack ", first)?;
+    push_number(line, b" ", count)?;
+    line.extend_from_slice(b" ")?;
+    push_hex(line, root)?;
     line.extend_from_slice(b"\n")?;
     Ok(())
 }
