@@ -1,7 +1,7 @@
 use crate::forms::{EXPLAIN, NO_PROGRESS, command_line};
 use crate::remote_command::remote_request;
+use audit_cli_append::Request as Lines;
 use audit_cli_daemon::{Request as Daemon, Settings};
-use audit_cli_follow::Request as Lines;
 use audit_cli_offline::{CheckForm, ReportForm};
 use audit_cli_remote::Request as Remote;
 use audit_cli_rotate::Request as Rotation;
@@ -27,7 +27,7 @@ pub struct CommandLine<'a> {
 pub enum Asked<'a> {
     /// A command that serves no sessions.
     Plain(Request<'a>),
-    /// An append of lines of text, or of lines as they come, or with a certain count, or a reserve.
+    /// An append of lines.
     Lines(Lines<'a>),
     /// Closing a log, and beginning a new store with its last commitment.
     Rotation(Rotation<'a>),
@@ -62,10 +62,8 @@ fn asked_by<'a>(name: &str, given: &ArgMatches<'a>) -> Asked<'a> {
     if let Some(remote) = remote_request(name, given) {
         return Asked::Remote(remote);
     }
-    if let Some(lines) = lines_request(name, given) {
-        return Asked::Lines(lines);
-    }
     match name {
+        "append" => Asked::Lines(append_request(given)),
         "serve" => Asked::Serving(serve_request(given)),
         "loop" => Asked::Serving(loop_request(given)),
         "daemon" => Asked::Daemon(Daemon::Run(settings(given))),
@@ -104,25 +102,15 @@ fn rotation<'a>(given: &ArgMatches<'a>) -> Rotation<'a> {
     }
 }
 
-// The request of an append with options.
-fn lines_request<'a>(name: &str, given: &ArgMatches<'a>) -> Option<Lines<'a>> {
-    if name != "append" {
-        return None;
-    }
-    let lines = Lines {
+fn append_request<'a>(given: &ArgMatches<'a>) -> Lines<'a> {
+    Lines {
         file: word(given, "FILE"),
         text: given.get_str("text"),
         expect: given.get_str("expect"),
         follows: given.get_flag("follow"),
         long: given.get_str("long"),
         reserve: given.get_str("reserve"),
-    };
-    let has_options = lines.follows
-        || lines.text.is_some()
-        || lines.long.is_some()
-        || lines.expect.is_some()
-        || lines.reserve.is_some();
-    has_options.then_some(lines)
+    }
 }
 
 fn settings<'a>(given: &ArgMatches<'a>) -> Settings<'a> {
@@ -141,9 +129,6 @@ fn settings<'a>(given: &ArgMatches<'a>) -> Settings<'a> {
 fn plain_request<'a>(name: &str, given: &ArgMatches<'a>) -> Request<'a> {
     match name {
         "format" => format_request(given),
-        "append" => Request::Append {
-            file: word(given, "FILE"),
-        },
         "close" => Request::Close {
             file: word(given, "FILE"),
         },

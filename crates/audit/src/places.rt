@@ -19,7 +19,6 @@ pub(crate) fn store_of<'a>(asked: Asked<'a>) -> Option<&'a str> {
 fn store_of_plain<'a>(request: Request<'a>) -> Option<&'a str> {
     match request {
         Request::Format { file, .. }
-        | Request::Append { file }
         | Request::Close { file }
         | Request::Show { file, .. }
         | Request::Export { file, .. }

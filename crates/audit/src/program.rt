@@ -109,9 +109,7 @@ fn hint<M: Write>(messages: &mut M) {
 // Whether a command changes nothing, and only prints an answer.
 fn only_answers(asked: Asked<'_>) -> bool {
     match asked {
-        Asked::Plain(Request::Format { .. } | Request::Append { .. } | Request::Close { .. }) => {
-            false
-        }
+        Asked::Plain(Request::Format { .. } | Request::Close { .. }) => false,
         Asked::Plain(_) => true,
         Asked::Remote(Remote::Ask { question, .. }) => question.0 != "close",
         _ => false,
@@ -134,7 +132,7 @@ where
     match asked {
         Asked::Plain(request) => audit_cli_store::run(rt, alloc, request, input, output, messages),
         Asked::Lines(request) => {
-            audit_cli_follow::run(rt, alloc, request, input, output, messages)
+            audit_cli_append::run(rt, alloc, request, input, output, messages)
         }
         Asked::Rotation(request) => audit_cli_rotate::run(rt, alloc, request, output, messages),
         Asked::Remote(request) => audit_cli_remote::run(
@@ -168,7 +166,6 @@ fn show_progress(asked: Asked<'_>, notes: &Notes<'_>) {
         }
         Asked::Plain(
             Request::Format { file, .. }
-            | Request::Append { file }
             | Request::Close { file }
             | Request::Show { file, .. }
             | Request::Prove { file, .. }

@@ -1,8 +1,8 @@
 //! The word of a command line that has another form than it should have.
 use crate::command::Asked;
 use crate::form::Form;
+use audit_cli_append::Request as Lines;
 use audit_cli_daemon::{Request as Daemon, Settings};
-use audit_cli_follow::Request as Lines;
 use audit_cli_remote::Request as Remote;
 use audit_cli_serve::Request as Serving;
 use audit_cli_store::{Request, Site};
@@ -107,11 +107,8 @@ fn wrong_in_plain<'a>(request: Request<'a>) -> Option<Wrong<'a>> {
             second,
             ..
         } => judge("KIND", Some(kind), Form::Proof).or(wrong_in_pair(kind, first, second)),
-        Request::Replay
-        | Request::Append { .. }
-        | Request::Close { .. }
-        | Request::Show { .. }
-        | Request::Export { .. } => None,
+        Request::Replay | Request::Close { .. } | Request::Show { .. } | Request::Export { .. } =>
+            None,
     }
 }
 

@@ -1,7 +1,5 @@
 pub mod LogLines
-pub mod GatheredBatches
 pub mod KnownEntries
 pub mod Exported
 pub mod Checks
 pub mod SalvagedEntries
-pub mod AppendedLines

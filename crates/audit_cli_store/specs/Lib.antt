@@ -1,9 +1,6 @@
 pub mod Replay
-pub mod Batches
 pub mod Shown
-pub mod Gathering
 pub mod Proofs
-pub mod Appended
 pub mod Closing
 pub mod Exports
 pub mod Checks

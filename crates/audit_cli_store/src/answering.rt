@@ -6,8 +6,9 @@ use crate::salvaging::{Salvaged, write_salvage_line, write_salvaged};
 use crate::show_form::ShowForm;
 use crate::showing::show;
 use audit_cli_base::{
-    CommandError, Opened, OutputFile, ProofRequest, open_device_to_read, open_device_to_salvage,
-    open_store, store_to_read, write_exported, write_number,
+    CommandError, Opened, OutputFile, ProofRequest, STANDARD_OUTPUT, is_standard_output,
+    open_device_to_read, open_device_to_salvage, open_store, store_to_read, write_exported,
+    write_number,
 };
 use audit_disk::{FileIdentity, SharedDisk, SystemFile};
 use audit_disk_model::Sectors;
@@ -16,14 +17,8 @@ use std::alloc::Global;
 use std::fs::Files;
 use std::io::{BufWriter, Write};
 
-// The size in bytes of the buffer for an export.
-const EXPORT_ROOM: usize = 1 << 16;
-
-// The word that selects standard output instead of a file. Nothing else is then written there.
-const STANDARD_OUTPUT: &str = "-";
-
-// Standard output as a path. It may be a regular file, which must not be replaced by another.
-const OUTPUT_DEVICE: &str = "/dev/stdout";
+// The size in bytes of the buffer for a file.
+const FILE_ROOM: usize = 1 << 16;
 
 /// What is asked about a store.
 #[derive(Clone, Copy)]
@@ -169,65 +164,13 @@ fn export_store<F: Files, D: Sectors, W: Write>(
     out: &str,
     output: &mut W,
 ) -> Result<(), CommandError> {
-    let size = output_entries(rt, alloc, store, identity, out, output)?;
+    let count = store.commitment().count;
+    let mut export = Export { store };
+    let size = put(rt, alloc, &mut export, identity, out, output)?;
     if out == STANDARD_OUTPUT {
         return Ok(());
     }
-    write_exported(alloc, store.commitment().count, size, output)
-}
-
-// Writes the entries of a store to `out`, and returns their size in bytes.
-fn output_entries<F: Files, D: Sectors, W: Write>(
-    rt: &F,
-    alloc: Global,
-    store: &mut Store<D>,
-    identity: FileIdentity,
-    out: &str,
-    output: &mut W,
-) -> Result<u64, CommandError> {
-    if is_written_directly(out) {
-        return write_entries(store, output);
-    }
-    let mut made = OutputFile::create(rt, alloc, identity, out)?;
-    let written = write_export(alloc, store, &mut made);
-    end_file(rt, made, written)
-}
-
-// Whether the output of the command is written, and no other file.
-fn is_written_directly(out: &str) -> bool {
-    out == STANDARD_OUTPUT || out == OUTPUT_DEVICE
-}
-
-// Publishes a file if all of it was written, or else discards it.
-fn end_file<F: Files, T: Copy>(
-    rt: &F,
-    made: OutputFile<F::File>,
-    written: Result<T, CommandError>,
-) -> Result<T, CommandError> {
-    match written {
-        Ok(extent) => {
-            made.publish(rt)?;
-            Ok(extent)
-        }
-        Err(fault) => {
-            made.discard(rt);
-            Err(fault)
-        }
-    }
-}
-
-// Writes the entries of a store to a file, and returns their size in bytes.
-fn write_export<D: Sectors, W: Write>(
-    alloc: Global,
-    store: &mut Store<D>,
-    file: &mut W,
-) -> Result<u64, CommandError> {
-    let Ok(mut export) = BufWriter::with_capacity(alloc, EXPORT_ROOM, file) else {
-        return Err(CommandError::Refused(StoreError::Memory));
-    };
-    let size = write_entries(store, &mut export)?;
-    export.flush()?;
-    Ok(size)
+    write_exported(alloc, count, size, output)
 }
 
 // Writes the entries of a damaged store that can still be read.
@@ -239,42 +182,97 @@ fn salvage_device<F: Files, D: Sectors, W: Write>(
     out: &str,
     output: &mut W,
 ) -> Result<(), CommandError> {
-    let salvaged = output_salvage(rt, alloc, disk, identity, out, output)?;
+    let mut salvage = Salvage { alloc, disk };
+    let salvaged = put(rt, alloc, &mut salvage, identity, out, output)?;
     if out != STANDARD_OUTPUT {
         write_salvage_line(alloc, &salvaged, output)?;
     }
     Err(CommandError::Salvaged)
 }
 
-// Writes what can be salvaged from a device to `out`.
-fn output_salvage<F: Files, D: Sectors, W: Write>(
+// What a command puts to OUT.
+trait Contents {
+    // What is known of it once it is written.
+    type Extent: Copy;
+
+    fn write_to<W: Write>(&mut self, output: &mut W) -> Result<Self::Extent, CommandError>;
+}
+
+// The entries of a store; their size in bytes.
+#[derive(Drop)]
+struct Export<'a, D: Sectors> {
+    store: &'a mut Store<D>,
+}
+
+impl<D: Sectors> Contents for Export<'_, D> {
+    type Extent = u64;
+
+    fn write_to<W: Write>(&mut self, output: &mut W) -> Result<u64, CommandError> {
+        write_entries(self.store, output)
+    }
+}
+
+// The entries on a device that can still be read.
+#[derive(Drop)]
+struct Salvage<'a, D> {
+    alloc: Global,
+    disk: &'a mut D,
+}
+
+impl<D: Sectors> Contents for Salvage<'_, D> {
+    type Extent = Salvaged;
+
+    fn write_to<W: Write>(&mut self, output: &mut W) -> Result<Salvaged, CommandError> {
+        write_salvaged(self.alloc, self.disk, output)
+    }
+}
+
+// The bytes of a proof.
+impl Contents for &[u8] {
+    type Extent = ();
+
+    fn write_to<W: Write>(&mut self, output: &mut W) -> Result<(), CommandError> {
+        Ok(output.write_all(self)?)
+    }
+}
+
+// Writes to `out`: to the command's output if that is standard output, and otherwise to a file, which replaces the one
+// there once all of it is written. The file with this identity isn't replaced.
+fn put<F: Files, C: Contents, W: Write>(
     rt: &F,
     alloc: Global,
-    disk: &mut D,
+    contents: &mut C,
     identity: FileIdentity,
     out: &str,
     output: &mut W,
-) -> Result<Salvaged, CommandError> {
-    if is_written_directly(out) {
-        return write_salvaged(alloc, disk, output);
+) -> Result<C::Extent, CommandError> {
+    if is_standard_output(out) {
+        return contents.write_to(output);
     }
     let mut made = OutputFile::create(rt, alloc, identity, out)?;
-    let written = salvage_to(alloc, disk, &mut made);
-    end_file(rt, made, written)
+    match write_buffered(alloc, contents, &mut made) {
+        Ok(extent) => {
+            made.publish(rt)?;
+            Ok(extent)
+        }
+        Err(fault) => {
+            made.discard(rt);
+            Err(fault)
+        }
+    }
 }
 
-// Writes what can be salvaged from a device to a file.
-fn salvage_to<D: Sectors, W: Write>(
+fn write_buffered<C: Contents, W: Write>(
     alloc: Global,
-    disk: &mut D,
+    contents: &mut C,
     file: &mut W,
-) -> Result<Salvaged, CommandError> {
-    let Ok(mut export) = BufWriter::with_capacity(alloc, EXPORT_ROOM, file) else {
+) -> Result<C::Extent, CommandError> {
+    let Ok(mut buffered) = BufWriter::with_capacity(alloc, FILE_ROOM, file) else {
         return Err(CommandError::Refused(StoreError::Memory));
     };
-    let salvaged = write_salvaged(alloc, disk, &mut export)?;
-    export.flush()?;
-    Ok(salvaged)
+    let extent = contents.write_to(&mut buffered)?;
+    buffered.flush()?;
+    Ok(extent)
 }
 
 /// Writes a proof about the store in a file to the file `out`, which can't be the store's. The proof is made and the
@@ -292,7 +290,7 @@ where
     F::File: SystemFile,
 {
     let (proof, identity) = proof_about(rt, alloc, file, access, asked)?;
-    output_bytes(rt, alloc, &proof, identity, out, output)?;
+    put(rt, alloc, &mut proof.as_slice(), identity, out, output)?;
     if out == STANDARD_OUTPUT {
         return Ok(());
     }
@@ -349,20 +347,4 @@ fn proof_on<D: Sectors + Drop>(
         Ok(content) => proof_of_opened(alloc, Opened { content, identity }, asked),
         Err(fault) => Err(fault),
     }
-}
-
-fn output_bytes<F: Files, W: Write>(
-    rt: &F,
-    alloc: Global,
-    bytes: &[u8],
-    identity: FileIdentity,
-    out: &str,
-    output: &mut W,
-) -> Result<(), CommandError> {
-    if is_written_directly(out) {
-        return Ok(output.write_all(bytes)?);
-    }
-    let mut made = OutputFile::create(rt, alloc, identity, out)?;
-    let written = made.write_all(bytes).map_err(CommandError::from);
-    end_file(rt, made, written)
 }

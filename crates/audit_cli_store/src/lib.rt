@@ -2,10 +2,7 @@
 #![tactic(auto)]
 
 mod answering;
-mod appending;
 mod auditing;
-mod batches;
-mod changing;
 mod checking;
 mod closing;
 mod exporting;
@@ -19,8 +16,6 @@ mod salvaging;
 mod show_form;
 mod showing;
 
-pub use appending::append_lines;
-pub use batches::batches_of;
 pub use checking::check_proof;
 pub use closing::close_log;
 pub use exporting::write_entries;

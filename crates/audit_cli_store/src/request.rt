@@ -4,7 +4,7 @@ ghost use Rattle.audit_cli_store.specs.Requests.{IsWordFault, IsReplayOf, IsCarr
 
 use crate::answering::{StoreQuestion, answer_file, prove_file};
 use crate::auditing::{check_file, verify_and_report};
-use crate::changing::{append_to, close_file};
+use crate::closing::close_file;
 use crate::making::format_site;
 use crate::replaying::replay;
 use crate::show_form::ShowForm;
@@ -56,11 +56,6 @@ pub enum Request<'a> {
         sectors: &'a str,
         /// The file with the first key.
         key_file: &'a str,
-    },
-    /// Append the events of the input to the store in a file.
-    Append {
-        /// The file.
-        file: &'a str,
     },
     /// Close the log of the store in a file.
     Close {
@@ -165,7 +160,6 @@ where
             sectors,
             key_file,
         } => format_site(rt, alloc, file, site, sectors, key_file, output),
-        Request::Append { file } => append_to(rt, alloc, file, input, output),
         Request::Close { file } => close_file(rt, alloc, file, output),
         Request::Show { file, access, form } => {
             answer_file(

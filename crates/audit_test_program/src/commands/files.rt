@@ -1,4 +1,5 @@
 // Whole command lines over files. The expected output was computed by an independent model.
+use audit_cli_append as append;
 use audit_cli_base::{CommandError, Status, mode_asked, report_end};
 use audit_cli_store::{Access, Request, ShowForm, Site, run};
 use std::fs::{self, OpenOptions};
@@ -42,6 +43,30 @@ fn prints(
         &messages
     };
     written.as_slice() == printed.as_bytes() && found == status
+}
+
+// Whether an append of lines prints a line for them.
+fn acknowledges(rt: &HostRuntime, file: &str, input: &[u8], printed: &str) -> bool {
+    let request = append::Request {
+        file,
+        text: None,
+        expect: None,
+        follows: false,
+        long: None,
+        reserve: None,
+    };
+    let mut input = input;
+    let mut output = Vec::new(rt.alloc());
+    let mut messages = Vec::new(rt.alloc());
+    let found = append::run(
+        rt,
+        rt.alloc(),
+        request,
+        &mut input,
+        &mut output,
+        &mut messages,
+    );
+    output.as_slice() == printed.as_bytes() && found == Status::Done
 }
 
 fn format<'a>(file: &'a str, sectors: &'a str, key_file: &'a str) -> Request<'a> {
@@ -105,7 +130,7 @@ fn expect_proved(rt: &HostRuntime, judge: &impl Abort, file: &str, out: &str) {
 // The commands over a store in a file, a key file, and a file for a proof.
 fn expect_commands(rt: &HostRuntime, judge: &impl Abort, file: &str, key: &str, out: &str) {
     expect_formatted(rt, judge, file, key);
-    assert!(judge; prints(rt, Request::Append { file }, THREE, ACK, Status::Done));
+    assert!(judge; acknowledges(rt, file, THREE, ACK));
     for access in [Access::Repair, Access::ReadOnly] {
         expect_shown(rt, judge, file, access);
     }

@@ -1,10 +1,12 @@
 // The expected output was computed by an independent model, which shares no code with the program.
 use audit_chain::Key;
+use audit_cli_append::{Appender, Rules};
 use audit_cli_base::{CommandError, ProofRequest};
-use audit_cli_store::{ShowForm, append_lines, close_log, format_device, proof_bytes, show};
+use audit_cli_store::{ShowForm, close_log, format_device, proof_bytes, show};
 use audit_disk::{FailOnce, MemDisk};
 use audit_store::{Store, StoreError};
 use audit_text::{LineError, LinesError};
+use audit_text_plain::LineForm;
 use std::alloc::Global;
 use std::process::Abort;
 
@@ -89,34 +91,37 @@ fn lines_are_gathered_into_batches(rt: HostRuntime) {
 
 // What is printed for lines that are appended to a new store.
 fn output_of(rt: &impl Abort, alloc: Global, sectors: u64, lines: &[u8]) -> Vec<u8> {
-    let mut store = empty_store(rt, alloc, sectors);
-    let mut input = lines;
-    let mut output = Vec::new(alloc);
-    append_lines(alloc, &mut store, &mut input, &mut output).expect(rt, "an append");
+    let (_, output, fault) = appended(alloc, empty_store(rt, alloc, sectors), lines);
+    assert!(rt; fault.is_none());
     output
+}
+
+// Appends lines to a store, and returns it with what is printed, and why not all of them were appended.
+fn appended(
+    alloc: Global,
+    store: Store<MemDisk>,
+    lines: &[u8],
+) -> (Store<MemDisk>, Vec<u8>, Option<CommandError>) {
+    let rules = Rules {
+        form: LineForm::Spelled,
+        reserve: 0,
+    };
+    let mut appender = Appender::new(alloc, rules, store, Vec::new(alloc));
+    let mut input = lines;
+    let fault = appender.append_input(&mut input).err();
+    let (store, output) = appender.into_parts();
+    (store, output, fault)
 }
 
 // Whatever was appended before the refusal is printed, and is in the store.
 #[test]
 fn a_device_that_gets_full(rt: HostRuntime) {
-    let mut store = empty_store(&rt, rt.alloc(), 66);
     let lines = lines_of(&rt, rt.alloc(), [(65, 0), (0, 0), (0, 0)]);
-    let mut output = Vec::new(rt.alloc());
-    let fault = fault_of(rt.alloc(), &mut store, &lines, &mut output);
+    let (store, printed, fault) = appended(rt.alloc(), empty_store(&rt, rt.alloc(), 66), &lines);
+    let mut output = printed;
     assert!(rt; fault == Some(CommandError::Refused(StoreError::Full)));
     show(rt.alloc(), &store, ShowForm::State, &mut output).expect(&rt, "a report");
     assert!(rt; output.as_slice() == FULL);
-}
-
-// Why lines are not all appended to a store.
-fn fault_of(
-    alloc: Global,
-    store: &mut Store<MemDisk>,
-    lines: &[u8],
-    output: &mut Vec<u8>,
-) -> Option<CommandError> {
-    let mut input = lines;
-    append_lines(alloc, store, &mut input, output).err()
 }
 
 const FULL: &[u8] = b"\
@@ -145,10 +150,8 @@ fn a_log_of_no_event_is_closed(rt: HostRuntime) {
 // The last line is bad, so nothing is appended.
 #[test]
 fn all_lines_are_judged_first(rt: HostRuntime) {
-    let mut store = empty_store(&rt, rt.alloc(), 10);
     let lines = b"event 1 6869\nevent 1 6\n".as_slice();
-    let mut output = Vec::new(rt.alloc());
-    let fault = fault_of(rt.alloc(), &mut store, lines, &mut output);
+    let (store, output, fault) = appended(rt.alloc(), empty_store(&rt, rt.alloc(), 10), lines);
     assert!(rt; fault == Some(CommandError::Lines(BAD_SECOND_LINE)));
     assert!(rt; output.is_empty() && store.commitment().count == 0);
 }
@@ -161,9 +164,8 @@ const BAD_SECOND_LINE: LinesError = LinesError::Line {
 const THREE: &[u8] = b"event 1 6869\nevent 7 -\nevent 4294967294 DEadBEef";
 
 fn store_of_three(rt: &impl Abort, alloc: Global) -> Store<MemDisk> {
-    let mut store = empty_store(rt, alloc, 10);
-    let mut input = THREE;
-    append_lines(alloc, &mut store, &mut input, &mut Vec::new(alloc)).expect(rt, "an append");
+    let (store, _, fault) = appended(alloc, empty_store(rt, alloc, 10), THREE);
+    assert!(rt; fault.is_none());
     store
 }
 

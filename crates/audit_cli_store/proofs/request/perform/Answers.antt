@@ -5,9 +5,6 @@ use Rattle.audit_cli_store.proofs.request.perform.Goals as goal
 
 -- Only a format, a check and a proof have words that are checked before a file is opened.
 
-pub returns-in-Append-clause-words : goal.returns-in-Append-clause-words
-returns-in-Append-clause-words g c = λ fault asked. absurd (subst (λ request. IsWordFault request fault) c.in-Append.is asked)
-
 pub returns-in-Close-clause-words : goal.returns-in-Close-clause-words
 returns-in-Close-clause-words g c = λ fault asked. absurd (subst (λ request. IsWordFault request fault) c.in-Close.is asked)
 
@@ -24,9 +21,6 @@ pub returns-in-Check-clause-words : goal.returns-in-Check-clause-words
 returns-in-Check-clause-words g c = λ fault asked. c.check_file.ensures fault (subst (λ request. IsWordFault request fault) c.in-Check.is asked)
 
 -- Only a replay says what is written.
-
-pub returns-in-Append-clause-replayed : goal.returns-in-Append-clause-replayed
-returns-in-Append-clause-replayed g c = rw c.in-Append.is tt
 
 pub returns-in-Close-clause-replayed : goal.returns-in-Close-clause-replayed
 returns-in-Close-clause-replayed g c = rw c.in-Close.is tt
