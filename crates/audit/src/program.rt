@@ -9,7 +9,7 @@ use audit_cli_offline::ReportForm;
 use audit_cli_remote::Request as Remote;
 use audit_cli_serve::Request as Serving;
 use audit_cli_store::Request;
-use audit_disk::SystemFile;
+use audit_disk::{SystemFile, SystemFiles};
 use audit_store::StoreError;
 use audit_text_plain::Shown;
 use clap::Error;
@@ -36,7 +36,7 @@ pub struct Terminals {
 /// Causes and warnings follow if `messages` is a terminal, or if the command line requests them; causes also if the
 /// command serves, asks or rotates, since its messages are mostly read later, in a journal. Payloads that are printed
 /// as text are escaped if `output` is a terminal.
-pub fn run<F: Files + Net + Clock + Dial, R: Read, W: Write, M: Write>(
+pub fn run<F: SystemFiles + Net + Clock + Dial, R: Read, W: Write, M: Write>(
     rt: &F,
     alloc: Global,
     words: &[String],
@@ -60,7 +60,7 @@ where
 }
 
 // Runs the command of a command line, and explains its end.
-fn run_line<F: Files + Net + Clock + Dial, R: Read, W: Write, M: Write>(
+fn run_line<F: SystemFiles + Net + Clock + Dial, R: Read, W: Write, M: Write>(
     rt: &F,
     alloc: Global,
     line: CommandLine<'_>,
@@ -117,7 +117,7 @@ fn only_answers(asked: Asked<'_>) -> bool {
 }
 
 // Carries out what a command line asks for.
-fn carry_out<F: Files + Net + Clock + Dial, R: Read, W: Write, M: Write>(
+fn carry_out<F: SystemFiles + Net + Clock + Dial, R: Read, W: Write, M: Write>(
     rt: &F,
     alloc: Global,
     asked: Asked<'_>,

@@ -2,18 +2,19 @@
 ghost use Rattle.std.specs.Prelude.{◌≡◌, true, false, Ok, Err, IfOk, IfErr, IsTrue};
 ghost use Rattle.audit_cli_base.specs.Blank.{IsBlankUpTo};
 ghost use Rattle.audit_cli_base.specs.Faults.{IsNoWordFault};
+ghost use Rattle.audit_disk.specs.Positioned.{IsUncalled};
 
 use crate::fault::CommandError;
 use crate::system_use::is_used_by_system;
 use audit_base::are_zero;
 use audit_disk::{
-    FileDisk, FileFault, FileIdentity, OsFile, ReadOnly, SECTOR_SIZE, SectorSource, SystemFile,
+    FileDisk, FileFault, FileIdentity, OsFile, ReadOnly, SECTOR_SIZE, SectorSource, SystemFile, SystemFiles,
 };
 use audit_disk_model::{DeviceFault, Sectors};
 use audit_log::MAX_SECTORS;
 use audit_store::{Store, StoreError};
 use std::alloc::Global;
-use std::fs::{self, Files, OpenFile, OpenOptions};
+use std::fs::{self, OpenFile};
 
 /// How many sectors of a device are looked at before it is formatted: 1 MiB. File systems, partition tables and other
 /// formats have their marks there.
@@ -37,7 +38,7 @@ pub struct Opened<S> {
 /// Opens the store in a file. Opening may write to the file, to repair what a crash left unfinished. While the store
 /// is open no other program can open it. If another program has it open, the error is `InUse`, and nothing is read or
 /// written.
-pub fn open_store<F: Files>(
+pub fn open_store<F: SystemFiles>(
     rt: &F,
     alloc: Global,
     file: &str,
@@ -73,7 +74,7 @@ fn repaired<D: Sectors + Drop>(
 
 /// Opens a file as a device that is only read, without permission to write. Other programs may read it meanwhile, but
 /// none can change it. If another program has it open for writing, the error is `InUse`.
-pub fn open_device_to_read<F: Files>(
+pub fn open_device_to_read<F: SystemFiles>(
     rt: &F,
     alloc: Global,
     file: &str,
@@ -86,7 +87,7 @@ where
 
 /// Opens a file as `open_device_to_read` does, for the entries of a damaged store. Of a regular file whose length is no
 /// whole number of sectors the rest after the last whole one is left out.
-pub fn open_device_to_salvage<F: Files>(
+pub fn open_device_to_salvage<F: SystemFiles>(
     rt: &F,
     alloc: Global,
     file: &str,
@@ -98,15 +99,16 @@ where
     if !found.is_file() || found.len() % SECTOR_SIZE as u64 == 0 {
         return open_device_to_read(rt, alloc, file);
     }
-    let opened = OpenOptions::new().read(true).open(rt, file)?;
-    whole_sectors_of(alloc, opened)
+    whole_sectors_of(alloc, rt.open_to_read(file)?)
 }
 
 // A device of the whole sectors of an open file, which is locked as one that is only read.
 fn whole_sectors_of<F: SystemFile + Drop>(
     alloc: Global,
     file: F,
-) -> Result<Opened<FileDevice<F>>, CommandError> {
+) -> Result<Opened<FileDevice<F>>, CommandError>
+    requires { IsUncalled (F.positioned file) }
+{
     if let Err(error) = file.try_lock_shared() {
         return Err(CommandError::from(FileFault::from(error)));
     }
@@ -131,7 +133,7 @@ pub fn store_to_read<S: SectorSource>(
 
 /// Makes a file of `sectors` zero sectors as a device, with these permissions. If something already exists there, the
 /// error is `FileExists`, and it is neither changed nor opened.
-pub fn make_device<F: Files>(
+pub fn make_device<F: SystemFiles>(
     rt: &F,
     alloc: Global,
     file: &str,
@@ -150,7 +152,7 @@ where
 /// Opens all of an existing file or block device as a device to be formatted. Errors: `InUse` if another program has it
 /// open as a store, or the system uses it; `TooSmall` if it has fewer than `sectors` sectors; `FileExists` if its first
 /// MiB, or all of a shorter one, isn't zeros, unless `erase` is set.
-pub fn device_in_place<F: Files>(
+pub fn device_in_place<F: SystemFiles>(
     rt: &F,
     alloc: Global,
     file: &str,
@@ -189,7 +191,7 @@ fn free_device<D: Sectors + Drop>(
 }
 
 // Opens a file as a device, limited to the sectors that a store can have.
-fn open_bounded<F: Files>(
+fn open_bounded<F: SystemFiles>(
     rt: &F,
     alloc: Global,
     file: &str,

@@ -24,7 +24,7 @@ use audit_cli_base::{
     socket_mode_asked, socket_path_asked,
 };
 use audit_cli_host::Dial;
-use audit_disk::SystemFile;
+use audit_disk::{SystemFile, SystemFiles};
 use audit_disk_model::Sectors;
 use audit_proof::Commitment;
 use audit_serve_door::{Room, SocketDoor, StopOrders};
@@ -88,7 +88,7 @@ struct Judged {
 /// Carries out a request. Lines that begin with `audit: ` are written to `messages`, all others to `output`. If
 /// `explains` is set, there is a line for each client that was dropped or cut off, and their counts. Returns the status
 /// with which the program exits.
-pub fn run<F: Files + Net + Dial + Clock, W: Write, M: Write>(
+pub fn run<F: SystemFiles + Net + Dial + Clock, W: Write, M: Write>(
     rt: &F,
     alloc: Global,
     request: Request<'_>,
@@ -114,7 +114,7 @@ where
 }
 
 // Once the words are judged, no message waits for its reader.
-fn run_daemon<F: Files + Net + Clock, W: Write, M: Write>(
+fn run_daemon<F: SystemFiles + Net + Clock, W: Write, M: Write>(
     rt: &F,
     alloc: Global,
     settings: Settings<'_>,
@@ -135,7 +135,7 @@ where
 }
 
 // Whoever ordered the daemon to stop is answered last.
-fn run_sparing<F: Files + Net + Clock, W: Write, M: Write>(
+fn run_sparing<F: SystemFiles + Net + Clock, W: Write, M: Write>(
     rt: &F,
     alloc: Global,
     settings: Settings<'_>,
@@ -159,7 +159,7 @@ where
 }
 
 // The words are judged before the store is opened, and the store is opened before the sockets' files are made.
-fn perform<F: Files + Net + Clock, W: Write, M: Write>(
+fn perform<F: SystemFiles + Net + Clock, W: Write, M: Write>(
     rt: &F,
     alloc: Global,
     settings: Settings<'_>,
@@ -230,7 +230,7 @@ fn fault_of(kind: ErrorKind) -> CommandError
 }
 
 // Serves the store, and removes the sockets' files at the end. The store stays locked until then.
-fn serve_store<F: Files + Net + Clock, D: Sectors + Drop, W: Write, M: Write>(
+fn serve_store<F: SystemFiles + Net + Clock, D: Sectors + Drop, W: Write, M: Write>(
     rt: &F,
     alloc: Global,
     store: Store<D>,
@@ -296,7 +296,7 @@ fn answer_without_room<N: Net>(rt: &N, alloc: Global, orders: &mut Option<StopOr
     }
 }
 
-fn serve_listening<F: Files + Net + Clock, D: Sectors + Drop, W: Write, M: Write>(
+fn serve_listening<F: SystemFiles + Net + Clock, D: Sectors + Drop, W: Write, M: Write>(
     rt: &F,
     alloc: Global,
     store: Store<D>,
@@ -334,7 +334,7 @@ where
 }
 
 // A gauge of the store, for the sectors beside the reserve. There is none if its file can't be opened once more.
-fn gauge_of<'n, 'a, 'b, F: Files, M: Write>(
+fn gauge_of<'n, 'a, 'b, F: SystemFiles, M: Write>(
     watch: &StoreWatch<'n, F>,
     reserve: u64,
     messages: &'a RefCell<&'b mut M>,

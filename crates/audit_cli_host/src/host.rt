@@ -1,7 +1,7 @@
 use crate::dial::Dial;
 use crate::noted_file::NotedFile;
 use crate::notes::Notes;
-use audit_disk::SystemFile;
+use audit_disk::{SystemFile, SystemFiles};
 use mio::net::UnixStream as Dialed;
 use std::alloc::Allocator;
 use std::fs::{Files, Metadata, OpenFile, OpenOptions, Permissions, TryLockError};
@@ -25,10 +25,57 @@ impl<'n, 'w, R> Host<'n, 'w, R> {
         Host { rt, notes }
     }
 
+    ghost use Rattle.std.specs.Prelude.{◌≡◌, IfOk, Ok};
+    ghost use Rattle.audit_cli_host.specs.NotedFile.{file_within};
+
     // Returns the result of a call about a path, after noting its error.
-    fn noted<T>(&self, path: &str, outcome: io::Result<T>) -> io::Result<T> {
+    fn noted<T>(&self, path: &str, outcome: io::Result<T>) -> io::Result<T>
+        ensures { result ≡ outcome }
+    {
         self.notes.watch(self.notes.subject_of(path), &outcome);
         outcome
+    }
+
+    // Notes how opening what is at a path went, and wraps the file.
+    fn opened<F: OpenFile>(
+        &self,
+        path: &str,
+        opened: io::Result<F>,
+    ) -> io::Result<NotedFile<'n, 'w, F>>
+        ensures { IfOk result (λ noted. opened ≡ Ok (file_within noted)) }
+    {
+        let file = self.noted(path, opened)?;
+        self.notes.forget();
+        let subject = self.notes.subject_of(path);
+        let total = if self.notes.is_length_shown(subject) {
+            length_of(&file)
+        } else {
+            None
+        };
+        Ok(NotedFile::new(file, subject, self.notes).with_total(total))
+    }
+}
+
+impl<R: SystemFiles> SystemFiles for Host<'_, '_, R>
+where
+    R::File: SystemFile,
+{
+    ghost synced = { λ host folder. R.synced host.rt.now folder };
+
+    fn open_to_write(&self, path: &str) -> io::Result<Self::File> {
+        self.opened(path, self.rt.open_to_write(path))
+    }
+
+    fn open_to_read(&self, path: &str) -> io::Result<Self::File> {
+        self.opened(path, self.rt.open_to_read(path))
+    }
+
+    fn make_file(&self, path: &str, mode: u32) -> io::Result<Self::File> {
+        self.opened(path, self.rt.make_file(path, mode))
+    }
+
+    fn sync_folder(&self, path: &str) -> io::Result<()> {
+        self.noted(path, self.rt.sync_folder(path))
     }
 }
 
@@ -41,15 +88,7 @@ where
     type Dir = R::Dir;
 
     fn open_file(&self, how: &OpenOptions, path: &str) -> io::Result<NotedFile<'n, 'w, R::File>> {
-        let file = self.noted(path, self.rt.open_file(how, path))?;
-        self.notes.forget();
-        let subject = self.notes.subject_of(path);
-        let total = if self.notes.is_length_shown(subject) {
-            length_of(&file)
-        } else {
-            None
-        };
-        Ok(NotedFile::new(file, subject, self.notes).with_total(total))
+        self.opened(path, self.rt.open_file(how, path))
     }
 
     fn open_dir(&self, path: &str) -> io::Result<R::Dir> {

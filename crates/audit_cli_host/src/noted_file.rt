@@ -21,8 +21,13 @@ pub struct NotedFile<'n, 'w, F> {
 }
 
 impl<'n, 'w, F> NotedFile<'n, 'w, F> {
+    ghost use Rattle.std.specs.Prelude.{◌≡◌};
+    ghost use Rattle.audit_cli_host.specs.NotedFile.{file_within};
+
     /// Wraps a file, with its description and a place for notes.
-    pub fn new(inner: F, subject: Subject, notes: &'n Notes<'w>) -> NotedFile<'n, 'w, F> {
+    pub fn new(inner: F, subject: Subject, notes: &'n Notes<'w>) -> NotedFile<'n, 'w, F>
+        ensures { file_within result ≡ inner }
+    {
         NotedFile {
             inner,
             subject,
@@ -33,7 +38,9 @@ impl<'n, 'w, F> NotedFile<'n, 'w, F> {
     }
 
     /// Sets the length of the file, if it is known.
-    pub(crate) fn with_total(self, total: Option<u64>) -> NotedFile<'n, 'w, F> {
+    pub(crate) fn with_total(self, total: Option<u64>) -> NotedFile<'n, 'w, F>
+        ensures { file_within result ≡ file_within self.entry }
+    {
         self.total.set(total);
         self
     }
@@ -165,7 +172,7 @@ impl<F: PositionedFile> PositionedFile for NotedFile<'_, '_, F> {
 }
 
 impl<F: SystemFile> SystemFile for NotedFile<'_, '_, F> {
-    ghost unknown = { λ it. F.unknown it.inner };
+    ghost facts = { λ it. F.facts it.inner };
 
     fn try_lock(&self) -> Result<(), TryLockError> {
         let taken = self.inner.try_lock();
@@ -177,5 +184,18 @@ impl<F: SystemFile> SystemFile for NotedFile<'_, '_, F> {
         let taken = self.inner.try_lock_shared();
         self.notes.watch_lock(self.subject, &taken);
         taken
+    }
+
+    fn set_mode(&self, mode: u32) -> io::Result<()> {
+        let changed = self.inner.set_mode(mode);
+        self.notes.watch(self.subject, &changed);
+        changed
+    }
+
+    fn lay_out(&mut self, length: u64) -> io::Result<()> {
+        let laid_out = self.inner.lay_out(length);
+        self.notes.watch(self.subject, &laid_out);
+        self.total.set(Some(length));
+        laid_out
     }
 }

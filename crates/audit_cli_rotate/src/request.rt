@@ -10,7 +10,7 @@ use crate::fault::RotationError;
 use crate::files::rotate_file;
 use audit_chain::Key;
 use audit_cli_base::{CommandError, Status, read_key, report_flush, sectors_asked};
-use audit_disk::SystemFile;
+use audit_disk::{SystemFile, SystemFiles};
 use std::alloc::Global;
 use std::fs::{self, Files};
 use std::io::Write;
@@ -33,7 +33,7 @@ pub struct Request<'a> {
 ///
 /// A run that was interrupted is continued by another one with the same words: what is done is found, and not done
 /// twice.
-pub fn run<F: Files, W: Write, M: Write>(
+pub fn run<F: SystemFiles, W: Write, M: Write>(
     rt: &F,
     alloc: Global,
     request: Request<'_>,
@@ -69,7 +69,7 @@ fn report_rotation<M: Write>(
 }
 
 // The words and the key are judged before any store is opened.
-fn perform<F: Files, W: Write>(
+fn perform<F: SystemFiles, W: Write>(
     rt: &F,
     alloc: Global,
     request: Request<'_>,

@@ -16,7 +16,7 @@ use audit_cli_base::{
     CommandError, Opened, Status, StoreWatch, WatchedOutput, open_store, report_flush,
     socket_mode_asked, socket_path_asked,
 };
-use audit_disk::SystemFile;
+use audit_disk::{SystemFile, SystemFiles};
 use audit_disk_model::Sectors;
 use audit_serve_sockets::{Link, SocketFile};
 use audit_store::Store;
@@ -65,7 +65,7 @@ pub enum Request<'a> {
 /// output is flushed after each round, after the replies to each line, and at the end. Once the store isn't in its place,
 /// no line is written any more ([`WatchedOutput`]), and that is the fault. Returns the status with which the program
 /// exits.
-pub fn run<F: Files + Net + Clock, R: Read, W: Write, M: Write>(
+pub fn run<F: SystemFiles + Net + Clock, R: Read, W: Write, M: Write>(
     rt: &F,
     alloc: Global,
     request: Request<'_>,
@@ -91,7 +91,7 @@ where
 
 // The words are checked before the store is opened, and the store is opened before the socket's file is made. The
 // socket's file is removed at the end.
-fn perform<F: Files + Net + Clock, R: Read, W: Write>(
+fn perform<F: SystemFiles + Net + Clock, R: Read, W: Write>(
     rt: &F,
     alloc: Global,
     request: Request<'_>,
@@ -140,7 +140,7 @@ fn sessions_or_one(word: Option<&str>) -> Result<usize, CommandError>
     }
 }
 
-fn serve_file<F: Files + Net + Clock, W: Write>(
+fn serve_file<F: SystemFiles + Net + Clock, W: Write>(
     rt: &F,
     alloc: Global,
     file: &str,
@@ -170,7 +170,7 @@ where
     )
 }
 
-fn serve_store<F: Files + Net + Clock, D: Sectors + Drop, W: Write>(
+fn serve_store<F: SystemFiles + Net + Clock, D: Sectors + Drop, W: Write>(
     rt: &F,
     alloc: Global,
     store: Store<D>,
@@ -215,7 +215,7 @@ fn after_removing(
     Ok(removed?)
 }
 
-fn loop_file<F: Files + Net + Clock, R: Read, W: Write>(
+fn loop_file<F: SystemFiles + Net + Clock, R: Read, W: Write>(
     rt: &F,
     alloc: Global,
     file: &str,
@@ -234,7 +234,7 @@ where
     loop_store(rt, alloc, content, socket, mode, input, &mut watched)
 }
 
-fn loop_store<F: Files + Net + Clock, D: Sectors + Drop, R: Read, W: Write>(
+fn loop_store<F: SystemFiles + Net + Clock, D: Sectors + Drop, R: Read, W: Write>(
     rt: &F,
     alloc: Global,
     store: Store<D>,

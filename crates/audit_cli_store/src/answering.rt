@@ -10,7 +10,7 @@ use audit_cli_base::{
     open_device_to_read, open_device_to_salvage, open_store, store_to_read, write_exported,
     write_number,
 };
-use audit_disk::{FileIdentity, SharedDisk, SystemFile};
+use audit_disk::{FileIdentity, SharedDisk, SystemFile, SystemFiles};
 use audit_disk_model::Sectors;
 use audit_store::{Store, StoreError};
 use std::alloc::Global;
@@ -32,7 +32,7 @@ pub enum StoreQuestion<'a> {
 
 /// Answers a question about the store in a file. The file that is written can't be the store's. The store is opened
 /// before that file is made, and stays open until the answer is written.
-pub fn answer_file<F: Files, W: Write>(
+pub fn answer_file<F: SystemFiles, W: Write>(
     rt: &F,
     alloc: Global,
     file: &str,
@@ -277,7 +277,7 @@ fn write_buffered<C: Contents, W: Write>(
 
 /// Writes a proof about the store in a file to the file `out`, which can't be the store's. The proof is made and the
 /// store closed before that file is made.
-pub fn prove_file<F: Files, W: Write>(
+pub fn prove_file<F: SystemFiles, W: Write>(
     rt: &F,
     alloc: Global,
     file: &str,
@@ -298,7 +298,7 @@ where
 }
 
 // The bytes of a proof about the store in a file, and the identity of that file.
-fn proof_about<F: Files>(
+fn proof_about<F: SystemFiles>(
     rt: &F,
     alloc: Global,
     file: &str,

@@ -9,14 +9,14 @@ use audit_chain::Key;
 use audit_cli_base::{
     CommandError, device_in_place, make_device, new_file_asked, read_key, sectors_asked,
 };
-use audit_disk::SystemFile;
+use audit_disk::{SystemFile, SystemFiles};
 use audit_disk_model::Sectors;
 use std::alloc::Global;
 use std::fs::{self, Files};
 use std::io::Write;
 
 /// Makes a store in a new file, or in an existing file or block device.
-pub fn format_site<F: Files, W: Write>(
+pub fn format_site<F: SystemFiles, W: Write>(
     rt: &F,
     alloc: Global,
     file: &str,
@@ -40,7 +40,7 @@ where
 
 // Formats a new file for a store. The file is made only after all words were checked and the key was read. If it
 // can't be formatted it is removed again.
-fn format_file<F: Files, W: Write>(
+fn format_file<F: SystemFiles, W: Write>(
     rt: &F,
     alloc: Global,
     file: &str,
@@ -62,7 +62,7 @@ where
 
 // Formats all of an existing file or block device. It must have at least the requested number of sectors, and must
 // not hold a store unless `erase` is set.
-fn format_in_place<F: Files, W: Write>(
+fn format_in_place<F: SystemFiles, W: Write>(
     rt: &F,
     alloc: Global,
     file: &str,

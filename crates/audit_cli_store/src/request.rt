@@ -10,7 +10,7 @@ use crate::replaying::replay;
 use crate::show_form::ShowForm;
 use audit_cli_base::{CommandError, Status, proof_request, report_end};
 use audit_cli_offline::{CheckForm, ReportForm};
-use audit_disk::SystemFile;
+use audit_disk::{SystemFile, SystemFiles};
 use std::alloc::Global;
 use std::fs::Files;
 use std::io::{Read, Write};
@@ -121,7 +121,7 @@ pub enum Request<'a> {
 
 /// Carries out a request. Lines that begin with `audit: ` are written to `messages`, all others to `output`, which is
 /// flushed at the end. It returns the program's exit status.
-pub fn run<F: Files, R: Read, W: Write, M: Write>(
+pub fn run<F: SystemFiles, R: Read, W: Write, M: Write>(
     rt: &F,
     alloc: Global,
     request: Request<'_>,
@@ -138,7 +138,7 @@ where
     report_end(done, output.flush(), messages)
 }
 
-fn perform<F: Files, R: Read, W: Write, M: Write>(
+fn perform<F: SystemFiles, R: Read, W: Write, M: Write>(
     rt: &F,
     alloc: Global,
     request: Request<'_>,

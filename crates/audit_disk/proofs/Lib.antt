@@ -11,6 +11,7 @@ pub mod FileTimes
 pub mod FreshDisks
 pub mod GateCalls
 pub mod HeldLemmas
+pub mod LaidOut
 pub mod KeptRows
 pub mod MemDiskCalls
 pub mod MemFileCalls

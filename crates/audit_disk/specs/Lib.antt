@@ -9,6 +9,7 @@ pub mod Countdown
 pub mod FailOnce
 pub mod File
 pub mod FileDisk
+pub mod FileFacts
 pub mod FileFaults
 pub mod Fuse
 pub mod Held

@@ -4,11 +4,14 @@
 //! may write holds an exclusive lock. For a block device further locks are held, which whoever opens it by another node
 //! finds (see `guards`).
 ghost use Rattle.std.specs.Prelude.{◌≡◌, ◌≢◌, ◌⊎◌, ◌*◌, ◌/◌, ◌%◌, ◌^◌, ◌<◌, ◌≤◌, ◌↔◌};
-ghost use Rattle.std.specs.Prelude.{IfOk, IfErr, IsErrOf, replicate, length};
+ghost use Rattle.std.specs.Prelude.{ℕ, List, IfOk, IfErr, OnOk, IsErrOf, replicate, length};
 ghost use Rattle.audit_base.specs.declared.limits.TheConstants.{SECTOR_SIZE};
 ghost use Rattle.audit_disk.specs.FileDisk.{IsFreshFile, file_disk_view};
+ghost use Rattle.audit_disk.specs.FileFacts.{IsOpenedAs, IsFrontOfOpened, IsWholeOpened, IsMadeDevice, KeepsFacts};
+ghost use Rattle.audit_disk.specs.FileFacts.{IsLaidOut};
 ghost use Rattle.audit_disk.specs.FileFaults.{IsLockingFault};
 ghost use Rattle.audit_disk.specs.MemDisk.{IsFresh};
+ghost use Rattle.audit_disk.specs.declared.guards.Hold.TheVariants.{Alone, Shared};
 ghost use Rattle.audit_disk.specs.Positioned.{ShowsFront, IsUncalled};
 
 use crate::guards::{Guards, Hold};
@@ -17,11 +20,12 @@ use crate::os_file::OsFile;
 use crate::read_ahead::new_row;
 use crate::{
     FileDisk, FileFault, FileIdentity, MemDisk, MemFile, PositionedFile, SECTOR_SIZE, SystemFile,
+    SystemFiles,
 };
 use std::alloc::{AllocError, Global};
-use std::fs::{self, Files, Metadata, OpenFile, OpenOptions, Permissions};
+use std::fs::{self, Metadata, OpenFile};
 use std::io;
-use std::os::unix::fs::{FileTypeExt, MetadataExt, OpenOptionsExt, PermissionsExt};
+use std::os::unix::fs::{FileTypeExt, MetadataExt};
 use std::path::Path;
 
 /// The permissions of a file that only its owner may read and write.
@@ -31,7 +35,7 @@ impl<F: SystemFile> FileDisk<OsFile<F>> {
     /// Creates a file of `sectors` zero sectors and locks it. From the start only its owner can open it (0600),
     /// whatever the umask is. An existing file isn't overwritten: that is a fault. A file that can't be locked, given
     /// its length or synced is removed again, if the system allows it. If memory is refused, no file is made.
-    pub fn create<R: Files<File = F>>(
+    pub fn create<R: SystemFiles<File = F>>(
         rt: &R,
         alloc: Global,
         path: &str,
@@ -39,6 +43,9 @@ impl<F: SystemFile> FileDisk<OsFile<F>> {
     ) -> Result<FileDisk<OsFile<F>>, FileFault>
         ensures size { IfOk result (λ disk. (file_disk_view disk).size ≡ sectors) }
         ensures fresh { IfOk result IsFreshFile }
+        ensures made { IfOk result (λ disk. IsMadeDevice F.facts F.positioned
+            path.now OWNER_ONLY sectors (file_disk_view disk)) }
+        ensures named { OnOk result ((folder : List ℕ) × R.synced rt.now folder) }
         ensures length { IsErrOf result FileFault.Length ↔ (2 ^ 64 ≤ SECTOR_SIZE * sectors) }
     {
         FileDisk::create_with_mode(rt, alloc, path, sectors, OWNER_ONLY)
@@ -46,7 +53,7 @@ impl<F: SystemFile> FileDisk<OsFile<F>> {
 
     /// Creates a file as `create` does, with the permission bits `mode`, for example `0o640`. The file is created for
     /// its owner only, and then given its mode. If the mode can't be set, that is a fault and the file is removed.
-    pub fn create_with_mode<R: Files<File = F>>(
+    pub fn create_with_mode<R: SystemFiles<File = F>>(
         rt: &R,
         alloc: Global,
         path: &str,
@@ -55,6 +62,9 @@ impl<F: SystemFile> FileDisk<OsFile<F>> {
     ) -> Result<FileDisk<OsFile<F>>, FileFault>
         ensures size { IfOk result (λ disk. (file_disk_view disk).size ≡ sectors) }
         ensures fresh { IfOk result IsFreshFile }
+        ensures made { IfOk result (λ disk. IsMadeDevice F.facts F.positioned
+            path.now mode sectors (file_disk_view disk)) }
+        ensures named { OnOk result ((folder : List ℕ) × R.synced rt.now folder) }
         ensures length { IsErrOf result FileFault.Length ↔ (2 ^ 64 ≤ SECTOR_SIZE * sectors) }
     {
         let Some(length) = sectors.checked_mul(SECTOR_SIZE as u64) else {
@@ -62,11 +72,8 @@ impl<F: SystemFile> FileDisk<OsFile<F>> {
         };
         let row = new_row(alloc)?;
         let kept = KeptRow::new(alloc)?;
-        let mut options = OpenOptions::new();
-        options.read(true).write(true).create_new(true);
-        options.mode(OWNER_ONLY);
-        let file = options.open(rt, path)?;
-        if let Err(fault) = take_and_lay_out(rt, &file, path, length, mode) {
+        let mut file = rt.make_file(path, OWNER_ONLY)?;
+        if let Err(fault) = take_and_lay_out(rt, &mut file, path, length, mode) {
             let _ = fs::remove_file(rt, path);
             return Err(fault);
         }
@@ -74,19 +81,21 @@ impl<F: SystemFile> FileDisk<OsFile<F>> {
     }
 
     /// Opens a file or a block device as a device. Its length must be a multiple of 512.
-    pub fn open<R: Files<File = F>>(
+    pub fn open<R: SystemFiles<File = F>>(
         rt: &R,
         alloc: Global,
         path: &str,
     ) -> Result<FileDisk<OsFile<F>>, FileFault>
-        ensures { IfOk result IsFreshFile }
+        ensures fresh { IfOk result IsFreshFile }
+        ensures opened { IfOk result (λ disk. IsWholeOpened F.facts F.positioned
+            Alone path.now (file_disk_view disk)) }
     {
         FileDisk::over_whole_of(alloc, open_locked(rt, alloc, path, Hold::Alone)?)
     }
 
     /// Opens a file or a block device of at least `sectors` whole sectors, as a device of the first `sectors` of them.
     /// Its length isn't changed. If it has fewer sectors the fault is `TooSmall`.
-    pub fn open_in_place<R: Files<File = F>>(
+    pub fn open_in_place<R: SystemFiles<File = F>>(
         rt: &R,
         alloc: Global,
         path: &str,
@@ -94,6 +103,8 @@ impl<F: SystemFile> FileDisk<OsFile<F>> {
     ) -> Result<FileDisk<OsFile<F>>, FileFault>
         ensures size { IfOk result (λ disk. (file_disk_view disk).size ≡ sectors) }
         ensures fresh { IfOk result IsFreshFile }
+        ensures opened { IfOk result (λ disk. IsFrontOfOpened F.facts F.positioned
+            Alone path.now (file_disk_view disk)) }
         ensures small { IfErr result (λ fault. (held : _) → fault ≡ FileFault.TooSmall held → held < sectors) }
     {
         FileDisk::over_front_of(alloc, open_locked(rt, alloc, path, Hold::Alone)?, sectors)
@@ -101,12 +112,14 @@ impl<F: SystemFile> FileDisk<OsFile<F>> {
 
     /// Opens a file or a block device for reading only, so each write of the device fails. Others may have the file
     /// open for reading at the same time, but not for writing.
-    pub fn open_read_only<R: Files<File = F>>(
+    pub fn open_read_only<R: SystemFiles<File = F>>(
         rt: &R,
         alloc: Global,
         path: &str,
     ) -> Result<FileDisk<OsFile<F>>, FileFault>
-        ensures { IfOk result IsFreshFile }
+        ensures fresh { IfOk result IsFreshFile }
+        ensures opened { IfOk result (λ disk. IsWholeOpened F.facts F.positioned
+            Shared path.now (file_disk_view disk)) }
     {
         FileDisk::over_whole_of(alloc, open_locked(rt, alloc, path, Hold::Shared)?)
     }
@@ -220,13 +233,15 @@ struct Locked<F> {
 
 /// Opens an existing file or block device and locks it: for reading and writing if the lock is held alone, else for
 /// reading. A pipe, a terminal or a socket is a fault, and isn't opened, since that might wait.
-fn open_locked<R: Files<File = F>, F: SystemFile>(
+fn open_locked<R: SystemFiles<File = F>, F: SystemFile>(
     rt: &R,
     alloc: Global,
     path: &str,
     hold: Hold,
 ) -> Result<Locked<F>, FileFault>
-    ensures { IfErr result IsLockingFault }
+    ensures opened { IfOk result (λ locked. IsOpenedAs hold path.now (F.facts locked.file)) }
+    ensures uncalled { IfOk result (λ locked. IsUncalled (F.positioned locked.file)) }
+    ensures fault { IfErr result IsLockingFault }
 {
     let found = fs::metadata(rt, path)?;
     let kind = found.file_type();
@@ -238,9 +253,10 @@ fn open_locked<R: Files<File = F>, F: SystemFile>(
         return Err(FileFault::Io);
     }
     let guards = Guards::of(rt, alloc, &found, hold)?;
-    let mut options = OpenOptions::new();
-    options.read(true).write(hold == Hold::Alone);
-    let file = options.open(rt, path)?;
+    let file = match hold {
+        Hold::Alone => rt.open_to_write(path)?,
+        Hold::Shared => rt.open_to_read(path)?,
+    };
     hold.take(&file)?;
     if !is_same_inode(&file.metadata()?, &found) {
         return Err(FileFault::Io);
@@ -257,33 +273,39 @@ fn is_same_inode(one: &Metadata, other: &Metadata) -> bool {
 }
 
 /// Locks a new file, sets its mode and length, and syncs the file and its name.
-fn take_and_lay_out<R: Files<File = F>, F: SystemFile>(
+fn take_and_lay_out<R: SystemFiles<File = F>, F: SystemFile>(
     rt: &R,
-    file: &F,
+    file: &mut F,
     path: &str,
     length: u64,
     mode: u32,
 ) -> Result<(), FileFault>
-    ensures { IfErr result (λ fault. (fault ≡ FileFault.Io) ⊎ (fault ≡ FileFault.InUse)) }
+    ensures locked { OnOk result (F.facts file.new).locked }
+    ensures mode { OnOk result ((mode ≡ OWNER_ONLY) ⊎ (F.facts file.new).mode mode) }
+    ensures laid_out { OnOk result ((F.facts file.new).laid_out length) }
+    ensures kept { OnOk result (KeepsFacts (F.facts file.old) (F.facts file.new)) }
+    ensures bytes { OnOk result (IsLaidOut (F.positioned file.old) (F.positioned file.new) length result) }
+    ensures named { OnOk result ((folder : List ℕ) × R.synced rt.now folder) }
+    ensures fault { IfErr result (λ fault. (fault ≡ FileFault.Io) ⊎ (fault ≡ FileFault.InUse)) }
 {
     file.try_lock()?;
     if mode != OWNER_ONLY {
-        file.set_permissions(Permissions::from_mode(mode))?;
+        file.set_mode(mode)?;
     }
-    file.set_len(length)?;
-    file.sync_all()?;
-    sync_folder(rt, path)?;
+    file.lay_out(length)?;
+    sync_name(rt, path)?;
     Ok(())
 }
 
-/// Syncs the name of a new file, if its directory can be opened.
-fn sync_folder<R: Files<File = F>, F: OpenFile + Drop>(rt: &R, path: &str) -> io::Result<()> {
+/// Syncs the name of a file, if its folder can be opened.
+fn sync_name<R: SystemFiles>(rt: &R, path: &str) -> io::Result<()>
+where
+    R::File: SystemFile,
+    ensures { OnOk result ((folder : List ℕ) × R.synced rt.now folder) }
+{
     let folder = match Path::new(path).parent() {
-        Some(folder) if !folder.as_str().is_empty() => folder,
-        _ => Path::new("."),
+        Some(folder) if !folder.as_str().is_empty() => folder.as_str(),
+        _ => ".",
     };
-    if let Ok(folder) = fs::open(rt, folder) {
-        folder.sync_all()?;
-    }
-    Ok(())
+    rt.sync_folder(folder)
 }

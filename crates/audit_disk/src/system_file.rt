@@ -1,21 +1,38 @@
 //! The files of the operating system.
+ghost use Rattle.std.specs.Prelude.{OnOk};
+ghost use Rattle.audit_disk.specs.FileFacts.{FileFacts, KeepsFacts, IsLaidOut, facts_of_calls};
 ghost use Rattle.audit_disk.specs.Positioned.{unknown_positioned};
 
 use crate::{PositionedFile, SECTOR_SIZE};
-use std::fs::{File, OpenFile, TryLockError};
+use std::fs::{File, OpenFile, Permissions, TryLockError};
 use std::io::{self, Seek, SeekFrom};
-use std::os::unix::fs::FileExt;
+use std::os::unix::fs::{FileExt, PermissionsExt};
 
-/// An open file of the operating system, or a program's own type that passes each call on to one. Contracts know
-/// nothing of its bytes, so it can't be proved honest.
+/// An open file of the operating system, or a program's own type that passes each call on to one.
+///
+/// Nothing is known of the bytes of the system's own file: whether it is honest is a premise. What else is known of a
+/// file are facts, each established by its call alone.
 pub trait SystemFile: PositionedFile + OpenFile + Drop {
+    /// What calls established.
+    ghost facts: { Self → FileFacts };
+
     /// Takes the exclusive lock, which only one open of the file can hold. It is held until the file is dropped.
-    fn try_lock(&self) -> Result<(), TryLockError>;
+    fn try_lock(&self) -> Result<(), TryLockError>
+        ensures { OnOk result (facts self.now).locked };
 
     /// Takes the shared lock, which any number of opens can hold while none holds the exclusive one.
-    fn try_lock_shared(&self) -> Result<(), TryLockError>;
+    fn try_lock_shared(&self) -> Result<(), TryLockError>
+        ensures { OnOk result (facts self.now).locked_shared };
 
-    ghost unknown: { (it : Self) → (Self.positioned it).honest → ⊥ };
+    /// Gives the file these permission bits, whatever the umask is.
+    fn set_mode(&self, mode: u32) -> io::Result<()>
+        ensures { OnOk result ((facts self.now).mode mode) };
+
+    /// Gives an empty file its length, all of it zeros, and syncs it.
+    fn lay_out(&mut self, length: u64) -> io::Result<()>
+        ensures done { OnOk result ((facts self.new).laid_out length) }
+        ensures kept { KeepsFacts (facts self.old) (facts self.new) }
+        ensures bytes { IsLaidOut (Self.positioned self.old) (Self.positioned self.new) length result };
 }
 
 // A block device's length is found by seeking to its end: its metadata say 0.
@@ -40,7 +57,7 @@ impl PositionedFile for File {
 }
 
 impl SystemFile for File {
-    ghost unknown = { λ _ honest. honest };
+    ghost facts = { λ _. facts_of_calls };
 
     fn try_lock(&self) -> Result<(), TryLockError> {
         File::try_lock(self)
@@ -48,5 +65,14 @@ impl SystemFile for File {
 
     fn try_lock_shared(&self) -> Result<(), TryLockError> {
         File::try_lock_shared(self)
+    }
+
+    fn set_mode(&self, mode: u32) -> io::Result<()> {
+        self.set_permissions(Permissions::from_mode(mode))
+    }
+
+    fn lay_out(&mut self, length: u64) -> io::Result<()> {
+        self.set_len(length)?;
+        self.sync_all()
     }
 }

@@ -9,6 +9,7 @@ use std::os::unix::fs::PermissionsExt;
 use std::path::PathBuf;
 use std::process::{self, Abort};
 
+mod imagined;
 mod reading_ahead;
 mod rows;
 mod system_files;
