@@ -123,7 +123,7 @@ fn whole_sectors_of<F: SystemFile + Drop>(
 /// Opens the store on a device that is only read. Repairs are made only in memory.
 pub fn store_to_read<S: SectorSource>(
     alloc: Global,
-    source: &S,
+    source: &mut S,
 ) -> Result<Store<ReadOnly<'_, S>>, CommandError> {
     match Store::open_read_only(alloc, source) {
         Ok(store) => Ok(store),

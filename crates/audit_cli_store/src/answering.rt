@@ -10,7 +10,7 @@ use audit_cli_base::{
     open_device_to_read, open_device_to_salvage, open_store, store_to_read, write_exported,
     write_number,
 };
-use audit_disk::{FileIdentity, SharedDisk, SystemFile, SystemFiles};
+use audit_disk::{FileIdentity, Reading, SystemFile, SystemFiles};
 use audit_disk_model::Sectors;
 use audit_store::{Store, StoreError};
 use std::alloc::Global;
@@ -70,8 +70,8 @@ fn answer_device<F: Files, D: Sectors + Drop, W: Write>(
     output: &mut W,
 ) -> Result<(), CommandError> {
     let identity = opened.identity;
-    let mut source = SharedDisk::new(opened.content);
-    match store_to_read(alloc, &source) {
+    let mut source = Reading::new(opened.content);
+    match store_to_read(alloc, &mut source) {
         Ok(content) => {
             let opened = Opened { content, identity };
             answer_opened(rt, alloc, opened, question, output)
@@ -80,7 +80,7 @@ fn answer_device<F: Files, D: Sectors + Drop, W: Write>(
             Some(damage) => answer_damaged(
                 rt,
                 alloc,
-                source.get_mut(),
+                &mut source.into_device(),
                 identity,
                 damage,
                 question,
@@ -342,8 +342,8 @@ fn proof_on<D: Sectors + Drop>(
     asked: ProofRequest,
 ) -> Result<(Vec<u8>, FileIdentity), CommandError> {
     let identity = opened.identity;
-    let source = SharedDisk::new(opened.content);
-    match store_to_read(alloc, &source) {
+    let mut source = Reading::new(opened.content);
+    match store_to_read(alloc, &mut source) {
         Ok(content) => proof_of_opened(alloc, Opened { content, identity }, asked),
         Err(fault) => Err(fault),
     }

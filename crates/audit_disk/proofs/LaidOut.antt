@@ -1,5 +1,5 @@
 -- A device over a new file that was given its length.
-use Rattle.std.proofs.Common.{◌≡◌, ℕ, zero, suc, ◌*◌, ◌-◌, List, [], ◌∷◌, length, take, drop, replicate, OnOk, Result, Ok, refl, sym, ◌∙◌, ap, subst, arith}
+use Rattle.std.proofs.Common.{◌≡◌, ℕ, zero, suc, ◌*◌, ◌-◌, List, ◌∷◌, drop, replicate, refl, sym, ◌∙◌, ap, subst, arith}
 use Rattle.std.proofs.lemmas.List.{take-replicate, drop-replicate, length-replicate}
 use Rattle.audit_base.specs.declared.limits.TheConstants.{SECTOR_SIZE}
 use Rattle.audit_disk_model.specs.Image.{Sector, Image}

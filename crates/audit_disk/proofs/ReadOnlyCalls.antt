@@ -10,7 +10,7 @@ use Rattle.audit_disk_model.specs.Calls.{Outcome, Continues, HasRisen, CountsFai
 use Rattle.audit_disk_model.specs.declared.fault.DeviceFault.{DeviceFault}
 use Rattle.audit_disk.specs.CallLog.{Notes, RefusesCall}
 use Rattle.audit_disk.specs.Memory.{calls_until, calls_until_all}
-use Rattle.audit_disk.specs.SectorSource.{SourceView}
+use Rattle.audit_disk.specs.SectorSource.{SourceView, IsSameSource}
 use Rattle.audit_disk.specs.ReadOnly.{content_by, content_over, images_after, left_over, overlay_view, bytes_or, IsLastWritten, IsReadThrough}
 use Rattle.audit_disk.specs.declared.block.Block.{Block}
 use Rattle.audit_disk.specs.declared.call.Call.{Call}
@@ -87,8 +87,12 @@ module _ (source : SourceView) (log log' : CallLog) where
   abbrev new : View
   new = view_of source log'
 
+  -- what a crash now may leave of an honest source
+  abbrev leaves : Image → Type 0
+  leaves image = left_over (reverse (calls_until log.clock log.calls.items)) start image
+
   abbrev left : Image → Type 0
-  left image = left_over (reverse (calls_until log.clock log.calls.items)) start image
+  left image = source.honest × leaves image
 
   -- nothing was recorded
   module _ (same : log'.calls.items ≡ log.calls.items) (later : log.clock ≤ log'.clock) (more : log.failures ≤ log'.failures) where
@@ -102,8 +106,8 @@ module _ (source : SourceView) (log log' : CallLog) where
       failures = more;
       honest = λ honest. honest;
       was_honest = λ honest. honest;
-      kept = λ moment image le is. subst (λ (all : List Call). left_over (reverse all) start image) (sym (until_same moment)) is;
-      no_other = λ moment image le is. subst (λ (all : List Call). left_over (reverse all) start image) (until_same moment) is;
+      kept = λ moment image le is. (is.0, subst (λ (all : List Call). left_over (reverse all) start image) (sym (until_same moment)) is.1);
+      no_other = λ moment image le is. (is.0, subst (λ (all : List Call). left_over (reverse all) start image) (until_same moment) is.1);
     }
 
     now_same : calls_until log'.clock log'.calls.items ≡ calls_until log.clock log.calls.items
@@ -113,20 +117,40 @@ module _ (source : SourceView) (log log' : CallLog) where
     content_same = ap (λ (all : List Call). content_over (reverse all) start) same
 
     out : (image : Image) → left image → new.left_at log'.clock image
-    out image is = subst (λ (all : List Call). left_over (reverse all) start image) (sym now_same) is
+    out image is = (is.0, subst (λ (all : List Call). left_over (reverse all) start image) (sym now_same) is.1)
 
     into_old : (image : Image) → new.left_at log'.clock image → left image
-    into_old image is = subst (λ (all : List Call). left_over (reverse all) start image) now_same is
+    into_old image is = (is.0, subst (λ (all : List Call). left_over (reverse all) start image) now_same is.1)
 
-    pub read_is : (at : ℕ) (into : Sector) (result : Outcome) → log'.clock ≡ log.clock → CountsFailure log.failures log'.failures result → IsReadThrough source log.calls.items at into result
-        → IsRead old new at into result
-    read_is at into result still counts through = record {
-      continues = continues_same;
-      clock = still;
-      failures = counts;
-      content = λ honest. content_same;
-      bytes = through;
-    }
+    -- the source was read
+    module _ (source' : SourceView) (as_before : IsSameSource source source') where
+      abbrev after : View
+      after = view_of source' log'
+
+      continues_read : Continues old after
+      continues_read = record {
+        size = as_before.size;
+        clock = later;
+        failures = more;
+        honest = as_before.honest;
+        was_honest = as_before.was_honest;
+        kept = λ moment image le is.
+            let still = (continues_same.kept moment image le is).1 in
+            (as_before.honest is.0, subst (λ (from : Image). left_over (reverse (calls_until moment log'.calls.items)) from image) (sym (as_before.content is.0)) still);
+        no_other = λ moment image le is.
+            let honest = as_before.was_honest is.0 in
+            continues_same.no_other moment image le (honest, subst (λ (from : Image). left_over (reverse (calls_until moment log'.calls.items)) from image) (as_before.content honest) is.1);
+      }
+
+      pub read_is : (at : ℕ) (into : Sector) (result : Outcome) → log'.clock ≡ log.clock → CountsFailure log.failures log'.failures result → IsReadThrough source log.calls.items at into result
+          → IsRead old after at into result
+      read_is at into result still counts through = record {
+        continues = continues_read;
+        clock = still;
+        failures = counts;
+        content = λ honest. ap (λ (from : Image). content_over (reverse log'.calls.items) from) (as_before.content honest) ∙ content_same;
+        bytes = through;
+      }
 
     module _ (ticks : Ticks log.clock log'.clock) (risen : HasRisen log.failures log'.failures) (fault : DeviceFault) where
       write_fails : (at : ℕ) (bytes : Sector) → IsWrite old new at bytes (Err fault)
@@ -164,6 +188,21 @@ module _ (source : SourceView) (log log' : CallLog) where
   pub sync_refused : (fault : DeviceFault) → RefusesCall log log' → IsSync old new (Err fault)
   sync_refused fault refuses = sync_fails refuses.calls (later_of refuses) refuses.more refuses.clock refuses.failures fault
 
+  -- the images after a call, of an honest source
+  of_honest : (effect : Effect) (content image : Image) → source.honest → images_after effect content leaves image → images_after effect content left image
+  of_honest (Write at block) content image honest may = record {
+    either = ⊎_elim (λ (before : leaves image). inl (honest, before))
+        (λ (over : (before : Image) × leaves before × (image ≡ with_sector before at block.bytes)). inr (over.0, (honest, over.1), over.2)) may.either;
+  }
+  of_honest Sync content image honest same = same
+
+  of_any : (effect : Effect) (content image : Image) → images_after effect content left image → images_after effect content leaves image
+  of_any (Write at block) content image may = record {
+    either = ⊎_elim (λ (before : left image). inl before.1)
+        (λ (over : (before : Image) × left before × (image ≡ with_sector before at block.bytes)). inr (over.0, over.1.1, over.2)) may.either;
+  }
+  of_any Sync content image same = same
+
   -- the call was recorded
   module _ (effect : Effect) (notes : Notes log log' effect) where
     call : Call
@@ -181,8 +220,8 @@ module _ (source : SourceView) (log log' : CallLog) where
       failures = omega (arith, notes.failures);
       honest = λ honest. honest;
       was_honest = λ honest. honest;
-      kept = λ moment image le is. subst (λ (all : List Call). left_over (reverse all) start image) (sym (until_kept moment le)) is;
-      no_other = λ moment image le is. subst (λ (all : List Call). left_over (reverse all) start image) (until_kept moment le) is;
+      kept = λ moment image le is. (is.0, subst (λ (all : List Call). left_over (reverse all) start image) (sym (until_kept moment le)) is.1);
+      no_other = λ moment image le is. (is.0, subst (λ (all : List Call). left_over (reverse all) start image) (until_kept moment le) is.1);
     }
 
     ticks_next : Ticks log.clock log'.clock
@@ -201,10 +240,12 @@ module _ (source : SourceView) (log log' : CallLog) where
         ∙ ap (λ (all : List Call). record { moment = log'.clock; effect = effect } ∷ reverse all) (sym (calls_until_all log.calls.items log.clock log.stamped))
 
     pub into_next : (image : Image) → new.left_at log'.clock image → images_after effect (content_over (reverse (calls_until log.clock log.calls.items)) start) left image
-    into_next image is = subst (λ (all : List Call). left_over all start image) now_next is
+    into_next image is =
+        of_honest effect (content_over (reverse (calls_until log.clock log.calls.items)) start) image is.0 (subst (λ (all : List Call). left_over all start image) now_next is.1)
 
-    pub out_next : (image : Image) → images_after effect (content_over (reverse (calls_until log.clock log.calls.items)) start) left image → new.left_at log'.clock image
-    out_next image is = subst (λ (all : List Call). left_over all start image) (sym now_next) is
+    pub out_next : source.honest → (image : Image) → images_after effect (content_over (reverse (calls_until log.clock log.calls.items)) start) left image → new.left_at log'.clock image
+    out_next honest image is =
+        (honest, subst (λ (all : List Call). left_over all start image) (sym now_next) (of_any effect (content_over (reverse (calls_until log.clock log.calls.items)) start) image is))
 
   pub write_noted : (at : ℕ) (block : Block) → Notes log log' (Write at block) → IsWrite old new at block.bytes (Ok tt)
   write_noted at block notes = record {
@@ -214,8 +255,8 @@ module _ (source : SourceView) (log log' : CallLog) where
     content = λ honest. content_next (Write at block) notes;
     content_err = λ honest. tt;
     images = λ honest image is. into_next (Write at block) notes image is;
-    unwritten = λ honest image is. out_next (Write at block) notes image (record { either = inl is });
-    written = λ honest image is. out_next (Write at block) notes (with_sector image at block.bytes) (record { either = inr (image, is, refl) });
+    unwritten = λ honest image is. out_next (Write at block) notes honest image (record { either = inl is });
+    written = λ honest image is. out_next (Write at block) notes honest (with_sector image at block.bytes) (record { either = inr (image, is, refl) });
     at_end = λ end. absurd (omega (arith, notes.free));
     at_end_same = λ end honest. absurd (omega (arith, notes.free));
   }

@@ -19,6 +19,7 @@ pub mod OsFile
 pub mod Passing
 pub mod Positioned
 pub mod ReadOnlyView
+pub mod Reading
 pub mod SectorSource
 -- Views of devices and files, with their laws.
 pub mod FileView

@@ -1,10 +1,10 @@
 -- Sectors that are only read.
-use Rattle.std.specs.Prelude.{◌≡◌, ℕ, ◌^◌, ◌<◌, [], OnOk}
+use Rattle.std.specs.Prelude.{◌≡◌, ℕ, ◌^◌, ◌<◌, OnOk}
 use Rattle.audit_disk_model.specs.Image.{Sector, Image, IsWhole, sector_at}
 use Rattle.audit_disk_model.specs.View.{View}
 use Rattle.audit_disk_model.specs.Calls.{Outcome}
 
--- What is known of the sectors. No call changes it.
+-- what is known of the sectors
 pub record SourceView : Type 1 where
   -- how many there are
   pub size : ℕ
@@ -19,6 +19,13 @@ pub record SourceView : Type 1 where
 abbrev pub IsSourceRead : SourceView → ℕ → Sector → Outcome → Type 0
 IsSourceRead source at into result = source.honest → OnOk result (into ≡ sector_at source.content at)
 
+-- a read changes nothing that is known of an honest source
+pub record IsSameSource (old new : SourceView) : Type 0 where
+  pub size : new.size ≡ old.size
+  pub honest : old.honest → new.honest
+  pub was_honest : new.honest → old.honest
+  pub content : old.honest → new.content ≡ old.content
+
 -- a device as a source
 abbrev pub source_of : View → SourceView
 source_of view = record {
@@ -27,14 +34,4 @@ source_of view = record {
   honest = view.honest;
   size_fits = view.size_fits;
   whole = λ honest. view.whole honest view.clock view.content (view.content_left honest);
-}
-
--- `size` sectors of which nothing is known
-abbrev pub unknown_source : (size : ℕ) → size < 2 ^ 64 → SourceView
-unknown_source size fits = record {
-  size = size;
-  content = [];
-  honest = ⊥;
-  size_fits = fits;
-  whole = λ honest. absurd honest;
 }

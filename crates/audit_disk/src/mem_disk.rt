@@ -70,11 +70,10 @@ impl Sectors for MemDisk {
     }
 }
 
-/// As a source its content is fixed, because the reference is shared.
 impl SectorSource for MemDisk {
     ghost use Rattle.std.specs.Prelude.{IsOk};
     ghost use Rattle.audit_disk.specs.MemDisk.{disk_view};
-    ghost use Rattle.audit_disk.specs.SectorSource.{source_of, IsSourceRead};
+    ghost use Rattle.audit_disk.specs.SectorSource.{source_of, IsSourceRead, IsSameSource};
 
     ghost source = { λ disk. source_of (⟦<MemDisk as Sectors>⟧.view disk) };
 
@@ -83,9 +82,10 @@ impl SectorSource for MemDisk {
     }
 
     /// It allocates nothing, so it never fails.
-    fn read_sector(&self, at: u64, into: &mut [u8; SECTOR_SIZE]) -> Result<(), DeviceFault>
-        requires { at < (disk_view self.now).size }
-        ensures read { IsSourceRead (source_of (disk_view self.now)) at into.new result }
+    fn read_sector(&mut self, at: u64, into: &mut [u8; SECTOR_SIZE]) -> Result<(), DeviceFault>
+        requires { at < (disk_view self.old).size }
+        ensures read { IsSourceRead (source_of (disk_view self.old)) at into.new result }
+        ensures same { IsSameSource (source_of (disk_view self.old)) (source_of (disk_view self.new)) }
         ensures succeeds { IsOk result }
     {
         let block = &self.content[at as usize];

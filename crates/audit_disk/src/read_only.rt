@@ -1,6 +1,7 @@
 ghost use Rattle.std.specs.Prelude.{◌≡◌, ◌<◌, ◌≤◌};
 ghost use Rattle.audit_disk_model.specs.Calls.{CountsFailure};
 ghost use Rattle.audit_disk.specs.ReadOnly.{IsReadThrough};
+ghost use Rattle.audit_disk.specs.SectorSource.{IsSameSource};
 
 use crate::block::Block;
 use crate::call::Effect;
@@ -18,7 +19,7 @@ use std::alloc::{AllocError, Global};
 /// and isn't kept.
 #[derive(Drop)]
 pub struct ReadOnly<'a, S: SectorSource> {
-    source: &'a S,
+    source: &'a mut S,
     log: CallLog,
 }
 
@@ -28,9 +29,9 @@ impl<'a, S: SectorSource> ReadOnly<'a, S> {
     ghost use Rattle.audit_disk.specs.ReadOnlyView.{read_only_view, source_under, spare_calls, IsFreshOver};
 
     /// Makes a device over a source. It allocates nothing.
-    pub fn over(alloc: Global, source: &'a S) -> Self
-        ensures source { source_under result ≡ source.now }
-        ensures fresh { IsFreshOver (S.source source.now) (read_only_view S.source result) }
+    pub fn over(alloc: Global, source: &'a mut S) -> Self
+        ensures source { source_under result ≡ source.old }
+        ensures fresh { IsFreshOver (S.source source.old) (read_only_view S.source result) }
     {
         ReadOnly {
             source,
@@ -100,13 +101,14 @@ impl<S: SectorSource> Sectors for ReadOnly<'_, S> {
 
 // Reads what these calls last wrote to the sector, or else the source's content. A failed read is counted.
 fn read_through<S: SectorSource>(
-    source: &S,
+    source: &mut S,
     log: &mut CallLog,
     at: u64,
     into: &mut [u8; SECTOR_SIZE],
 ) -> Result<(), DeviceFault>
-    requires { at < (S.source source.now).size }
-    ensures read { IsReadThrough (S.source source.now) log.old.calls.items at into.new result }
+    requires { at < (S.source source.old).size }
+    ensures read { IsReadThrough (S.source source.old) log.old.calls.items at into.new result }
+    ensures same { IsSameSource (S.source source.old) (S.source source.new) }
     ensures counts { CountsFailure log.old.failures log.new.failures result }
     ensures calls { log.new.calls ≡ log.old.calls }
     ensures clock { log.new.clock ≡ log.old.clock }

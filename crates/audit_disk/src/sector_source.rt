@@ -1,10 +1,9 @@
 ghost use Rattle.std.specs.Prelude.{◌≡◌, ◌<◌};
-ghost use Rattle.audit_disk.specs.SectorSource.{SourceView, IsSourceRead};
+ghost use Rattle.audit_disk.specs.SectorSource.{SourceView, IsSourceRead, IsSameSource};
 
 use crate::{DeviceFault, SECTOR_SIZE};
 
-/// Sectors that are only read. All calls take a shared reference, and none writes or syncs, so nobody can change a
-/// source through a reference to it.
+/// Sectors that are only read. No call writes or syncs, so nobody can change a source through a reference to it.
 pub trait SectorSource {
     /// Everything that is known of the source.
     ghost source: { Self → SourceView };
@@ -14,7 +13,8 @@ pub trait SectorSource {
         ensures { result ≡ (source self.now).size };
 
     /// Reads one sector. After a fault the contents of `into` are unspecified.
-    fn read_sector(&self, at: u64, into: &mut [u8; SECTOR_SIZE]) -> Result<(), DeviceFault>
-        requires { at < (source self.now).size }
-        ensures { IsSourceRead (source self.now) at into.new result };
+    fn read_sector(&mut self, at: u64, into: &mut [u8; SECTOR_SIZE]) -> Result<(), DeviceFault>
+        requires { at < (source self.old).size }
+        ensures read { IsSourceRead (source self.old) at into.new result }
+        ensures same { IsSameSource (source self.old) (source self.new) };
 }

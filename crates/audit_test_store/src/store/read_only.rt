@@ -8,7 +8,7 @@ use audit_disk::{DeviceFault, ReadOnly, SectorSource};
 fn opened_read_only<'a, S: SectorSource>(
     rt: &impl Abort,
     alloc: Global,
-    source: &'a S,
+    source: &'a mut S,
 ) -> Store<ReadOnly<'a, S>> {
     match Store::open_read_only(alloc, source) {
         Ok(store) => store,
@@ -17,7 +17,7 @@ fn opened_read_only<'a, S: SectorSource>(
 }
 
 // The error of an opening, if there is one.
-fn refusal<S: SectorSource>(alloc: Global, source: &S) -> Option<StoreError> {
+fn refusal<S: SectorSource>(alloc: Global, source: &mut S) -> Option<StoreError> {
     match Store::open_read_only(alloc, source) {
         Ok(_) => None,
         Err(failed) => Some(failed.error),
@@ -32,8 +32,8 @@ fn a_run_stopped_after_each_call_read_only(rt: HostRuntime) {
     for round in 0..24 * 8 {
         let (calls, mask) = (round / 8, round % 8);
         let (disk, _) = run_to(&rt, alloc, calls);
-        let left = crashed(&rt, alloc, &disk, mask);
-        let batches = batches_in(&rt, opened_read_only(&rt, alloc, &left));
+        let mut left = crashed(&rt, alloc, &disk, mask);
+        let batches = batches_in(&rt, opened_read_only(&rt, alloc, &mut left));
         check!(&rt; batches == passed(calls + mask / 2 % 2, [6, 13, 21]), calls, mask);
         check!(&rt; left.calls() == 0);
     }
@@ -43,14 +43,14 @@ fn a_run_stopped_after_each_call_read_only(rt: HostRuntime) {
 #[test]
 fn an_append_that_is_not_kept(rt: HostRuntime) {
     let alloc = rt.alloc();
-    let disk = store_of(&rt, alloc, 16, &[0, 5]).into_disk();
-    let mut store = opened_read_only(&rt, alloc, &disk);
+    let mut disk = store_of(&rt, alloc, 16, &[0, 5]).into_disk();
+    let mut store = opened_read_only(&rt, alloc, &mut disk);
     let receipt = store
         .append(&batch(&rt, alloc, 2, &[441]))
         .expect(&rt, "an append");
     check!(&rt; receipt.count == 3);
     check!(&rt; answers(&rt, &mut store) == answers(&rt, &mut store_of(&rt, alloc, 16, &[0, 5, 441])));
-    check!(&rt; opened_read_only(&rt, alloc, &disk).commitment().count == 2);
+    check!(&rt; opened_read_only(&rt, alloc, &mut disk).commitment().count == 2);
 }
 
 // Sectors of which one can't be read. They are never honest.
@@ -71,7 +71,7 @@ impl SectorSource for Unreadable {
         self.disk.sectors()
     }
 
-    fn read_sector(&self, at: u64, into: &mut [u8; 512]) -> Result<(), DeviceFault> {
+    fn read_sector(&mut self, at: u64, into: &mut [u8; 512]) -> Result<(), DeviceFault> {
         if at == self.at {
             return Err(DeviceFault);
         }
@@ -90,7 +90,7 @@ fn a_sector_that_cannot_be_read(rt: HostRuntime) {
         } else {
             None
         };
-        check!(&rt; refusal(alloc, &Unreadable { disk, at }) == expected, at);
+        check!(&rt; refusal(alloc, &mut Unreadable { disk, at }) == expected, at);
     }
 }
 
@@ -99,7 +99,7 @@ fn a_sector_that_cannot_be_read(rt: HostRuntime) {
 #[test]
 fn a_growth_that_is_refused_read_only(rt: HostRuntime) {
     let alloc = rt.alloc();
-    let (disk, _) = run_to(&rt, alloc, 6);
-    let error = refusal(alloc, &disk);
+    let (mut disk, _) = run_to(&rt, alloc, 6);
+    let error = refusal(alloc, &mut disk);
     check!(&rt; matches!(error, None | Some(StoreError::Memory)));
 }

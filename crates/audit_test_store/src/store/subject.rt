@@ -24,7 +24,7 @@ fn subject<D: Sectors>(
 impl<'a, S: SectorSource> Store<ReadOnly<'a, S>> {
     pub(crate) fn open_read_only(
         alloc: Global,
-        source: &'a S,
+        source: &'a mut S,
     ) -> Result<Store<ReadOnly<'a, S>>, Failed<ReadOnly<'a, S>>> {
         subject(audit_store::Store::open_read_only(alloc, source))
     }
