@@ -9,7 +9,7 @@ use audit_cli_host::Notes;
 use audit_cli_remote::Request as Remote;
 use audit_cli_store::Request;
 use audit_disk::FileIdentity;
-use audit_text_plain::Shown;
+use audit_text::Shown;
 use std::fs::{self, Files};
 use std::io::{self, Write};
 

@@ -7,7 +7,7 @@ use audit_cli_daemon::Request as Daemon;
 use audit_cli_host::Notes;
 use audit_cli_remote::Request as Remote;
 use audit_cli_store::{Access, Request};
-use audit_text_plain::Shown;
+use audit_text::Shown;
 use std::alloc::Global;
 use std::fs::{self, Files};
 use std::io::{self, Write};

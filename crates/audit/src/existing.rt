@@ -4,7 +4,7 @@ use crate::contents::store_head;
 use audit_cli_remote::Request as Remote;
 use audit_cli_store::{Request, Site};
 use audit_disk::FileIdentity;
-use audit_text_plain::Shown;
+use audit_text::Shown;
 use std::fs::{self, Files};
 use std::io::{self, Write};
 use std::os::unix::fs::FileTypeExt;

@@ -12,7 +12,7 @@ use audit_cli_base::Status;
 use audit_cli_host::Notes;
 use audit_cli_offline::commitment_in_word;
 use audit_cli_store::Request;
-use audit_text_plain::Shown;
+use audit_text::Shown;
 use std::alloc::Global;
 use std::fs::Files;
 use std::io::{self, Write};

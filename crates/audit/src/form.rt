@@ -1,8 +1,7 @@
 //! The forms that words of a command line have to have, and where a word departs from its own.
 use audit_cli_base::{MAX_SOCKET_PATH, mode_asked, socket_path_asked};
 use audit_cli_offline::commitment_in_word;
-use audit_text::{number_in_text, split_at_first};
-use audit_text_plain::{kind_in_word, long_asked};
+use audit_text::{kind_in_word, long_asked, number_in_text, split_at_first};
 use std::fmt::{self, Display, Formatter};
 
 // The hex digits of a root.

@@ -11,7 +11,7 @@ use audit_cli_serve::Request as Serving;
 use audit_cli_store::Request;
 use audit_disk::{SystemFile, SystemFiles};
 use audit_store::StoreError;
-use audit_text_plain::Shown;
+use audit_text::Shown;
 use clap::Error;
 use clap::error::ErrorKind;
 use std::alloc::{AllocError, Global};

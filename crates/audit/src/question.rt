@@ -1,7 +1,7 @@
 //! What is wrong with the words of a question to a server.
 use crate::form::Form;
 use crate::wrong_word::{Wrong, judge, wrong_in_pair};
-use audit_text_plain::Shown;
+use audit_text::Shown;
 use std::fmt::{self, Display, Formatter};
 
 /// The words of a question: its name, and up to three more.

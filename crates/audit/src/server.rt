@@ -2,7 +2,7 @@
 use crate::command::Asked;
 use crate::heard::Said;
 use audit_cli_remote::Request as Remote;
-use audit_text_plain::Shown;
+use audit_text::Shown;
 use std::io::{self, Write};
 
 /// Prints what it may be that a server doesn't answer, or doesn't take what it was asked.

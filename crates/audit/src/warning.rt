@@ -3,7 +3,7 @@ use crate::command::Asked;
 use crate::contents::store_head;
 use crate::places::{key_file_of, store_of};
 use audit_cli_host::Notes;
-use audit_text_plain::Shown;
+use audit_text::Shown;
 use std::fs::{self, Files};
 use std::io::{self, Write};
 use std::os::unix::fs::PermissionsExt;

@@ -7,7 +7,7 @@ use audit_cli_remote::Request as Remote;
 use audit_cli_serve::Request as Serving;
 use audit_cli_store::{Request, Site};
 use audit_log::{MAX_SECTORS, MIN_SECTORS};
-use audit_text_plain::Shown;
+use audit_text::Shown;
 use std::fmt::{self, Display, Formatter};
 
 // The bounds of numbers of seconds, of lines that are sent ahead, of sessions in a round, and of bytes for a client.

@@ -8,9 +8,9 @@ use Rattle.audit_base.specs.declared.limits.TheConstants.{MAX_PAYLOAD, RESERVED_
 use Rattle.audit_text.specs.declared.fault.LineError.{LineError}
 use Rattle.audit_text.specs.declared.fault.LineError.TheVariants.{BadEventLine, ReservedKind, PayloadTooLong}
 use Rattle.audit_text.specs.EventLine.{is_space, kind_in_text, payload_of, event_of_texts, event_of_line}
-use Rattle.audit_text_plain.specs.declared.line_form.LineForm.{LineForm}
-use Rattle.audit_text_plain.specs.declared.line_form.LineForm.TheVariants.{Spelled, Text}
-use Rattle.audit_text_plain.specs.LineEvents.{event_in_line}
+use Rattle.audit_text.specs.declared.line_form.LineForm.{LineForm}
+use Rattle.audit_text.specs.declared.line_form.LineForm.TheVariants.{Spelled, Text}
+use Rattle.audit_text.specs.LineEvents.{event_in_line}
 
 abbrev pub IsUnreserved : Result EventData LineError → Type 0
 IsUnreserved (Ok event) = event.kind ≢ RESERVED_KIND

@@ -15,9 +15,9 @@ use Rattle.audit_chain.specs.EventData.{EventData}
 use Rattle.audit_text.specs.declared.fault.LineError.{LineError}
 use Rattle.audit_text.specs.declared.fault.LineError.TheVariants.{BadEventLine, ReservedKind, PayloadTooLong}
 use Rattle.audit_text.specs.EventLine.{is_space, spells_kind, kind_in_text, payload_of, checked_event, event_of_texts, event_of_line}
-use Rattle.audit_text_plain.specs.declared.line_form.LineForm.{LineForm}
-use Rattle.audit_text_plain.specs.declared.line_form.LineForm.TheVariants.{Spelled, Text}
-use Rattle.audit_text_plain.specs.LineEvents.{event_in_line}
+use Rattle.audit_text.specs.declared.line_form.LineForm.{LineForm}
+use Rattle.audit_text.specs.declared.line_form.LineForm.TheVariants.{Spelled, Text}
+use Rattle.audit_text.specs.LineEvents.{event_in_line}
 use Rattle.audit_serve_sockets.specs.declared.limits.TheConstants.{MAX_DIGITS}
 
 -- the line of an event is within the limit

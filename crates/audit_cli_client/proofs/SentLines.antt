@@ -6,7 +6,7 @@ use Rattle.std.proofs.lemmas.Option.{none-some}
 use Rattle.std.proofs.lemmas.Bool.{true≢false, false≢true}
 use Rattle.audit_text.specs.Writing.{WritesInPart}
 use Rattle.audit_text.specs.declared.fault.LinesError.{LinesError}
-use Rattle.audit_text_plain.specs.declared.line_form.LineForm.{LineForm}
+use Rattle.audit_text.specs.declared.line_form.LineForm.{LineForm}
 use Rattle.audit_cli_client.specs.declared.fault.ClientError.{ClientError}
 use Rattle.audit_cli_client.specs.declared.send_error.SendError.{SendError}
 use Rattle.audit_cli_client.specs.declared.send_error.SendError.TheVariants.{Input, Client, Output}

@@ -12,8 +12,8 @@ use Rattle.audit_text.specs.declared.fault.LineError.{LineError}
 use Rattle.audit_text.specs.declared.fault.LineError.TheVariants.{PayloadTooLong}
 use Rattle.audit_text.specs.declared.fault.LinesError.{LinesError}
 use Rattle.audit_text.specs.declared.fault.LinesError.TheVariants as lines
-use Rattle.audit_text_plain.specs.declared.line_form.LineForm.{LineForm}
-use Rattle.audit_text_plain.specs.LineEvents.{event_in_line, AreEventsOf}
+use Rattle.audit_text.specs.declared.line_form.LineForm.{LineForm}
+use Rattle.audit_text.specs.LineEvents.{event_in_line, AreEventsOf}
 use Rattle.audit_wire.specs.declared.refusal.Refusal.{Refusal}
 use Rattle.audit_wire.specs.declared.refusal.Refusal.TheVariants as refusal
 use Rattle.audit_wire.specs.declared.request.Request.{Request}

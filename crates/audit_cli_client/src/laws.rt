@@ -1,8 +1,8 @@
 //! Laws of what a witness keeps, and of lines. Each function does nothing: its contract is the law.
 ghost use Rattle.std.specs.Prelude.{◌≢◌, ◌<◌, ◌∷◌, ◌++◌, [], ℕ, Ok, List, length};
 ghost use Rattle.audit_chain.specs.EventData.{EventData};
-ghost use Rattle.audit_text_plain.specs.declared.line_form.LineForm.{LineForm};
-ghost use Rattle.audit_text_plain.specs.LineEvents.{event_in_line};
+ghost use Rattle.audit_text.specs.declared.line_form.LineForm.{LineForm};
+ghost use Rattle.audit_text.specs.LineEvents.{event_in_line};
 ghost use Rattle.audit_serve_sockets.specs.declared.limits.TheConstants.{MAX_DIGITS};
 ghost use Rattle.audit_proof.specs.declared.commitment.Commitment.{Commitment};
 ghost use Rattle.audit_cli_client.specs.Joined.{IsJoined, AreJoined};

@@ -8,8 +8,7 @@ use crate::conversation::send_bytes;
 use crate::fault::ClientError;
 use crate::send_error::SendError;
 use crate::taking::{Taken, has_line, take_lines};
-use audit_text::LinesError;
-use audit_text_plain::LineForm;
+use audit_text::{LineForm, LinesError};
 use std::alloc::Global;
 use std::io::{BufReader, Read, Write};
 

@@ -2,15 +2,14 @@
 ghost use Rattle.std.specs.Prelude.{◌≡◌, ◌+◌, ◌<◌, ◌≤◌, ◌++◌, true, IfOk, IfErr, OnOk, OnErr, Ok};
 ghost use Rattle.std.specs.Io.Buffered.{reader_remaining};
 ghost use Rattle.audit_chain.specs.EventData.{EventData};
-ghost use Rattle.audit_text_plain.specs.LineEvents.{event_in_line};
+ghost use Rattle.audit_text.specs.LineEvents.{event_in_line};
 ghost use Rattle.audit_text.specs.declared.fault.LinesError.TheVariants.{InputTooLong};
 ghost use Rattle.audit_wire.specs.Stream.{request_frame};
 ghost use Rattle.audit_cli_client.specs.Sending.{line_tag, event_request, TakesRound, TakesNext, IsEventFault};
 ghost use Rattle.audit_cli_client.specs.Sending.{IsTakingFault};
 
 use audit_serve_sockets::{MAX_DIGITS, next_line};
-use audit_text::{LineError, LinesError, ParseError};
-use audit_text_plain::{LineForm, event_in_line};
+use audit_text::{LineError, LineForm, LinesError, ParseError, event_in_line};
 use audit_wire::{RequestView, write_request};
 use std::alloc::Global;
 use std::io::{BufReader, Read};

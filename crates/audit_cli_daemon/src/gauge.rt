@@ -1,7 +1,7 @@
 //! A look at how full a store is while it is served.
 use crate::marks::mark_passed;
 use audit_serve_ready::{Departure, Door, Newcomer, Next};
-use audit_text_plain::Shown;
+use audit_text::Shown;
 use std::cell::RefCell;
 use std::io::{self, Read, Seek, SeekFrom, Write};
 

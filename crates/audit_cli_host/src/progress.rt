@@ -1,5 +1,5 @@
 //! The line that shows how far a long command is.
-use audit_text_plain::Shown;
+use audit_text::Shown;
 use std::cell::Cell;
 use std::fmt;
 use std::io::{self, IsTerminal, Write};

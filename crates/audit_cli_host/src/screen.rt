@@ -1,5 +1,5 @@
 //! A terminal as the output of text.
-use audit_text_plain::{ShownLetter, is_seen};
+use audit_text::{ShownLetter, is_seen};
 use std::alloc::Global;
 use std::io::{self, ErrorKind, Write};
 

@@ -3,8 +3,8 @@ use Rattle.std.proofs.Common.{◌≡◌, Bool, ℕ, ◌+◌, List, [], ◌∷◌
 use Rattle.std.specs.List.{AllByRecursion, flat_map}
 use Rattle.audit_base.specs.Bytes.{AreBytes}
 use Rattle.audit_chain.specs.Event.{EventData, IsEvent}
-use Rattle.audit_text_plain.specs.PrintedText.{text_line, read_back}
-use Rattle.audit_text_plain.proofs.ReadingBack.{all_read_back}
+use Rattle.audit_text.specs.PrintedText.{text_line, read_back}
+use Rattle.audit_text.proofs.ReadingBack.{all_read_back}
 use Rattle.audit_cli_offline.specs.declared.report_form.ReportForm.TheVariants.{Text}
 use Rattle.audit_cli_offline.specs.ReportLines.{event_lines, report_lines}
 

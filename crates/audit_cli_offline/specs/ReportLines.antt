@@ -4,7 +4,7 @@ use Rattle.std.specs.Fmt.{decimal}
 use Rattle.hex.specs.Hex.{encode_lower}
 use Rattle.audit_chain.specs.EventData.{EventData}
 use Rattle.audit_chain.specs.Closing.{is_closed}
-use Rattle.audit_text_plain.specs.PrintedText.{text_line}
+use Rattle.audit_text.specs.PrintedText.{text_line}
 use Rattle.audit_cli_offline.specs.declared.report_form.ReportForm.{ReportForm}
 use Rattle.audit_cli_offline.specs.declared.report_form.ReportForm.TheVariants.{Events, Text}
 use Rattle.audit_cli_offline.specs.declared.verified_end.VerifiedEnd.{VerifiedEnd}

@@ -2,7 +2,7 @@
 ghost use Rattle.std.specs.Prelude.{◌≡◌, Bool, List, map};
 ghost use Rattle.std.specs.List.{AllByRecursion};
 ghost use Rattle.audit_chain.specs.Event.{EventData, IsEvent};
-ghost use Rattle.audit_text_plain.specs.PrintedText.{read_back};
+ghost use Rattle.audit_text.specs.PrintedText.{read_back};
 ghost use Rattle.audit_cli_offline.specs.declared.report_form.ReportForm.TheVariants.{Text};
 ghost use Rattle.audit_cli_offline.specs.ReportLines.{report_lines};
 

@@ -4,7 +4,7 @@ use Rattle.std.specs.Prelude.{◌≡◌, ◌⊎◌, ℕ, nat_le, ◌&&◌, Optio
 use Rattle.std.specs.Prelude.{if◌then◌else◌}
 use Rattle.std.specs.Str.{bytes_eq}
 use Rattle.audit_text.specs.Number.{number_in_text}
-use Rattle.audit_text_plain.specs.LineEvents.{form_asked, long_asked}
+use Rattle.audit_text.specs.LineEvents.{form_asked, long_asked}
 use Rattle.audit_cli_base.specs.Arguments.{proof_asked}
 use Rattle.audit_cli_base.specs.declared.arguments.ProofRequest.{ProofRequest}
 use Rattle.audit_cli_base.specs.declared.fault.CommandError.{CommandError}

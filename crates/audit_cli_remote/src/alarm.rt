@@ -4,7 +4,7 @@ ghost use Rattle.audit_cli_remote.specs.Alarm.{alarm_after, contradiction_text, 
 
 use crate::contradiction::{Contradiction, judgment_word};
 use crate::state_lines::push_commitment;
-use audit_text_plain::Shown;
+use audit_text::Shown;
 use httpdate::HttpDate;
 use std::alloc::{AllocError, Global};
 use std::io::{self, Write};

@@ -2,7 +2,7 @@
 ghost use Rattle.std.specs.Prelude.{◌≡◌, ◌⊎◌, ℕ, List, Err, Some, None, IfOk, IfErr};
 ghost use Rattle.std.specs.Io.KnownBytes.{Appends, Keeps};
 ghost use Rattle.audit_text.specs.declared.fault.LinesError.{LinesError};
-ghost use Rattle.audit_text_plain.specs.LineEvents.{form_asked, long_asked};
+ghost use Rattle.audit_text.specs.LineEvents.{form_asked, long_asked};
 ghost use Rattle.audit_cli_remote.specs.declared.fault.RemoteError.{RemoteError};
 ghost use Rattle.audit_cli_remote.specs.Faults.{IsNoJudgment, judgment_of};
 ghost use Rattle.audit_cli_remote.specs.Arguments.{AreNoSeconds, IsNoWindow, HasRefusedWord, HasNumbersOf};
@@ -18,8 +18,7 @@ use crate::watching::{Post, watch_for_ever, watch_once};
 use audit_cli_base::{CommandError, Status, report_flush, socket_path_asked};
 use audit_cli_host::Dial;
 use audit_disk::SystemFile;
-use audit_text::write_whole;
-use audit_text_plain::{LineForm, LongLines, form_asked, long_asked};
+use audit_text::{LineForm, LongLines, form_asked, long_asked, write_whole};
 use std::alloc::Global;
 use std::fs::Files;
 use std::io::{Read, Write};

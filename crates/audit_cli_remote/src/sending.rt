@@ -8,7 +8,7 @@ use crate::line::{Line, LineEnd, Pace};
 use audit_cli_base::Status;
 use audit_cli_client::{SendEnd, send_events};
 use audit_cli_host::Dial;
-use audit_text_plain::{CutLines, LineForm, LongLines};
+use audit_text::{CutLines, LineForm, LongLines};
 use std::alloc::Global;
 use std::io::{BufReader, Read, Write};
 use std::time::Clock;

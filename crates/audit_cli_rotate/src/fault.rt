@@ -4,7 +4,7 @@ ghost use Rattle.audit_cli_rotate.specs.Faults.{rotation_status};
 use crate::request::Request;
 use audit_cli_base::{CommandError, Status, report};
 use audit_store::StoreError;
-use audit_text_plain::Shown;
+use audit_text::Shown;
 use std::io::Write;
 
 /// Why a log wasn't rotated.

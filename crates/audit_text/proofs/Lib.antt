@@ -7,3 +7,7 @@ pub mod Scripts
 pub mod Refusals
 pub mod Taking
 pub mod Writing
+mod CutShort
+pub mod ReadingBack
+mod SeenLetters
+pub mod TextEvents

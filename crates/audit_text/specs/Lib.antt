@@ -8,3 +8,7 @@ pub mod Script
 pub mod NumberedLine
 pub mod AckLine
 pub mod Number
+pub mod CutLines
+pub mod LineEvents
+pub mod PrintedText
+pub mod ShownText

@@ -5,8 +5,7 @@ use audit_cli_base::{CommandError, ProofRequest};
 use audit_cli_store::{ShowForm, close_log, format_device, proof_bytes, show};
 use audit_disk::{FailOnce, MemDisk};
 use audit_store::{Store, StoreError};
-use audit_text::{LineError, LinesError};
-use audit_text_plain::LineForm;
+use audit_text::{LineError, LineForm, LinesError};
 use std::alloc::Global;
 use std::process::Abort;
 

@@ -1,6 +1,6 @@
 use Rattle.std.proofs.Common.{◌≡◌, ◌≤◌, ◌∙◌, ◌+◌, ◌++◌, ℕ, suc, length, vec_len, ap, subst, arith, rules, List, Ok, true}
 use Rattle.std.specs.Io.Buffered.{reader_remaining}
-use Rattle.audit_text_plain.specs.LineEvents.{event_in_line}
+use Rattle.audit_text.specs.LineEvents.{event_in_line}
 use Rattle.audit_wire.specs.Stream.{request_frame}
 use Rattle.audit_serve_sockets.specs.declared.limits.TheConstants.{MAX_DIGITS}
 use Rattle.audit_cli_client.specs.Sending.{event_request}

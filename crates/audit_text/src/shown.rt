@@ -1,6 +1,6 @@
 //! Names and other texts from outside, as they are printed for people.
 ghost use Rattle.std.specs.Prelude.{◌≡◌};
-ghost use Rattle.audit_text_plain.specs.ShownText.{is_seen, is_unseen_mark};
+ghost use Rattle.audit_text.specs.ShownText.{is_seen, is_unseen_mark};
 
 use std::fmt::{self, Display, Formatter, Write};
 

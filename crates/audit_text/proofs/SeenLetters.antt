@@ -3,7 +3,7 @@ use Rattle.std.specs.Prelude.{nat_lt, slice_index}
 use Rattle.std.specs.List.{AllByRecursion, flat_map}
 use Rattle.std.proofs.Common.{◌≡◌, inl, inr, ℕ, zero, suc, ◌%◌, ◌/◌, ◌<◌, Bool, true, false, cond, List, [], ◌∷◌, ◌++◌, refl, ap, ◌∙◌, arith}
 use Rattle.hex.specs.Hex.{lower_digits}
-use Rattle.audit_text_plain.specs.ShownText.{is_seen, digit_at, letter_escape, shown_letter, IsSeen, IsPlainLetter}
+use Rattle.audit_text.specs.ShownText.{is_seen, digit_at, letter_escape, shown_letter, IsSeen, IsPlainLetter}
 
 -- the hex digits are seen
 digit_seen : (n : ℕ) → n < 16 → is_seen (slice_index lower_digits n) ≡ true

@@ -7,8 +7,8 @@ use Rattle.audit_chain.specs.EventData.{EventData}
 use Rattle.audit_text.specs.EventLine.{checked_event}
 use Rattle.audit_text.specs.declared.fault.LineError.{LineError}
 use Rattle.audit_text.specs.declared.fault.LineError.TheVariants.{ReservedKind, PayloadTooLong}
-use Rattle.audit_text_plain.specs.declared.line_form.LineForm.TheVariants.{Text}
-use Rattle.audit_text_plain.specs.LineEvents.{event_in_line, text_event, AreEventsOf}
+use Rattle.audit_text.specs.declared.line_form.LineForm.TheVariants.{Text}
+use Rattle.audit_text.specs.LineEvents.{event_in_line, text_event, AreEventsOf}
 
 short_line : (kind : ℕ) (line : List ℕ) → kind ≢ RESERVED_KIND → length line ≤ MAX_PAYLOAD → checked_event kind line ≡ Ok (text_event kind line)
 short_line kind line other short =

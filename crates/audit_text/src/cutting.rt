@@ -1,9 +1,10 @@
 //! Lines that are longer than a payload may be, cut to one.
 ghost use Rattle.std.specs.Prelude.{◌≡◌, ◌≤◌, ◌++◌, length, take, IfOk, OnOk};
-ghost use Rattle.audit_text_plain.specs.CutLines.{cut_note, cut_line};
+ghost use Rattle.audit_text.specs.CutLines.{cut_note, cut_line};
 
 use audit_base::{Hash, MAX_PAYLOAD};
-use audit_text::{push_hex, push_number};
+use crate::output::{push_hex, push_number};
+use crate::split::split_at_first;
 use sha2::{Digest, Sha256};
 use std::alloc::{AllocError, Global};
 use std::io::{self, ErrorKind, Read};
@@ -118,7 +119,7 @@ impl<R: Read + Drop> CutLines<R> {
             if rest.is_empty() {
                 return Ok(());
             }
-            let (line, after) = audit_text::split_at_first(rest, b'\n');
+            let (line, after) = split_at_first(rest, b'\n');
             self.take_part(line)?;
             if line.len() < rest.len() {
                 self.end_line()?;

@@ -7,7 +7,7 @@ use Rattle.hex.specs.Hex.{encode_lower, encode_with, lower_digits, hex_digit_val
 use Rattle.hex.proofs.HexLemmas.{IsDigits-lower_digits}
 use Rattle.audit_base.specs.Bytes.{AreBytes}
 use Rattle.audit_text.specs.Lines.{lines_of, line_feed, onto_first}
-use Rattle.audit_text_plain.specs.PrintedText.{is_plain, escaped_byte, text_line, byte_of_digits, unescaped, read_back}
+use Rattle.audit_text.specs.PrintedText.{is_plain, escaped_byte, text_line, byte_of_digits, unescaped, read_back}
 
 -- ---- bytes that are printed as they are
 

@@ -8,7 +8,7 @@ use Rattle.hex.specs.Hex.{encode_lower}
 use Rattle.hex.proofs.HexLemmas.{length-encode_with}
 use Rattle.audit_base.specs.declared.limits.TheConstants.{MAX_PAYLOAD}
 use Rattle.hex.specs.Hex.{lower_digits}
-use Rattle.audit_text_plain.specs.CutLines.{cut_note, cut_line}
+use Rattle.audit_text.specs.CutLines.{cut_note, cut_line}
 
 below : (size : ℕ) → size < 2 ^ 64 → size < 10 ^ 20
 below size small = omega arith

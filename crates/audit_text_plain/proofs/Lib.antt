@@ -1,4 +1,0 @@
-mod CutShort
-pub mod ReadingBack
-mod SeenLetters
-pub mod TextEvents

@@ -1,5 +1,0 @@
-use Rattle.audit_text_plain.proofs.ReadingBack.{all_read_back}
-use Rattle.audit_text_plain.proofs.laws.printed_payloads_are_read_back.Goals as goal
-
-pub returns : goal.returns
-returns c = all_read_back

@@ -1,4 +1,0 @@
-pub mod CutLines
-pub mod LineEvents
-pub mod PrintedText
-pub mod ShownText
