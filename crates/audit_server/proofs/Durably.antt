@@ -4,10 +4,10 @@ use Rattle.std.proofs.lemmas.Bool.{false≢true}
 use Rattle.std.proofs.lemmas.List.{append-nil, set-get_or, take-map, drop-map, take_all, take-append-drop, drop_more}
 use Rattle.audit_disk_model.specs.declared.sectors.Sectors as sectors
 use Rattle.audit_chain.specs.Event.{EventData}
-use Rattle.audit_store_images.specs.Origin.{Origin}
-use Rattle.audit_server_queue.specs.Waiting.{Append}
-use Rattle.audit_server_queue.specs.GroupCommit.{ServerState}
-use Rattle.audit_server_queue.specs.Arrivals.{appends_among}
+use Rattle.audit_store_layout.specs.Origin.{Origin}
+use Rattle.audit_server_commit.specs.Waiting.{Append}
+use Rattle.audit_server_commit.specs.GroupCommit.{ServerState}
+use Rattle.audit_server_commit.specs.Arrivals.{appends_among}
 use Rattle.audit_store.specs.Store.{is_broken, Holds}
 use Rattle.audit_store.specs.declared.store_error.StoreError.{StoreError}
 use Rattle.audit_store.specs.declared.store_error.StoreError.TheVariants.{NotAStore, DamagedHeader, HeadersDisagree, DamagedLog, BatchTooLarge, Full, NoSuchVersion, Worn, Broken, Device, Memory, Closed, BadSize, ReservedKind}
@@ -17,9 +17,9 @@ use Rattle.audit_server_commit.specs.Committer.{store_of, state_of}
 use Rattle.audit_server_commit.specs.Durable.{IsDurable}
 use Rattle.audit_serve_passes.specs.Steps.{StepData, a_piece, an_end, a_flush, IsPartOf}
 use Rattle.audit_serve_passes.specs.Core.{GoesBy, no_bytes}
-use Rattle.audit_server_model.specs.Sessions.{SessionData, no_session, sessions_run, arrivals_by_piece, arrivals_run}
-use Rattle.audit_server_model.specs.Serving.{CoreData, IsDurablyServed}
-use Rattle.audit_server_model.proofs.Serving.{put_back_none, durably_none, durably_more}
+use Rattle.audit_server.specs.Sessions.{SessionData, no_session, sessions_run, arrivals_by_piece, arrivals_run}
+use Rattle.audit_server.specs.Serving.{CoreData, IsDurablyServed}
+use Rattle.audit_server.proofs.TakenOutputs.{put_back_none, durably_none, durably_more}
 use Rattle.audit_server.specs.declared.step.Step.{Step}
 use Rattle.audit_server.specs.declared.feed_fault.FeedFault.{FeedFault}
 use Rattle.audit_server.specs.declared.server_core.Core.{Core}

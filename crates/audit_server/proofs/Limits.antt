@@ -1,6 +1,6 @@
 -- What a limit has left after arrivals were taken.
 use Rattle.std.proofs.Common.{◌≡◌, ◌∙◌, List, [], ◌∷◌, ◌++◌, sym, ap, subst}
-use Rattle.audit_server_queue.specs.Arrivals.{Arrival}
+use Rattle.audit_server_commit.specs.Arrivals.{Arrival}
 use Rattle.audit_serve_passes.specs.declared.allowance.Allowance.{Allowance}
 use Rattle.audit_serve_passes.specs.Allowance.{spent}
 use Rattle.audit_server.specs.declared.limit.Limit.{Limit}

@@ -6,10 +6,10 @@ use Rattle.audit_disk_model.specs.declared.sectors.Sectors as sectors
 use Rattle.audit_wire.specs.declared.limits.TheConstants.{MAX_MEMBERSHIP_FRAME, REFUSAL_FRAME}
 use Rattle.audit_wire.specs.declared.request.Request.{Request}
 use Rattle.audit_wire.specs.declared.request.Request.TheVariants as request
-use Rattle.audit_server_queue.specs.declared.question.Query.{Query}
-use Rattle.audit_server_queue.specs.declared.question.Query.TheVariants as query
-use Rattle.audit_server_queue.specs.Arrivals.{Arrival, an_append, a_question, arrival_of}
-use Rattle.audit_server_queue.specs.Owing.{longest_answer, longest_reply, comes_from, share_of, owed_for}
+use Rattle.audit_server_commit.specs.declared.question.Query.{Query}
+use Rattle.audit_server_commit.specs.declared.question.Query.TheVariants as query
+use Rattle.audit_server_commit.specs.Arrivals.{Arrival, an_append, a_question, arrival_of}
+use Rattle.audit_server_commit.specs.LongestReplies.{longest_answer, longest_reply, comes_from, share_of, owed_for}
 use Rattle.audit_store.specs.Store.{is_broken}
 use Rattle.audit_store.specs.declared.store_error.StoreError.{StoreError}
 use Rattle.audit_server_commit.specs.declared.committer.Committer.{Committer}
@@ -22,8 +22,8 @@ use Rattle.audit_serve_passes.specs.declared.allowance.Share.{Share}
 use Rattle.audit_serve_passes.specs.declared.allowance.Allowance.{Allowance}
 use Rattle.audit_serve_passes.specs.Allowance.{has_room, has_room_to_ask, spent}
 use Rattle.audit_serve_passes.specs.Owing.{GrowsWithin, OwesNoMore, OwesWithin, OwesAtEnd, IsBeyondAllowance}
-use Rattle.audit_server_model.specs.Sessions.{SessionData, arrivals_by_piece, arrivals_of_rest, arrivals_by_end, heard_after}
-use Rattle.audit_server_model.specs.Heard.{Heard, last_arrival, arrivals_heard}
+use Rattle.audit_server.specs.Sessions.{SessionData, arrivals_by_piece, arrivals_of_rest, arrivals_by_end, heard_after}
+use Rattle.audit_server.specs.Heard.{Heard, last_arrival, arrivals_heard}
 use Rattle.audit_server.specs.declared.limit.Limit.{Limit}
 use Rattle.audit_server.specs.declared.limit.Limit.TheVariants as limit
 use Rattle.audit_server.specs.declared.server_core.Core.{Core}

@@ -3,10 +3,10 @@ use Rattle.std.proofs.Common.{◌≡◌, ◌∙◌, inl, inr, ℕ, ◌≤◌, Bo
 use Rattle.std.specs.Prelude.{IfErr}
 use Rattle.audit_disk_model.specs.declared.sectors.Sectors as sectors
 use Rattle.audit_chain.specs.Event.{EventData}
-use Rattle.audit_server_queue.specs.declared.commit_outcome.CommitOutcome.{CommitOutcome}
-use Rattle.audit_server_queue.specs.declared.commit_outcome.CommitOutcome.TheVariants.{Committed, Worn}
-use Rattle.audit_server_queue.specs.declared.question.Question.{Question}
-use Rattle.audit_server_queue.specs.Arrivals.{Arrival, forces_flush}
+use Rattle.audit_server_commit.specs.declared.commit_outcome.CommitOutcome.{CommitOutcome}
+use Rattle.audit_server_commit.specs.declared.commit_outcome.CommitOutcome.TheVariants.{Committed, Worn}
+use Rattle.audit_server_commit.specs.declared.question.Question.{Question}
+use Rattle.audit_server_commit.specs.Arrivals.{Arrival, forces_flush}
 use Rattle.audit_store.specs.Store.{device, is_broken}
 use Rattle.audit_store.specs.declared.store.Store.{Store}
 use Rattle.audit_store.specs.declared.store_error.StoreError.{StoreError}
@@ -16,8 +16,8 @@ use Rattle.audit_server_commit.specs.Committing.{IsCommitEnd}
 use Rattle.audit_server_commit.specs.Flush.{IsFlushed, FlushOutcome}
 use Rattle.audit_server_commit.specs.Committer.{store_of, waiting_of}
 use Rattle.audit_server_commit.specs.Entering.{IsReady, HasEntered, IsArrivalEnd}
-use Rattle.audit_server_model.specs.Serving.{IsRefusedAs}
-use Rattle.audit_server_model.proofs.Serving.{refused_then}
+use Rattle.audit_server.specs.Serving.{IsRefusedAs}
+use Rattle.audit_server.proofs.TakenOutputs.{refused_then}
 use Rattle.audit_server.specs.declared.feed_fault.FeedFault.{FeedFault}
 use Rattle.audit_server.specs.declared.server_core.Core.{Core}
 use Rattle.audit_server.specs.Running.{HaveEntered}

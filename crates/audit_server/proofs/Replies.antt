@@ -2,11 +2,11 @@
 use Rattle.std.proofs.Common.{◌≡◌, ◌∙◌, inl, inr, ℕ, Bool, true, false, Result, Ok, Err, List, [], ◌∷◌, ◌++◌, refl, sym, ap, subst}
 use Rattle.std.specs.Prelude.{IfErr, IsErrOf}
 use Rattle.audit_disk_model.specs.declared.sectors.Sectors as sectors
-use Rattle.audit_server_queue.specs.Arrivals.{Arrival, forces_flush}
-use Rattle.audit_server_queue.specs.Replies.{all_delivered, append_replies}
-use Rattle.audit_server_queue.specs.Admission.{append_verdicts}
-use Rattle.audit_server_queue.proofs.Sending.{all_delivered-append}
-use Rattle.audit_server_queue.specs.declared.question.Question.{Question}
+use Rattle.audit_server_commit.specs.Arrivals.{Arrival, forces_flush}
+use Rattle.audit_server_commit.specs.Replies.{all_delivered, append_replies}
+use Rattle.audit_server_commit.specs.Admission.{append_verdicts}
+use Rattle.audit_server_commit.proofs.Sending.{all_delivered-append}
+use Rattle.audit_server_commit.specs.declared.question.Question.{Question}
 use Rattle.audit_store.specs.Store.{active_header}
 use Rattle.audit_store.specs.declared.store_error.StoreError.{StoreError}
 use Rattle.audit_store.specs.declared.store_error.StoreError.TheVariants.{Device, Memory}

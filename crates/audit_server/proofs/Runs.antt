@@ -3,10 +3,10 @@ use Rattle.std.proofs.Common.{◌≡◌, ◌∙◌, inl, inr, Result, Ok, Err, L
 use Rattle.std.proofs.lemmas.List.{append-nil}
 use Rattle.audit_disk_model.specs.declared.sectors.Sectors as sectors
 use Rattle.audit_chain.specs.Event.{EventData}
-use Rattle.audit_store_images.specs.Origin.{Origin}
-use Rattle.audit_server_queue.specs.Waiting.{Append}
-use Rattle.audit_server_queue.specs.GroupCommit.{ServerState}
-use Rattle.audit_server_queue.specs.Arrivals.{Arrival, appends_among, entered}
+use Rattle.audit_store_layout.specs.Origin.{Origin}
+use Rattle.audit_server_commit.specs.Waiting.{Append}
+use Rattle.audit_server_commit.specs.GroupCommit.{ServerState}
+use Rattle.audit_server_commit.specs.Arrivals.{Arrival, appends_among, entered}
 use Rattle.audit_store.specs.Store.{Holds}
 use Rattle.audit_store.specs.declared.store_error.StoreError.{StoreError}
 use Rattle.audit_store.specs.declared.store_error.StoreError.TheVariants.{Memory}
@@ -17,7 +17,7 @@ use Rattle.audit_server_commit.specs.Durable.{IsDurable}
 use Rattle.audit_server_commit.specs.Entering.{HasEntered, IsArrivalEnd, IsLeftByFlush, IsEntered}
 use Rattle.audit_server_commit.proofs.Unchanged.{faultless_first, faultless_next}
 use Rattle.audit_server_commit.proofs.Durability.{durable_trans, durable_queued}
-use Rattle.audit_server_model.proofs.Steps.{entered-append, appends-append}
+use Rattle.audit_server.proofs.StepsInARow.{entered-append, appends-append}
 use Rattle.audit_server.specs.Running.{HaveEntered, AdvancesBy, IsRefusedAfter, Run}
 use Rattle.audit_server.specs.Entering.{Enters}
 

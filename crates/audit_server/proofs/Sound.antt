@@ -2,10 +2,10 @@
 use Rattle.std.proofs.Common.{◌≡◌, ◌≢◌, ◌∙◌, inl, inr, Bool, true, false, Ok, Err, List, [], ◌∷◌, sym, ap, subst}
 use Rattle.audit_disk_model.specs.declared.sectors.Sectors as sectors
 use Rattle.audit_chain.specs.Event.{EventData}
-use Rattle.audit_server_queue.specs.declared.commit_outcome.CommitOutcome.{CommitOutcome}
-use Rattle.audit_server_queue.specs.declared.commit_outcome.CommitOutcome.TheVariants.{Committed, Worn}
-use Rattle.audit_server_queue.specs.Arrivals.{Arrival, forces_flush}
-use Rattle.audit_server_queue.specs.declared.question.Question.{Question}
+use Rattle.audit_server_commit.specs.declared.commit_outcome.CommitOutcome.{CommitOutcome}
+use Rattle.audit_server_commit.specs.declared.commit_outcome.CommitOutcome.TheVariants.{Committed, Worn}
+use Rattle.audit_server_commit.specs.Arrivals.{Arrival, forces_flush}
+use Rattle.audit_server_commit.specs.declared.question.Question.{Question}
 use Rattle.audit_store.specs.Store.{is_broken}
 use Rattle.audit_store.specs.declared.store.Store.{Store}
 use Rattle.audit_store.specs.declared.store_error.StoreError.{StoreError}

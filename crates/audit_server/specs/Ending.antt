@@ -1,12 +1,12 @@
 -- The end of a session.
 use Rattle.std.specs.Prelude.{◌≡◌, ◌≢◌, ℕ, Result, Ok, Err, MatchResult, [], ◌∷◌}
 use Rattle.audit_disk_model.specs.declared.sectors.Sectors as sectors
-use Rattle.audit_server_queue.specs.Arrivals.{malformed_from}
+use Rattle.audit_server_commit.specs.Arrivals.{malformed_from}
 use Rattle.audit_store.specs.declared.store_error.StoreError.{StoreError}
 use Rattle.audit_store.specs.declared.store_error.StoreError.TheVariants.{Broken}
 use Rattle.audit_server_commit.specs.declared.committer.Committer.{Committer}
 use Rattle.audit_server_commit.specs.Entering.{IsArrivalEnd}
-use Rattle.audit_server_model.specs.Sessions.{SessionData, ended_session, arrivals_by_end}
+use Rattle.audit_server.specs.Sessions.{SessionData, ended_session, arrivals_by_end}
 use Rattle.audit_server.specs.Running.{Run, IsRefusedAfter}
 
 module _ {D : Type 0} {g : sectors.Ghosts D} where

@@ -2,15 +2,15 @@
 use Rattle.std.specs.Prelude.{◌≡◌, ◌⊎◌, ℕ, if◌then◌else◌, Result, Ok, Err, Option, Some, None, List, [], ◌∷◌}
 use Rattle.audit_disk_model.specs.declared.sectors.Sectors as sectors
 use Rattle.audit_chain.specs.Event.{EventData}
-use Rattle.audit_store_images.specs.Origin.{Origin}
+use Rattle.audit_store_layout.specs.Origin.{Origin}
 use Rattle.audit_wire.specs.declared.request.Request.{Request}
 use Rattle.audit_wire.specs.declared.view.RequestView.{RequestView}
 use Rattle.audit_wire.specs.View.{request_shown}
-use Rattle.audit_server_queue.specs.declared.question.Query.{Query}
-use Rattle.audit_server_queue.specs.declared.question.Query.TheVariants as query
-use Rattle.audit_server_queue.specs.Arrivals.{Arrival, a_question, arrival_of}
+use Rattle.audit_server_commit.specs.declared.question.Query.{Query}
+use Rattle.audit_server_commit.specs.declared.question.Query.TheVariants as query
+use Rattle.audit_server_commit.specs.Arrivals.{Arrival, a_question, arrival_of}
 use Rattle.audit_serve_passes.specs.declared.rights.Rights.{Rights}
-use Rattle.audit_server_model.specs.Heard.{allows, request_tag}
+use Rattle.audit_server.specs.Heard.{allows, request_tag}
 use Rattle.audit_store.specs.Store.{Holds}
 use Rattle.audit_store.specs.declared.store_error.StoreError.{StoreError}
 use Rattle.audit_store.specs.declared.store_error.StoreError.TheVariants.{Memory}

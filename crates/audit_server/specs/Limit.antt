@@ -1,7 +1,7 @@
 -- What limits the requests that a piece brings into the queue.
 use Rattle.std.specs.Prelude.{◌≡◌, ℕ, ◌≤◌, Bool, true, false, List, [], ◌∷◌, Option, Some, None}
-use Rattle.audit_server_queue.specs.Arrivals.{Arrival, an_append, a_question}
-use Rattle.audit_server_queue.specs.Owing.{longest_answer, longest_reply}
+use Rattle.audit_server_commit.specs.Arrivals.{Arrival, an_append, a_question}
+use Rattle.audit_server_commit.specs.LongestReplies.{longest_answer, longest_reply}
 use Rattle.audit_serve_passes.specs.declared.allowance.Demand.{Demand}
 use Rattle.audit_serve_passes.specs.declared.allowance.Allowance.{Allowance}
 use Rattle.audit_serve_passes.specs.Allowance.{admits, spent}

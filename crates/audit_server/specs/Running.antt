@@ -2,11 +2,11 @@
 use Rattle.std.specs.Prelude.{◌≡◌, true, false, List, [], ◌∷◌}
 use Rattle.audit_disk_model.specs.declared.sectors.Sectors as sectors
 use Rattle.audit_chain.specs.Event.{EventData}
-use Rattle.audit_store_images.specs.Origin.{Origin}
-use Rattle.audit_server_queue.specs.Waiting.{Append, nothing_waits}
-use Rattle.audit_server_queue.specs.Replies.{Sent, all_delivered}
-use Rattle.audit_server_queue.specs.GroupCommit.{ServerState}
-use Rattle.audit_server_queue.specs.Arrivals.{Arrival, appends_among, all_entered}
+use Rattle.audit_store_layout.specs.Origin.{Origin}
+use Rattle.audit_server_commit.specs.Waiting.{Append, nothing_waits}
+use Rattle.audit_server_commit.specs.Replies.{Sent, all_delivered}
+use Rattle.audit_server_commit.specs.GroupCommit.{ServerState}
+use Rattle.audit_server_commit.specs.Arrivals.{Arrival, appends_among, all_entered}
 use Rattle.audit_store.specs.Store.{device, is_broken, Holds}
 use Rattle.audit_store.specs.declared.store_error.StoreError.{StoreError}
 use Rattle.audit_store.specs.declared.store_error.StoreError.TheVariants.{Memory}

@@ -2,7 +2,7 @@
 use audit_chain::{Event, Key};
 use audit_disk::{Fuse, MemDisk, Sectors};
 use audit_server_commit::Committer;
-use audit_server_queue::{Query, Question};
+use audit_server_commit::{Query, Question};
 use audit_store::{Store, StoreError};
 use hex::ToHex;
 use sha2::{Digest, Sha256};

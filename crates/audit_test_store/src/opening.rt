@@ -2,7 +2,7 @@
 use audit_chain::{Event, FIRST_LINK, Key, Sealed, seal};
 use audit_disk::{FailOnce, MemDisk, Sectors};
 use audit_log::{Chosen, GENERATION_LIMIT, Header, LogError, VERSION, write_header};
-use audit_store_index::LogIndex;
+use audit_store_layout::LogIndex;
 use audit_store_opening::{HeaderRefusal, find_header, scan};
 use audit_tree::leaf_hash;
 use std::alloc::Global;

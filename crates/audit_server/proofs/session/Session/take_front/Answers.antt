@@ -1,7 +1,7 @@
 use Rattle.std.proofs.Common.{◌∙◌, ◌∷◌, [], Ok, Err, Result, List, ℕ, sym, ap, subst}
 use Rattle.audit_wire.specs.declared.request.Request.{Request}
 use Rattle.audit_wire.specs.Request.{request_in}
-use Rattle.audit_server_queue.specs.declared.question.Query.{Query}
+use Rattle.audit_server_commit.specs.declared.question.Query.{Query}
 use Rattle.audit_server.specs.declared.entering.Item.{Item}
 use Rattle.audit_server.specs.Limit.{IsNotAdmitted, AreAdmitted}
 use Rattle.audit_server.specs.Entering.{Enters, IsItem, arrival_by, item_heard}
