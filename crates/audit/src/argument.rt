@@ -6,7 +6,7 @@ use crate::places::key_file_of;
 use crate::question::bad_question;
 use crate::wrong_word::wrong_word;
 use audit_cli_host::Notes;
-use audit_cli_remote::Request as Remote;
+use audit_cli_client::Request as Remote;
 use audit_cli_store::Request;
 use audit_disk::FileIdentity;
 use audit_text::Shown;

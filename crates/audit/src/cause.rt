@@ -5,7 +5,7 @@ use crate::contents::{Contents, contents_of};
 use crate::places::store_of;
 use audit_cli_daemon::Request as Daemon;
 use audit_cli_host::Notes;
-use audit_cli_remote::Request as Remote;
+use audit_cli_client::Request as Remote;
 use audit_cli_store::{Access, Request};
 use audit_text::Shown;
 use std::alloc::Global;

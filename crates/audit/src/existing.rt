@@ -1,7 +1,7 @@
 //! Why a file isn't replaced.
 use crate::command::Asked;
 use crate::contents::store_head;
-use audit_cli_remote::Request as Remote;
+use audit_cli_client::Request as Remote;
 use audit_cli_store::{Request, Site};
 use audit_disk::FileIdentity;
 use audit_text::Shown;

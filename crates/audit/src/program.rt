@@ -6,7 +6,7 @@ use audit_cli_base::{CommandError, Status, report};
 use audit_cli_daemon::{Request as Daemon, Settings};
 use audit_cli_host::{Dial, Extent, Notes, Screen, Subject};
 use audit_cli_offline::ReportForm;
-use audit_cli_remote::Request as Remote;
+use audit_cli_client::Request as Remote;
 use audit_cli_serve::Request as Serving;
 use audit_cli_store::Request;
 use audit_disk::{SystemFile, SystemFiles};
@@ -135,7 +135,7 @@ where
             audit_cli_append::run(rt, alloc, request, input, output, messages)
         }
         Asked::Rotation(request) => audit_cli_rotate::run(rt, alloc, request, output, messages),
-        Asked::Remote(request) => audit_cli_remote::run(
+        Asked::Remote(request) => audit_cli_client::run(
             rt, alloc, request, input, output, messages,
         ),
         Asked::Serving(request) => audit_cli_serve::run(

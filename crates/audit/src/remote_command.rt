@@ -1,6 +1,6 @@
 //! The commands that ask a server, as requests.
 use crate::command::word;
-use audit_cli_remote::Request as Remote;
+use audit_cli_client::Request as Remote;
 use clap::ArgMatches;
 
 /// The request of a command with these arguments, if it is a command that asks a server.

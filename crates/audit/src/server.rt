@@ -1,7 +1,7 @@
 //! What it may be that a server doesn't answer.
 use crate::command::Asked;
 use crate::heard::Said;
-use audit_cli_remote::Request as Remote;
+use audit_cli_client::Request as Remote;
 use audit_text::Shown;
 use std::io::{self, Write};
 

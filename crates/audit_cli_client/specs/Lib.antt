@@ -1,9 +1,6 @@
-pub mod Conversation
-pub mod Asking
-pub mod Joined
-pub mod Watching
-pub mod Exporting
-pub mod Keeping
-pub mod Sending
-pub mod Putting
-pub mod Failing
+pub mod Faults
+pub mod Frames
+pub mod Sent
+pub mod State
+pub mod Alarm
+pub mod Arguments

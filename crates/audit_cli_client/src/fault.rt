@@ -1,57 +1,253 @@
+ghost use Rattle.std.specs.Prelude.{◌≡◌, option_map};
+ghost use Rattle.audit_cli_client.specs.Faults.{no_memory, remote_status, status_of_server, of_sending, judgment_of};
+ghost use Rattle.audit_cli_client.specs.Faults.{judgment_in};
+
+use crate::contradiction::Contradiction;
+use audit_cli_base::{CommandError, Status, report};
+use audit_client::{AskError, ClientError, SendError, word_of_refusal};
+use audit_store::StoreError;
+use audit_text::LinesError;
 use audit_wire::Refusal;
 use std::alloc::{AllocError, AllocFailed};
-use thiserror::Error;
+use std::io::{self, ErrorKind, Write};
 
-/// Why a server's answer isn't there, or isn't taken.
-#[derive(Clone, Copy, Debug, Drop, Error, PartialEq, Eq)]
-pub enum ClientError {
-    /// The server refused the request.
-    #[error("the server refused")]
-    Refused(Refusal),
-    /// The server sent something other than a reply that was due.
-    #[error("bad reply")]
-    BadReply,
-    /// The connection ended or failed.
-    #[error("connection ended")]
-    Ended,
-    /// Nothing arrived in time.
-    #[error("timed out")]
-    TimedOut,
-    /// What the server sent isn't accepted under the commitment that it gave.
-    #[error("not accepted")]
-    NotAccepted,
-    /// The log has fewer entries than the newest commitment that was kept.
-    #[error("the log has become shorter")]
-    Shorter,
-    /// The log has another root than the newest commitment that was kept, for the same number of entries.
-    #[error("the log has another root")]
-    OtherRoot,
-    /// What the server sent couldn't be written.
-    #[error("the output can't be written")]
-    Output,
-    /// Memory was refused.
-    #[error("out of memory")]
-    Memory,
+/// Why a command that asks a server failed.
+#[derive(Clone, Copy, Debug, PartialEq, Eq)]
+pub enum RemoteError {
+    /// An error that other commands have too: an argument, a file, lines or memory.
+    Command(CommandError),
+    /// There is no connection to the socket, and this is why.
+    NoConnection(ErrorKind),
+    /// The server didn't answer, or its answer isn't accepted.
+    Server(ClientError),
+    /// What the server gave contradicts what a witness holds.
+    Contradicted(Contradiction),
+    /// The line with this number, counted from 1, of a witness's file isn't a commitment.
+    BadStateLine(u64),
+    /// Another witness looks by the file, and didn't end in time.
+    StateInUse,
+    /// As many lines were sent, from the line with this number on, and weren't acknowledged.
+    NotAcknowledged {
+        /// Their number.
+        lines: u64,
+        /// The number of the first of them, counted from 1.
+        first: u64,
+    },
 }
 
-impl From<AllocError> for ClientError {
-    ghost use Rattle.std.specs.Prelude.{◌≡◌};
-    ghost use Rattle.audit_cli_client.specs.declared.fault.ClientError.TheVariants.{Memory};
+impl RemoteError {
+    /// Returns the status with which the program exits.
+    pub fn status(self) -> Status
+        ensures { result ≡ remote_status self }
+    {
+        match self {
+            RemoteError::Command(fault) => fault.status(),
+            RemoteError::NoConnection(_)
+            | RemoteError::StateInUse
+            | RemoteError::NotAcknowledged { .. } => Status::Device,
+            RemoteError::Server(error) => status_of_server(error),
+            RemoteError::Contradicted(_) | RemoteError::BadStateLine(_) => Status::Refused,
+        }
+    }
 
-    ghost from_gives = { λ _ fault. fault ≡ Memory };
+    /// Prints the error in one line, and returns the status with which the program exits. A judgment of the log isn't
+    /// printed here, because it is a line of the output. It allocates nothing.
+    pub fn report<M: Write>(self, messages: &mut M) -> Status
+        ensures { result ≡ remote_status self }
+    {
+        let _ = match self {
+            RemoteError::Command(fault) => {
+                let _ = report(fault, messages);
+                Ok(())
+            }
+            RemoteError::NoConnection(_) => messages.write_all(b"audit: file fault\n"),
+            RemoteError::Server(error) => print_server_error(error, messages),
+            RemoteError::Contradicted(_) => Ok(()),
+            RemoteError::BadStateLine(line) => {
+                writeln!(messages, "audit: line {line}: bad commitment line")
+            }
+            RemoteError::StateInUse => messages.write_all(b"audit: witness file in use\n"),
+            RemoteError::NotAcknowledged { lines: 1, first } => writeln!(
+                messages,
+                "audit: 1 line from line {first} is not acknowledged"
+            ),
+            RemoteError::NotAcknowledged { lines, first } => writeln!(
+                messages,
+                "audit: {lines} lines from line {first} are not acknowledged"
+            ),
+        };
+        self.status()
+    }
 
-    fn from(_: AllocError) -> Self {
-        ClientError::Memory
+    /// The line of the output that judges the log, if the error is a judgment.
+    pub fn judgment(self) -> Option<&'static str>
+        ensures { option_map (λ words. words.now) result ≡ judgment_of self }
+    {
+        match self {
+            RemoteError::Server(error) => judgment_in(error),
+            RemoteError::Contradicted(found) => judgment_in(found.error),
+            _ => None,
+        }
+    }
+
+    /// Whether a later try may succeed: the server isn't there, or doesn't answer, or another witness looks.
+    pub fn is_passing(self) -> bool {
+        matches!(
+            self,
+            RemoteError::NoConnection(_)
+                | RemoteError::StateInUse
+                | RemoteError::Server(ClientError::Ended | ClientError::TimedOut)
+        )
     }
 }
 
-impl<T: Drop> From<AllocFailed<T>> for ClientError {
-    ghost use Rattle.std.specs.Prelude.{◌≡◌};
-    ghost use Rattle.audit_cli_client.specs.declared.fault.ClientError.TheVariants.{Memory};
+fn judgment_in(error: ClientError) -> Option<&'static str>
+    ensures { option_map (λ words. words.now) result ≡ judgment_in error }
+{
+    match error {
+        ClientError::NotAccepted => Some("not accepted\n"),
+        ClientError::Shorter => Some("shorter\n"),
+        ClientError::OtherRoot => Some("other root\n"),
+        _ => None,
+    }
+}
 
-    ghost from_gives = { λ _ fault. fault ≡ Memory };
+fn status_of_server(error: ClientError) -> Status
+    ensures { result ≡ status_of_server error }
+{
+    match error {
+        ClientError::Refused(Refusal::Device)
+        | ClientError::Ended
+        | ClientError::TimedOut
+        | ClientError::Output => Status::Device,
+        ClientError::Memory => Status::Memory,
+        ClientError::Refused(_)
+        | ClientError::BadReply
+        | ClientError::NotAccepted
+        | ClientError::Shorter
+        | ClientError::OtherRoot => Status::Refused,
+    }
+}
+
+fn print_server_error<M: Write>(error: ClientError, messages: &mut M) -> io::Result<()> {
+    let line = match error {
+        ClientError::Refused(refusal) => {
+            let (number, name) = (refusal.code(), word_of_refusal(refusal));
+            return writeln!(messages, "audit: {number} {name}");
+        }
+        ClientError::Memory => {
+            let _ = report(CommandError::Refused(StoreError::Memory), messages);
+            return Ok(());
+        }
+        ClientError::BadReply => "audit: bad reply\n",
+        ClientError::Ended => "audit: connection ended\n",
+        ClientError::TimedOut => "audit: no reply in time\n",
+        ClientError::Output => "audit: file fault\n",
+        ClientError::NotAccepted | ClientError::Shorter | ClientError::OtherRoot => return Ok(()),
+    };
+    messages.write_all(line.as_bytes())
+}
+
+impl From<CommandError> for RemoteError {
+    ghost use Rattle.std.specs.Prelude.{◌≡◌};
+    ghost use Rattle.audit_cli_client.specs.declared.fault.RemoteError.TheVariants.{Command};
+
+    ghost from_gives = { λ cause fault. fault ≡ Command cause };
+
+    fn from(fault: CommandError) -> Self {
+        RemoteError::Command(fault)
+    }
+}
+
+impl From<ClientError> for RemoteError {
+    ghost use Rattle.std.specs.Prelude.{◌≡◌};
+    ghost use Rattle.audit_cli_client.specs.declared.fault.RemoteError.TheVariants.{Server};
+
+    ghost from_gives = { λ cause fault. fault ≡ Server cause };
+
+    fn from(error: ClientError) -> Self {
+        RemoteError::Server(error)
+    }
+}
+
+impl From<LinesError> for RemoteError {
+    ghost use Rattle.std.specs.Prelude.{◌≡◌};
+    ghost use Rattle.audit_cli_client.specs.declared.fault.RemoteError.TheVariants.{Command};
+    ghost use Rattle.audit_cli_base.specs.declared.fault.CommandError.TheVariants.{Lines};
+
+    ghost from_gives = { λ cause fault. fault ≡ Command (Lines cause) };
+
+    fn from(fault: LinesError) -> Self {
+        RemoteError::Command(CommandError::Lines(fault))
+    }
+}
+
+impl From<io::Error> for RemoteError {
+    ghost use Rattle.std.specs.Prelude.{◌≡◌};
+    ghost use Rattle.audit_cli_client.specs.declared.fault.RemoteError.TheVariants.{Command};
+    ghost use Rattle.audit_cli_base.specs.declared.fault.CommandError.TheVariants.{File};
+
+    ghost from_gives = { λ _ fault. fault ≡ Command File };
+
+    fn from(_: io::Error) -> Self {
+        RemoteError::Command(CommandError::File)
+    }
+}
+
+impl From<AllocError> for RemoteError {
+    ghost use Rattle.std.specs.Prelude.{◌≡◌};
+    ghost use Rattle.audit_cli_client.specs.Faults.{no_memory};
+
+    ghost from_gives = { λ _ fault. fault ≡ no_memory };
+
+    fn from(_: AllocError) -> Self {
+        no_memory()
+    }
+}
+
+impl<T: Drop> From<AllocFailed<T>> for RemoteError {
+    ghost use Rattle.std.specs.Prelude.{◌≡◌};
+    ghost use Rattle.audit_cli_client.specs.Faults.{no_memory};
+
+    ghost from_gives = { λ _ fault. fault ≡ no_memory };
 
     fn from(_: AllocFailed<T>) -> Self {
-        ClientError::Memory
+        no_memory()
+    }
+}
+
+/// The error for refused memory.
+pub fn no_memory() -> RemoteError
+    ensures { result ≡ no_memory }
+{
+    RemoteError::Command(CommandError::Refused(StoreError::Memory))
+}
+
+impl From<SendError> for RemoteError {
+    ghost use Rattle.std.specs.Prelude.{◌≡◌};
+    ghost use Rattle.audit_cli_client.specs.Faults.{of_sending};
+
+    ghost from_gives = { λ given fault. fault ≡ of_sending given };
+
+    fn from(error: SendError) -> Self {
+        match error {
+            SendError::Input(fault) => RemoteError::Command(CommandError::Lines(fault)),
+            SendError::Client(error) => RemoteError::Server(error),
+            SendError::Output => RemoteError::Command(CommandError::File),
+        }
+    }
+}
+
+impl From<AskError<RemoteError>> for RemoteError {
+    ghost use Rattle.std.specs.Prelude.{◌≡◌};
+    ghost use Rattle.audit_cli_client.specs.Faults.{of_asking};
+
+    ghost from_gives = { λ given fault. fault ≡ of_asking given };
+
+    fn from(error: AskError<RemoteError>) -> Self {
+        match error {
+            AskError::Client(error) => RemoteError::Server(error),
+            AskError::Out(error) => error,
+        }
     }
 }

@@ -1,31 +1,24 @@
-//! Laws of what a witness keeps, and of lines. Each function does nothing: its contract is the law.
-ghost use Rattle.std.specs.Prelude.{◌≢◌, ◌<◌, ◌∷◌, ◌++◌, [], ℕ, Ok, List, length};
-ghost use Rattle.audit_chain.specs.EventData.{EventData};
-ghost use Rattle.audit_text.specs.declared.line_form.LineForm.{LineForm};
-ghost use Rattle.audit_text.specs.LineEvents.{event_in_line};
-ghost use Rattle.audit_serve_sockets.specs.declared.limits.TheConstants.{MAX_DIGITS};
+//! Laws of requests to a server, and of a witness's file. Each function does nothing: its contract is the law.
+ghost use Rattle.std.specs.Prelude.{◌≡◌, ◌∷◌, ◌++◌, [], ℕ, Some, List};
+ghost use Rattle.audit_text.specs.Lines.{lines_of};
+ghost use Rattle.audit_cli_offline.specs.CommitmentWord.{commitment_in_word};
 ghost use Rattle.audit_proof.specs.declared.commitment.Commitment.{Commitment};
-ghost use Rattle.audit_cli_client.specs.Joined.{IsJoined, AreJoined};
-ghost use Rattle.audit_cli_client.specs.Keeping.{AreRuns, kept_after};
+ghost use Rattle.audit_cli_client.specs.State.{IsStored, commitment_word, lacks_feed, line_after};
+ghost use Rattle.audit_cli_client.specs.declared.arguments.TheConstants.{MAX_SECONDS, MAX_WINDOW};
+ghost use Rattle.audit_cli_client.specs.declared.request.TheConstants.{TIMEOUT, WINDOW};
 
-/// Commitments of which each is joined to the next stay so when one is added to which the newest is joined. So they
-/// are over any runs of a witness that keeps what [`watch`](crate::watch) saw grow.
-pub fn what_a_witness_keeps_is_joined()
-    ensures first { (seen : Commitment) → AreJoined (seen ∷ []) }
-    ensures more { (before : List Commitment) (kept seen : Commitment) → AreJoined (before ++ kept ∷ [])
-        → IsJoined kept seen → AreJoined (before ++ kept ∷ seen ∷ []) }
+/// The limits of seconds and lines, and what they are without a word, as numbers.
+pub fn limits_are_these_numbers()
+    ensures seconds { MAX_SECONDS ≡ 86400 }
+    ensures window { MAX_WINDOW ≡ 1024 }
+    ensures default_seconds { TIMEOUT ≡ 30 }
+    ensures default_window { WINDOW ≡ 64 }
 {}
 
-/// What a witness keeps stays joined over any sequence of runs, whatever the server gave in them: the commitments of
-/// its file are joined pairwise, if those that it began with are. So two different pasts under them are a SHA-256
-/// collision, by [`collide_three`](audit_proof::collide_three).
-pub fn runs_of_a_witness_stay_joined()
-    ensures { (start : List Commitment) (runs : List (List Commitment)) → AreJoined start → AreRuns start runs
-        → AreJoined (kept_after start runs) }
-{}
-
-/// A line that is refused as too long before it is read whole has no event, in either form.
-pub fn longer_lines_have_no_event()
-    ensures { (form : LineForm) (line : List ℕ) (event : EventData) → MAX_DIGITS < length line
-        → event_in_line form line ≢ Ok event }
+/// What is added to a witness's file is one line after the others, and is read as the commitment that was added: the
+/// newest of the next look.
+pub fn the_line_that_was_added_is_the_newest()
+    ensures added { (text : List ℕ) (seen : Commitment) → IsStored seen
+        → lines_of (text ++ line_after (lacks_feed text) seen) ≡ lines_of text ++ commitment_word seen ∷ [] }
+    ensures read { (seen : Commitment) → IsStored seen → commitment_in_word (commitment_word seen) ≡ Some seen }
 {}

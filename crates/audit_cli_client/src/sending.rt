@@ -1,236 +1,113 @@
-//! Sending events, each in a line of an input, and printing what the server answers.
-ghost use Rattle.std.specs.Prelude.{◌≡◌, ◌⊎◌, ◌+◌, ◌<◌, ◌≤◌, ℕ, List, Option, Some, None, true, false};
-ghost use Rattle.std.specs.Io.Buffered.{reader_remaining};
-ghost use Rattle.audit_cli_client.specs.Sending.{Sends, SendsOn, SendsAll, IsWithin, end_after, first_error};
+//! Sending events to a server.
+ghost use Rattle.std.specs.Prelude.{◌≡◌};
+ghost use Rattle.audit_cli_client.specs.Sent.{status_of_sent};
 
-use crate::answering::{Answers, take_answers};
-use crate::conversation::send_bytes;
-use crate::fault::ClientError;
-use crate::send_error::SendError;
-use crate::taking::{Taken, has_line, take_lines};
-use audit_text::{LineForm, LinesError};
+use crate::connection::connect;
+use crate::fault::RemoteError;
+use crate::line::{Line, LineEnd, Pace};
+use audit_cli_base::Status;
+use audit_client::{SendEnd, send_events};
+use audit_cli_host::Dial;
+use audit_text::{CutLines, LineForm, LongLines};
 use std::alloc::Global;
 use std::io::{BufReader, Read, Write};
+use std::time::Clock;
 
-// A round has as many lines, if the window has: a server commits its lines together, and fewer take about as long.
-const MIN_ROUND: u64 = 64;
+// The size in bytes of the buffer for the input: the most that is read at a time.
+const INPUT_ROOM: usize = 1 << 16;
 
-/// How sending ended.
-#[derive(Clone, Copy, Debug, PartialEq, Eq)]
-pub struct SendEnd {
-    /// The number of lines that were taken from the input to be sent.
-    pub sent: u64,
-    /// The number of them that were answered, and whose answers were printed.
-    pub answered: u64,
-    /// The number of answers that are refusals.
-    pub refused: u64,
-    /// Why sending ended before the input did, if so.
-    pub error: Option<SendError>,
-}
-
-/// Sends the events that the lines of an input have in this form, and prints a line for each answer as soon as it is
-/// read. Lines are sent as they come: those that the buffer of the input has, at most `window` of them ahead of their
-/// answers. All answers that are due are read before the next read of the input. The input has no limit, and the memory
-/// that is taken doesn't grow with it.
-pub fn send_events<I: Read, W: Write, R: Read, O: Write>(
-    alloc: Global,
-    form: LineForm,
-    input: &mut BufReader<I>,
-    to: &mut W,
-    from: &mut R,
-    output: &mut O,
-    window: u64,
-) -> SendEnd
-    // What was written, read and printed, whatever happened.
-    ensures sends { Sends form 0 (reader_remaining I.remaining input.old) (W.contents to.old) (W.contents to.new)
-        (R.remaining from.old) (O.contents output.old) (O.contents output.new) result }
-    // Without an error all lines were sent and answered.
-    ensures all { result.error ≡ None → SendsAll form 0 (reader_remaining I.remaining input.old)
-        (W.contents to.old) (W.contents to.new) (R.remaining from.old) (R.remaining from.new) (O.contents output.old)
-        (O.contents output.new) result }
-{
-    let mut room = Room::new(alloc);
-    let mut end = SendEnd {
-        sent: 0,
-        answered: 0,
-        refused: 0,
-        error: None,
-    };
-    for _ in 0..u64::MAX {
-        let round = send_round(
-            alloc, form, input, to, from, output, window, &end, &mut room,
-        );
-        end = round.end;
-        if !round.more {
-            return end;
-        }
-    }
-    with_error(&end, SendError::Input(LinesError::InputTooLong))
-}
-
-fn with_error(end: &SendEnd, error: SendError) -> SendEnd
-    ensures { result ≡ record end.now { error = Some error } }
-{
-    SendEnd {
-        sent: end.sent,
-        answered: end.answered,
-        refused: end.refused,
-        error: Some(error),
-    }
-}
-
-/// Buffers that are used again for each round.
-#[derive(Drop)]
-struct Room {
-    frames: Vec<u8>,
-    line: Vec<u8>,
-    body: Vec<u8>,
-}
-
-impl Room {
-    fn new(alloc: Global) -> Room {
-        Room {
-            frames: Vec::new(alloc),
-            line: Vec::new(alloc),
-            body: Vec::new(alloc),
-        }
-    }
-}
-
-/// How a round ended.
+/// How events are sent.
 #[derive(Clone, Copy)]
-struct Round {
-    // What was sent and answered so far, in this round and those before it.
-    end: SendEnd,
-    // Whether another round is to follow.
-    more: bool,
+pub struct Task {
+    /// How lines have their events.
+    pub form: LineForm,
+    /// What becomes of lines that are too long.
+    pub long: LongLines,
+    /// The most lines that are sent ahead of their answers.
+    pub window: u64,
+    /// How many seconds an answer is waited for.
+    pub seconds: u64,
 }
 
-// Sends the next lines, and then reads and prints answers. If the requests couldn't be written, the answers that the
-// server gave before are still read.
-fn send_round<I: Read, W: Write, R: Read, O: Write>(
+/// Sends the events of the input to a server, and prints its answers. Returns the status of a command whose lines were
+/// all answered.
+pub fn send_to_socket<F: Dial + Clock, R: Read, W: Write, M: Write>(
+    rt: &F,
     alloc: Global,
-    form: LineForm,
-    input: &mut BufReader<I>,
-    to: &mut W,
-    from: &mut R,
-    output: &mut O,
-    window: u64,
-    end: &SendEnd,
-    room: &mut Room,
-) -> Round
-    requires within { IsWithin window end.now }
-    ensures within { result.more ≡ true → IsWithin window result.end }
-    // After rounds that sent lines and answered the first of them, from any input, connection and output on.
-    ensures sends { (i w r o : Option (List ℕ)) → SendsOn form i (reader_remaining I.remaining input.old)
-        w (W.contents to.old) r (R.remaining from.old) o (O.contents output.old) end.now
-        → Sends form 0 i w (W.contents to.new) r o (O.contents output.new) result.end }
-    ensures on { result.more ≡ true → (i w r o : Option (List ℕ)) → SendsOn form i
-        (reader_remaining I.remaining input.old) w (W.contents to.old) r (R.remaining from.old)
-        o (O.contents output.old) end.now → SendsOn form i (reader_remaining I.remaining input.new)
-        w (W.contents to.new) r (R.remaining from.new) o (O.contents output.new) result.end }
-    ensures all { result.more ≡ false → result.end.error ≡ None → (i w r o : Option (List ℕ)) → SendsOn form i
-        (reader_remaining I.remaining input.old) w (W.contents to.old) r (R.remaining from.old)
-        o (O.contents output.old) end.now → SendsAll form 0 i w (W.contents to.new) r (R.remaining from.new)
-        o (O.contents output.new) result.end }
-{
-    let due = end.sent - end.answered;
-    let taken = take_lines(
+    socket: &str,
+    task: Task,
+    input: &mut R,
+    output: &mut W,
+    messages: &mut M,
+) -> Result<Status, RemoteError> {
+    match task.long {
+        LongLines::Refused => {
+            let mut lines = BufReader::with_capacity(alloc, INPUT_ROOM, input)?;
+            send_lines(rt, alloc, socket, task, &mut lines, output, messages)
+        }
+        LongLines::Cut => {
+            let cut = CutLines::new(alloc, input)?;
+            let mut lines = BufReader::with_capacity(alloc, INPUT_ROOM, cut)?;
+            send_lines(rt, alloc, socket, task, &mut lines, output, messages)
+        }
+    }
+}
+
+fn send_lines<F: Dial + Clock, R: Read, W: Write, M: Write>(
+    rt: &F,
+    alloc: Global,
+    socket: &str,
+    task: Task,
+    lines: &mut BufReader<R>,
+    output: &mut W,
+    messages: &mut M,
+) -> Result<Status, RemoteError> {
+    let line = connect(rt, socket, task.seconds, Pace::Reply)?;
+    let end = send_over(alloc, task, lines, &line, output)?;
+    Ok(report_sent(&end, messages))
+}
+
+fn send_over<C: Clock, R: Read, W: Write>(
+    alloc: Global,
+    task: Task,
+    lines: &mut BufReader<R>,
+    line: &Line<'_, C>,
+    output: &mut W,
+) -> Result<SendEnd, RemoteError> {
+    let mut to = LineEnd::of(line);
+    let mut from = BufReader::new(alloc, LineEnd::of(line))?;
+    Ok(send_events(
         alloc,
-        form,
-        input,
-        lines_of_round(window, due),
-        end.sent,
-        &mut room.line,
-        &mut room.frames,
-    );
-    let sent = send_bytes(to, &room.frames);
-    let count = answers_to_read(input, window, due, &taken, sent.is_ok());
-    let answers = take_answers(
-        alloc,
-        from,
+        task.form,
+        lines,
+        &mut to,
+        &mut from,
         output,
-        end.answered,
-        count,
-        &mut room.body,
-        &mut room.line,
-    );
-    let error = first_error(sent, answers.error, taken.error);
-    Round {
-        end: end_after(end, &taken, &answers, error),
-        more: goes_on(taken.more, error),
-    }
+        task.window,
+    ))
 }
 
-fn end_after(end: &SendEnd, taken: &Taken, answers: &Answers, error: Option<SendError>) -> SendEnd
-    requires sent { end.now.sent + taken.now.count ≤ u64.MAX }
-    requires answered { end.now.answered + answers.now.count ≤ u64.MAX }
-    requires refused { end.now.refused + answers.now.refused ≤ u64.MAX }
-    ensures { result ≡ end_after end.now taken.now answers.now error }
+// Prints why sending ended before the input did, if so, and which lines weren't acknowledged. Returns the status.
+fn report_sent<M: Write>(end: &SendEnd, messages: &mut M) -> Status
+    ensures { result ≡ status_of_sent end.now }
 {
-    SendEnd {
-        sent: end.sent + taken.count,
-        answered: end.answered + answers.count,
-        refused: end.refused + answers.refused,
-        error,
+    let status = status_of_end(end, messages);
+    if end.sent > end.answered {
+        let left = RemoteError::NotAcknowledged {
+            lines: end.sent - end.answered,
+            first: end.answered + 1,
+        };
+        left.report(messages);
     }
+    status
 }
 
-// How many lines a round takes at most, while `due` are unanswered: half of the window, so that two rounds fit in it,
-// unless that is too few.
-fn lines_of_round(window: u64, due: u64) -> u64
-    requires { due ≤ window }
-    ensures within { due + result ≤ window }
-    ensures some { due < window → 0 < result }
+fn status_of_end<M: Write>(end: &SendEnd, messages: &mut M) -> Status
+    ensures { result ≡ status_of_sent end.now }
 {
-    (window - window / 2).max(MIN_ROUND).min(window - due)
-}
-
-// How many answers are read after these lines were taken, while `due` others were unanswered. While more lines are at
-// hand, only those to the others: the server has these lines meanwhile, and gets more before it has answered them. All
-// of them if the input has to be read before the next line, or there is none.
-fn answers_to_read<I: Read>(
-    input: &BufReader<I>,
-    window: u64,
-    due: u64,
-    taken: &Taken,
-    written: bool,
-) -> u64
-    requires { due + taken.now.count ≤ window }
-    ensures { (result ≡ due + taken.now.count) ⊎ ((result ≡ due) × (taken.now.more ≡ true)) }
-{
-    if written && taken.more && taken.count < window && has_line(input) {
-        due
-    } else {
-        due + taken.count
-    }
-}
-
-fn goes_on(more: bool, error: Option<SendError>) -> bool
-    ensures more { result ≡ true → more ≡ true }
-    ensures right { result ≡ true → error ≡ None }
-    ensures over { result ≡ false → error ≡ None → more ≡ false }
-{
-    more && error.is_none()
-}
-
-// The error of an answer goes before that of a write, and both before the input's: the lines before the input's fault
-// were to be answered.
-fn first_error(
-    sent: Result<(), ClientError>,
-    answered: Option<SendError>,
-    taken: Option<LinesError>,
-) -> Option<SendError>
-    ensures { result ≡ first_error sent answered taken }
-{
-    if answered.is_some() {
-        return answered;
-    }
-    if let Err(error) = sent {
-        return Some(SendError::Client(error));
-    }
-    match taken {
-        Some(error) => Some(SendError::Input(error)),
-        None => None,
+    match end.error {
+        Some(error) => RemoteError::from(error).report(messages),
+        None if end.refused > 0 => Status::Refused,
+        None => Status::Done,
     }
 }

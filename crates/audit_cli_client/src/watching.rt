@@ -1,90 +1,216 @@
-//! A witness: what it sees of a log, after the commitment that it kept.
-ghost use Rattle.std.specs.Prelude.{◌≡◌, Some, IfOk, IfErr};
-ghost use Rattle.audit_cli_client.specs.Failing.{FailsWatch};
-ghost use Rattle.audit_cli_client.specs.Watching.{Sees};
-
-use crate::asking::{join, newest_commitment};
-use crate::fault::ClientError;
+//! A witness of a log, which keeps what it sees in a file.
+use crate::alarm::{date_of_now, push_date};
+use crate::alarm_file::keep_alarm;
+use crate::connection::{connect, socket_identity};
+use crate::contradiction::fault_of_look;
+use crate::fault::RemoteError;
+use crate::line::{LineEnd, Pace};
+use crate::state_file::StateFile;
+use crate::state_lines::push_commitment_line;
+use crate::state_lock::{Locked, lock_state, remove_made};
+use audit_client::{ClientError, Kept, Sight, watch_and_keep};
+use audit_cli_host::Dial;
+use audit_disk::SystemFile;
 use audit_proof::Commitment;
+use audit_text::{Shown, write_whole};
 use std::alloc::Global;
-use std::io::{Read, Write};
+use std::fs::Files;
+use std::io::{self, BufReader, Write};
+use std::thread;
+use std::time::{Clock, Duration};
 
-/// What a witness sees.
-#[derive(Clone, Copy, Debug, PartialEq, Eq)]
-pub enum Sight {
-    /// The first commitment, which it keeps.
-    Began(Commitment),
-    /// The commitment that it kept.
-    Same(Commitment),
-    /// A commitment of more entries, to which the one that it kept is joined. It keeps this one too.
-    Grew(Commitment),
+/// What a witness needs: the server's socket, its own file, how long it waits for a reply, and what it prints.
+#[derive(Clone, Copy)]
+pub struct Post<'a> {
+    /// The socket.
+    pub socket: &'a str,
+    /// The file.
+    pub state: &'a str,
+    /// The seconds.
+    pub seconds: u64,
+    /// Whether nothing is printed of a log that is the same or has grown.
+    pub is_quiet: bool,
 }
 
-/// Why a witness saw nothing.
-#[derive(Clone, Copy, Debug, PartialEq, Eq)]
-pub struct Unseen {
-    /// The error.
-    pub error: ClientError,
-    /// The newest commitment, if the server had given one to be judged by one that was kept.
-    pub given: Option<Commitment>,
-}
-
-impl From<ClientError> for Unseen {
-    ghost use Rattle.std.specs.Prelude.{◌≡◌, None};
-    ghost use Rattle.audit_cli_client.specs.declared.watching.Unseen.{Unseen};
-
-    ghost from_gives = { λ cause unseen. unseen ≡ record { error = cause; given = None } };
-
-    fn from(error: ClientError) -> Self {
-        Unseen { error, given: None }
-    }
-}
-
-/// Asks for the newest commitment, and judges it by the one that was kept: one of more entries is believed only if
-/// the server gives an increment that is accepted. From the empty log there is no increment, and any log follows it.
-///
-/// Errors: `Shorter` if the log has fewer entries than the one that was kept; `OtherRoot` if it has as many and
-/// another root; `NotAccepted` if the increment isn't accepted; and those of every question. Each comes with the
-/// commitment that the server gave, if it was judged.
-pub fn watch<W: Write, R: Read>(
+/// Looks once, and prints what was seen.
+pub fn watch_once<F: Files + Dial + Clock, W: Write>(
+    rt: &F,
     alloc: Global,
-    to: &mut W,
-    from: &mut R,
-    kept: Option<Commitment>,
-) -> Result<Sight, Unseen>
-    ensures seen { IfOk result (Sees (W.contents to.old) (W.contents to.new) (R.remaining from.old)
-        (R.remaining from.new) kept) }
-    ensures fault { IfErr result (FailsWatch (W.contents to.old) (W.contents to.new) (R.remaining from.old)
-        (R.remaining from.new) kept) }
+    post: Post<'_>,
+    output: &mut W,
+) -> Result<(), RemoteError>
+where
+    F::File: SystemFile,
 {
-    let newest = newest_commitment(alloc, to, from)?;
-    let Some(kept) = kept else {
-        return Ok(Sight::Began(newest));
-    };
-    if newest.count < kept.count {
-        return Err(not_seen(ClientError::Shorter, newest));
+    let sight = look(rt, alloc, post)?;
+    print_sight(alloc, sight, post.is_quiet, output)
+}
+
+/// Looks again and again, pausing for `every` seconds after each look, and prints what has changed. A server that
+/// isn't there, or doesn't answer, is reported once until something else is seen, and so is its return.
+pub fn watch_for_ever<F: Files + Dial + Clock, W: Write, M: Write>(
+    rt: &F,
+    alloc: Global,
+    post: Post<'_>,
+    every: u64,
+    output: &mut W,
+    messages: &mut M,
+) -> Result<(), RemoteError>
+where
+    F::File: SystemFile,
+{
+    let mut reported = None;
+    for _ in 0..u64::MAX {
+        reported = look_again(rt, alloc, post, reported, output, messages)?;
+        thread::sleep(rt, Duration::from_secs(every));
     }
-    if newest == kept {
-        return Ok(Sight::Same(newest));
-    }
-    if newest.count == kept.count {
-        return Err(not_seen(ClientError::OtherRoot, newest));
-    }
-    if kept.count == 0 {
-        return Ok(Sight::Grew(newest));
-    }
-    match join(alloc, to, from, &kept, &newest) {
-        Ok(()) => Ok(Sight::Grew(newest)),
-        Err(error) => Err(not_seen(error, newest)),
+    Ok(())
+}
+
+// Looks once more. Returns what was reported of a server that isn't there.
+fn look_again<F: Files + Dial + Clock, W: Write, M: Write>(
+    rt: &F,
+    alloc: Global,
+    post: Post<'_>,
+    reported: Option<RemoteError>,
+    output: &mut W,
+    messages: &mut M,
+) -> Result<Option<RemoteError>, RemoteError>
+where
+    F::File: SystemFile,
+{
+    match look(rt, alloc, post) {
+        Ok(sight) => {
+            if let Some(RemoteError::NoConnection(_) | RemoteError::Server(_)) = reported {
+                let _ = print_moment(rt, alloc, post.socket, "answers again", messages);
+            }
+            print_change(alloc, sight, post.is_quiet, output)?;
+            Ok(None)
+        }
+        Err(fault) if fault.is_passing() => {
+            if reported != Some(fault) {
+                fault.report(messages);
+                let _ = print_passing(rt, alloc, post, fault, messages);
+            }
+            Ok(Some(fault))
+        }
+        Err(fault) => Err(fault),
     }
 }
 
-fn not_seen(error: ClientError, given: Commitment) -> Unseen
-    ensures error { result.error ≡ error }
-    ensures given { result.given ≡ Some given }
-{
-    Unseen {
-        error,
-        given: Some(given),
+// Prints what was seen, unless it is the same.
+fn print_change<W: Write>(
+    alloc: Global,
+    sight: Sight,
+    is_quiet: bool,
+    output: &mut W,
+) -> Result<(), RemoteError> {
+    if let Sight::Same(_) = sight {
+        return Ok(());
     }
+    print_sight(alloc, sight, is_quiet, output)?;
+    Ok(output.flush()?)
+}
+
+// Prints of what a fault is, what it is, and when it came.
+fn print_passing<C: Clock, M: Write>(
+    clock: &C,
+    alloc: Global,
+    post: Post<'_>,
+    fault: RemoteError,
+    messages: &mut M,
+) -> io::Result<()> {
+    match fault {
+        RemoteError::NoConnection(kind) => {
+            let cause = format!(in alloc; "{kind}")?;
+            print_moment(clock, alloc, post.socket, &cause, messages)
+        }
+        RemoteError::StateInUse => { print_moment(clock, alloc, post.state, "in use", messages) }
+        RemoteError::Server(ClientError::TimedOut) => {
+            print_moment(clock, alloc, post.socket, "no reply in time", messages)
+        }
+        _ => print_moment(clock, alloc, post.socket, "connection ended", messages),
+    }
+}
+
+// Prints a line with the name of a file, what is said of it, and the date.
+fn print_moment<C: Clock, M: Write>(
+    clock: &C,
+    alloc: Global,
+    name: &str,
+    what: &str,
+    messages: &mut M,
+) -> io::Result<()> {
+    let mut line = Vec::new(alloc);
+    write!(line, "audit: {}: {what}, ", Shown(name))?;
+    push_date(&mut line, date_of_now(clock))?;
+    line.push(b'\n')?;
+    messages.write_all(&line)
+}
+
+// Looks by the file, which is locked meanwhile. One that was made for a look that kept nothing is removed. What
+// contradicts it is kept beside it.
+fn look<F: Files + Dial + Clock>(
+    rt: &F,
+    alloc: Global,
+    post: Post<'_>,
+) -> Result<Sight, RemoteError>
+where
+    F::File: SystemFile,
+{
+    socket_identity(rt, post.socket)?;
+    let Locked { file, is_made } = lock_state(rt, post.state, Duration::from_secs(post.seconds))?;
+    let mut kept = StateFile::read(rt, alloc, post.state, file)?;
+    let sight = look_and_keep(rt, alloc, post, &mut kept);
+    if is_made && sight.is_err() {
+        remove_made(rt, post.state);
+    }
+    match sight {
+        Err(RemoteError::Contradicted(mut found)) => {
+            found.is_kept = keep_alarm(rt, alloc, post.state, &found).is_ok();
+            Err(RemoteError::Contradicted(found))
+        }
+        other => other,
+    }
+}
+
+fn look_and_keep<F: Dial + Clock, K: Kept<Error = RemoteError>>(
+    rt: &F,
+    alloc: Global,
+    post: Post<'_>,
+    kept: &mut K,
+) -> Result<Sight, RemoteError> {
+    let line = connect(rt, post.socket, post.seconds, Pace::Question)?;
+    let mut to = LineEnd::of(&line);
+    let mut from = BufReader::new(alloc, LineEnd::of(&line))?;
+    match watch_and_keep(alloc, &mut to, &mut from, kept) {
+        Ok(sight) => Ok(sight),
+        Err(error) => Err(fault_of_look(kept.newest(), error)),
+    }
+}
+
+// Prints the line of what was seen; a quiet witness prints only its first commitment.
+fn print_sight<W: Write>(
+    alloc: Global,
+    sight: Sight,
+    is_quiet: bool,
+    output: &mut W,
+) -> Result<(), RemoteError> {
+    match sight {
+        Sight::Began(seen) => print_seen(alloc, b"began ", &seen, output),
+        Sight::Same(_) | Sight::Grew(_) if is_quiet => Ok(()),
+        Sight::Same(_) => Ok(write_whole(output, b"same\n")?),
+        Sight::Grew(seen) => print_seen(alloc, b"grew ", &seen, output),
+    }
+}
+
+fn print_seen<W: Write>(
+    alloc: Global,
+    word: &[u8],
+    seen: &Commitment,
+    output: &mut W,
+) -> Result<(), RemoteError> {
+    let mut line = Vec::from_slice(alloc, word)?;
+    push_commitment_line(&mut line, seen)?;
+    Ok(write_whole(output, &line)?)
 }

@@ -18,8 +18,8 @@ use Rattle.audit_server.specs.Core.{committer_of, Refuses}
 use Rattle.audit_server.specs.CoreModel.{core_model, refuses_after}
 use Rattle.audit_serve_ready.specs.Slot.{SlotData, vacant, kept_of}
 use Rattle.audit_serve_ready.specs.Clients.{ClientChange, a_pass, a_coming, a_refusal, a_going, next_first, AreChanges, StopsServing}
-use Rattle.audit_server_clients.specs.NewCore.{IsNewCore}
-use Rattle.audit_server_clients.proofs.Keeping.{kept_served, kept_stopped}
+use Rattle.audit_server.specs.NewCore.{IsNewCore}
+use Rattle.audit_server.proofs.Keeping.{kept_served, kept_stopped}
 use Rattle.audit_cli_base.specs.declared.fault.CommandError.{CommandError}
 use Rattle.audit_cli_daemon.specs.State.{ready_line}
 use Rattle.audit_cli_daemon.specs.Running.{no_clients, IsServedBy, EndsByRefusal, ServesStore, StopsDaemon}

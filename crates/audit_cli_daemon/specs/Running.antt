@@ -16,7 +16,7 @@ use Rattle.audit_server.specs.Serving.{IsRefusedAs}
 use Rattle.audit_server.specs.declared.server_core.Core.{Core}
 use Rattle.audit_server.specs.Core.{committer_of, Refuses}
 use Rattle.audit_server.specs.CoreModel.{core_model}
-use Rattle.audit_server_clients.specs.NewCore.{IsNewCore}
+use Rattle.audit_server.specs.NewCore.{IsNewCore}
 use Rattle.audit_cli_base.specs.Faults.{IsUnwritten}
 use Rattle.audit_cli_base.specs.declared.fault.CommandError.{CommandError}
 use Rattle.audit_cli_base.specs.declared.fault.CommandError.TheVariants.{Refused}

@@ -29,7 +29,7 @@ use Rattle.audit_cli_base.specs.declared.fault.CommandError.TheVariants.{File, L
 use Rattle.audit_cli_serve.specs.declared.fault.ServingError.{ServingError}
 use Rattle.audit_cli_serve.specs.declared.fault.ServingError.TheVariants.{Command, BadFrameLine}
 use Rattle.audit_cli_serve.specs.Faults.{of_serving, of_loop}
-use Rattle.audit_server_clients.specs.NewCore.{IsNewCore}
+use Rattle.audit_server.specs.NewCore.{IsNewCore}
 use Rattle.audit_cli_serve.specs.Served.{LoopsOver, ServesRound, ServesRounds, LoopReachesOver, ReachesByRound, HasArrived, IsLineLost, HasRefused, StopsRound, StopsLoop}
 
 -- no other fault is reported as a line that spells no bytes

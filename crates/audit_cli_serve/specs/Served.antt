@@ -14,7 +14,7 @@ use Rattle.audit_server.specs.Serving.{IsRefusedAs}
 use Rattle.audit_server.specs.declared.server_core.Core.{Core}
 use Rattle.audit_server.specs.Core.{committer_of}
 use Rattle.audit_server.specs.CoreModel.{core_model}
-use Rattle.audit_server_clients.specs.NewCore.{IsNewCore}
+use Rattle.audit_server.specs.NewCore.{IsNewCore}
 use Rattle.audit_text.specs.declared.fault.LinesError.{LinesError}
 use Rattle.audit_text.specs.declared.fault.LinesError.TheVariants.{Write, Memory}
 use Rattle.audit_serve_sockets.specs.Looping.{BringsLines, LoopTransition, LoopReached}

@@ -17,3 +17,8 @@ pub mod Allowed
 pub mod Acknowledged
 pub mod Serving
 pub mod Owing
+pub mod Keeping
+pub mod Running
+pub mod Answering
+pub mod Living
+pub mod Rights

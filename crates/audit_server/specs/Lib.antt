@@ -12,3 +12,7 @@ pub mod Core
 pub mod Driving
 pub mod CoreModel
 pub mod Acknowledged
+pub mod Runs
+pub mod Lives
+pub mod Rights
+pub mod NewCore

@@ -3,7 +3,7 @@ use Rattle.std.specs.Prelude.{codes}
 use Rattle.std.specs.Io.KnownBytes.{Appends}
 use Rattle.audit_text.specs.NumberedLine.{numbered_line}
 use Rattle.audit_store.specs.Store.{active_header}
-use Rattle.audit_server_clients.specs.NewCore.{IsNewCore}
+use Rattle.audit_server.specs.NewCore.{IsNewCore}
 use Rattle.audit_cli_daemon.specs.State.{ready_line}
 use Rattle.audit_cli_daemon.specs.Running.{no_clients}
 use Rattle.audit_cli_daemon.proofs.Daemon.{kept_same, kept_either, store_served, daemon_stopped, whatever_came, keeps_same}

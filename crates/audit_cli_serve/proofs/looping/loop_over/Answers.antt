@@ -1,7 +1,7 @@
 use Rattle.std.proofs.Common.{◌≡◌, ◌∙◌, inr, Result, Err, IfErr, sym, ap, subst}
 use Rattle.audit_cli_serve.specs.declared.fault.ServingError.{ServingError}
 use Rattle.audit_cli_serve.specs.declared.fault.ServingError.TheVariants.{BadFrameLine}
-use Rattle.audit_server_clients.specs.NewCore.{IsNewCore}
+use Rattle.audit_server.specs.NewCore.{IsNewCore}
 use Rattle.audit_cli_serve.specs.Served.{StopsLoop}
 use Rattle.audit_cli_serve.proofs.Served.{bad_of_loop, on_ok, on_err, kept_as, kept_by, looped, loop_reached, loop_stopped}
 use Rattle.audit_cli_serve.proofs.looping.loop_over.Goals.{in-Ok-run_lines, in-Err-run_lines}

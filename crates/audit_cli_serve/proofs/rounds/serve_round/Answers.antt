@@ -2,7 +2,7 @@ use Rattle.std.proofs.Common.{◌≡◌, ◌∙◌, inr, Result, ℕ, length, sy
 use Rattle.std.specs.Prelude.{IfOk, IfErr}
 use Rattle.std.specs.List.{AllByRecursion}
 use Rattle.audit_cli_serve.specs.declared.fault.ServingError.{ServingError}
-use Rattle.audit_server_clients.specs.NewCore.{IsNewCore}
+use Rattle.audit_server.specs.NewCore.{IsNewCore}
 use Rattle.audit_cli_serve.specs.Served.{ServesRound, StopsRound, HasArrived}
 use Rattle.audit_cli_serve.proofs.Served.{kept_as, kept_by, round_served, round_reached, round_stopped}
 use Rattle.audit_cli_serve.proofs.rounds.serve_round.Goals.{in-None, in-Some}

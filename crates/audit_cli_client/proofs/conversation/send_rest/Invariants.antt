@@ -1,6 +1,0 @@
-use Rattle.audit_text.proofs.Writing.{IsWrittenUpTo}
-use Rattle.audit_cli_client.proofs.conversation.send_rest.Given as goal
-
--- the bytes were written except for the rest
-abbrev pub invariant-loop : goal.invariant-loop
-invariant-loop g l = record { written : IsWrittenUpTo (g.W.Write.contents l.fn.to) (g.W.Write.contents l.to) l.rest l.bytes }

@@ -1,9 +1,0 @@
-use Rattle.std.proofs.Common.{inr}
-use Rattle.audit_cli_client.proofs.PutFiles.{puts_export}
-use Rattle.audit_cli_client.proofs.putting.put_export.Goals as goal
-
-pub returns-in-Ok-put-clause-only : goal.returns-in-Ok-put-clause-only
-returns-in-Ok-put-clause-only g c = puts_export _ g.O.Draft.Write.contents _ _ _ _ _ _ _ _ _ _ c.in-Ok.ensures.empty c.in-Ok-export_entries.ensures.done c.in-Ok.ensures.kept (inr c.in-Ok-put.ensures.done)
-
-pub returns-in-Err-put-clause-only : goal.returns-in-Err-put-clause-only
-returns-in-Err-put-clause-only g c = puts_export _ g.O.Draft.Write.contents _ _ _ _ _ _ _ _ _ _ c.in-Ok.ensures.empty c.in-Ok-export_entries.ensures.done c.in-Ok.ensures.kept c.in-Err-put.ensures.part

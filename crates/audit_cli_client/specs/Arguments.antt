@@ -1,0 +1,117 @@
+-- The words of requests to a server.
+use denote.Ref.{Bor}
+use Rattle.std.specs.Prelude.{◌≡◌, ◌⊎◌, ℕ, nat_le, ◌&&◌, Option, Some, None, Result, Ok, Err, List, codes}
+use Rattle.std.specs.Prelude.{if◌then◌else◌}
+use Rattle.std.specs.Str.{bytes_eq}
+use Rattle.audit_text.specs.Number.{number_in_text}
+use Rattle.audit_text.specs.LineEvents.{form_asked, long_asked}
+use Rattle.audit_cli_base.specs.Arguments.{proof_asked}
+use Rattle.audit_cli_base.specs.declared.arguments.ProofRequest.{ProofRequest}
+use Rattle.audit_cli_base.specs.declared.fault.CommandError.{CommandError}
+use Rattle.audit_cli_base.specs.declared.fault.CommandError.TheVariants.{BadArgument}
+use Rattle.audit_cli_base.specs.SocketPath.{IsNoSocketPath}
+use Rattle.audit_cli_client.specs.declared.arguments.TheConstants.{MAX_SECONDS, MAX_WINDOW}
+use Rattle.audit_cli_client.specs.declared.arguments.Question.{Question}
+use Rattle.audit_cli_client.specs.declared.arguments.Question.TheVariants as question
+use Rattle.audit_cli_client.specs.declared.arguments.Evidence.TheVariants as evidence
+use Rattle.audit_cli_client.specs.declared.request.TheConstants.{TIMEOUT, WINDOW}
+use Rattle.audit_cli_client.specs.declared.request.Request.{Request}
+use Rattle.audit_cli_client.specs.declared.request.Request.TheVariants.{Ask, Send, Watch}
+use Rattle.audit_cli_client.specs.declared.sending.Task.{Task}
+use Rattle.audit_cli_client.specs.declared.request.Order.{Order}
+use Rattle.audit_cli_client.specs.declared.request.Order.TheVariants as order
+
+-- a number from 1 on, up to a limit
+abbrev pub judged_number : ℕ → Option ℕ → Result ℕ CommandError
+judged_number most None = Err BadArgument
+judged_number most (Some number) = if nat_le 1 number && nat_le number most then Ok number else Err BadArgument
+
+abbrev pub seconds_asked : List ℕ → Result ℕ CommandError
+seconds_asked word = judged_number MAX_SECONDS (number_in_text word)
+
+abbrev pub window_asked : List ℕ → Result ℕ CommandError
+window_asked word = judged_number MAX_WINDOW (number_in_text word)
+
+-- the number in a word; without a word, the default of the program
+abbrev pub seconds_or_default : Option (Bor (List ℕ)) → Result ℕ CommandError
+seconds_or_default None = Ok TIMEOUT
+seconds_or_default (Some word) = seconds_asked word.now
+
+abbrev pub window_or_default : Option (Bor (List ℕ)) → Result ℕ CommandError
+window_or_default None = Ok WINDOW
+window_or_default (Some word) = window_asked word.now
+
+-- the seconds in a word; without a word, none
+abbrev pub IsPause : Option (Bor (List ℕ)) → Option ℕ → Type 0
+IsPause None pause = pause ≡ None
+IsPause (Some word) None = ⊥
+IsPause (Some word) (Some seconds) = seconds_asked word.now ≡ Ok seconds
+
+-- there is a word, and it isn't a number of seconds from 1 to the limit
+abbrev pub AreNoSeconds : Option (Bor (List ℕ)) → Type 0
+AreNoSeconds None = ⊥
+AreNoSeconds (Some word) = seconds_asked word.now ≡ Err BadArgument
+
+abbrev pub IsNoWindow : Option (Bor (List ℕ)) → Type 0
+IsNoWindow None = ⊥
+IsNoWindow (Some word) = window_asked word.now ≡ Err BadArgument
+
+-- the entry of an index, and a proof, with the file for it
+abbrev pub entry_question : Bor (List ℕ) → Option ℕ → Option Question
+entry_question out None = None
+entry_question out (Some index) = Some (question.Evidence (evidence.Entry index) out)
+
+abbrev pub proof_question : Bor (List ℕ) → Option ProofRequest → Option Question
+proof_question out None = None
+proof_question out (Some proof) = Some (question.Evidence (evidence.Proof proof) out)
+
+-- the question in a name and up to three words; the last one names the file for the answer
+abbrev pub question_in : List ℕ → Option (Bor (List ℕ)) → Option (Bor (List ℕ)) → Option (Bor (List ℕ))
+    → Option Question
+question_in name None None None =
+    if bytes_eq name (codes "commitment") then Some question.Commitment
+    else if bytes_eq name (codes "close") then Some question.Close else None
+question_in name (Some out) None None = if bytes_eq name (codes "export") then Some (question.Export out) else None
+question_in name (Some index) (Some out) None =
+    if bytes_eq name (codes "entry") then entry_question out (number_in_text index.now) else None
+question_in name (Some first) (Some second) (Some out) =
+    proof_question out (proof_asked name first.now second.now)
+question_in name None (Some second) third = None
+question_in name None None (Some third) = None
+question_in name (Some first) None (Some third) = None
+
+-- another name or number of words, or a number of another form, is a wrong argument
+abbrev pub judged_question : Option Question → Result Question CommandError
+judged_question None = Err BadArgument
+judged_question (Some asked) = Ok asked
+
+-- one of the words of a task is wrong
+abbrev pub IsNoTask : Option (Bor (List ℕ)) → Option (Bor (List ℕ)) → Option (Bor (List ℕ)) → Option (Bor (List ℕ))
+    → Type 0
+IsNoTask text long window timeout =
+    (form_asked text ≡ None) ⊎ ((long_asked long text ≡ None) ⊎ (IsNoWindow window ⊎ AreNoSeconds timeout))
+
+-- one of the words that are checked before the socket is opened is wrong
+abbrev pub HasRefusedWord : Request → Type 0
+HasRefusedWord (Ask socket question timeout) = IsNoSocketPath socket.now 0 ⊎ AreNoSeconds timeout
+HasRefusedWord (Send socket text long window timeout) =
+    IsNoSocketPath socket.now 0 ⊎ IsNoTask text long window timeout
+HasRefusedWord (Watch socket state every timeout is_quiet) =
+    IsNoSocketPath socket.now 0 ⊎ (AreNoSeconds every ⊎ AreNoSeconds timeout)
+
+-- a task has the form and the numbers of the words
+abbrev pub HasTaskNumbers : Option (Bor (List ℕ)) → Option (Bor (List ℕ)) → Option (Bor (List ℕ))
+    → Option (Bor (List ℕ)) → Task → Type 0
+HasTaskNumbers text long window timeout task = (form_asked text ≡ Some task.form)
+    × (long_asked long text ≡ Some task.long) × (window_or_default window ≡ Ok task.window)
+    × (seconds_or_default timeout ≡ Ok task.seconds)
+
+-- what is ordered has the question and the numbers of the words
+abbrev pub HasNumbersOf : Request → Order → Type 0
+HasNumbersOf (Ask socket words timeout) (order.Ask path asked seconds) =
+    (question_in words.0.now words.1 words.2 words.3 ≡ Some asked) × (seconds_or_default timeout ≡ Ok seconds)
+HasNumbersOf (Send socket text long window timeout) (order.Send path task) =
+    HasTaskNumbers text long window timeout task
+HasNumbersOf (Watch socket state every timeout is_quiet) (order.Watch post pause) =
+    IsPause every pause × (seconds_or_default timeout ≡ Ok post.seconds) × (post.is_quiet ≡ is_quiet)
+HasNumbersOf request other = ⊥

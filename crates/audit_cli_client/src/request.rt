@@ -1,0 +1,328 @@
+//! The requests that ask a server, and how they are carried out.
+ghost use Rattle.std.specs.Prelude.{◌≡◌, ◌⊎◌, ℕ, List, Err, Some, None, IfOk, IfErr};
+ghost use Rattle.std.specs.Io.KnownBytes.{Appends, Keeps};
+ghost use Rattle.audit_text.specs.declared.fault.LinesError.{LinesError};
+ghost use Rattle.audit_text.specs.LineEvents.{form_asked, long_asked};
+ghost use Rattle.audit_cli_client.specs.declared.fault.RemoteError.{RemoteError};
+ghost use Rattle.audit_cli_client.specs.Faults.{IsNoJudgment, judgment_of};
+ghost use Rattle.audit_cli_client.specs.Arguments.{AreNoSeconds, IsNoWindow, HasRefusedWord, HasNumbersOf};
+ghost use Rattle.audit_cli_client.specs.Arguments.{HasTaskNumbers, IsNoTask};
+ghost use Rattle.audit_cli_client.specs.Arguments.{IsPause, seconds_or_default, window_or_default};
+
+use crate::alarm::print_contradiction;
+use crate::arguments::{Question, QuestionWords, question_asked, seconds_asked, window_asked};
+use crate::asking::ask_socket;
+use crate::fault::RemoteError;
+use crate::sending::{Task, send_to_socket};
+use crate::watching::{Post, watch_for_ever, watch_once};
+use audit_cli_base::{CommandError, Status, report_flush, socket_path_asked};
+use audit_cli_host::Dial;
+use audit_disk::SystemFile;
+use audit_text::{LineForm, LongLines, form_asked, long_asked, write_whole};
+use std::alloc::Global;
+use std::fs::Files;
+use std::io::{Read, Write};
+use std::time::Clock;
+
+// How many seconds a reply is waited for if the command line doesn't say.
+const TIMEOUT: u64 = 30;
+
+// How many lines are sent ahead of their answers if the command line doesn't say.
+const WINDOW: u64 = 64;
+
+/// A request to a server, with the words of the command line as they were given.
+#[derive(Clone, Copy)]
+pub enum Request<'a> {
+    /// Asks a question.
+    Ask {
+        /// The path of the server's socket.
+        socket: &'a str,
+        /// The question.
+        question: QuestionWords<'a>,
+        /// How many seconds a reply is waited for; 30 if absent.
+        timeout: Option<&'a str>,
+    },
+    /// Sends the events in the lines of the input.
+    Send {
+        /// The path of the server's socket.
+        socket: &'a str,
+        /// The kind of the events, if the lines are their payloads.
+        text: Option<&'a str>,
+        /// What becomes of lines that are too long: `refuse` or `cut`; refused if absent.
+        long: Option<&'a str>,
+        /// How many lines are sent ahead of their answers; 64 if absent.
+        window: Option<&'a str>,
+        /// How many seconds an answer is waited for; 30 if absent.
+        timeout: Option<&'a str>,
+    },
+    /// Sees the newest commitment, and keeps it in a file if it follows from the one before.
+    Watch {
+        /// The path of the server's socket.
+        socket: &'a str,
+        /// The file.
+        state: &'a str,
+        /// After how many seconds to look again; if absent, it looks once.
+        every: Option<&'a str>,
+        /// How many seconds a reply is waited for; 30 if absent.
+        timeout: Option<&'a str>,
+        /// Whether nothing is printed of a log that is the same or has grown.
+        is_quiet: bool,
+    },
+}
+
+/// Carries out a request. Lines that begin with `audit: ` are written to `messages`, all others to `output`, which is
+/// flushed after each answer to an event and at the end. Returns the status with which the program exits.
+pub fn run<F: Files + Dial + Clock, R: Read, W: Write, M: Write>(
+    rt: &F,
+    alloc: Global,
+    request: Request<'_>,
+    input: &mut R,
+    output: &mut W,
+    messages: &mut M,
+) -> Status
+where
+    F::File: SystemFile,
+    // A wrong number ends the program before anything is written. An output that can't be flushed is another fault.
+    ensures words { HasRefusedWord request.entry → (result ≡ Status.Usage) ⊎ (result ≡ Status.Device) }
+    ensures unwritten { HasRefusedWord request.entry → Keeps (W.contents output.old) (W.contents output.new) }
+{
+    let done = perform(rt, alloc, request, input, output, messages);
+    let judged = print_judgment(done, output);
+    let flushed = output.flush();
+    let status = match judged {
+        Ok(status) => status,
+        Err(fault) => fault.report(messages),
+    };
+    let status = report_flush(status, flushed, messages);
+    report_alarm(alloc, request, done, messages);
+    status
+}
+
+// Prints what contradicts a witness, after the word on the output.
+fn report_alarm<M: Write>(
+    alloc: Global,
+    request: Request<'_>,
+    done: Result<Status, RemoteError>,
+    messages: &mut M,
+) {
+    if let Request::Watch { socket, state, .. } = request
+        && let Err(RemoteError::Contradicted(found)) = done
+    {
+        let _ = print_contradiction(alloc, socket, state, &found, messages);
+    }
+}
+
+// Prints the judgment of a log, if that is why the command failed.
+fn print_judgment<W: Write>(
+    done: Result<Status, RemoteError>,
+    output: &mut W,
+) -> Result<Status, RemoteError>
+    ensures other { IsNoJudgment done → (result ≡ done) × Keeps (W.contents output.old) (W.contents output.new) }
+    ensures judged { (fault : RemoteError) (words : List ℕ) → done ≡ Err fault → judgment_of fault ≡ Some words
+        → ((result ≡ done) × Appends (W.contents output.old) (W.contents output.new) words)
+        ⊎ (result ≡ Err (RemoteError.Command (CommandError.Lines LinesError.Write))) }
+{
+    if let Err(fault) = done {
+        if let Some(words) = fault.judgment() {
+            write_whole(output, words.as_bytes())?;
+        }
+    }
+    done
+}
+
+// A request whose words are judged.
+enum Order<'a> {
+    Ask {
+        socket: &'a str,
+        question: Question<'a>,
+        seconds: u64,
+    },
+    Send {
+        socket: &'a str,
+        task: Task,
+    },
+    Watch {
+        post: Post<'a>,
+        every: Option<u64>,
+    },
+}
+
+// The words are judged before the socket is opened.
+fn perform<F: Files + Dial + Clock, R: Read, W: Write, M: Write>(
+    rt: &F,
+    alloc: Global,
+    request: Request<'_>,
+    input: &mut R,
+    output: &mut W,
+    messages: &mut M,
+) -> Result<Status, RemoteError>
+where
+    F::File: SystemFile,
+    ensures words { HasRefusedWord request.entry → result ≡ Err (RemoteError.Command CommandError.BadArgument) }
+    ensures unwritten { HasRefusedWord request.entry → Keeps (W.contents output.old) (W.contents output.new) }
+{
+    match judge(request) {
+        Ok(order) => carry_out(rt, alloc, order, input, output, messages),
+        Err(fault) => Err(RemoteError::Command(fault)),
+    }
+}
+
+fn judge<'a>(request: Request<'a>) -> Result<Order<'a>, CommandError>
+    ensures wrong { HasRefusedWord request.entry → result ≡ Err CommandError.BadArgument }
+    ensures numbers { IfOk result (HasNumbersOf request.entry) }
+{
+    match request {
+        Request::Ask {
+            socket,
+            question,
+            timeout,
+        } => {
+            socket_path_asked(socket, 0)?;
+            Ok(Order::Ask {
+                socket,
+                question: question_asked(question)?,
+                seconds: seconds_or_default(timeout)?,
+            })
+        }
+        Request::Send {
+            socket,
+            text,
+            long,
+            window,
+            timeout,
+        } => {
+            socket_path_asked(socket, 0)?;
+            let task = task_asked(text, long, window, timeout)?;
+            Ok(Order::Send { socket, task })
+        }
+        Request::Watch {
+            socket,
+            state,
+            every,
+            timeout,
+            is_quiet,
+        } => {
+            socket_path_asked(socket, 0)?;
+            let seconds = seconds_or_default(timeout)?;
+            let post = Post {
+                socket,
+                state,
+                seconds,
+                is_quiet,
+            };
+            let every = pause_asked(every)?;
+            Ok(Order::Watch { post, every })
+        }
+    }
+}
+
+fn task_asked(
+    text: Option<&str>,
+    long: Option<&str>,
+    window: Option<&str>,
+    timeout: Option<&str>,
+) -> Result<Task, CommandError>
+    ensures wrong { IsNoTask text.entry long.entry window.entry timeout.entry → result ≡ Err CommandError.BadArgument }
+    ensures asked { IfOk result (HasTaskNumbers text.entry long.entry window.entry timeout.entry) }
+    ensures fault { IfErr result (λ fault. fault ≡ CommandError.BadArgument) }
+{
+    let form = form_or_fault(text)?;
+    let long = long_or_fault(long, text)?;
+    let window = window_or_default(window)?;
+    let seconds = seconds_or_default(timeout)?;
+    Ok(Task {
+        form,
+        long,
+        window,
+        seconds,
+    })
+}
+
+fn carry_out<F: Files + Dial + Clock, R: Read, W: Write, M: Write>(
+    rt: &F,
+    alloc: Global,
+    order: Order<'_>,
+    input: &mut R,
+    output: &mut W,
+    messages: &mut M,
+) -> Result<Status, RemoteError>
+where
+    F::File: SystemFile,
+{
+    let done = match order {
+        Order::Ask {
+            socket,
+            question,
+            seconds,
+        } => ask_socket(rt, alloc, socket, question, seconds, output),
+        Order::Send { socket, task } => {
+            return send_to_socket(rt, alloc, socket, task, input, output, messages);
+        }
+        Order::Watch { post, every } => match every {
+            Some(every) => watch_for_ever(rt, alloc, post, every, output, messages),
+            None => watch_once(rt, alloc, post, output),
+        },
+    };
+    match done {
+        Ok(()) => Ok(Status::Done),
+        Err(fault) => Err(fault),
+    }
+}
+
+fn pause_asked(word: Option<&str>) -> Result<Option<u64>, CommandError>
+    ensures asked { IfOk result (IsPause word.entry) }
+    ensures wrong { AreNoSeconds word.entry → result ≡ Err CommandError.BadArgument }
+    ensures fault { IfErr result (λ fault. fault ≡ CommandError.BadArgument) }
+{
+    match word {
+        Some(word) => match seconds_asked(word) {
+            Ok(seconds) => Ok(Some(seconds)),
+            Err(fault) => Err(fault),
+        },
+        None => Ok(None),
+    }
+}
+
+fn form_or_fault(word: Option<&str>) -> Result<LineForm, CommandError>
+    ensures asked { IfOk result (λ form. form_asked word.entry ≡ Some form) }
+    ensures wrong { form_asked word.entry ≡ None → result ≡ Err CommandError.BadArgument }
+    ensures fault { IfErr result (λ fault. fault ≡ CommandError.BadArgument) }
+{
+    match form_asked(word) {
+        Some(form) => Ok(form),
+        None => Err(CommandError::BadArgument),
+    }
+}
+
+fn long_or_fault(word: Option<&str>, text: Option<&str>) -> Result<LongLines, CommandError>
+    ensures asked { IfOk result (λ long. long_asked word.entry text.entry ≡ Some long) }
+    ensures wrong { long_asked word.entry text.entry ≡ None → result ≡ Err CommandError.BadArgument }
+    ensures fault { IfErr result (λ fault. fault ≡ CommandError.BadArgument) }
+{
+    match long_asked(word, text) {
+        Some(long) => Ok(long),
+        None => Err(CommandError::BadArgument),
+    }
+}
+
+fn seconds_or_default(word: Option<&str>) -> Result<u64, CommandError>
+    ensures asked { result ≡ seconds_or_default word.entry }
+    ensures wrong { AreNoSeconds word.entry → result ≡ Err CommandError.BadArgument }
+    ensures fault { IfErr result (λ fault. fault ≡ CommandError.BadArgument) }
+{
+    match word {
+        Some(word) => seconds_asked(word),
+        None => Ok(TIMEOUT),
+    }
+}
+
+fn window_or_default(word: Option<&str>) -> Result<u64, CommandError>
+    ensures asked { result ≡ window_or_default word.entry }
+    ensures wrong { IsNoWindow word.entry → result ≡ Err CommandError.BadArgument }
+    ensures fault { IfErr result (λ fault. fault ≡ CommandError.BadArgument) }
+{
+    match word {
+        Some(word) => window_asked(word),
+        None => Ok(WINDOW),
+    }
+}

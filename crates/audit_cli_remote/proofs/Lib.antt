@@ -1,2 +1,0 @@
-mod AddedLines
-pub mod StateLines

@@ -1,6 +1,0 @@
-pub mod Faults
-pub mod Frames
-pub mod Sent
-pub mod State
-pub mod Alarm
-pub mod Arguments

@@ -1,0 +1,12 @@
+pub mod Conversations
+pub mod Exports
+pub mod KeptCommitments
+pub mod EventLines
+pub mod TakenLines
+pub mod PrintedAnswers
+pub mod SentLines
+pub mod Failures
+pub mod PutFiles
+pub mod FailedExports
+pub mod LongLines
+mod OneEntry

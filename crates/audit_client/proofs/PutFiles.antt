@@ -1,0 +1,30 @@
+-- Files that are written and put.
+use Rattle.std.proofs.Common.{◌≡◌, ◌⊎◌, inl, inr, ℕ, Option, Some, None, List, [], refl, sym, subst, ◌∙◌}
+use Rattle.std.specs.List.{concat}
+use Rattle.std.specs.Io.KnownBytes.{Appends}
+use Rattle.audit_client.specs.declared.exporting.Export.{Export}
+use Rattle.audit_client.specs.Exporting.{GivesExport, WritesExport}
+use Rattle.audit_client.specs.Putting.{IsFile, PutsOnly, AreGivenEntries}
+
+from_empty : (new : Option (List ℕ)) (bytes : List ℕ) → Appends (Some []) new bytes → IsFile (Some new) bytes
+from_empty None bytes h = absurd h
+from_empty (Some known) bytes h = h
+
+-- the bytes of a file that was begun empty, if they are known
+pub draft_written : (Draft : Type 0) (contents : Draft → Option (List ℕ)) (old new : Draft) (bytes : List ℕ)
+    → (contents old ≡ Some []) ⊎ ((other : Draft) → contents other ≡ None) → Appends (contents old) (contents new) bytes
+    → IsFile (Some (contents new)) bytes
+draft_written Draft contents old new bytes (inl empty) h =
+    from_empty (contents new) bytes (subst (λ known. Appends known (contents new) bytes) empty h)
+draft_written Draft contents old new bytes (inr unknown) h = subst (λ known. IsFile (Some known) bytes) (sym (unknown new)) tt
+
+-- a file with the entries of an export was put, if one was
+pub puts_export : (Draft : Type 0) (contents : Draft → Option (List ℕ)) (empty full : Draft) (old mid new : Option (Option (List ℕ))) (written_old written_new read_old read_new : Option (List ℕ)) (export : Export)
+    → (contents empty ≡ Some []) ⊎ ((other : Draft) → contents other ≡ None)
+    → ((entries : List (List ℕ)) × GivesExport written_old written_new read_old read_new entries × WritesExport (contents empty) (contents full) entries export)
+    → mid ≡ old → (new ≡ mid) ⊎ (new ≡ Some (contents full))
+    → PutsOnly old new (AreGivenEntries written_old written_new read_old read_new)
+puts_export Draft contents empty full old mid new written_old written_new read_old read_new export fresh all same (inl kept) = inl (kept ∙ same)
+puts_export Draft contents empty full old mid new written_old written_new read_old read_new export fresh all same (inr put) =
+    let bytes = concat all.0 in
+    inr (bytes, (all.0, all.1, refl), subst (λ file. IsFile file bytes) (sym put) (draft_written Draft contents empty full bytes fresh all.2.written))

@@ -1,0 +1,150 @@
+-- Rounds of sending, one after another.
+use Rattle.std.specs.Prelude.{◌⊎◌, Bool, true, false, Result, Ok, Err, IsOk, OnOk, OnErr}
+use Rattle.std.specs.Io.KnownBytes.{Appends}
+use Rattle.std.proofs.Common.{◌≡◌, ℕ, ◌+◌, ◌≤◌, Option, Some, None, List, [], ◌++◌, length, length-append, append-nil, sym, ap, subst, refl, inl, inr, ◌∙◌, arith}
+use Rattle.std.proofs.lemmas.Option.{none-some}
+use Rattle.std.proofs.lemmas.Bool.{true≢false, false≢true}
+use Rattle.audit_text.specs.Writing.{WritesInPart}
+use Rattle.audit_text.specs.declared.fault.LinesError.{LinesError}
+use Rattle.audit_text.specs.declared.line_form.LineForm.{LineForm}
+use Rattle.audit_client.specs.declared.fault.ClientError.{ClientError}
+use Rattle.audit_client.specs.declared.send_error.SendError.{SendError}
+use Rattle.audit_client.specs.declared.send_error.SendError.TheVariants.{Input, Client, Output}
+use Rattle.audit_client.specs.declared.sending.SendEnd.{SendEnd}
+use Rattle.audit_client.specs.declared.taking.Taken.{Taken}
+use Rattle.audit_client.specs.declared.answering.Answers.{Answers}
+use Rattle.audit_client.specs.Sending.{event_frames, PrintsAll, TakesRound, TakesAnswers, Sends, SendsOn, SendsAll, end_after, first_error}
+use Rattle.audit_client.proofs.Conversations.{appends_none, appends_more}
+use Rattle.audit_client.proofs.TakenLines.{event_frames-append, takes_none, takes_more, takes_first, takes_first_more, takes_all_more}
+use Rattle.audit_client.proofs.PrintedAnswers.{refusals_few, part_whole, part_after, prints_none, prints_all, prints_further, prints_all_further, prints_error}
+
+-- ---- what a round wrote
+
+pub first_none : (sent : Result (Unit {0}) ClientError) (answered : Option SendError) (taken : Option LinesError) → first_error sent answered taken ≡ None → IsOk sent × (answered ≡ None) × (taken ≡ None)
+first_none sent (Some error) taken is = absurd (none-some error (sym is))
+first_none (Err error) None taken is = absurd (none-some (Client error) (sym is))
+first_none (Ok done) None None is = (refl, refl, refl)
+first_none (Ok done) None (Some error) is = absurd (none-some (Input error) (sym is))
+
+output_first : (sent : Result (Unit {0}) ClientError) (answered : Option SendError) (taken : Option LinesError) → answered ≡ Some Output → first_error sent answered taken ≡ Some Output
+output_first (Ok done) answered None is = ap (λ (a : Option SendError). first_error (Ok done) a None) is
+output_first (Ok done) answered (Some error) is = ap (λ (a : Option SendError). first_error (Ok done) a (Some error)) is
+output_first (Err error) answered taken is = ap (λ (a : Option SendError). first_error (Err error) a taken) is
+
+wrote : (w0 w1 : Option (List ℕ)) (frames : List ℕ) (sent : Result (Unit {0}) ClientError) → OnOk sent (Appends w0 w1 frames) → OnErr sent (WritesInPart w0 w1 frames) → WritesInPart w0 w1 frames
+wrote w0 w1 frames (Ok done) h k = part_whole w0 w1 frames h
+wrote w0 w1 frames (Err error) h k = k
+
+wrote_all : (w0 w1 : Option (List ℕ)) (frames : List ℕ) (sent : Result (Unit {0}) ClientError) → OnOk sent (Appends w0 w1 frames) → IsOk sent → Appends w0 w1 frames
+wrote_all w0 w1 frames (Ok done) h is = h
+wrote_all w0 w1 frames (Err error) h is = absurd (false≢true is)
+
+-- no line is sent yet
+pub sends_none : (form : LineForm) (input written read known : Option (List ℕ)) → SendsOn form input input written written read read known known (record { sent = 0; answered = 0; refused = 0; error = None })
+sends_none form input written read known = record {
+  events = [];
+  sent_is = refl;
+  answered = omega arith;
+  no_error = refl;
+  taken = takes_none form input;
+  sent = appends_none written;
+  prints = prints_none read known 0;
+}
+
+-- ---- a round after others
+
+-- no more is answered, and no more refused, than is read
+pub few_answers : {r0 r1 o0 o1 : Option (List ℕ)} {before count : ℕ} {answers : Answers} → TakesAnswers r0 r1 o0 o1 before count answers → (answers.count ≤ count) × (answers.refused ≤ answers.count)
+few_answers {count = count} {answers = answers} h =
+    let p = h.prints in
+    let answered : answers.count ≤ count = omega (arith, p.answered_is, length-append p.answers p.torn, h.few) in
+    let refused : answers.refused ≤ answers.count = omega (arith, p.answered_is, p.refused_is, refusals_few p.answers) in
+    (answered, refused)
+
+-- the answers that were read are those to all lines that were sent, or those that were due before the last lines
+pub read_within : (count due taken : ℕ) (more : Bool) → ((count ≡ due + taken) ⊎ ((count ≡ due) × (more ≡ true))) → count ≤ due + taken
+read_within count due taken more (inl h) = omega (arith, h)
+read_within count due taken more (inr h) = omega (arith, h.0)
+
+pub read_all : (count due taken : ℕ) (more : Bool) → ((count ≡ due + taken) ⊎ ((count ≡ due) × (more ≡ true))) → more ≡ false → count ≡ due + taken
+read_all count due taken more (inl h) over = h
+read_all count due taken more (inr h) over = absurd (true≢false (sym h.1 ∙ over))
+
+pub round_sends : {form : LineForm} {i0 i1 i2 w0 w1 w2 r0 r1 r2 o0 o1 o2 : Option (List ℕ)} {end : SendEnd} {frames : List ℕ} {taken : Taken} {answers : Answers} {count : ℕ} (sent : Result (Unit {0}) ClientError) → SendsOn form i0 i1 w0 w1 r0 r1 o0 o1 end
+    → TakesRound form i1 i2 end.sent frames taken → OnOk sent (Appends w1 w2 frames) → OnErr sent (WritesInPart w1 w2 frames) → TakesAnswers r1 r2 o1 o2 end.answered count answers → end.answered + count ≤ end.sent + taken.count
+    → Sends form 0 i0 w0 w2 r0 o0 o2 (end_after end taken answers (first_error sent answers.error taken.error))
+round_sends {form = form} {i0 = i0} {i1 = i1} {w0 = w0} {w1 = w1} {w2 = w2} {end = end} {frames = frames} {taken = taken} {answers = answers} {count = count} sent on takes whole part answered within =
+    let place : end.sent ≡ 0 + length on.events = omega (arith, on.sent_is) in
+    let begun : end.answered ≡ 0 + end.answered = omega arith in
+    let p = answered.prints in
+    let few : length ((on.prints.answers ++ p.answers) ++ p.torn) ≤ length (on.events ++ takes.events) =
+    omega (arith, on.prints.counted, answered.few, within, on.sent_is, takes.counted, length-append on.prints.answers p.answers, length-append p.answers p.torn, length-append (on.prints.answers ++ p.answers) p.torn, length-append on.events takes.events) in
+    record {
+      events = on.events ++ takes.events;
+      sent_is = omega (arith, on.sent_is, takes.counted, length-append on.events takes.events);
+      taken = takes_first_more form i0 i1 on.events takes.events on.taken takes.first;
+      sent = subst (WritesInPart w0 w2) (sym (event_frames-append 0 on.events takes.events))
+          (part_after w0 w1 w2 (event_frames 0 on.events) (event_frames (0 + length on.events) takes.events) on.sent
+          (subst (λ (n : ℕ). WritesInPart w1 w2 (event_frames n takes.events)) place (subst (WritesInPart w1 w2) takes.framed (wrote w1 w2 frames sent whole part))));
+      prints = prints_further begun on.prints (prints_error (first_error sent answers.error taken.error) (output_first sent answers.error taken.error) p);
+      few = few;
+    }
+
+-- if nothing failed, the requests of all these events are written
+all_sent : {form : LineForm} {i0 i1 i2 w0 w1 r0 r1 o0 o1 : Option (List ℕ)} {end : SendEnd} {frames : List ℕ} {taken : Taken} (w2 : Option (List ℕ)) (sent : Result (Unit {0}) ClientError) (answered : Option SendError) (on : SendsOn form i0 i1 w0 w1 r0 r1 o0 o1 end)
+    (takes : TakesRound form i1 i2 end.sent frames taken) → OnOk sent (Appends w1 w2 frames) → first_error sent answered taken.error ≡ None → Appends w0 w2 (event_frames 0 (on.events ++ takes.events))
+all_sent {w0 = w0} {w1 = w1} {end = end} {frames = frames} {taken = taken} w2 sent answered on takes whole none =
+    let place : end.sent ≡ 0 + length on.events = omega (arith, on.sent_is) in
+    let more = subst (Appends w1 w2) takes.framed (wrote_all w1 w2 frames sent whole (first_none sent answered taken.error none).0) in
+    subst (Appends w0 w2) (sym (event_frames-append 0 on.events takes.events))
+    (appends_more w0 w1 w2 (event_frames 0 on.events) (event_frames (0 + length on.events) takes.events) on.sent (subst (λ (n : ℕ). Appends w1 w2 (event_frames n takes.events)) place more))
+
+-- and these answers are printed
+all_printed : {form : LineForm} {i0 i1 w0 w1 r0 r1 r2 o0 o1 o2 : Option (List ℕ)} {end : SendEnd} {count : ℕ} (answers : Answers) → SendsOn form i0 i1 w0 w1 r0 r1 o0 o1 end → PrintsAll r1 r2 o1 o2 end.answered count answers.count answers.refused → (all : ℕ)
+    → end.answered + count ≡ all → PrintsAll r0 r2 o0 o2 0 all (end.answered + answers.count) (end.refused + answers.refused)
+all_printed {r0 = r0} {r2 = r2} {o0 = o0} {o2 = o2} {end = end} answers on printed all is =
+    let begun : end.answered ≡ 0 + end.answered = omega arith in
+    subst (λ (n : ℕ). PrintsAll r0 r2 o0 o2 0 n (end.answered + answers.count) (end.refused + answers.refused)) is (prints_all_further begun on.prints printed)
+
+pub round_on : {form : LineForm} {i0 i1 i2 w0 w1 w2 r0 r1 r2 o0 o1 o2 : Option (List ℕ)} {end : SendEnd} {frames : List ℕ} {taken : Taken} {answers : Answers} {count : ℕ} (sent : Result (Unit {0}) ClientError) → SendsOn form i0 i1 w0 w1 r0 r1 o0 o1 end
+    → TakesRound form i1 i2 end.sent frames taken → OnOk sent (Appends w1 w2 frames) → TakesAnswers r1 r2 o1 o2 end.answered count answers → end.answered + count ≤ end.sent + taken.count → taken.more ≡ true → first_error sent answers.error taken.error ≡ None
+    → SendsOn form i0 i2 w0 w2 r0 r2 o0 o2 (end_after end taken answers (first_error sent answers.error taken.error))
+round_on {form = form} {i0 = i0} {i1 = i1} {i2 = i2} {w2 = w2} {end = end} {taken = taken} {answers = answers} {count = count} sent on takes whole answered within more none =
+    let printed = answered.all (first_none sent answers.error taken.error none).1 in
+    let all : end.answered + count ≡ end.answered + answers.count = omega (arith, printed.answered_is) in
+    record {
+      events = on.events ++ takes.events;
+      sent_is = omega (arith, on.sent_is, takes.counted, length-append on.events takes.events);
+      answered = omega (arith, within, printed.answered_is);
+      no_error = none;
+      taken = takes_more form i0 i1 i2 on.events takes.events on.taken (takes.on more);
+      sent = all_sent w2 sent answers.error on takes whole none;
+      prints = all_printed answers on printed (end.answered + answers.count) all;
+    }
+
+pub round_all : {form : LineForm} {i0 i1 i2 w0 w1 w2 r0 r1 r2 o0 o1 o2 : Option (List ℕ)} {end : SendEnd} {frames : List ℕ} {taken : Taken} {answers : Answers} {count : ℕ} (sent : Result (Unit {0}) ClientError) → SendsOn form i0 i1 w0 w1 r0 r1 o0 o1 end
+    → TakesRound form i1 i2 end.sent frames taken → OnOk sent (Appends w1 w2 frames) → TakesAnswers r1 r2 o1 o2 end.answered count answers → end.answered + count ≡ end.sent + taken.count → taken.more ≡ false → first_error sent answers.error taken.error ≡ None
+    → SendsAll form 0 i0 w0 w2 r0 r2 o0 o2 (end_after end taken answers (first_error sent answers.error taken.error))
+round_all {form = form} {i0 = i0} {i1 = i1} {w2 = w2} {end = end} {taken = taken} {answers = answers} {count = count} sent on takes whole answered whole_count over none =
+    let right = first_none sent answers.error taken.error none in
+    let all : end.answered + count ≡ length (on.events ++ takes.events) = omega (arith, whole_count, on.sent_is, takes.counted, length-append on.events takes.events) in
+    record {
+      events = on.events ++ takes.events;
+      sent_is = omega (arith, on.sent_is, takes.counted, length-append on.events takes.events);
+      taken = takes_all_more form i0 i1 on.events takes.events on.taken (takes.all over right.2);
+      sent = all_sent w2 sent answers.error on takes whole none;
+      prints = all_printed answers on (answered.all right.1) (length (on.events ++ takes.events)) all;
+    }
+
+-- no other round is begun
+pub on_stopped : {form : LineForm} {i0 i1 w0 w1 r0 r1 o0 o1 : Option (List ℕ)} {end : SendEnd} (error : SendError) → SendsOn form i0 i1 w0 w1 r0 r1 o0 o1 end → Sends form 0 i0 w0 w1 r0 o0 o1 (record { sent = end.sent; answered = end.answered; refused = end.refused; error = Some error })
+on_stopped {form = form} {i0 = i0} {i1 = i1} {w0 = w0} {w1 = w1} error on =
+    let few : length (on.prints.answers ++ []) ≤ length on.events = omega (arith, on.prints.counted, on.answered, on.sent_is, ap length (append-nil on.prints.answers)) in
+    record {
+      events = on.events;
+      sent_is = on.sent_is;
+      taken = takes_first form i0 i1 on.events on.taken;
+      sent = part_whole w0 w1 (event_frames 0 on.events) on.sent;
+      prints = prints_all (Some error) on.prints;
+      few = few;
+    }

@@ -1,0 +1,64 @@
+use Rattle.std.proofs.Common.{◌≡◌, ◌≤◌, ◌+◌, ◌-◌, ◌∙◌, ℕ, List, sym, ap, subst, arith, OnOk, OnErr}
+use Rattle.std.specs.Io.KnownBytes.{Appends}
+use Rattle.audit_text.specs.Writing.{WritesInPart}
+use Rattle.audit_client.specs.declared.sending.SendEnd.{SendEnd}
+use Rattle.audit_client.proofs.SentLines.{few_answers, read_within, read_all, round_sends, round_on, round_all}
+use Rattle.audit_client.proofs.sending.send_round.Goals as goal
+
+pub end_after-requires-clause-refused : goal.end_after-requires-clause-refused
+end_after-requires-clause-refused g c =
+    let end = c.args.end.now in
+    let count = c.take_lines-taken.result.count in
+    let few = few_answers c.take_answers-answers.ensures in
+    let read = read_within c.answers_to_read-count.result (end.sent - end.answered) count c.take_lines-taken.result.more c.answers_to_read-count.ensures in
+    omega (arith, c.requires.within.refused, c.requires.within.answered, few.0, few.1, read, c.take_lines-taken.ensures.fits)
+
+pub returns-clause-within : goal.returns-clause-within
+returns-clause-within g c = λ _.
+    let end = c.args.end.now in
+    let count = c.take_lines-taken.result.count in
+    let few = few_answers c.take_answers-answers.ensures in
+    let read = read_within c.answers_to_read-count.result (end.sent - end.answered) count c.take_lines-taken.result.more c.answers_to_read-count.ensures in
+    rw c.end_after.ensures (record {
+      refused = omega (arith, c.requires.within.refused, few.1);
+      answered = omega (arith, c.requires.within.answered, few.0, read);
+      ahead = omega (arith, c.requires.within.answered, c.take_lines-taken.ensures.few, c.lines_of_round.ensures.within);
+    })
+
+pub returns-clause-sends : goal.returns-clause-sends
+returns-clause-sends g c = λ i w r o on.
+    let end = c.args.end.now in
+    let sent = c.send_bytes-sent.result in
+    let w1 = g.W.Write.contents c.args.to.now in
+    let w2 = g.W.Write.contents c.send_bytes-sent.new.to in
+    let whole = subst (λ (bytes : List ℕ). OnOk sent (Appends w1 w2 bytes)) c.deref.ensures.value c.send_bytes-sent.ensures.sent in
+    let part = subst (λ (bytes : List ℕ). OnErr sent (WritesInPart w1 w2 bytes)) c.deref.ensures.value c.send_bytes-sent.ensures.part in
+    let read = read_within c.answers_to_read-count.result (end.sent - end.answered) c.take_lines-taken.result.count c.take_lines-taken.result.more c.answers_to_read-count.ensures in
+    let within : end.answered + c.answers_to_read-count.result ≤ end.sent + c.take_lines-taken.result.count = omega (arith, c.requires.within.answered, read) in
+    rw c.end_after.ensures (rw c.first_error-error.ensures (round_sends sent on c.take_lines-taken.ensures.taken whole part c.take_answers-answers.ensures within))
+
+pub returns-clause-on : goal.returns-clause-on
+returns-clause-on g c = λ more i w r o on.
+    let end = c.args.end.now in
+    let sent = c.send_bytes-sent.result in
+    let w1 = g.W.Write.contents c.args.to.now in
+    let w2 = g.W.Write.contents c.send_bytes-sent.new.to in
+    let whole = subst (λ (bytes : List ℕ). OnOk sent (Appends w1 w2 bytes)) c.deref.ensures.value c.send_bytes-sent.ensures.sent in
+    let read = read_within c.answers_to_read-count.result (end.sent - end.answered) c.take_lines-taken.result.count c.take_lines-taken.result.more c.answers_to_read-count.ensures in
+    let within : end.answered + c.answers_to_read-count.result ≤ end.sent + c.take_lines-taken.result.count = omega (arith, c.requires.within.answered, read) in
+    let none = sym c.first_error-error.ensures ∙ c.goes_on.ensures.right more in
+    rw c.end_after.ensures (rw c.first_error-error.ensures (round_on sent on c.take_lines-taken.ensures.taken whole c.take_answers-answers.ensures within (c.goes_on.ensures.more more) none))
+
+pub returns-clause-all : goal.returns-clause-all
+returns-clause-all g c = λ over none i w r o on.
+    let end = c.args.end.now in
+    let sent = c.send_bytes-sent.result in
+    let w1 = g.W.Write.contents c.args.to.now in
+    let w2 = g.W.Write.contents c.send_bytes-sent.new.to in
+    let whole = subst (λ (bytes : List ℕ). OnOk sent (Appends w1 w2 bytes)) c.deref.ensures.value c.send_bytes-sent.ensures.sent in
+    let right = sym (ap (λ (after : SendEnd). after.error) c.end_after.ensures) ∙ none in
+    let last = c.goes_on.ensures.over over right in
+    let read = read_all c.answers_to_read-count.result (end.sent - end.answered) c.take_lines-taken.result.count c.take_lines-taken.result.more c.answers_to_read-count.ensures last in
+    let all : end.answered + c.answers_to_read-count.result ≡ end.sent + c.take_lines-taken.result.count = omega (arith, c.requires.within.answered, read) in
+    rw c.end_after.ensures
+    (rw c.first_error-error.ensures (round_all sent on c.take_lines-taken.ensures.taken whole c.take_answers-answers.ensures all last (sym c.first_error-error.ensures ∙ right)))

@@ -1,0 +1,280 @@
+-- When each error of a question comes, by what the server said.
+use Rattle.std.specs.Prelude.{◌≡◌, ◌⊎◌, ◌<◌, ◌≤◌, ℕ, Option, Some, None, List, [], ◌∷◌, ◌++◌, map, length, IfSome}
+use Rattle.std.specs.List.{flat_map}
+use Rattle.std.specs.Io.KnownBytes.{Appends, Consumes}
+use Rattle.sha2.specs.Sha256.{sha256}
+use Rattle.audit_base.specs.declared.limits.TheConstants.{MAX_COUNT}
+use Rattle.audit_tree.specs.Subtree.{leaf_hash_of, root_of}
+use Rattle.audit_proof.specs.declared.commitment.Commitment.{Commitment}
+use Rattle.audit_proof.specs.Acceptance.{commitment_to, AcceptsMembership, AcceptsIncrement}
+use Rattle.audit_wire.specs.declared.request.Request.{Request}
+use Rattle.audit_wire.specs.declared.request.Request.TheVariants as request
+use Rattle.audit_wire.specs.declared.reply.Reply.{Reply}
+use Rattle.audit_wire.specs.declared.reply.Reply.TheVariants as reply
+use Rattle.audit_wire.specs.Frame.{frame}
+use Rattle.audit_wire.specs.Reply.{reply_in, IsReply}
+use Rattle.audit_wire.specs.Stream.{request_frame}
+use Rattle.audit_client.specs.declared.asking.TheConstants.{NEWEST_TAG, ASKED_TAG, JOIN_TAG}
+use Rattle.audit_client.specs.declared.fault.ClientError.{ClientError}
+use Rattle.audit_client.specs.declared.fault.ClientError.TheVariants as client
+use Rattle.audit_client.specs.declared.putting.AskError.{AskError}
+use Rattle.audit_client.specs.declared.putting.AskError.TheVariants as asking
+use Rattle.audit_client.specs.declared.keeping.WatchError.{WatchError}
+use Rattle.audit_client.specs.declared.keeping.WatchError.TheVariants as watching
+use Rattle.audit_client.specs.declared.watching.Unseen.{Unseen}
+use Rattle.audit_client.specs.Asking.{not_due, IsOneEntry}
+use Rattle.audit_client.specs.Conversation.{Converses}
+use Rattle.audit_client.specs.Exporting.{entry_tag, piece_tag, AreForEntries}
+
+-- the connection ended or was silent, or memory ran out, which may be at any time
+abbrev pub IsLost : ClientError → Type 0
+IsLost client.Ended = Unit {0}
+IsLost client.TimedOut = Unit {0}
+IsLost client.Memory = Unit {0}
+IsLost _ = ⊥
+
+-- the next frame was read, and this is the reply that its body is, if it is one
+pub record Hears (old new : Option (List ℕ)) (said : Option Reply) : Type 0 where
+  pub body : List ℕ
+  pub bytes : Consumes old new (frame body)
+  pub heard : reply_in body ≡ said
+
+-- a frame was read that is no reply, and that is the error; or the connection was lost
+abbrev pub FailsToRead : Option (List ℕ) → Option (List ℕ) → ClientError → Type 0
+FailsToRead old new error = IsLost error ⊎ ((error ≡ client.BadReply) × Hears old new None)
+
+-- the frames of these requests were written, these replies read to those before the last, and this to the last
+pub record Exchanges (written_old written_new read_old read_new : Option (List ℕ)) (asked : List Request)
+    (given : List Reply) (said : Option Reply) : Type 0 where
+  pub sent : Appends written_old written_new (flat_map request_frame asked)
+  pub bodies : List (List ℕ)
+  pub last : List ℕ
+  pub bytes : Consumes read_old read_new (flat_map frame bodies ++ frame last)
+  pub replies : map reply_in bodies ≡ map (λ reply. Some reply) given
+  pub heard : reply_in last ≡ said
+
+-- the error for what was said to a request with this tag and isn't its answer
+abbrev pub error_for : ℕ → Option Reply → ClientError
+error_for tag None = client.BadReply
+error_for tag (Some given) = not_due tag given
+
+-- This reply isn't the answer to a request with this tag, and this is the error for that.
+abbrev pub IsNoAnswer : ℕ → (Reply → Type 0) → Reply → ClientError → Type 0
+IsNoAnswer tag IsAnswer given error = (error ≡ not_due tag given) × (IsAnswer given → ⊥)
+
+-- What was said to the last of these requests isn't its answer, and this is the error for that.
+pub record IsAnsweredOtherwise (written_old written_new read_old read_new : Option (List ℕ)) (asked : List Request)
+    (given : List Reply) (tag : ℕ) (IsAnswer : Reply → Type 0) (error : ClientError) : Type 0 where
+  pub said : Option Reply
+  pub exchange : Exchanges written_old written_new read_old read_new asked given said
+  pub error_is : error ≡ error_for tag said
+  pub otherwise : IfSome said (λ reply. IsAnswer reply → ⊥)
+
+-- ---- answers
+
+abbrev pub IsNewestReply : Reply → Type 0
+IsNewestReply given = (newest : Commitment) × (given ≡ reply.Commitment NEWEST_TAG newest.count newest.root)
+
+abbrev pub IsClosingReply : Reply → Type 0
+IsClosingReply given = (index : ℕ) × (last : Commitment)
+    × (given ≡ reply.Acknowledgement ASKED_TAG index last.count last.root)
+
+abbrev pub IsMemberReply : Reply → Type 0
+IsMemberReply given = (hashes : List (List ℕ)) × (entry : List ℕ) × (given ≡ reply.Membership ASKED_TAG hashes entry)
+    × IsReply given
+
+abbrev pub IsIncrementReply : ℕ → Reply → Type 0
+IsIncrementReply tag given = (hashes : List (List ℕ)) × (given ≡ reply.Incremental tag hashes) × IsReply given
+
+abbrev pub IsEntryReply : ℕ → Reply → Type 0
+IsEntryReply index given = (entry : List ℕ) × (given ≡ reply.Entry (entry_tag index) entry) × IsReply given
+
+-- ---- questions
+
+-- the newest commitment was asked for, and something else came
+abbrev pub FailsNewest : Option (List ℕ) → Option (List ℕ) → Option (List ℕ) → Option (List ℕ) → ClientError → Type 0
+FailsNewest written_old written_new read_old read_new error = IsLost error ⊎ IsAnsweredOtherwise
+    written_old written_new read_old read_new (request.Commitment NEWEST_TAG ∷ []) [] NEWEST_TAG IsNewestReply error
+
+abbrev pub FailsClosing : Option (List ℕ) → Option (List ℕ) → Option (List ℕ) → Option (List ℕ) → ClientError → Type 0
+FailsClosing written_old written_new read_old read_new error = IsLost error ⊎ IsAnsweredOtherwise
+    written_old written_new read_old read_new (request.Close ASKED_TAG ∷ []) [] ASKED_TAG IsClosingReply error
+
+-- After this conversation the increment between two commitments was asked for with this tag, and something else came;
+-- or it came, and isn't accepted.
+abbrev pub IsNotJoinedBy : ℕ → Option (List ℕ) → Option (List ℕ) → Option (List ℕ) → Option (List ℕ) → List Request
+    → List Reply → Commitment → Commitment → ClientError → Type 0
+IsNotJoinedBy tag written_old written_new read_old read_new asked given older newer error =
+    IsAnsweredOtherwise written_old written_new read_old read_new
+    (asked ++ request.Incremental tag older.count newer.count ∷ []) given tag (IsIncrementReply tag) error
+    ⊎ ((error ≡ client.NotAccepted) × (hashes : List (List ℕ)) × Converses written_old written_new read_old read_new
+    (asked ++ request.Incremental tag older.count newer.count ∷ []) (given ++ reply.Incremental tag hashes ∷ [])
+    × (AcceptsIncrement sha256 older newer hashes → ⊥))
+
+abbrev pub IsNotJoined : Option (List ℕ) → Option (List ℕ) → Option (List ℕ) → Option (List ℕ) → List Request
+    → List Reply → Commitment → Commitment → ClientError → Type 0
+IsNotJoined written_old written_new read_old read_new asked given older newer error =
+    IsNotJoinedBy JOIN_TAG written_old written_new read_old read_new asked given older newer error
+
+abbrev pub FailsJoiningBy : ℕ → Option (List ℕ) → Option (List ℕ) → Option (List ℕ) → Option (List ℕ) → Commitment
+    → Commitment → ClientError → Type 0
+FailsJoiningBy tag written_old written_new read_old read_new older newer error =
+    IsLost error ⊎ IsNotJoinedBy tag written_old written_new read_old read_new [] [] older newer error
+
+abbrev pub FailsJoining : Option (List ℕ) → Option (List ℕ) → Option (List ℕ) → Option (List ℕ) → Commitment
+    → Commitment → ClientError → Type 0
+FailsJoining written_old written_new read_old read_new older newer error =
+    FailsJoiningBy JOIN_TAG written_old written_new read_old read_new older newer error
+
+-- the reply with the newest commitment
+abbrev pub newest_reply : Commitment → Reply
+newest_reply newest = reply.Commitment NEWEST_TAG newest.count newest.root
+
+-- An entry was asked for, and something else came, before or after the newest commitment; or a proof came, and isn't
+-- accepted under that commitment, or what it is accepted for isn't one entry alone.
+abbrev pub FailsEntry : Option (List ℕ) → Option (List ℕ) → Option (List ℕ) → Option (List ℕ) → ℕ → ClientError → Type 0
+FailsEntry written_old written_new read_old read_new index error =
+    FailsNewest written_old written_new read_old read_new error ⊎ ((newest : Commitment) × (
+    IsAnsweredOtherwise written_old written_new read_old read_new
+    (request.Commitment NEWEST_TAG ∷ request.Membership ASKED_TAG index newest.count ∷ [])
+    (newest_reply newest ∷ []) ASKED_TAG IsMemberReply error
+    ⊎ ((hashes : List (List ℕ)) × (entry : List ℕ)
+    × Converses written_old written_new read_old read_new
+    (request.Commitment NEWEST_TAG ∷ request.Membership ASKED_TAG index newest.count ∷ [])
+    (newest_reply newest ∷ reply.Membership ASKED_TAG hashes entry ∷ [])
+    × (((error ≡ client.NotAccepted) × (AcceptsMembership sha256 newest index entry hashes → ⊥))
+    ⊎ ((error ≡ client.BadReply) × AcceptsMembership sha256 newest index entry hashes × (IsOneEntry entry → ⊥))))))
+
+-- In this conversation a proof came that no commitment of this count accepts; or after it, the newest commitment
+-- doesn't vouch for the one that accepts it.
+abbrev pub IsDoubted : Option (List ℕ) → Option (List ℕ) → Option (List ℕ) → Option (List ℕ) → List Request → List Reply
+    → Commitment → ℕ → (Commitment → Type 0) → ClientError → Type 0
+IsDoubted written_old written_new read_old read_new asked given newest count Accepts error =
+    ((error ≡ client.NotAccepted) × Converses written_old written_new read_old read_new asked given
+    × ((root : List ℕ) → Accepts (record { count = count; root = root }) → ⊥))
+    ⊎ ((root : List ℕ) × Accepts (record { count = count; root = root })
+    × ((record { count = count; root = root } ≡ newest) → ⊥)
+    × IsNotJoined written_old written_new read_old read_new asked given (record { count = count; root = root }) newest
+    error)
+
+-- A membership proof under a count was asked for, and something else came, before or after the newest commitment; or a
+-- proof came, and is doubted.
+abbrev pub FailsMember : Option (List ℕ) → Option (List ℕ) → Option (List ℕ) → Option (List ℕ) → ℕ → ℕ → ClientError
+    → Type 0
+FailsMember written_old written_new read_old read_new index count error =
+    FailsNewest written_old written_new read_old read_new error ⊎ ((newest : Commitment) × (
+    IsAnsweredOtherwise written_old written_new read_old read_new
+    (request.Commitment NEWEST_TAG ∷ request.Membership ASKED_TAG index count ∷ [])
+    (newest_reply newest ∷ []) ASKED_TAG IsMemberReply error
+    ⊎ ((hashes : List (List ℕ)) × (entry : List ℕ) × IsDoubted written_old written_new read_old read_new
+    (request.Commitment NEWEST_TAG ∷ request.Membership ASKED_TAG index count ∷ [])
+    (newest_reply newest ∷ reply.Membership ASKED_TAG hashes entry ∷ []) newest count
+    (λ under. AcceptsMembership sha256 under index entry hashes) error)))
+
+-- the same of an incremental proof between two counts, under the newer
+abbrev pub FailsIncrement : Option (List ℕ) → Option (List ℕ) → Option (List ℕ) → Option (List ℕ) → ℕ → ℕ → ClientError
+    → Type 0
+FailsIncrement written_old written_new read_old read_new older newer error =
+    FailsNewest written_old written_new read_old read_new error ⊎ ((newest : Commitment) × (
+    IsAnsweredOtherwise written_old written_new read_old read_new
+    (request.Commitment NEWEST_TAG ∷ request.Incremental ASKED_TAG older newer ∷ [])
+    (newest_reply newest ∷ []) ASKED_TAG (IsIncrementReply ASKED_TAG) error
+    ⊎ ((hashes : List (List ℕ)) × IsDoubted written_old written_new read_old read_new
+    (request.Commitment NEWEST_TAG ∷ request.Incremental ASKED_TAG older newer ∷ [])
+    (newest_reply newest ∷ reply.Incremental ASKED_TAG hashes ∷ []) newest newer
+    (λ under. (root : List ℕ) × AcceptsIncrement sha256 (record { count = older; root = root }) under hashes) error)))
+
+-- ---- all entries
+
+-- The entry of this index was to be read, and something else came.
+abbrev pub IsNotTheEntry : Option (List ℕ) → Option (List ℕ) → ℕ → ClientError → Type 0
+IsNotTheEntry read_old read_new index error = (said : Option Reply) × Hears read_old read_new said
+    × (error ≡ error_for (entry_tag index) said) × IfSome said (λ given. IsEntryReply index given → ⊥)
+
+-- The connection was lost, or the entry couldn't be written, or something else came.
+abbrev pub FailsReceiving : Option (List ℕ) → Option (List ℕ) → ℕ → ClientError → Type 0
+FailsReceiving read_old read_new index error =
+    IsLost error ⊎ ((error ≡ client.Output) ⊎ IsNotTheEntry read_old read_new index error)
+
+-- After this conversation entries were asked for, up to a number of them; some came, and then something else.
+pub record LacksEntry (written_old written_new read_old read_new : Option (List ℕ)) (asked : List Request)
+    (given : List Reply) (count : ℕ) (error : ClientError) : Type 0 where
+  pub entries : List (List ℕ)
+  pub ahead : ℕ
+  pub wanted : length entries < ahead
+  pub within : ahead ≤ count
+  pub requests : List Request
+  pub replies : List Reply
+  pub about : AreForEntries requests replies ahead entries
+  pub otherwise : IsAnsweredOtherwise written_old written_new read_old read_new (asked ++ requests)
+      (given ++ replies) (entry_tag (length entries)) (IsEntryReply (length entries)) error
+
+-- After this conversation some entries came, and the commitment to them isn't joined to the newest.
+pub record DoubtsEntries (written_old written_new read_old read_new : Option (List ℕ)) (asked : List Request)
+    (given : List Reply) (newest : Commitment) (error : ClientError) : Type 0 where
+  pub entries : List (List ℕ)
+  pub requests : List Request
+  pub replies : List Reply
+  pub about : AreForEntries requests replies (length entries) entries
+  pub doubted : IsNotJoinedBy (piece_tag (length entries)) written_old written_new read_old read_new
+      (asked ++ requests) (given ++ replies) (commitment_to entries) newest error
+
+-- The newest commitment is one of more entries than a log has; or an entry didn't come, or the entries up to one aren't
+-- joined to the newest; or all came, and the newest isn't the commitment to them.
+abbrev pub IsNoExport : Option (List ℕ) → Option (List ℕ) → Option (List ℕ) → Option (List ℕ) → Commitment → ClientError
+    → Type 0
+IsNoExport written_old written_new read_old read_new newest error =
+    ((error ≡ client.BadReply) × (MAX_COUNT < newest.count) × Converses written_old written_new read_old read_new
+    (request.Commitment NEWEST_TAG ∷ []) (newest_reply newest ∷ []))
+    ⊎ (LacksEntry written_old written_new read_old read_new (request.Commitment NEWEST_TAG ∷ [])
+    (newest_reply newest ∷ []) newest.count error
+    ⊎ (DoubtsEntries written_old written_new read_old read_new (request.Commitment NEWEST_TAG ∷ [])
+    (newest_reply newest ∷ []) newest error
+    ⊎ ((error ≡ client.NotAccepted) × (entries : List (List ℕ)) × (newest.count ≡ length entries)
+    × (requests : List Request) × (replies : List Reply) × AreForEntries requests replies (length entries) entries
+    × Converses written_old written_new read_old read_new
+    (request.Commitment NEWEST_TAG ∷ requests) (newest_reply newest ∷ replies)
+    × ((newest.root ≡ root_of sha256 (map leaf_hash_of entries)) → ⊥))))
+
+-- All entries were asked for, and the newest commitment wasn't given, or they couldn't be written, or aren't accepted.
+abbrev pub FailsExport : Option (List ℕ) → Option (List ℕ) → Option (List ℕ) → Option (List ℕ) → ClientError → Type 0
+FailsExport written_old written_new read_old read_new error =
+    FailsNewest written_old written_new read_old read_new error ⊎ ((error ≡ client.Output)
+    ⊎ ((newest : Commitment) × IsNoExport written_old written_new read_old read_new newest error))
+
+-- ---- answers that are put
+
+-- the answer failed in this way, or it couldn't be written; or the file couldn't be begun or put
+abbrev pub FailsPutting : {E : Type 0} → (ClientError → Type 0) → AskError E → Type 0
+FailsPutting Fails (asking.Client error) = Fails error ⊎ (error ≡ client.Output)
+FailsPutting Fails (asking.Out error) = Unit {0}
+
+-- ---- witnesses
+
+-- What a witness doesn't believe, after it asked for the newest commitment: a log of fewer entries than the commitment
+-- that it kept, or of as many and another root, or another answer than an increment that is accepted.
+abbrev pub Disbelieves : Option (List ℕ) → Option (List ℕ) → Option (List ℕ) → Option (List ℕ) → Commitment → Commitment
+    → ClientError → Type 0
+Disbelieves written_old written_new read_old read_new kept newest error =
+    ((error ≡ client.Shorter) × (newest.count < kept.count) × Converses written_old written_new read_old read_new
+    (request.Commitment NEWEST_TAG ∷ []) (newest_reply newest ∷ []))
+    ⊎ (((error ≡ client.OtherRoot) × (newest.count ≡ kept.count) × (newest ≡ kept → ⊥)
+    × Converses written_old written_new read_old read_new
+    (request.Commitment NEWEST_TAG ∷ []) (newest_reply newest ∷ []))
+    ⊎ IsNotJoined written_old written_new read_old read_new (request.Commitment NEWEST_TAG ∷ [])
+    (newest_reply newest ∷ []) kept newest error)
+
+-- No newest commitment was given, and that is why; or this one was, and isn't believed, or the connection was lost.
+abbrev pub FailsWatch : Option (List ℕ) → Option (List ℕ) → Option (List ℕ) → Option (List ℕ) → Option Commitment
+    → Unseen → Type 0
+FailsWatch written_old written_new read_old read_new kept unseen =
+    ((unseen.given ≡ None) × FailsNewest written_old written_new read_old read_new unseen.error)
+    ⊎ ((newest before : Commitment) × (kept ≡ Some before) × (unseen.given ≡ Some newest)
+    × (IsLost unseen.error ⊎ Disbelieves written_old written_new read_old read_new before newest unseen.error))
+
+-- the same of a witness that keeps what it sees
+abbrev pub FailsKeeping : {E : Type 0} → Option (List ℕ) → Option (List ℕ) → Option (List ℕ) → Option (List ℕ)
+    → Option Commitment → WatchError E → Type 0
+FailsKeeping written_old written_new read_old read_new kept (watching.Client unseen) =
+    FailsWatch written_old written_new read_old read_new kept unseen
+FailsKeeping written_old written_new read_old read_new kept (watching.Kept error) = Unit {0}

@@ -1,0 +1,31 @@
+//! What a client asks of a running store, over any reader and writer: questions whose answers are checked under the
+//! commitment that the server gave before them in the same conversation.
+#![tactic(auto)]
+
+mod answering;
+mod asking;
+mod conversation;
+mod exporting;
+mod fault;
+mod keeping;
+pub mod laws;
+mod putting;
+mod refusal_word;
+mod send_error;
+mod sending;
+mod taking;
+mod watching;
+
+pub use asking::{
+    ASKED_TAG, JOIN_TAG, NEWEST_TAG, close_log, entry_of, increment_proof, join, member_proof,
+    newest_commitment,
+};
+pub use conversation::{ask, next_reply, send_bytes};
+pub use exporting::{Export, export_entries};
+pub use fault::ClientError;
+pub use keeping::{Kept, WatchError, watch_and_keep};
+pub use putting::{AskError, Out, put_entry, put_export, put_increment, put_member};
+pub use refusal_word::word_of_refusal;
+pub use send_error::SendError;
+pub use sending::{SendEnd, send_events};
+pub use watching::{Sight, Unseen, watch};
