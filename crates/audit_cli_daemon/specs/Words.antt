@@ -42,6 +42,3 @@ HasBadSetting settings =
 abbrev pub HasBadWord : Request → Type 0
 HasBadWord (Run settings) = HasBadSetting settings
 HasBadWord (Stop socket) = IsNoSocketPath socket.now STOP_SUFFIX_LEN
-
-abbrev pub IsDaemonFault : Settings → CommandError → Type 0
-IsDaemonFault settings fault = HasBadSetting settings × (fault ≡ BadArgument)

@@ -2,13 +2,13 @@
 ghost use Rattle.std.specs.Prelude.{◌≡◌, ◌⊎◌, ◌≤◌, true, false, None, Ok, Err, IfSome, IfOk, IfErr};
 ghost use Rattle.std.specs.Io.KnownBytes.{Keeps};
 ghost use Rattle.audit_serve_ready.specs.declared.limits.TheConstants.{MAX_BACKLOG};
-ghost use Rattle.audit_cli_base.specs.Arguments.{number_asked, RefusesWords};
+ghost use Rattle.audit_cli_base.specs.Arguments.{number_asked};
 ghost use Rattle.audit_cli_base.specs.Faults.{IsNoWordFault};
 ghost use Rattle.audit_cli_base.specs.Mode.{IsMode};
 ghost use Rattle.audit_cli_daemon.specs.declared.request.Settings.{Settings};
 ghost use Rattle.audit_disk.specs.declared.files.TheConstants.{OWNER_ONLY};
 ghost use Rattle.audit_cli_daemon.specs.declared.arguments.TheConstants.{DEFAULT_IDLE, DEFAULT_RESERVE};
-ghost use Rattle.audit_cli_daemon.specs.Words.{HasBadSetting, HasBadWord, IsDaemonFault, backlog_asked};
+ghost use Rattle.audit_cli_daemon.specs.Words.{HasBadSetting, HasBadWord, backlog_asked};
 
 use crate::arguments::{DEFAULT_IDLE, DEFAULT_RESERVE, backlog_asked};
 use crate::client_journal::ClientJournal;
@@ -170,8 +170,9 @@ fn perform<F: SystemFiles + Net + Clock, W: Write, M: Write>(
 ) -> Result<(), CommandError>
 where
     F::File: SystemFile,
-    ensures words { RefusesWords (IsDaemonFault settings.entry) (W.contents output.old) (W.contents output.new) result }
+    ensures words { HasBadSetting settings.entry → result ≡ Err CommandError.BadArgument }
     ensures only { result ≡ Err CommandError.BadArgument → HasBadSetting settings.entry }
+    ensures unwritten { HasBadSetting settings.entry → Keeps (W.contents output.old) (W.contents output.new) }
 {
     let judged = judge(settings)?;
     let sockets = Sockets::new(alloc, settings.socket, settings.reader)?;
