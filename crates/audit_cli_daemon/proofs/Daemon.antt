@@ -11,8 +11,8 @@ use Rattle.audit_store.specs.declared.store.Store.{Store}
 use Rattle.audit_store.specs.declared.store_error.StoreError.{StoreError}
 use Rattle.audit_server_commit.specs.Committer.{store_of}
 use Rattle.audit_serve_passes.specs.Streams.{CallModel}
-use Rattle.audit_server.specs.Serving.{IsRefusedAs, StoreKeepsOn}
-use Rattle.audit_server.proofs.TakenOutputs.{kept_none}
+use Rattle.audit_server_model.specs.Serving.{IsRefusedAs, StoreKeepsOn}
+use Rattle.audit_server_model.proofs.Serving.{kept_none}
 use Rattle.audit_server.specs.declared.server_core.Core.{Core}
 use Rattle.audit_server.specs.Core.{committer_of, Refuses}
 use Rattle.audit_server.specs.CoreModel.{core_model, refuses_after}

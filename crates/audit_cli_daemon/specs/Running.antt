@@ -12,7 +12,7 @@ use Rattle.audit_serve_ready.specs.Slot.{SlotData, vacant}
 use Rattle.audit_serve_ready.specs.Places.{WritesOn}
 use Rattle.audit_serve_ready.specs.Backlog.{OwesNothing, AreWithinBacklog}
 use Rattle.audit_serve_ready.specs.Clients.{ServesClients, StopsServing}
-use Rattle.audit_server.specs.Serving.{IsRefusedAs}
+use Rattle.audit_server_model.specs.Serving.{IsRefusedAs}
 use Rattle.audit_server.specs.declared.server_core.Core.{Core}
 use Rattle.audit_server.specs.Core.{committer_of, Refuses}
 use Rattle.audit_server.specs.CoreModel.{core_model}

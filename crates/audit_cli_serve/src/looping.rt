@@ -1,6 +1,6 @@
 //! A session over lines, served by a core over a store.
 ghost use Rattle.std.specs.Prelude.{◌≡◌, ◌⊎◌, ◌+◌, List, ℕ, length, IfSome, IfErr, OnOk, Err};
-ghost use Rattle.audit_server.specs.Serving.{StoreKeepsOn};
+ghost use Rattle.audit_server_model.specs.Serving.{StoreKeepsOn};
 ghost use Rattle.audit_serve_sockets.specs.Input.{SpellsInput, SpellsUpToBad};
 ghost use Rattle.audit_serve_sockets.specs.Looping.{AreLinePasses, IsWholeLoop};
 ghost use Rattle.audit_cli_serve.specs.declared.fault.ServingError.TheVariants.{BadFrameLine};

@@ -17,9 +17,9 @@ use Rattle.audit_server_commit.specs.Committer.{store_of, state_of}
 use Rattle.audit_server_commit.specs.Durable.{IsDurable}
 use Rattle.audit_serve_passes.specs.Steps.{StepData, a_piece, an_end, a_flush, IsPartOf}
 use Rattle.audit_serve_passes.specs.Core.{GoesBy, no_bytes}
-use Rattle.audit_server.specs.Sessions.{SessionData, no_session, sessions_run, arrivals_by_piece, arrivals_run}
-use Rattle.audit_server.specs.Serving.{CoreData, IsDurablyServed}
-use Rattle.audit_server.proofs.TakenOutputs.{put_back_none, durably_none, durably_more}
+use Rattle.audit_server_model.specs.Sessions.{SessionData, no_session, sessions_run, arrivals_by_piece, arrivals_run}
+use Rattle.audit_server_model.specs.Serving.{CoreData, IsDurablyServed}
+use Rattle.audit_server_model.proofs.Serving.{put_back_none, durably_none, durably_more}
 use Rattle.audit_server.specs.declared.step.Step.{Step}
 use Rattle.audit_server.specs.declared.feed_fault.FeedFault.{FeedFault}
 use Rattle.audit_server.specs.declared.server_core.Core.{Core}

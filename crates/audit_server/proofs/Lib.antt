@@ -1,9 +1,3 @@
-pub mod StepsInARow
-pub mod Taking
-pub mod TakenOutputs
-pub mod Hearing
-pub mod Arrived
-pub mod Answers
 pub mod Sound
 pub mod Refusals
 pub mod Replies

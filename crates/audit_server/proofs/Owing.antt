@@ -22,8 +22,8 @@ use Rattle.audit_serve_passes.specs.declared.allowance.Share.{Share}
 use Rattle.audit_serve_passes.specs.declared.allowance.Allowance.{Allowance}
 use Rattle.audit_serve_passes.specs.Allowance.{has_room, has_room_to_ask, spent}
 use Rattle.audit_serve_passes.specs.Owing.{GrowsWithin, OwesNoMore, OwesWithin, OwesAtEnd, IsBeyondAllowance}
-use Rattle.audit_server.specs.Sessions.{SessionData, arrivals_by_piece, arrivals_of_rest, arrivals_by_end, heard_after}
-use Rattle.audit_server.specs.Heard.{Heard, last_arrival, arrivals_heard}
+use Rattle.audit_server_model.specs.Sessions.{SessionData, arrivals_by_piece, arrivals_of_rest, arrivals_by_end, heard_after}
+use Rattle.audit_server_model.specs.Heard.{Heard, last_arrival, arrivals_heard}
 use Rattle.audit_server.specs.declared.limit.Limit.{Limit}
 use Rattle.audit_server.specs.declared.limit.Limit.TheVariants as limit
 use Rattle.audit_server.specs.declared.server_core.Core.{Core}

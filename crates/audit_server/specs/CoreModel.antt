@@ -13,13 +13,13 @@ use Rattle.audit_serve_passes.specs.Steps.{StepData}
 use Rattle.audit_serve_passes.specs.declared.rights.Rights.{Rights}
 use Rattle.audit_serve_passes.specs.Core.{CoreModel}
 use Rattle.audit_server.specs.declared.server_core.Core.{Core}
-use Rattle.audit_server.specs.Sessions.{SessionData, begun_session, no_session, session_at, sessions_run}
-use Rattle.audit_server.specs.Sessions.{arrivals_by_piece}
+use Rattle.audit_server_model.specs.Sessions.{SessionData, begun_session, no_session, session_at, sessions_run}
+use Rattle.audit_server_model.specs.Sessions.{arrivals_by_piece}
 use Rattle.audit_server.specs.Core.{committer_of, sessions_of, data_of, Refuses}
-use Rattle.audit_server.specs.Serving.{HasServed, IsDurablyServed}
-use Rattle.audit_server.proofs.StepsInARow.{sessions-append}
-use Rattle.audit_server.proofs.TakenOutputs.{served_none, served_more, served_durably, served_refused, durably_more}
-use Rattle.audit_server.proofs.TakenOutputs.{stays, ended_through}
+use Rattle.audit_server_model.specs.Serving.{HasServed, IsDurablyServed}
+use Rattle.audit_server_model.proofs.Steps.{sessions-append}
+use Rattle.audit_server_model.proofs.Serving.{served_none, served_more, served_durably, served_refused, durably_more}
+use Rattle.audit_server_model.proofs.Serving.{stays, ended_through}
 
 pub nothing_more : (bytes : ℕ) → bytes + (0 + 0) ≡ bytes
 nothing_more bytes = omega arith

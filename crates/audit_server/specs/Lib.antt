@@ -1,8 +1,3 @@
-pub mod Heard
-pub mod Sessions
-pub mod Arrived
-pub mod Serving
-pub mod Answers
 pub mod Limit
 pub mod Running
 pub mod Entering

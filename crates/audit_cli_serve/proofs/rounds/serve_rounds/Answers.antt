@@ -1,6 +1,6 @@
 use Rattle.std.proofs.Common.{inl, inr, refl, [], ◌∷◌, ◌++◌, ◌+◌, Result, ℕ, arith, length-append, subst}
 use Rattle.std.specs.Prelude.{IfOk, IfErr}
-use Rattle.audit_server.proofs.TakenOutputs.{kept_then}
+use Rattle.audit_server_model.proofs.Serving.{kept_then}
 use Rattle.audit_cli_serve.specs.declared.fault.ServingError.{ServingError}
 use Rattle.audit_cli_serve.specs.Served.{ServesRound, StopsRound}
 use Rattle.audit_cli_serve.proofs.RoundLines.{round_more}
