@@ -15,7 +15,6 @@ use audit_text::Shown;
 use clap::Error;
 use clap::error::ErrorKind;
 use std::alloc::{AllocError, Global};
-use std::fs::Files;
 use std::io::{Read, Write};
 use std::net::Net;
 use std::time::Clock;

@@ -8,7 +8,7 @@ use crate::times::{Stopwatch, Times};
 use anyhow::bail;
 use audit_base::{MAX_ENTRY, MAX_ENTRY_SECTORS, MAX_PAYLOAD};
 use audit_chain::{Event, Key};
-use audit_disk::{Sectors, SystemFile};
+use audit_disk::{Sectors, SystemFile, SystemFiles};
 use audit_proof::Commitment;
 use audit_store::Store;
 use audit_verify::verify;
@@ -29,7 +29,7 @@ const SHORT_LENS: [usize; 5] = [50, 96, 96, 46, 65];
 
 /// Seals events with the longest payload and appends them to a store in the file, one at a time; then verifies their
 /// export in memory, seven times. It prints the times of both, and those of the work that they can't avoid.
-pub fn measure<R: Files + AllocGlobal + Clock + Eprint>(
+pub fn measure<R: SystemFiles + AllocGlobal + Clock + Eprint>(
     rt: &R,
     file: &str,
     events: u32,

@@ -6,7 +6,7 @@ use crate::stores::{LARGE_BATCH, append_large, bare_disk, new_store, small_event
 use crate::times::Stopwatch;
 use anyhow::{Context, bail};
 use audit_base::SESSIONS;
-use audit_disk::{Sectors, SystemFile};
+use audit_disk::{Sectors, SystemFile, SystemFiles};
 use audit_server::Core;
 use audit_store::Store;
 use audit_wire::first_frame;
@@ -27,7 +27,7 @@ const SPARE_SECTORS: u64 = 2 + (1 + 4 + 16 + 64) * ROUNDS as u64 + LARGE_BATCH a
 
 /// Makes a store in the file, appends small events through sessions with flushes of several sizes, appends more until
 /// it holds `events`, and requests membership proofs of them.
-pub fn measure<R: Files + AllocGlobal + Clock + Eprint>(
+pub fn measure<R: SystemFiles + AllocGlobal + Clock + Eprint>(
     rt: &R,
     file: &str,
     events: u32,
@@ -40,7 +40,7 @@ where
     time_store(rt, file, store, events)
 }
 
-fn time_store<R: Files + AllocGlobal + Clock + Eprint, D: Sectors + Drop>(
+fn time_store<R: SystemFiles + AllocGlobal + Clock + Eprint, D: Sectors + Drop>(
     rt: &R,
     file: &str,
     store: Store<D>,

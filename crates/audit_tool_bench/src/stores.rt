@@ -6,11 +6,11 @@ use crate::streams::keystream_of;
 use crate::times::{Stopwatch, Times};
 use anyhow::{Context, bail};
 use audit_chain::{Event, Key};
-use audit_disk::{FileDisk, OsFile, SECTOR_SIZE, Sectors, SystemFile};
+use audit_disk::{FileDisk, OsFile, SECTOR_SIZE, Sectors, SystemFile, SystemFiles};
 use audit_store::{Failed, Store};
 use sha2::{Digest, Sha256};
 use std::alloc::Global;
-use std::fs::{self, Files, OpenFile, OpenOptions};
+use std::fs::{self, Files, OpenFile};
 use std::os::unix::fs::FileExt;
 use std::rt::Clock;
 
@@ -41,7 +41,7 @@ pub type Disk<F> = FileDisk<OsFile<F>>;
 
 /// Makes a store of `events` small events in the file, in large batches, after batches that are timed, and reopens it.
 /// It prints the peak memory of the process.
-pub fn measure<R: Files + AllocGlobal + Clock + Eprint>(
+pub fn measure<R: SystemFiles + AllocGlobal + Clock + Eprint>(
     rt: &R,
     file: &str,
     events: u32,
@@ -54,7 +54,7 @@ where
     print_memory(rt)
 }
 
-fn fill_store<R: Files + AllocGlobal + Clock + Eprint>(
+fn fill_store<R: SystemFiles + AllocGlobal + Clock + Eprint>(
     rt: &R,
     file: &str,
     events: u32,
@@ -90,16 +90,15 @@ fn time_sizes<R: AllocGlobal + Clock + Eprint, D: Sectors, F: FileExt + OpenFile
 }
 
 /// Opens the file as a device without a lock, beside the open store, which keeps its own.
-pub fn bare_disk<R: Files + AllocGlobal>(rt: &R, file: &str) -> anyhow::Result<Disk<R::File>>
+pub fn bare_disk<R: SystemFiles + AllocGlobal>(rt: &R, file: &str) -> anyhow::Result<Disk<R::File>>
 where
     R::File: SystemFile,
 {
-    let opened = OpenOptions::new().read(true).write(true).open(rt, file)?;
-    Ok(FileDisk::over_whole(rt.alloc(), opened)?)
+    Ok(FileDisk::over_whole(rt.alloc(), rt.open_to_write(file)?)?)
 }
 
 /// Makes a store of `sectors` sectors in a new file.
-pub fn new_store<R: Files + AllocGlobal>(
+pub fn new_store<R: SystemFiles + AllocGlobal>(
     rt: &R,
     file: &str,
     sectors: u64,
@@ -272,7 +271,7 @@ pub fn hash_messages(lens: &[usize], number: u64) -> u8 {
 }
 
 // Times openings of the store in the file, compared with just reading as many sectors and the SHA-256 blocks.
-fn time_openings<R: Files + AllocGlobal + Clock + Eprint>(rt: &R, file: &str) -> anyhow::Result<()>
+fn time_openings<R: SystemFiles + AllocGlobal + Clock + Eprint>(rt: &R, file: &str) -> anyhow::Result<()>
 where
     R::File: SystemFile,
 {
@@ -339,7 +338,7 @@ struct Opened {
 }
 
 // Opens the store once, then reads its sectors, then hashes the messages of the opening.
-fn time_opening<R: Files + AllocGlobal + Clock>(rt: &R, file: &str) -> anyhow::Result<OpeningTimes>
+fn time_opening<R: SystemFiles + AllocGlobal + Clock>(rt: &R, file: &str) -> anyhow::Result<OpeningTimes>
 where
     R::File: SystemFile,
 {
@@ -356,7 +355,7 @@ where
     })
 }
 
-fn open_once<R: Files + AllocGlobal + Clock>(rt: &R, file: &str) -> anyhow::Result<Opened>
+fn open_once<R: SystemFiles + AllocGlobal + Clock>(rt: &R, file: &str) -> anyhow::Result<Opened>
 where
     R::File: SystemFile,
 {
@@ -375,7 +374,7 @@ fn open_disk<R: AllocGlobal + Clock, D: Sectors + Drop>(rt: &R, disk: D) -> anyh
 }
 
 // Times reading every sector below `end`.
-fn time_reads<R: Files + AllocGlobal + Clock>(rt: &R, file: &str, end: u64) -> anyhow::Result<u128>
+fn time_reads<R: SystemFiles + AllocGlobal + Clock>(rt: &R, file: &str, end: u64) -> anyhow::Result<u128>
 where
     R::File: SystemFile,
 {

@@ -1,10 +1,9 @@
 //! A store in a file.
 use anyhow::Context;
 use audit_chain::{Event, Key};
-use audit_disk::{FileDisk, Sectors, SystemFile};
+use audit_disk::{FileDisk, Sectors, SystemFile, SystemFiles};
 use audit_store::{Failed, Store};
 use std::alloc::Global;
-use std::fs::Files;
 
 // The sectors of the device.
 const SECTORS: u64 = 40_000;
@@ -13,7 +12,7 @@ const SECTORS: u64 = 40_000;
 const EVENTS: u32 = 3;
 
 /// Makes the file, with a store without events under a key of zeros.
-pub fn format<R: Files + AllocGlobal + Print>(rt: &R, file: &str) -> anyhow::Result<()>
+pub fn format<R: SystemFiles + AllocGlobal + Print>(rt: &R, file: &str) -> anyhow::Result<()>
 where
     R::File: SystemFile,
 {
@@ -25,7 +24,7 @@ where
 }
 
 /// Appends `batches` batches, or as many as fit on the device, and prints the count of events after each.
-pub fn append<R: Files + AllocGlobal + Print>(
+pub fn append<R: SystemFiles + AllocGlobal + Print>(
     rt: &R,
     file: &str,
     batches: u32,
@@ -52,7 +51,7 @@ pub(crate) fn batch_of(alloc: Global, number: u32) -> anyhow::Result<Vec<Event>>
 }
 
 /// Opens the store, reads each entry, and prints how many there are.
-pub fn count<R: Files + AllocGlobal + Print>(rt: &R, file: &str) -> anyhow::Result<()>
+pub fn count<R: SystemFiles + AllocGlobal + Print>(rt: &R, file: &str) -> anyhow::Result<()>
 where
     R::File: SystemFile,
 {
