@@ -44,13 +44,21 @@ fn a_run_stopped_after_each_call_read_only(rt: HostRuntime) {
 fn an_append_that_is_not_kept(rt: HostRuntime) {
     let alloc = rt.alloc();
     let mut disk = store_of(&rt, alloc, 16, &[0, 5]).into_disk();
-    let mut store = opened_read_only(&rt, alloc, &mut disk);
+    append_beside(&rt, alloc, &mut disk);
+    check!(&rt; count_read_only(&rt, alloc, &mut disk) == 2);
+}
+
+fn append_beside(rt: &impl Abort, alloc: Global, disk: &mut MemDisk) {
+    let mut store = opened_read_only(rt, alloc, disk);
     let receipt = store
-        .append(&batch(&rt, alloc, 2, &[441]))
-        .expect(&rt, "an append");
-    check!(&rt; receipt.count == 3);
-    check!(&rt; answers(&rt, &mut store) == answers(&rt, &mut store_of(&rt, alloc, 16, &[0, 5, 441])));
-    check!(&rt; opened_read_only(&rt, alloc, &mut disk).commitment().count == 2);
+        .append(&batch(rt, alloc, 2, &[441]))
+        .expect(rt, "an append");
+    check!(rt; receipt.count == 3);
+    check!(rt; answers(rt, &mut store) == answers(rt, &mut store_of(rt, alloc, 16, &[0, 5, 441])));
+}
+
+fn count_read_only(rt: &impl Abort, alloc: Global, disk: &mut MemDisk) -> u64 {
+    opened_read_only(rt, alloc, disk).commitment().count
 }
 
 // Sectors of which one can't be read. They are never honest.
