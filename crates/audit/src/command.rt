@@ -1,9 +1,9 @@
 use crate::forms::{EXPLAIN, NO_PROGRESS, command_line};
 use crate::remote_command::remote_request;
 use audit_cli_append::Request as Lines;
+use audit_cli_client::Request as Remote;
 use audit_cli_daemon::{Request as Daemon, Settings};
 use audit_cli_offline::{CheckForm, ReportForm};
-use audit_cli_client::Request as Remote;
 use audit_cli_rotate::Request as Rotation;
 use audit_cli_serve::Request as Serving;
 use audit_cli_store::{Access, Request, ShowForm, Site};

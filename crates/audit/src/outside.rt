@@ -2,8 +2,8 @@
 use crate::command::Asked;
 use crate::contents::store_head;
 use crate::wrong_word::names_of_pair;
-use audit_cli_host::Notes;
 use audit_cli_client::Request as Remote;
+use audit_cli_host::Notes;
 use audit_cli_store::Request;
 use audit_text::{Shown, number_in_text};
 use std::fmt::{self, Display, Formatter};

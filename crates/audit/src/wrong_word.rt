@@ -2,8 +2,8 @@
 use crate::command::Asked;
 use crate::form::Form;
 use audit_cli_append::Request as Lines;
-use audit_cli_daemon::{Request as Daemon, Settings};
 use audit_cli_client::Request as Remote;
+use audit_cli_daemon::{Request as Daemon, Settings};
 use audit_cli_serve::Request as Serving;
 use audit_cli_store::{Request, Site};
 use audit_log::{MAX_SECTORS, MIN_SECTORS};

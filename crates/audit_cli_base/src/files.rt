@@ -8,7 +8,8 @@ use crate::fault::CommandError;
 use crate::system_use::is_used_by_system;
 use audit_base::are_zero;
 use audit_disk::{
-    FileDisk, FileFault, FileIdentity, OsFile, ReadOnly, SECTOR_SIZE, SectorSource, SystemFile, SystemFiles,
+    FileDisk, FileFault, FileIdentity, OsFile, ReadOnly, SECTOR_SIZE, SectorSource, SystemFile,
+    SystemFiles,
 };
 use audit_disk_model::{DeviceFault, Sectors};
 use audit_log::MAX_SECTORS;

@@ -7,11 +7,11 @@ use crate::out::OutFile;
 use audit_cli_base::{
     CommandError, ProofRequest, is_standard_output, write_exported, write_number,
 };
+use audit_cli_host::Dial;
 use audit_client::{
     AskError, ClientError, Export, Out, close_log, newest_commitment, put_entry, put_export,
     put_increment, put_member,
 };
-use audit_cli_host::Dial;
 use audit_disk::FileIdentity;
 use audit_proof::Commitment;
 use audit_text::{put_line, write_whole};

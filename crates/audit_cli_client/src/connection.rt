@@ -4,8 +4,8 @@ ghost use Rattle.audit_cli_client.specs.Faults.{IsNoConnection};
 
 use crate::fault::RemoteError;
 use crate::line::{Line, Pace};
-use audit_client::ClientError;
 use audit_cli_host::{Dial, dial_within};
+use audit_client::ClientError;
 use audit_disk::FileIdentity;
 use std::fs::{self, Files};
 use std::io::ErrorKind;

@@ -1,8 +1,7 @@
 // The expected values come from an independent model of the sessions, which shares no code with the crates.
 use audit_chain::{Event, Key};
 use audit_disk::{Fuse, MemDisk, Sectors};
-use audit_server_commit::Committer;
-use audit_server_commit::{Query, Question};
+use audit_server_commit::{Committer, Query, Question};
 use audit_store::{Store, StoreError};
 use hex::ToHex;
 use sha2::{Digest, Sha256};

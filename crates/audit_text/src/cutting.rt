@@ -2,9 +2,9 @@
 ghost use Rattle.std.specs.Prelude.{◌≡◌, ◌≤◌, ◌++◌, length, take, IfOk, OnOk};
 ghost use Rattle.audit_text.specs.CutLines.{cut_note, cut_line};
 
-use audit_base::{Hash, MAX_PAYLOAD};
 use crate::output::{push_hex, push_number};
 use crate::split::split_at_first;
+use audit_base::{Hash, MAX_PAYLOAD};
 use sha2::{Digest, Sha256};
 use std::alloc::{AllocError, Global};
 use std::io::{self, ErrorKind, Read};

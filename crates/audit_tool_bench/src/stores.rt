@@ -271,7 +271,10 @@ pub fn hash_messages(lens: &[usize], number: u64) -> u8 {
 }
 
 // Times openings of the store in the file, compared with just reading as many sectors and the SHA-256 blocks.
-fn time_openings<R: SystemFiles + AllocGlobal + Clock + Eprint>(rt: &R, file: &str) -> anyhow::Result<()>
+fn time_openings<R: SystemFiles + AllocGlobal + Clock + Eprint>(
+    rt: &R,
+    file: &str,
+) -> anyhow::Result<()>
 where
     R::File: SystemFile,
 {
@@ -338,7 +341,10 @@ struct Opened {
 }
 
 // Opens the store once, then reads its sectors, then hashes the messages of the opening.
-fn time_opening<R: SystemFiles + AllocGlobal + Clock>(rt: &R, file: &str) -> anyhow::Result<OpeningTimes>
+fn time_opening<R: SystemFiles + AllocGlobal + Clock>(
+    rt: &R,
+    file: &str,
+) -> anyhow::Result<OpeningTimes>
 where
     R::File: SystemFile,
 {
@@ -374,7 +380,11 @@ fn open_disk<R: AllocGlobal + Clock, D: Sectors + Drop>(rt: &R, disk: D) -> anyh
 }
 
 // Times reading every sector below `end`.
-fn time_reads<R: SystemFiles + AllocGlobal + Clock>(rt: &R, file: &str, end: u64) -> anyhow::Result<u128>
+fn time_reads<R: SystemFiles + AllocGlobal + Clock>(
+    rt: &R,
+    file: &str,
+    end: u64,
+) -> anyhow::Result<u128>
 where
     R::File: SystemFile,
 {
