@@ -27,8 +27,8 @@ pub struct Heads {
 
 /// The number of the connection that gets a vacant place, if one does. Places go in the order of acceptance, with two
 /// exceptions. Neither clients that only read nor all others may hold more than `most`; but one of the others that has
-/// hung up, and only has to be read to its end, may take a further one. And nobody gets a place before an earlier client that
-/// has hung up has left, if that one may append: what it had sent comes first.
+/// hung up, and only has to be read to its end, may take a further one. And nobody gets a place before an earlier client
+/// that has hung up has left, if that one may append: what it had sent comes first.
 pub fn next_entry(heads: Heads, taken: Taken) -> Option<usize>
     ensures { result ≡ next_entry heads taken }
 {

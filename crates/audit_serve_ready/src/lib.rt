@@ -3,7 +3,10 @@
 //! A client has a place, which is that of a session, from its coming to its going. In each pass what clients have sent
 //! is read, one piece of each, then the core flushes, and then each client takes what it can of the replies:
 //! [`serve_clients`]. Nobody waits for a client. A stream is a [`ReadyStream`], clients come in by a [`Door`], each with
-//! its [`Rights`](audit_serve_passes::Rights), and what decides on the bytes of the sessions is a [`SessionCore`](audit_serve_passes::SessionCore).
+//! its [`Rights`], and what decides on the bytes of the sessions is a [`SessionCore`].
+//!
+//! [`Rights`]: audit_serve_passes::Rights
+//! [`SessionCore`]: audit_serve_passes::SessionCore
 #![tactic(auto)]
 
 mod backlog;
