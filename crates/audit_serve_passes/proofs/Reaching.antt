@@ -3,15 +3,16 @@ use Rattle.std.proofs.Common.{◌≡◌, ◌≢◌, ◌⊎◌, ℕ, zero, suc, �
 use Rattle.std.proofs.lemmas.Bool.{cases_eq}
 use Rattle.std.proofs.lemmas.List.{append-nil, append_assoc, length-set, map-append}
 use Rattle.audit_serve_passes.specs.declared.limits.TheConstants.{MAX_TURNS}
-use Rattle.audit_serve_passes.specs.Steps.{StepData, an_end, a_flush, IsPartOf, bytes_fed}
-use Rattle.audit_serve_passes.specs.Streams.{StreamCall, StreamModel, IsStreamed, calls_for}
+use Rattle.audit_serve_passes.specs.Steps.{StepData, an_end, a_flush, IsPartOf, bytes_fed, ends_in}
+use Rattle.audit_serve_passes.specs.Streams.{StreamCall, StreamModel, IsStreamed, calls_for, ends_of_calls}
 use Rattle.audit_serve_passes.specs.Core.{CoreModel, GoesBy, no_bytes, bytes_for}
 use Rattle.audit_serve_passes.specs.Rounds.{live_below, AreVisits, AreEndsOfClosed, IsFlushAndEnds, IsPass, ArePasses, IsLastFlush, IsInterrupted, IsStoppedInPass}
-use Rattle.audit_serve_passes.specs.Transition.{Transition, CoreTransition, EndsAs, Reached, SessionReached, CoreReached, IsOneVisit, AreVisitsBelow, AreEndsBelow, IsEndOfClosed, AreTaken, IsStoppedBy, AnySteps, closed_by}
-use Rattle.audit_serve_passes.proofs.StreamSteps.{bytes_of-append, streamed_none, streamed_on}
+use Rattle.audit_serve_passes.specs.Transition.{Transition, CoreTransition, EndsAs, Reached, SessionReached, CoreReached, IsOneVisit, AreVisitsBelow, AreEndsBelow, IsEndOfClosed, AreTaken, AreEndsByCalls, IsRefusedIn, IsStoppedBy, AnySteps, closed_by}
+use Rattle.audit_serve_passes.proofs.StreamSteps.{bytes_of-append, ends_in-append, ends_elsewhere, about_elsewhere, streamed_none, streamed_on}
+use Rattle.audit_serve_passes.proofs.Calls.{calls_here, ends_of-append}
 use Rattle.audit_serve_passes.proofs.Transitions.{none_of_both, no_calls, none_for, streamed_one, bytes_there}
 use Rattle.audit_serve_passes.proofs.Turns.{end_brings_nothing}
-use Rattle.audit_serve_passes.proofs.Runs.{below_more, ends_more, ends_bring, closed_first, closed_later, ends_still, ends_and, flush_still, pass_still, passes_still, one_flush, flushed, ended_still, live_now, pass_then, streamed_after}
+use Rattle.audit_serve_passes.proofs.Runs.{below_more, ends_more, ends_bring, closed_first, closed_later, ends_still, ends_and, flush_still, pass_still, passes_still, one_flush, flushed, ended_still, live_now, pass_then, streamed_after, first_ends}
 
 -- ---- steps up to a refused one
 
@@ -69,6 +70,10 @@ visits_and (k ∷ sessions) more (step ∷ steps) later each also = (each.0, vis
 pub flush_brings_nothing : (part : List StepData) → IsPartOf a_flush part → (k : ℕ) → bytes_fed k part ≡ []
 flush_brings_nothing part (inl none) k = ap (bytes_fed k) none
 flush_brings_nothing part (inr whole) k = ap (bytes_fed k) whole
+
+flush_ends_nothing : (part : List StepData) → IsPartOf a_flush part → (k : ℕ) → ends_in k part ≡ 0
+flush_ends_nothing part (inl none) k = ap (ends_in k) none
+flush_ends_nothing part (inr whole) k = ap (ends_in k) whole
 
 module _ {C : Type 0} (M : CoreModel C) where
   -- ---- consecutive ends of sessions
@@ -183,6 +188,12 @@ module _ {C S : Type 0} (M : CoreModel C) (N : StreamModel S) where
         (first.streamed k none within) (second.streamed k none (omega (arith, within, first.count)));
   }
 
+  -- each end is due to a call, in both parts
+  both_ends : {First Second : (ℕ → List StreamCall) → List StepData → Type 0} (count : ℕ) (old mid new : C) (before between after : List S) → count ≤ length before → (first : Transition M N old mid before between First)
+      → (second : Reached M N mid new between after Second) → AreEndsByCalls count second.calls second.steps → AreEndsByCalls count (λ k. first.calls k ++ second.calls k) (first.steps ++ second.steps)
+  both_ends count old mid new before between after few first second ends = λ k below.
+      omega (arith, ends_in-append k first.steps second.steps, first.ends k (omega (arith, below, few)), ends_of-append (first.calls k) (second.calls k), ends k below)
+
   -- no stream was used
   pub core_reached : {Shape : (ℕ → List StreamCall) → List StepData → Type 0} (old new : C) (streams : List S) → CoreReached M old new (Shape no_calls) → Reached M N old new streams streams Shape
   core_reached old new streams h = record {
@@ -223,9 +234,10 @@ module _ {C S : Type 0} (M : CoreModel C) (N : StreamModel S) where
   -- ---- one session
 
   -- what one session and its stream did, as a part of what all of them did
-  pub session_reached : {Shape : (ℕ → List StreamCall) → List StepData → Type 0} (k : ℕ) (old new : C) (streams : List S) (at after : S) → k < length streams → SessionReached M N k old new (get_or streams k at) after Shape
-      → Reached M N old new streams (set streams k after) Shape
-  session_reached k old new streams at after within t = record {
+  pub session_reached : {Shape : (ℕ → List StreamCall) → List StepData → Type 0} (count k : ℕ) (old new : C) (streams : List S) (at after : S) → k < length streams
+      → SessionReached M N k old new (get_or streams k at) after (λ calls. IsInterrupted (Shape calls))
+      → Reached M N old new streams (set streams k after) (λ calls. IsRefusedIn count (Shape calls) calls)
+  session_reached count k old new streams at after within t = record {
     count = length-set streams k after;
     steps = t.steps;
     taken = bytes_for k t.sent;
@@ -235,79 +247,103 @@ module _ {C S : Type 0} (M : CoreModel C) (N : StreamModel S) where
     refused = k;
     lost = t.lost;
     most = t.most;
-    shape = t.shape;
+    shape = record {
+      refused = t.shape;
+      ends = λ other below. elim (cases_eq other k) [
+        | inl same ↦ subst (λ (j : ℕ). ends_in j t.steps ≤ ends_of_calls (calls_for k t.calls j)) (sym same)
+            (subst (λ (calls : List StreamCall). ends_in k t.steps ≤ ends_of_calls calls) (sym (calls_here k t.calls)) t.ends)
+        | inr apart ↦ omega (arith, ends_elsewhere other t.steps (about_elsewhere k other t.steps apart t.about))
+      ];
+    };
     streamed = λ other none inside. streamed_one k other streams none at after t.steps t.lost t.sent t.calls within t.about t.streamed;
   }
 
   -- ---- consecutive turns of the sessions
 
   pub visits_stopped : (count k : ℕ) (old mid new : C) (before between : List S) (at after : S) → Transition M N old mid before between (λ calls. AreVisitsBelow k (M.ended old [])) → M.ended mid [] k ≡ false
-      → k < length between → k < count → SessionReached M N k mid new (get_or between k at) after (λ calls. IsInterrupted (IsOneVisit k))
-      → Reached M N old new before (set between k after) (λ calls. IsInterrupted (AreVisits (live_below count (M.ended old []))))
-  visits_stopped count k old mid new before between at after first live within below turn =
+      → k < length between → k < count → count ≤ length before → SessionReached M N k mid new (get_or between k at) after (λ calls. IsInterrupted (IsOneVisit k))
+      → Reached M N old new before (set between k after) (IsRefusedIn count (AreVisits (live_below count (M.ended old []))))
+  visits_stopped count k old mid new before between at after first live within below few turn =
       let ended = M.ended old [] in
       let rest = rest_live count (suc k) ended (omega (arith, below)) in
-      let second = session_reached k mid new between at after within turn in
+      let second = session_reached {Shape = λ calls. IsOneVisit k} count k mid new between at after within turn in
       then_reached old mid new before between (set between k after) first second
-      λ turns cut.
-      cut_before (map an_end rest.0) (first.steps ++ second.steps)
+      λ turns cut. record {
+      ends = both_ends count old mid new before between (set between k after) few first second cut.ends;
+      refused = cut_before (map an_end rest.0) (first.steps ++ second.steps)
       (λ all each. subst (λ (sessions : List ℕ). AreVisits sessions (all ++ map an_end rest.0)) (sym rest.1) (visits_and (live_below (suc k) ended) rest.0 all (map an_end rest.0) each (ends_visit rest.0)))
       (cut_after first.steps second.steps
-      (λ all one. (below_more k ended first.steps all (sym (ended_still M old mid first.steps first.taken k first.did (turns.below k (omega arith))) ∙ live) turns one).each) cut)
+      (λ all one. (below_more k ended first.steps all (sym (ended_still M old mid first.steps first.taken k first.did (turns.below k (omega arith))) ∙ live) turns one).each) cut.refused);
+      }
 
-  pub write_stops : (k : ℕ) (old mid new : C) (before between : List S) (at after : S) → Transition M N old mid before between (AreTaken M k mid) → k < length between
+  pub write_stops : (count k : ℕ) (old mid new : C) (before between : List S) (at after : S) → count ≤ length before → Transition M N old mid before between (AreTaken M k old mid) → k < length between
       → SessionReached M N k mid new (get_or between k at) after (λ calls. IsInterrupted (IsEndOfClosed k calls))
-      → Reached M N old new before (set between k after) (λ calls. IsInterrupted (AreEndsOfClosed (closed_by calls)))
-  write_stops k old mid new before between at after first within turn =
-      let second = session_reached k mid new between at after within turn in
+      → Reached M N old new before (set between k after) (λ calls. IsRefusedIn count (AreEndsOfClosed (closed_by calls)) calls)
+  write_stops count k old mid new before between at after few first within turn =
+      let second = session_reached {Shape = IsEndOfClosed k} count k mid new between at after within turn in
       let closed = closed_by (λ (j : ℕ). first.calls j ++ second.calls j) in
       then_reached old mid new before between (set between k after) first second
-      λ taken cut. cut_after first.steps second.steps
+      λ taken cut. record {
+      ends = both_ends count old mid new before between (set between k after) few first second cut.ends;
+      refused = cut_after first.steps second.steps
       (λ all end. subst (λ (rest : List StepData). AreEndsOfClosed closed (first.steps ++ rest)) (sym end.one)
-      (ends_and closed first.steps k (ends_still (closed_by first.calls) closed (closed_first first.calls second.calls) first.steps taken.ends) (closed_later first.calls second.calls k end.closed))) cut
+      (ends_and closed first.steps k (ends_still (closed_by first.calls) closed (closed_first first.calls second.calls) first.steps taken.ends) (closed_later first.calls second.calls k end.closed))) cut.refused;
+      }
 
   -- ---- a flush, a pass
 
-  pub flush_refused : (old new : C) (streams : List S) → GoesBy M a_flush old new → Reached M N old new streams streams (λ calls. IsInterrupted (IsFlushAndEnds (closed_by calls)))
-  flush_refused old new streams goes = core_reached old new streams (record {
+  pub flush_refused : (count : ℕ) (old new : C) (streams : List S) → GoesBy M a_flush old new → Reached M N old new streams streams (λ calls. IsRefusedIn count (IsFlushAndEnds (closed_by calls)) calls)
+  flush_refused count old new streams goes = core_reached old new streams (record {
     steps = goes.0;
     taken = no_bytes;
     reaches = goes.2;
     none = λ k. refl;
     brings = flush_brings_nothing goes.0 goes.1;
-    shape = record { front = []; step = a_flush; part = goes.0; later = []; are = refl; of = goes.1; shape = one_flush (closed_by no_calls) };
+    shape = record {
+      refused = record { front = []; step = a_flush; part = goes.0; later = []; are = refl; of = goes.1; shape = one_flush (closed_by no_calls) };
+      ends = λ k below. omega (arith, flush_ends_nothing goes.0 goes.1 k);
+    };
   })
 
-  pub flush_stopped : (old mid new : C) (before after : List S) → M.DidSteps old mid (a_flush ∷ []) no_bytes → Reached M N mid new before after (λ calls. IsInterrupted (AreEndsOfClosed (closed_by calls)))
-      → Reached M N old new before after (λ calls. IsInterrupted (IsFlushAndEnds (closed_by calls)))
-  flush_stopped old mid new before after did second =
+  pub flush_stopped : (count : ℕ) (old mid new : C) (before after : List S) → count ≤ length before → M.DidSteps old mid (a_flush ∷ []) no_bytes
+      → Reached M N mid new before after (λ calls. IsRefusedIn count (AreEndsOfClosed (closed_by calls)) calls) → Reached M N old new before after (λ calls. IsRefusedIn count (IsFlushAndEnds (closed_by calls)) calls)
+  flush_stopped count old mid new before after few did second =
       let first = flushed M N old mid before did in
       then_reached old mid new before before after first second
-      λ one cut. cut_after first.steps second.steps (λ all each. record { ends = all; are = ap (λ (front : List StepData). front ++ all) one; each = each }) cut
+      λ one cut. record {
+        refused = cut_after first.steps second.steps (λ all each. record { ends = all; are = ap (λ (front : List StepData). front ++ all) one; each = each }) cut.refused;
+        ends = both_ends count old mid new before before after few first second cut.ends;
+      }
 
-  pub pass_in_visits : (count : ℕ) (old new : C) (before after : List S) → Reached M N old new before after (λ calls. IsInterrupted (AreVisits (live_below count (M.ended old []))))
-      → Reached M N old new before after (λ calls. IsInterrupted (IsPass count (M.ended old []) (closed_by calls)))
+  pub pass_in_visits : (count : ℕ) (old new : C) (before after : List S) → Reached M N old new before after (IsRefusedIn count (AreVisits (live_below count (M.ended old []))))
+      → Reached M N old new before after (λ calls. IsRefusedIn count (IsPass count (M.ended old []) (closed_by calls)) calls)
   pass_in_visits count old new before after h =
       reached_as old new before after
-      (λ calls steps cut. cut_before (a_flush ∷ []) steps (λ all each. record { turns = all; last = a_flush ∷ []; are = refl; each = each; flush = one_flush (closed_by calls) }) cut) h
+      (λ calls steps cut. record {
+        refused = cut_before (a_flush ∷ []) steps (λ all each. record { turns = all; last = a_flush ∷ []; are = refl; each = each; flush = one_flush (closed_by calls) }) cut.refused;
+        ends = cut.ends;
+      }) h
 
-  pub pass_in_flush : (count : ℕ) (old mid new : C) (before between after : List S) → Transition M N old mid before between (λ calls. AreVisitsBelow count (M.ended old []))
-      → Reached M N mid new between after (λ calls. IsInterrupted (IsFlushAndEnds (closed_by calls))) → Reached M N old new before after (λ calls. IsInterrupted (IsPass count (M.ended old []) (closed_by calls)))
-  pass_in_flush count old mid new before between after first second =
+  pub pass_in_flush : (count : ℕ) (old mid new : C) (before between after : List S) → count ≤ length before → Transition M N old mid before between (λ calls. AreVisitsBelow count (M.ended old []))
+      → Reached M N mid new between after (λ calls. IsRefusedIn count (IsFlushAndEnds (closed_by calls)) calls) → Reached M N old new before after (λ calls. IsRefusedIn count (IsPass count (M.ended old []) (closed_by calls)) calls)
+  pass_in_flush count old mid new before between after few first second =
       let closed = closed_by (λ (j : ℕ). first.calls j ++ second.calls j) in
       then_reached old mid new before between after first second
-      λ turns cut. cut_after first.steps second.steps
-      (λ all flush. record { turns = first.steps; last = all; are = refl; each = turns.each; flush = flush_still (closed_by second.calls) closed (closed_later first.calls second.calls) all flush }) cut
+      λ turns cut. record {
+        refused = cut_after first.steps second.steps
+            (λ all flush. record { turns = first.steps; last = all; are = refl; each = turns.each; flush = flush_still (closed_by second.calls) closed (closed_later first.calls second.calls) all flush }) cut.refused;
+        ends = both_ends count old mid new before between after few first second cut.ends;
+      }
 
   -- ---- passes, and what follows them
 
-  pub passes_stopped : (count whole turns : ℕ) (old mid new : C) (before between after : List S) → turns ≡ suc whole → Transition M N old mid before between (λ calls. ArePasses count (M.ended old) (closed_by calls) whole)
-      → live_below count (M.ended mid []) ≢ [] → Reached M N mid new between after (λ calls. IsInterrupted (IsPass count (M.ended mid []) (closed_by calls)))
-      → Reached M N old new before after (λ calls. IsStoppedInPass count (M.ended old) (closed_by calls) turns)
-  passes_stopped count whole turns old mid new before between after begun first some second =
+  pub passes_stopped : (count whole turns : ℕ) (old mid new : C) (before between after : List S) → count ≤ length before → turns ≡ suc whole → Transition M N old mid before between (λ calls. ArePasses count (M.ended old) (closed_by calls) whole)
+      → live_below count (M.ended mid []) ≢ [] → Reached M N mid new between after (λ calls. IsRefusedIn count (IsPass count (M.ended mid []) (closed_by calls)) calls)
+      → Reached M N old new before after (λ calls steps. IsStoppedInPass count (M.ended old) (closed_by calls) turns steps × AreEndsByCalls count calls steps)
+  passes_stopped count whole turns old mid new before between after few begun first some second =
       let closed = closed_by (λ (j : ℕ). first.calls j ++ second.calls j) in
       then_reached old mid new before between after first second
-      λ rounds cut. record {
+      λ rounds cut. (record {
         earlier = first.steps;
         last = second.steps;
         are = refl;
@@ -316,18 +352,18 @@ module _ {C S : Type 0} (M : CoreModel C) (N : StreamModel S) where
         each = passes_still count (M.ended old) (closed_by first.calls) closed (closed_first first.calls second.calls) whole first.steps rounds;
         live = λ none. some (live_now M old mid first.steps first.taken count first.did ∙ none);
         pass = cut_as second.steps (λ all pass. pass_still count (M.ended old first.steps) (closed_by second.calls) closed (closed_later first.calls second.calls) all
-            (pass_then M N count old mid first.steps first.taken (closed_by second.calls) all first.did pass)) cut;
-      }
+            (pass_then M N count old mid first.steps first.taken (closed_by second.calls) all first.did pass)) cut.refused;
+      }, both_ends count old mid new before between after few first second cut.ends)
 
   -- a step after the passes was refused
-  pub after_stopped : (count turns : ℕ) (old mid new : C) (before between after : List S) → Transition M N old mid before between (λ calls. ArePasses count (M.ended old) (closed_by calls) turns)
+  pub after_stopped : (count turns : ℕ) (old mid new : C) (before between after : List S) → count ≤ length before → Transition M N old mid before between (λ calls. ArePasses count (M.ended old) (closed_by calls) turns)
       → (live_below count (M.ended mid []) ≡ []) ⊎ (turns ≡ MAX_TURNS) → Reached M N mid new between after (λ calls. IsInterrupted (IsLastFlush count (M.ended mid []) (closed_by calls)))
       → Reached M N old new before after (IsStoppedBy M count turns old)
-  after_stopped count turns old mid new before between after first over second =
+  after_stopped count turns old mid new before between after few first over second =
       let closed = closed_by (λ (j : ℕ). first.calls j ++ second.calls j) in
       let same = live_now M old mid first.steps first.taken count first.did in
       then_reached old mid new before between after first second
-      λ rounds cut. inr (record {
+      λ rounds cut. inr ((record {
         rounds = first.steps;
         last = second.steps;
         are = refl;
@@ -338,7 +374,7 @@ module _ {C S : Type 0} (M : CoreModel C) (N : StreamModel S) where
           are = last.are ∙ ap (λ (sessions : List ℕ). map an_end sessions ++ last.last) same;
           flush = flush_still (closed_by second.calls) closed (closed_later first.calls second.calls) last.last last.flush;
         }) cut;
-      })
+      }, first_ends M N count old mid before between first second.calls few))
 
   pub ends_stopped : (count : ℕ) (old new : C) (streams : List S) → CoreReached M old new (IsInterrupted (λ steps. steps ≡ map an_end (live_below count (M.ended old []))))
       → Reached M N old new streams streams (λ calls. IsInterrupted (IsLastFlush count (M.ended old []) (closed_by calls)))
@@ -347,8 +383,8 @@ module _ {C S : Type 0} (M : CoreModel C) (N : StreamModel S) where
       (λ calls steps cut. cut_before (a_flush ∷ []) steps (λ all are. record { last = a_flush ∷ []; are = ap (λ (front : List StepData). front ++ a_flush ∷ []) are; flush = one_flush (closed_by calls) }) cut)
       (core_reached {Shape = λ calls. IsInterrupted (λ steps. steps ≡ map an_end (live_below count (M.ended old [])))} old new streams h)
 
-  pub last_stopped : (count : ℕ) (old mid new : C) (before after : List S) → CoreTransition M old mid (AreEndsBelow count (M.ended old [])) → Reached M N mid new before after (λ calls. IsInterrupted (IsFlushAndEnds (closed_by calls)))
+  pub last_stopped : (count : ℕ) (old mid new : C) (before after : List S) → CoreTransition M old mid (AreEndsBelow count (M.ended old [])) → Reached M N mid new before after (λ calls. IsRefusedIn count (IsFlushAndEnds (closed_by calls)) calls)
       → Reached M N old new before after (λ calls. IsInterrupted (IsLastFlush count (M.ended old []) (closed_by calls)))
   last_stopped count old mid new before after first second =
       ends_then old mid new before after count (M.ended old []) first second
-      λ cut. cut_after first.steps second.steps (λ all flush. record { last = all; are = ap (λ (front : List StepData). front ++ all) first.shape.each; flush = flush }) cut
+      λ cut. cut_after first.steps second.steps (λ all flush. record { last = all; are = ap (λ (front : List StepData). front ++ all) first.shape.each; flush = flush }) cut.refused

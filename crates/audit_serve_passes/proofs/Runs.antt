@@ -2,14 +2,15 @@
 use Rattle.std.proofs.Common.{◌≡◌, ◌≢◌, ◌⊎◌, ℕ, zero, suc, ◌<◌, ◌≤◌, Bool, true, false, ◌||◌, cond, List, [], ◌∷◌, ◌++◌, length, map, set, get_or, refl, sym, ap, subst, ◌∙◌, arith, inl, inr, true≢false}
 use Rattle.std.proofs.lemmas.Bool.{cases_eq, cases_lt}
 use Rattle.std.proofs.lemmas.List.{append-nil, map-append}
+use Rattle.audit_base.specs.declared.limits.TheConstants.{SESSIONS}
 use Rattle.audit_serve_passes.specs.declared.limits.TheConstants.{MAX_TURNS}
-use Rattle.audit_serve_passes.specs.Steps.{StepData, a_piece, an_end, a_flush, IsAbout, bytes_fed}
-use Rattle.audit_serve_passes.specs.Streams.{StreamCall, StreamModel, IsStreamed, has_failed_write}
+use Rattle.audit_serve_passes.specs.Steps.{StepData, a_piece, an_end, a_flush, IsAbout, bytes_fed, ends_in}
+use Rattle.audit_serve_passes.specs.Streams.{StreamCall, StreamModel, IsStreamed, has_failed_write, ends_of_calls}
 use Rattle.audit_serve_passes.specs.Core.{CoreModel, no_bytes}
 use Rattle.audit_serve_passes.specs.Rounds.{live_below, IsVisit, AreVisits, AreClosed, AreEndsOfClosed, IsFlushAndEnds, IsPass, ArePasses}
-use Rattle.audit_serve_passes.specs.Transition.{Transition, SessionTransition, CoreTransition, EndsAs, IsOneVisit, AreElsewhere, AreVisitsBelow, AreEndsBelow, IsOutputTaken, AreTaken, IsFlushStep, IsServed, IsCut, NoneClosed, closed_by}
+use Rattle.audit_serve_passes.specs.Transition.{Transition, SessionTransition, CoreTransition, EndsAs, IsOneVisit, AreElsewhere, AreVisitsBelow, AreEndsBelow, IsOutputTaken, AreTaken, IsFlushStep, IsServed, IsCut, AreEndsByCalls, closed_by}
 use Rattle.audit_serve_passes.specs.CallLaws.{failed-append}
-use Rattle.audit_serve_passes.proofs.Calls.{or_left, or_right}
+use Rattle.audit_serve_passes.proofs.Calls.{or_left, or_right, ends_of-append}
 use Rattle.audit_serve_passes.proofs.StreamSteps.{elsewhere-append, streamed_none, streamed_on}
 use Rattle.audit_serve_passes.proofs.Transitions.{none_of_both, no_calls, goes_nowhere, goes_on, session_goes, ended_elsewhere}
 
@@ -97,20 +98,6 @@ closed_first calls later k is = failed-append (calls k) (later k) ∙ or_left (h
 
 pub closed_later : (calls later : ℕ → List StreamCall) (k : ℕ) → closed_by later k ≡ true → closed_by (λ j. calls j ++ later j) k ≡ true
 closed_later calls later k is = failed-append (calls k) (later k) ∙ or_right (has_failed_write (calls k)) (has_failed_write (later k)) is
-
-no_first : (x y : Bool) → (x || y) ≡ false → x ≡ false
-no_first true y none = absurd (true≢false none)
-no_first false y none = refl
-
-no_second : (x y : Bool) → (x || y) ≡ false → y ≡ false
-no_second true y none = absurd (true≢false none)
-no_second false y none = none
-
-pub none_first : (calls later : ℕ → List StreamCall) → NoneClosed (λ j. calls j ++ later j) → NoneClosed calls
-none_first calls later none k = no_first (has_failed_write (calls k)) (has_failed_write (later k)) (sym (failed-append (calls k) (later k)) ∙ none k)
-
-pub none_later : (calls later : ℕ → List StreamCall) → NoneClosed (λ j. calls j ++ later j) → NoneClosed later
-none_later calls later none k = no_second (has_failed_write (calls k)) (has_failed_write (later k)) (sym (failed-append (calls k) (later k)) ∙ none k)
 
 closed_still : (closed now : ℕ → Bool) → ((k : ℕ) → closed k ≡ true → now k ≡ true) → (sessions : List ℕ) → AreClosed closed sessions → AreClosed now sessions
 closed_still closed now still [] each = tt
@@ -215,33 +202,34 @@ module _ {C S : Type 0} (M : CoreModel C) (N : StreamModel S) where
 
   -- ---- consecutive writes
 
-  pub none_taken : (core : C) (streams : List S) → Transition M N core core streams streams (AreTaken M 0 core)
-  none_taken core streams = goes_nowhere core streams (record { ends = no_ends_of (closed_by no_calls); empty = λ none k within. absurd (omega (arith, within)) })
+  pub none_taken : (core : C) (streams : List S) → Transition M N core core streams streams (AreTaken M 0 core core)
+  none_taken core streams = goes_nowhere core streams (record { ends = no_ends_of (closed_by no_calls); waiting = omega arith; empty = λ few k within. absurd (omega (arith, within)) })
 
   -- the output of one more session
-  taken_and : (k : ℕ) (mid new : C) (calls later : ℕ → List StreamCall) (steps more : List StepData) → AreTaken M k mid calls steps → IsOutputTaken M k mid new later more
-      → AreTaken M (suc k) new (λ j. calls j ++ later j) (steps ++ more)
-  taken_and k mid new calls later steps more taken one = record {
+  taken_and : (k : ℕ) (old mid new : C) (calls later : ℕ → List StreamCall) (steps more : List StepData) → AreTaken M k old mid calls steps → IsOutputTaken M k mid new later more
+      → AreTaken M (suc k) old new (λ j. calls j ++ later j) (steps ++ more)
+  taken_and k old mid new calls later steps more taken one = record {
     ends =
         let before = ends_still (closed_by calls) (closed_by (λ j. calls j ++ later j)) (closed_first calls later) steps taken.ends in
         elim one.ends [
           | inl none ↦ subst (λ (all : List StepData). AreEndsOfClosed (closed_by (λ j. calls j ++ later j)) all) (sym (ap (λ (rest : List StepData). steps ++ rest) none ∙ append-nil steps)) before
           | inr end ↦ subst (λ (rest : List StepData). AreEndsOfClosed (closed_by (λ j. calls j ++ later j)) (steps ++ rest)) (sym end.one) (ends_and (closed_by (λ j. calls j ++ later j)) steps k before (closed_later calls later k end.closed))
         ];
-    empty = λ none other below.
-        let now = none_later calls later none k in
+    waiting = omega (arith, taken.waiting, one.waiting);
+    empty = λ few other below.
+        let room : M.waiting mid < SESSIONS = omega (arith, few, taken.waiting) in
         elim (cases_eq other k) [
-          | inl same ↦ ap (M.output new) same ∙ one.empty now
-          | inr apart ↦ one.others now other apart ∙ taken.empty (none_first calls later none) other (omega (arith, below, apart))
+          | inl same ↦ ap (M.output new) same ∙ one.empty room
+          | inr apart ↦ one.others room other apart ∙ taken.empty (omega (arith, few)) other (omega (arith, below, apart))
         ];
   }
 
-  pub take_more : (k : ℕ) (old mid new : C) (before between : List S) (at after : S) → Transition M N old mid before between (AreTaken M k mid)
+  pub take_more : (k : ℕ) (old mid new : C) (before between : List S) (at after : S) → Transition M N old mid before between (AreTaken M k old mid)
       → k < length between → SessionTransition M N k mid new (get_or between k at) after (IsOutputTaken M k mid new)
-      → Transition M N old new before (set between k after) (AreTaken M (suc k) new)
+      → Transition M N old new before (set between k after) (AreTaken M (suc k) old new)
   take_more k old mid new before between at after first within turn =
       let second = session_goes k between at after within turn in
-      goes_on first second λ taken one. taken_and k mid new first.calls second.calls first.steps second.steps taken one
+      goes_on first second λ taken one. taken_and k old mid new first.calls second.calls first.steps second.steps taken one
 
   -- ---- a flush, a pass
 
@@ -258,12 +246,12 @@ module _ {C S : Type 0} (M : CoreModel C) (N : StreamModel S) where
     ends = λ k within. refl;
   }
 
-  pub flush_then : (count : ℕ) (old mid new : C) (before after : List S) → M.DidSteps old mid (a_flush ∷ []) no_bytes → Transition M N mid new before after (AreTaken M count new)
+  pub flush_then : (count : ℕ) (old mid new : C) (before after : List S) → count ≤ SESSIONS → M.DidSteps old mid (a_flush ∷ []) no_bytes → M.Idle mid → Transition M N mid new before after (AreTaken M count mid new)
       → Transition M N old new before after (IsFlushStep M count new)
-  flush_then count old mid new before after did taken =
+  flush_then count old mid new before after few did idle taken =
       goes_on (flushed old mid before did) taken λ one rest. record {
         one = record { ends = taken.steps; are = ap (λ (front : List StepData). front ++ taken.steps) one; each = rest.ends };
-        empty = rest.empty;
+        empty = rest.empty (omega (arith, few, M.none_waits mid idle));
       }
 
   pub one_round : (count : ℕ) (old mid new : C) (before between after : List S) → Transition M N old mid before between (λ calls. AreVisitsBelow count (M.ended old []))
@@ -321,7 +309,7 @@ module _ {C S : Type 0} (M : CoreModel C) (N : StreamModel S) where
           all_ended = sym (live_now M old mid first.steps first.taken count first.did) ∙ none;
           flush = flush_still (closed_by second.calls) (closed_by (λ k. first.calls k ++ second.calls k)) (closed_later first.calls second.calls) second.steps last.one;
         };
-        empty = λ still. last.empty (none_later first.calls second.calls still);
+        empty = last.empty;
       }
 
   -- steps that feed nothing, followed by others
@@ -331,10 +319,15 @@ module _ {C S : Type 0} (M : CoreModel C) (N : StreamModel S) where
       subst (λ (front : List ℕ). IsStreamed N k (steps ++ later) lost (front ++ more) calls before after) (sym nothing)
       (streamed_on N k steps later lost [] more [] calls before before after (streamed_none N k steps before none) h)
 
-  pub cut_run : (count : ℕ) (old mid over new : C) (before between after : List S) → Transition M N old mid before between (λ calls. ArePasses count (M.ended old) (closed_by calls) MAX_TURNS)
+  -- in the first steps each end is due to a call, whatever calls follow
+  pub first_ends : {Shape : (ℕ → List StreamCall) → List StepData → Type 0} (count : ℕ) (old mid : C) (before between : List S) (first : Transition M N old mid before between Shape) (later : ℕ → List StreamCall) → count ≤ length before
+      → AreEndsByCalls count (λ k. first.calls k ++ later k) first.steps
+  first_ends count old mid before between first later few = λ k below. omega (arith, first.ends k (omega (arith, below, few)), ends_of-append (first.calls k) (later k))
+
+  pub cut_run : (count : ℕ) (old mid over new : C) (before between after : List S) → count ≤ length before → Transition M N old mid before between (λ calls. ArePasses count (M.ended old) (closed_by calls) MAX_TURNS)
       → live_below count (M.ended mid []) ≢ [] → CoreTransition M mid over (AreEndsBelow count (M.ended mid [])) → Transition M N over new between after (IsFlushStep M count new)
       → EndsAs M N old new before after (IsCut M count old new)
-  cut_run count old mid over new before between after first some ends second =
+  cut_run count old mid over new before between after few first some ends second =
       let same = live_now M old mid first.steps first.taken count first.did in
       let later = M.more_done mid over new ends.steps second.steps ends.taken second.taken ends.did second.did in
       let calls = λ (k : ℕ). first.calls k ++ second.calls k in
@@ -359,7 +352,8 @@ module _ {C S : Type 0} (M : CoreModel C) (N : StreamModel S) where
               flush = flush_still (closed_by second.calls) (closed_by calls) (closed_later first.calls second.calls) second.steps second.shape.one;
             };
           };
-          empty = λ still. second.shape.empty (none_later first.calls second.calls still);
+          ends = first_ends count old mid before between first second.calls few;
+          empty = second.shape.empty;
         };
         streamed = λ k none within.
             streamed_on N k first.steps (ends.steps ++ second.steps) [] (first.taken k) (ends.taken k ++ second.taken k) (first.calls k) (second.calls k) (get_or before k none) (get_or between k none) (get_or after k none)

@@ -2,12 +2,14 @@
 use Rattle.std.proofs.Common.{◌≡◌, ◌⊎◌, ℕ, ◌+◌, ◌<◌, ◌≤◌, true, false, eqb, cond, List, [], ◌∷◌, ◌++◌, length, take, Result, Ok, Err, IsOk, OnOk, OnErr, refl, sym, ap, subst, ◌∙◌, arith, inl, inr, true≢false}
 use Rattle.std.proofs.lemmas.Bool.{eq-eqb, cond-true}
 use Rattle.std.proofs.lemmas.List.{append-nil, length-take-le, length-append}
+use Rattle.audit_base.specs.declared.limits.TheConstants.{SESSIONS}
 use Rattle.audit_serve_passes.specs.declared.limits.TheConstants.{MAX_PIECE}
 use Rattle.audit_serve_passes.specs.declared.stream_fault.StreamError.{StreamError}
 use Rattle.audit_serve_passes.specs.Steps.{StepData, a_piece, an_end, AreAbout, IsPartOf, bytes_fed, ends_in}
 use Rattle.audit_serve_passes.specs.Rounds.{IsInterrupted}
 use Rattle.audit_serve_passes.specs.Streams.{StreamCall, a_read, a_failed_read, a_write, a_failed_write, read_call, write_call, StreamModel, IsStreamed, ends_of_call, ends_of_calls, has_failed_write, calls_for}
 use Rattle.audit_serve_passes.specs.Core.{CoreModel, GoesBy, no_bytes, bytes_for}
+use Rattle.audit_serve_passes.specs.Ending.{EndsQuietly}
 use Rattle.audit_serve_passes.specs.Transition.{SessionTransition, SessionReached, IsOneVisit, IsOutputTaken, IsEndOfClosed, closed_by}
 use Rattle.audit_serve_passes.proofs.Calls.{calls_here}
 use Rattle.audit_serve_passes.proofs.Transitions.{no_bytes_for}
@@ -23,6 +25,10 @@ on_err (Err error) f p = f p
 pub if_err : {A E : Type 0} {P : Type 0} (result : Result A E) → P → OnErr result P
 if_err (Ok value) p = tt
 if_err (Err error) p = p
+
+on_both : {E : Type 0} (P Q : Type 0) (result : Result (Unit {0}) E) → OnOk result P → OnOk result Q → OnOk result (P × Q)
+on_both P Q (Ok unit) p q = (p, q)
+on_both P Q (Err error) p q = tt
 
 pub bytes_then_none : (k : ℕ) (bytes : List ℕ) → (λ (session : ℕ). bytes_for k bytes session ++ no_bytes session) ≡ bytes_for k bytes
 bytes_then_none k bytes = λ i session. append-nil (bytes_for k bytes session) i
@@ -47,6 +53,11 @@ some_read (byte ∷ bytes) some = refl
 pub end_brings_nothing : (session : ℕ) (part : List StepData) → IsPartOf (an_end session) part → BringNothing part
 end_brings_nothing session part (inl none) k = ap (bytes_fed k) none
 end_brings_nothing session part (inr whole) k = ap (bytes_fed k) whole
+
+-- a part of an end is at most one
+part_ends : (k : ℕ) (part : List StepData) → IsPartOf (an_end k) part → ends_in k part ≤ 1
+part_ends k part (inl none) = omega (arith, ap (ends_in k) none)
+part_ends k part (inr whole) = omega (arith, ap (ends_in k) whole, one_end k)
 
 end_about : (k : ℕ) (part : List StepData) → IsPartOf (an_end k) part → AreAbout k part
 end_about k part (inl none) = subst (AreAbout k) (sym none) tt
@@ -191,6 +202,7 @@ module _ {C S : Type 0} (M : CoreModel C) (N : StreamModel S) where
           shape = (a_piece k piece, refl, (refl, omega (arith, long, some), omega (arith, long, within, most)));
         };
         streamed = piece_lost N k piece before after read;
+        ends = omega arith;
       }
   piece_stopped k count buffer old new before after read within some most (part, inr (front, rest, split, is), goes) =
       let piece = take count buffer in
@@ -213,6 +225,7 @@ module _ {C S : Type 0} (M : CoreModel C) (N : StreamModel S) where
           shape = (a_piece k piece, refl, (refl, omega (arith, long, some), omega (arith, long, within, most)));
         };
         streamed = front_streamed N k piece front rest before after read split;
+        ends = omega arith;
       }
 
   pub end_stopped : (k : ℕ) (buffer : List ℕ) (old new : C) (before after : S) (given : Result ℕ StreamError) → N.calls.DidCalls before after (read_call given buffer ∷ [])
@@ -227,38 +240,40 @@ module _ {C S : Type 0} (M : CoreModel C) (N : StreamModel S) where
     most = omega arith;
     shape = record { front = []; step = an_end k; part = goes.0; later = []; are = refl; of = goes.1; shape = (an_end k, refl, refl) };
     streamed = end_streamed N k goes.0 (read_call given buffer) before after (end_brings_nothing k goes.0 goes.1 k) (end_call given buffer none) read;
+    ends = omega (arith, part_ends k goes.0 goes.1, end_of_call (read_call given buffer) (end_call given buffer none));
   }
 
   -- ---- writes
 
   -- a stream that is closed: the output is dropped
   pub dropped_turn : (k : ℕ) (bytes : List ℕ) (old new : C) (stream : S) → N.closed stream ≡ true → M.DidSteps old new [] (bytes_for k bytes)
-      → ((other : ℕ) → (other ≡ k → ⊥) → M.output new other ≡ M.output old other) → M.output new k ≡ [] → SessionTransition M N k old new stream stream (IsOutputTaken M k old new)
-  dropped_turn k bytes old new stream closed did others empty = record {
+      → ((other : ℕ) → (other ≡ k → ⊥) → M.output new other ≡ M.output old other) → M.output new k ≡ [] → M.waiting new ≤ M.waiting old
+      → SessionTransition M N k old new stream stream (IsOutputTaken M k old new)
+  dropped_turn k bytes old new stream closed did others empty waits = record {
     steps = [];
     sent = bytes;
     calls = [];
     did = did;
     about = tt;
-    shape = record { ends = inl refl; empty = λ none. empty; others = λ none. others };
+    shape = record { ends = inl refl; waiting = omega (arith, waits); empty = λ room. empty; others = λ room. others };
     streamed = dropped_streamed N k bytes stream closed;
     ends = refl;
   }
 
   pub written_turn : (k : ℕ) (bytes : List ℕ) (old new : C) (before after : S) (given : Result (Unit {0}) StreamError) → IsOk given → N.closed before ≡ false → N.calls.DidCalls before after (write_call given bytes ∷ [])
-      → M.DidSteps old new [] (bytes_for k bytes) → ((other : ℕ) → (other ≡ k → ⊥) → M.output new other ≡ M.output old other) → M.output new k ≡ []
+      → M.DidSteps old new [] (bytes_for k bytes) → ((other : ℕ) → (other ≡ k → ⊥) → M.output new other ≡ M.output old other) → M.output new k ≡ [] → M.waiting new ≤ M.waiting old
       → SessionTransition M N k old new before after (IsOutputTaken M k old new)
-  written_turn k bytes old new before after (Ok unit) ok now write did others empty = record {
+  written_turn k bytes old new before after (Ok unit) ok now write did others empty waits = record {
     steps = [];
     sent = bytes;
     calls = a_write bytes ∷ [];
     did = did;
     about = tt;
-    shape = record { ends = inl refl; empty = λ none. empty; others = λ none. others };
+    shape = record { ends = inl refl; waiting = omega (arith, waits); empty = λ room. empty; others = λ room. others };
     streamed = written_streamed N k bytes before after now write;
     ends = refl;
   }
-  written_turn k bytes old new before after (Err fault) ok now write did others empty = absurd (true≢false (sym ok))
+  written_turn k bytes old new before after (Err fault) ok now write did others empty waits = absurd (true≢false (sym ok))
 
   failed_here : (k : ℕ) (bytes : List ℕ) → closed_by (calls_for k (a_failed_write bytes ∷ [])) k ≡ true
   failed_here k bytes = ap has_failed_write (calls_here k (a_failed_write bytes ∷ []))
@@ -266,10 +281,14 @@ module _ {C S : Type 0} (M : CoreModel C) (N : StreamModel S) where
   -- a write that failed: the session is ended
   pub failed_turn : {E : Type 0} (k : ℕ) (bytes : List ℕ) (old mid new : C) (before after : S) (given : Result (Unit {0}) StreamError) (result : Result (Unit {0}) E) → (IsOk given → ⊥) → N.closed before ≡ false
       → N.calls.DidCalls before after (write_call given bytes ∷ []) → M.DidSteps old mid [] (bytes_for k bytes)
-      → OnOk result (M.DidSteps mid new (an_end k ∷ []) no_bytes) → OnOk result (SessionTransition M N k old new before after (IsOutputTaken M k old new))
-  failed_turn k bytes old mid new before after (Ok unit) result bad now write taken = absurd (bad refl)
-  failed_turn k bytes old mid new before after (Err fault) result bad now write taken =
-      on_ok result λ did. record {
+      → ((other : ℕ) → (other ≡ k → ⊥) → M.output mid other ≡ M.output old other) → M.output mid k ≡ [] → M.waiting mid ≤ M.waiting old
+      → OnOk result (M.DidSteps mid new (an_end k ∷ []) no_bytes) → OnOk result (EndsQuietly M mid new) → OnOk result (SessionTransition M N k old new before after (IsOutputTaken M k old new))
+  failed_turn k bytes old mid new before after (Ok unit) result bad now write taken others empty waits done quiet = absurd (bad refl)
+  failed_turn k bytes old mid new before after (Err fault) result bad now write taken others empty waits done quiet =
+      on_ok result (λ both.
+      let did = both.0 in
+      let ends : EndsQuietly M mid new = both.1 in
+      record {
         steps = an_end k ∷ [];
         sent = bytes;
         calls = a_failed_write bytes ∷ [];
@@ -277,12 +296,13 @@ module _ {C S : Type 0} (M : CoreModel C) (N : StreamModel S) where
         about = (refl, tt);
         shape = record {
           ends = inr (record { one = refl; closed = failed_here k bytes });
-          empty = λ none. absurd (true≢false (sym (failed_here k bytes) ∙ none));
-          others = λ none. absurd (true≢false (sym (failed_here k bytes) ∙ none));
+          waiting = omega (arith, waits, ends.waiting);
+          empty = λ room. ends.outputs (omega (arith, waits, room)) k ∙ empty;
+          others = λ room other apart. ends.outputs (omega (arith, waits, room)) other ∙ others other apart;
         };
         streamed = failed_streamed N k (an_end k ∷ []) bytes before after refl now write;
         ends = one_end k;
-      }
+      }) (on_both (M.DidSteps mid new (an_end k ∷ []) no_bytes) (EndsQuietly M mid new) result done quiet)
 
   pub failed_stopped : (k : ℕ) (bytes : List ℕ) (old mid new : C) (before after : S) (given : Result (Unit {0}) StreamError) → (IsOk given → ⊥) → N.closed before ≡ false → N.calls.DidCalls before after (write_call given bytes ∷ [])
       → M.DidSteps old mid [] (bytes_for k bytes) → GoesBy M (an_end k) mid new → SessionReached M N k old new before after (λ calls. IsInterrupted (IsEndOfClosed k calls))
@@ -297,4 +317,5 @@ module _ {C S : Type 0} (M : CoreModel C) (N : StreamModel S) where
     most = omega arith;
     shape = record { front = []; step = an_end k; part = goes.0; later = []; are = refl; of = goes.1; shape = record { one = refl; closed = failed_here k bytes } };
     streamed = failed_streamed N k goes.0 bytes before after (end_brings_nothing k goes.0 goes.1 k) now write;
+    ends = omega (arith, part_ends k goes.0 goes.1);
   }

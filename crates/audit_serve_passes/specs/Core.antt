@@ -20,6 +20,8 @@ pub record CoreModel (C : Type 0) : Type 1 where
   -- the most bytes that a session may be sent for what it has asked: those that wait for it, and the longest replies to
   -- its requests that wait to be answered
   pub owed : C → ℕ → ℕ
+  -- how many requests wait to be answered
+  pub waiting : C → ℕ
   -- how many requests of a session these bytes complete
   pub requests : C → ℕ → List ℕ → ℕ
   -- the longest reply to a request, and what a session is sent if the end of its stream cuts a request off
@@ -47,6 +49,7 @@ pub record CoreModel (C : Type 0) : Type 1 where
   -- a session that is started anew doesn't change whether another has ended
   pub begun_alone : (old new : C) (k other : ℕ) (rights : Rights) → Begins k rights old new → (other ≡ k → ⊥)
       → ended new [] other ≡ ended old [] other
+  pub none_waits : (core : C) → Idle core → waiting core ≡ 0
   -- if nothing waits to be answered, a session is owed what waits for it
   pub owed_idle : (core : C) (k : ℕ) → Idle core → owed core k ≡ length (output core k)
   pub done_in_part : (old new : C) (steps : List StepData) (taken : ℕ → List ℕ) → DidSteps old new steps taken

@@ -6,6 +6,7 @@ pub mod Known
 pub mod CallLaws
 pub mod Core
 pub mod Owing
+pub mod Ending
 pub mod Rounds
 pub mod Transition
 pub mod Pairs

@@ -3,7 +3,7 @@ ghost use Rattle.audit_base.specs.declared.limits.TheConstants.{SESSIONS};
 ghost use Rattle.audit_serve_passes.specs.declared.limits.TheConstants.{MAX_PIECE};
 ghost use Rattle.audit_serve_passes.specs.Rounds.{live_below, AreVisits, IsInterrupted};
 ghost use Rattle.audit_serve_passes.specs.Transition.{Transition, SessionTransition, Reached, SessionReached};
-ghost use Rattle.audit_serve_passes.specs.Transition.{IsOneVisit, AreVisitsBelow};
+ghost use Rattle.audit_serve_passes.specs.Transition.{IsOneVisit, AreVisitsBelow, IsRefusedIn};
 
 use crate::session_core::SessionCore;
 use crate::session_stream::SessionStream;
@@ -41,7 +41,8 @@ pub fn read_turns<C: SessionCore, S: SessionStream>(
     requires room { 0 < length buffer.old }
     requires most { length buffer.old ≤ MAX_PIECE }
     ensures stopped { OnErr result (Reached C.model S.model core.old core.new streams.old streams.new
-        (λ calls. IsInterrupted (AreVisits (live_below (length streams.old) (C.model.ended core.old []))))) }
+        (IsRefusedIn (length streams.old)
+        (AreVisits (live_below (length streams.old) (C.model.ended core.old []))))) }
     ensures refused { IfErr result (C.refuses core.old core.new) }
     ensures done { OnOk result (Transition C.model S.model core.old core.new streams.old streams.new
         (λ calls. AreVisitsBelow (length streams.old) (C.model.ended core.old []))) }

@@ -4,7 +4,7 @@ ghost use Rattle.audit_serve_passes.specs.declared.limits.TheConstants.{MAX_PIEC
 ghost use Rattle.audit_serve_passes.specs.Steps.{an_end};
 ghost use Rattle.audit_serve_passes.specs.Rounds.{live_below, IsPass, ArePasses, IsInterrupted, IsStoppedInPass};
 ghost use Rattle.audit_serve_passes.specs.Transition.{Transition, CoreTransition, Reached, CoreReached, closed_by};
-ghost use Rattle.audit_serve_passes.specs.Transition.{AreEndsBelow};
+ghost use Rattle.audit_serve_passes.specs.Transition.{AreEndsBelow, AreEndsByCalls, IsRefusedIn};
 
 use crate::limits::MAX_TURNS;
 use crate::reading::read_turns;
@@ -53,7 +53,8 @@ fn serve_round<C: SessionCore, S: SessionStream>(
     requires room { 0 < length buffer.old }
     requires most { length buffer.old ≤ MAX_PIECE }
     ensures stopped { OnErr result (Reached C.model S.model core.old core.new streams.old streams.new
-        (λ calls. IsInterrupted (IsPass (length streams.old) (C.model.ended core.old []) (closed_by calls)))) }
+        (λ calls. IsRefusedIn (length streams.old)
+        (IsPass (length streams.old) (C.model.ended core.old []) (closed_by calls)) calls)) }
     ensures refused { IfErr result (C.refuses core.old core.new) }
     ensures done { OnOk result (Transition C.model S.model core.old core.new streams.old streams.new
         (λ calls. IsPass (length streams.old) (C.model.ended core.old []) (closed_by calls))) }
@@ -74,7 +75,8 @@ pub fn serve_passes<C: SessionCore, S: SessionStream>(
     requires most { length buffer.old ≤ MAX_PIECE }
     ensures most { turns.new ≤ MAX_TURNS }
     ensures stopped { OnErr result (Reached C.model S.model core.old core.new streams.old streams.new
-        (λ calls. IsStoppedInPass (length streams.old) (C.model.ended core.old) (closed_by calls) turns.new)) }
+        (λ calls steps. IsStoppedInPass (length streams.old) (C.model.ended core.old) (closed_by calls) turns.new steps
+        × AreEndsByCalls (length streams.old) calls steps)) }
     ensures refused { IfErr result (C.refuses core.old core.new) }
     ensures done { OnOk result (Transition C.model S.model core.old core.new streams.old streams.new
         (λ calls. ArePasses (length streams.old) (C.model.ended core.old) (closed_by calls) turns.new)) }

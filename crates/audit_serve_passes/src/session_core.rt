@@ -3,6 +3,7 @@ ghost use Rattle.audit_base.specs.declared.limits.TheConstants.{SESSIONS};
 ghost use Rattle.audit_serve_passes.specs.Steps.{StepData, a_piece, an_end, a_flush};
 ghost use Rattle.audit_serve_passes.specs.Core.{CoreModel, GoesBy, no_bytes, bytes_for};
 ghost use Rattle.audit_serve_passes.specs.Owing.{OwesNoMore, OwesWithin, OwesAtEnd, IsBeyondAllowance};
+ghost use Rattle.audit_serve_passes.specs.Ending.{EndsQuietly};
 
 use crate::allowance::Allowance;
 use crate::rights::Rights;
@@ -59,6 +60,8 @@ pub trait SessionCore {
         ensures did { OnOk result (model.DidSteps self.old self.new (an_end session ∷ []) no_bytes) }
         ensures over { OnOk result (model.ended self.new [] session ≡ true) }
         ensures owes { OnOk result (OwesAtEnd model session self.old self.new) }
+        // No other client's output is changed by it.
+        ensures quiet { OnOk result (EndsQuietly model self.old self.new) }
         ensures refused { IfErr result (refuses self.old self.new) };
 
     /// Commits and answers what waits.
@@ -76,6 +79,7 @@ pub trait SessionCore {
         ensures did { model.DidSteps self.old self.new [] (bytes_for session result.items) }
         ensures empty { model.output self.new session ≡ [] }
         ensures idle { model.Idle self.old → model.Idle self.new }
+        ensures waiting { model.waiting self.new ≤ model.waiting self.old }
         ensures others { (other : ℕ) → (other ≡ session → ⊥)
             → model.output self.new other ≡ model.output self.old other };
 

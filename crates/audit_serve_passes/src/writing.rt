@@ -3,6 +3,7 @@ ghost use Rattle.audit_base.specs.declared.limits.TheConstants.{SESSIONS};
 ghost use Rattle.audit_serve_passes.specs.Rounds.{AreEndsOfClosed, IsFlushAndEnds, IsInterrupted};
 ghost use Rattle.audit_serve_passes.specs.Transition.{Transition, SessionTransition, Reached, SessionReached};
 ghost use Rattle.audit_serve_passes.specs.Transition.{IsOutputTaken, IsEndOfClosed, AreTaken, IsFlushStep, closed_by};
+ghost use Rattle.audit_serve_passes.specs.Transition.{IsRefusedIn};
 
 use crate::session_core::SessionCore;
 use crate::session_stream::SessionStream;
@@ -35,10 +36,10 @@ pub fn write_turns<C: SessionCore, S: SessionStream>(
 ) -> Result<(), C::Error>
     requires { length streams.old ≤ SESSIONS }
     ensures stopped { OnErr result (Reached C.model S.model core.old core.new streams.old streams.new
-        (λ calls. IsInterrupted (AreEndsOfClosed (closed_by calls)))) }
+        (λ calls. IsRefusedIn (length streams.old) (AreEndsOfClosed (closed_by calls)) calls)) }
     ensures refused { IfErr result (C.refuses core.old core.new) }
     ensures done { OnOk result (Transition C.model S.model core.old core.new streams.old streams.new
-        (AreTaken C.model (length streams.old) core.new)) }
+        (AreTaken C.model (length streams.old) core.old core.new)) }
 {
     for session in 0..streams.len() {
         write_turn(core, session, &mut streams[session])?;
@@ -53,7 +54,7 @@ pub fn flush_and_write<C: SessionCore, S: SessionStream>(
 ) -> Result<(), C::Error>
     requires { length streams.old ≤ SESSIONS }
     ensures stopped { OnErr result (Reached C.model S.model core.old core.new streams.old streams.new
-        (λ calls. IsInterrupted (IsFlushAndEnds (closed_by calls)))) }
+        (λ calls. IsRefusedIn (length streams.old) (IsFlushAndEnds (closed_by calls)) calls)) }
     ensures refused { IfErr result (C.refuses core.old core.new) }
     ensures done { OnOk result (Transition C.model S.model core.old core.new streams.old streams.new
         (IsFlushStep C.model (length streams.old) core.new)) }

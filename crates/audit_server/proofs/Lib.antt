@@ -16,3 +16,4 @@ pub mod Running
 pub mod Answering
 pub mod Living
 pub mod Rights
+pub mod Quiet

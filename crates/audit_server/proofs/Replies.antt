@@ -5,7 +5,7 @@ use Rattle.audit_disk_model.specs.declared.sectors.Sectors as sectors
 use Rattle.audit_server_commit.specs.Arrivals.{Arrival, forces_flush}
 use Rattle.audit_server_commit.specs.Replies.{all_delivered, append_replies}
 use Rattle.audit_server_commit.specs.Admission.{append_verdicts}
-use Rattle.audit_server_commit.proofs.Sending.{all_delivered-append}
+use Rattle.audit_server_commit.proofs.Sending.{all_delivered-append, whole-append}
 use Rattle.audit_server_commit.specs.declared.question.Question.{Question}
 use Rattle.audit_store.specs.Store.{active_header}
 use Rattle.audit_store.specs.declared.store_error.StoreError.{StoreError}
@@ -24,15 +24,20 @@ module _ {D : Type 0} {g : sectors.Ghosts D} where
   -- ---- whole replies
 
   pub adds_none : (old : Committer D g) → AddsReplies old old
-  adds_none old = ([], refl)
+  adds_none old = ([], tt, refl)
 
   pub adds_more : (old mid new : Committer D g) → AddsReplies old mid → AddsReplies mid new → AddsReplies old new
-  adds_more old mid new first next = (first.0 ++ next.0, next.1 ∙ ap (λ outputs. all_delivered outputs next.0) first.1 ∙ sym (all_delivered-append (outputs_of old) first.0 next.0))
+  adds_more old mid new first next = (
+    first.0 ++ next.0,
+    whole-append first.0 next.0 first.1 next.1,
+    next.2 ∙ ap (λ outputs. all_delivered outputs next.0) first.2 ∙ sym (all_delivered-append (outputs_of old) first.0 next.0),
+  )
 
   pub flush_adds : (old new : Committer D g) (rest : List Question) → IsFlushed old new rest → AddsReplies old new
   flush_adds old new rest flushed =
       let replies = append_replies flushed.appends.outcome (active_header (store_of old)).count (append_verdicts (reserve_of old) (closed_of old) (free_of old) (waiting_of old).appends) (waiting_of old).appends in (
         replies ++ flushed.questions.sent,
+        whole-append replies flushed.questions.sent flushed.appends.whole flushed.questions.whole,
         flushed.questions.outputs_are
             ∙ ap (λ outputs. all_delivered outputs flushed.questions.sent) flushed.appends.outputs_are
             ∙ sym (all_delivered-append (outputs_of old) replies flushed.questions.sent),
@@ -40,21 +45,21 @@ module _ {D : Type 0} {g : sectors.Ghosts D} where
 
   ready_adds : (full : Bool) (old new : Committer D g) → IsReady full old new (Ok tt) → AddsReplies old new
   ready_adds true old new ready = flush_adds old new [] ready
-  ready_adds false old new same = ([], ap outputs_of same)
+  ready_adds false old new same = ([], tt, ap outputs_of same)
 
   entered_adds : (arrival : Arrival) (old new : Committer D g) → HasEntered arrival old new → AddsReplies old new
   entered_adds arrival old new entered =
       let ready = ready_adds (forces_flush (waiting_of old) arrival) old entered.ready entered.flushed in
-      (ready.0, entered.waits.outputs ∙ ready.1)
+      (ready.0, ready.1, entered.waits.outputs ∙ ready.2)
 
   pub all_add : (arrivals : List Arrival) (old new : Committer D g) → HaveEntered arrivals old new → AddsReplies old new
-  all_add [] old new same = ([], ap outputs_of same)
+  all_add [] old new same = ([], tt, ap outputs_of same)
   all_add (arrival ∷ arrivals) old new all = adds_more old all.0 new (entered_adds arrival old all.0 all.1) (all_add arrivals all.0 new all.2)
 
   -- ---- a fault of the device
 
   dropped : (old new : Committer D g) → IsDropped old new → IsBrokenByDevice old new
-  dropped old new is = record { broken = is.lost.broken; dropped = is.waiting; outputs = ([], is.outputs) }
+  dropped old new is = record { broken = is.lost.broken; dropped = is.waiting; outputs = ([], tt, is.outputs) }
 
   -- earlier replies stay
   pub broken_after : (old mid new : Committer D g) → AddsReplies old mid → IsBrokenByDevice mid new → IsBrokenByDevice old new

@@ -5,7 +5,7 @@ use Rattle.std.proofs.lemmas.List.{get_or-set_other}
 use Rattle.audit_disk_model.specs.declared.sectors.Sectors as sectors
 use Rattle.audit_store.specs.declared.store_error.StoreError.{StoreError}
 use Rattle.audit_wire.specs.declared.limits.TheConstants.{MAX_MEMBERSHIP_FRAME, REFUSAL_FRAME}
-use Rattle.audit_server_commit.specs.Waiting.{Waiting, nothing_waits}
+use Rattle.audit_server_commit.specs.Waiting.{Waiting, nothing_waits, items_waiting}
 use Rattle.audit_server_commit.specs.LongestReplies.{owed_for_waiting}
 use Rattle.audit_server_commit.specs.Owing.{owed_of}
 use Rattle.audit_server_commit.specs.Committer.{waiting_of, outputs_of}
@@ -49,6 +49,8 @@ module _ {D : Type 0} {g : sectors.Ghosts D} where
     more_done = λ old mid new steps later taken more first next. served_more (data_of old) (data_of mid)
         (data_of new) first next;
     owed = λ core k. owed_of k (committer_of core);
+    waiting = λ core. items_waiting (waiting_of (committer_of core));
+    none_waits = λ core idle. ap items_waiting idle;
     requests = λ core k bytes. length (arrivals_by_piece k bytes (session_at k (sessions_of core)));
     longest = MAX_MEMBERSHIP_FRAME;
     refusal = REFUSAL_FRAME;

@@ -4,7 +4,7 @@ use Rattle.audit_disk_model.specs.declared.sectors.Sectors as sectors
 use Rattle.audit_chain.specs.Event.{EventData}
 use Rattle.audit_store_layout.specs.Origin.{Origin}
 use Rattle.audit_server_commit.specs.Waiting.{Append, nothing_waits}
-use Rattle.audit_server_commit.specs.Replies.{Sent, all_delivered}
+use Rattle.audit_server_commit.specs.Replies.{Sent, all_delivered, AreWhole}
 use Rattle.audit_server_commit.specs.GroupCommit.{ServerState}
 use Rattle.audit_server_commit.specs.Arrivals.{Arrival, appends_among, all_entered}
 use Rattle.audit_store.specs.Store.{device, is_broken, Holds}
@@ -23,9 +23,9 @@ module _ {D : Type 0} {g : sectors.Ghosts D} where
   HaveEntered (arrival ∷ arrivals) old new = (mid : Committer D g) × HasEntered arrival old mid
       × HaveEntered arrivals mid new
 
-  -- on any device: whole replies were appended to the outputs
+  -- on any device: whole replies, which can be read back, were appended to the outputs
   abbrev pub AddsReplies : Committer D g → Committer D g → Type 0
-  AddsReplies old new = (sent : List Sent) × (outputs_of new ≡ all_delivered (outputs_of old) sent)
+  AddsReplies old new = (sent : List Sent) × AreWhole sent × (outputs_of new ≡ all_delivered (outputs_of old) sent)
 
   -- On any device: a device fault broke the store in a commit. What waited is dropped, and the outputs lose nothing.
   pub record IsBrokenByDevice (old new : Committer D g) : Type 0 where

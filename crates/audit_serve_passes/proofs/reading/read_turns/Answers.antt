@@ -1,4 +1,4 @@
-use Rattle.std.proofs.Common.{◌≡◌, ◌<◌, ℕ, suc, [], length, true, false, sym, subst, rules, add-one}
+use Rattle.std.proofs.Common.{◌≡◌, ◌<◌, ℕ, suc, [], length, true, false, sym, subst, rules, add-one, arith}
 use Rattle.audit_serve_passes.specs.Transition.{Transition, AreVisitsBelow}
 use Rattle.audit_serve_passes.proofs.Runs.{no_turns, turn_more, turn_skipped}
 use Rattle.audit_serve_passes.proofs.Turns.{if_err}
@@ -18,7 +18,7 @@ returns-in_err-read_turn-clause-stopped g c =
     let live : M.ended l.core [] l.session ≡ false = search rules in
     if_err c.from_residual.result
     (visits_stopped M g.S.SessionStream.model (length c.args.streams.now) l.session c.args.core.now l.core c.read_turn.new.core c.args.streams.now l.streams c.index-streams-session.result c.read_turn.new.stream
-    l.invariant live within below c.in_err-read_turn.ensures.stopped)
+    l.invariant live within below (omega arith) c.in_err-read_turn.ensures.stopped)
 
 pub loop-session-preserved : goal.loop-session-preserved
 loop-session-preserved g c =

@@ -1,6 +1,6 @@
-use Rattle.std.proofs.Common.{◌≡◌, ◌≢◌, ℕ, ◌+◌, [], length, refl, sym, subst, rules, add-one}
-use Rattle.audit_serve_passes.specs.Rounds.{live_below, IsPass, ArePasses, IsInterrupted}
-use Rattle.audit_serve_passes.specs.Transition.{Transition, Reached, closed_by}
+use Rattle.std.proofs.Common.{◌≡◌, ◌≢◌, ℕ, ◌+◌, [], length, refl, sym, subst, rules, add-one, arith}
+use Rattle.audit_serve_passes.specs.Rounds.{live_below, IsPass, ArePasses}
+use Rattle.audit_serve_passes.specs.Transition.{Transition, Reached, IsRefusedIn, closed_by}
 use Rattle.audit_serve_passes.proofs.Runs.{no_rounds, round_more}
 use Rattle.audit_serve_passes.proofs.Turns.{if_err}
 use Rattle.audit_serve_passes.proofs.Reaching.{passes_stopped}
@@ -18,8 +18,8 @@ returns-in_err-serve_round-clause-stopped g c =
     let same : length l.streams ≡ count = search rules in
     let some : live_below count (M.ended l.core []) ≢ [] = subst (λ (n : ℕ). live_below n (M.ended l.core []) ≢ []) same (search rules) in
     if_err c.from_residual.result
-    (passes_stopped M N count l.round (l.round + 1) c.args.core.now l.core c.serve_round.new.core c.args.streams.now l.streams c.serve_round.new.streams (add-one l.round) l.invariant.1 some
-    (subst (λ (n : ℕ). Reached M N l.core c.serve_round.new.core l.streams c.serve_round.new.streams (λ calls. IsInterrupted (IsPass n (M.ended l.core []) (closed_by calls)))) same c.in_err-serve_round.ensures.stopped))
+    (passes_stopped M N count l.round (l.round + 1) c.args.core.now l.core c.serve_round.new.core c.args.streams.now l.streams c.serve_round.new.streams (omega arith) (add-one l.round) l.invariant.1 some
+    (subst (λ (n : ℕ). Reached M N l.core c.serve_round.new.core l.streams c.serve_round.new.streams (λ calls. IsRefusedIn n (IsPass n (M.ended l.core []) (closed_by calls)) calls)) same c.in_err-serve_round.ensures.stopped))
 
 pub loop-round-preserved : goal.loop-round-preserved
 loop-round-preserved g c =

@@ -1,7 +1,7 @@
-use Rattle.std.proofs.Common.{◌≡◌, ◌≢◌, ◌⊎◌, ℕ, [], true≢false, length, sym, subst, ◌∙◌, rules, inl}
+use Rattle.std.proofs.Common.{◌≡◌, ◌≢◌, ◌⊎◌, ℕ, [], true≢false, length, sym, subst, ◌∙◌, rules, arith, inl}
 use Rattle.audit_serve_passes.specs.declared.limits.TheConstants.{MAX_TURNS}
-use Rattle.audit_serve_passes.specs.Rounds.{live_below, ArePasses, IsInterrupted, IsLastFlush}
-use Rattle.audit_serve_passes.specs.Transition.{Transition, CoreTransition, Reached, AreEndsBelow, IsFlushStep, closed_by}
+use Rattle.audit_serve_passes.specs.Rounds.{live_below, ArePasses, IsInterrupted, IsFlushAndEnds, IsLastFlush}
+use Rattle.audit_serve_passes.specs.Transition.{Transition, CoreTransition, Reached, AreEndsBelow, IsFlushStep, IsRefusedIn, closed_by}
 use Rattle.audit_serve_passes.proofs.Runs.{whole_run, cut_run, all_rounds, over_rounds}
 use Rattle.audit_serve_passes.proofs.Turns.{if_err}
 use Rattle.audit_serve_passes.proofs.Reaching.{reached_as, after_stopped, ends_stopped, last_stopped, none_ended}
@@ -27,7 +27,7 @@ returns-in_err-end_live-clause-stopped g c =
     let same : length between ≡ count = search rules in
     let over : (live_below count (M.ended mid []) ≡ []) ⊎ (c.serve_passes.new.turns ≡ MAX_TURNS) = over_rounds M count c.serve_passes.new.turns mid c.serve_passes.ensures.most c.in_ok-serve_passes.ensures.all in
     if_err c.from_residual-in_err-end_live.result
-    (after_stopped M N count c.serve_passes.new.turns c.args.core.now mid c.end_live.new.core c.args.streams.now between between c.in_ok-serve_passes.ensures.done over
+    (after_stopped M N count c.serve_passes.new.turns c.args.core.now mid c.end_live.new.core c.args.streams.now between between (omega arith) c.in_ok-serve_passes.ensures.done over
     (subst (λ (n : ℕ). Reached M N mid c.end_live.new.core between between (λ calls. IsInterrupted (IsLastFlush n (M.ended mid []) (closed_by calls)))) same
     (ends_stopped M N (length between) mid c.end_live.new.core between c.in_err-end_live.ensures.stopped)))
 
@@ -51,8 +51,9 @@ returns-in_err-flush_and_write-clause-stopped g c =
           (none_ended M count mid (subst (λ (n : ℕ). live_below n (M.ended mid []) ≡ []) same (c.has_live-cut.ensures.none w.if-cut.false)))
     ] in
     if_err c.from_residual-in_err-flush_and_write.result
-    (after_stopped M N count c.serve_passes.new.turns c.args.core.now mid new c.args.streams.now between after c.in_ok-serve_passes.ensures.done over
-    (last_stopped M N count mid c.if-cut.core new between after ends c.in_err-flush_and_write.ensures.stopped))
+    (after_stopped M N count c.serve_passes.new.turns c.args.core.now mid new c.args.streams.now between after (omega arith) c.in_ok-serve_passes.ensures.done over
+    (last_stopped M N count mid c.if-cut.core new between after ends
+    (subst (λ (n : ℕ). Reached M N c.if-cut.core new between after (λ calls. IsRefusedIn n (IsFlushAndEnds (closed_by calls)) calls)) same c.in_err-flush_and_write.ensures.stopped)))
 
 -- ---- the end
 
@@ -96,6 +97,6 @@ returns-clause-cut g c =
       | then-cut+in_ok-end_live w ↦
           let ends : CoreTransition M mid w.end_live.new.core (AreEndsBelow count (M.ended mid [])) =
           subst (λ (n : ℕ). CoreTransition M mid w.end_live.new.core (AreEndsBelow n (M.ended mid []))) same w.in_ok-end_live.ensures.done in
-          (turns, cut_run M N count c.args.core.now mid w.end_live.new.core new begun between after rounds some ends (subst (λ core. Transition M N core new between after (IsFlushStep M count new)) w.core-is flush))
+          (turns, cut_run M N count c.args.core.now mid w.end_live.new.core new begun between after (omega arith) rounds some ends (subst (λ core. Transition M N core new between after (IsFlushStep M count new)) w.core-is flush))
       | else-cut w ↦ absurd (true≢false (sym cut ∙ w.if-cut.false))
     ]

@@ -16,7 +16,7 @@ returns-clause-done g c =
     let write : N.calls.DidCalls before after (write_call c.write_all.result output ∷ []) =
     subst (λ (bytes : List ℕ). N.calls.DidCalls before after (write_call c.write_all.result bytes ∷ [])) c.deref.ensures.value c.write_all.ensures in
     failed_turn M N c.args.session output c.args.core.now c.take_output-output.new.self c.end.new.self before after c.write_all.result c.end.result (λ ok. search (rules, ok)) now write
-    c.take_output-output.ensures.did c.end.ensures.did
+    c.take_output-output.ensures.did c.take_output-output.ensures.others c.take_output-output.ensures.empty c.take_output-output.ensures.waiting c.end.ensures.did c.end.ensures.quiet
 
 pub returns-clause-stopped : goal.returns-clause-stopped
 returns-clause-stopped g c =
@@ -44,10 +44,10 @@ returns-then-is_closed-clause-done g c =
     elim c.then-is_closed.branch [
       | then-is_closed-via-then-is_closed w ↦
           subst (λ stream. SessionTransition M N c.args.session old new before stream (IsOutputTaken M c.args.session old new)) (sym w.stream-is)
-          (dropped_turn M N c.args.session output old new before (search (rules, w)) taken.did taken.others taken.empty)
+          (dropped_turn M N c.args.session output old new before (search (rules, w)) taken.did taken.others taken.empty taken.waiting)
       | then-is_closed-via-else-is_closed+then-is_ok w ↦
           let after = w.write_all.new.self in
           subst (λ stream. SessionTransition M N c.args.session old new before stream (IsOutputTaken M c.args.session old new)) (sym w.stream-is)
           (written_turn M N c.args.session output old new before after w.write_all.result (search (rules, w)) (search (rules, w))
-          (subst (λ (bytes : List ℕ). N.calls.DidCalls before after (write_call w.write_all.result bytes ∷ [])) w.deref.ensures.value w.write_all.ensures) taken.did taken.others taken.empty)
+          (subst (λ (bytes : List ℕ). N.calls.DidCalls before after (write_call w.write_all.result bytes ∷ [])) w.deref.ensures.value w.write_all.ensures) taken.did taken.others taken.empty taken.waiting)
     ]
