@@ -1,5 +1,6 @@
 -- Serving a store by a new core.
-use Rattle.std.proofs.Common.{◌≡◌, ◌⊎◌, ◌∙◌, inl, inr, ℕ, Option, Some, Result, Ok, Err, List, [], ◌∷◌, ◌++◌, length, refl, sym, ap, subst}
+use Rattle.std.proofs.Common.{◌≡◌, ◌⊎◌, ◌∙◌, inl, inr, ℕ, ◌≤◌, ◌+◌, Option, Some, Result, Ok, Err, OnErr, List, [], ◌∷◌, ◌++◌, length, map, refl, sym, ap, subst, arith}
+use Rattle.std.proofs.lemmas.List.{append-nil, map-append, length-append, length-map}
 use Rattle.std.specs.List.{AllByRecursion}
 use Rattle.std.specs.Prelude.{OnOk}
 use Rattle.audit_disk_model.specs.declared.sectors.Sectors as sectors
@@ -15,11 +16,12 @@ use Rattle.audit_server.specs.Core.{committer_of, data_of, Refuses}
 use Rattle.audit_server.specs.CoreModel.{core_model}
 use Rattle.audit_serve_passes.specs.Steps.{StepData}
 use Rattle.audit_serve_passes.specs.Streams.{CallModel}
-use Rattle.audit_serve_passes.specs.Pairs.{duplex_model}
+use Rattle.audit_serve_passes.specs.Pairs.{duplex_model, inner_of, IsNewDuplex}
 use Rattle.audit_serve_passes.specs.declared.duplex_stream.DuplexStream.{DuplexStream}
 use Rattle.audit_serve_passes.specs.declared.serve_end.ServeFault.{ServeFault}
 use Rattle.audit_serve_passes.specs.declared.serve_end.ServeFault.TheVariants as serving
 use Rattle.audit_serve_passes.specs.Transition.{Transition, EndsAs, Reached, IsServed, IsCut, AnySteps}
+use Rattle.audit_serve_sockets.specs.Listening.{ListenerModel, accepted_by}
 use Rattle.audit_serve_sockets.specs.Looping.{BringsLines, LoopTransition, LoopReached}
 use Rattle.audit_serve_sockets.specs.declared.loop_fault.LoopError.{LoopError}
 use Rattle.audit_serve_sockets.specs.declared.loop_fault.LoopError.TheVariants as looping
@@ -30,7 +32,7 @@ use Rattle.audit_cli_serve.specs.declared.fault.ServingError.{ServingError}
 use Rattle.audit_cli_serve.specs.declared.fault.ServingError.TheVariants.{Command, BadFrameLine}
 use Rattle.audit_cli_serve.specs.Faults.{of_serving, of_loop}
 use Rattle.audit_server.specs.NewCore.{IsNewCore}
-use Rattle.audit_cli_serve.specs.Served.{LoopsOver, ServesRound, ServesRounds, LoopReachesOver, ReachesByRound, HasArrived, IsLineLost, HasRefused, StopsRound, StopsLoop}
+use Rattle.audit_cli_serve.specs.Served.{LoopsOver, ServesRound, ServesRounds, LoopReachesOver, ReachesByRound, IsOpen, AreAccepted, AreLetGo, IsNotBegun, IsLineLost, HasRefused, StopsRound, StopsLoop}
 
 -- no other fault is reported as a line that spells no bytes
 pub bad_of_loop : (fault : LoopError StoreError) (number : ℕ) → of_loop fault ≡ BadFrameLine number → fault ≡ looping.BadLine number
@@ -93,55 +95,87 @@ pub all_and : {X : Type 0} (P : X → Type 0) (xs : List X) (x : X) → AllByRec
 all_and P [] x each one = (one, tt)
 all_and P (first ∷ xs) x each one = (each.0, all_and P xs x each.1 one)
 
--- ---- rounds
+-- ---- the connections of a round
 
-module _ {D : Type 0} {g : sectors.Ghosts D} {T : Type 0} (M : CallModel T) (Arrived : T → Type 0) where
-  -- one more round
-  pub rounds_more : (sessions turns : ℕ) (before : List ℕ) (old mid new : Store D g) → ServesRounds M Arrived sessions before old mid → ServesRound M Arrived sessions turns mid new
-      → ServesRounds M Arrived sessions (before ++ turns ∷ []) old new
-  rounds_more sessions turns [] old mid new same round = (new, subst (λ (store : Store D g). ServesRound M Arrived sessions turns store new) same round, refl)
-  rounds_more sessions turns (first ∷ before) old mid new h round = (h.0, h.1, rounds_more sessions turns before h.0 mid new h.2 round)
+module _ {T L : Type 0} (N : ListenerModel L T) where
+  pub none_yet : (socket : L) → AreAccepted N 0 socket socket []
+  none_yet socket = record { each = refl; accepted = N.none_accepted socket; sound = tt }
 
-  pub round_served : (old new : Store D g) (core last : Core D g) (sessions turns : ℕ) (streams later : List (DuplexStream T)) → IsNewCore 0 old core → new ≡ store_of (committer_of last) → length streams ≡ sessions
-      → AllByRecursion (HasArrived Arrived) streams → Transition core_model (duplex_model M) core last streams later (IsServed core_model (length streams) turns core last) → ServesRound M Arrived sessions turns old new
-  round_served old new core last sessions turns streams later made left each accepted run = record {
-    core = core;
-    made = made;
-    last = last;
-    left = left;
-    streams = streams;
-    later = later;
-    each = each;
-    accepted = accepted;
-    run = subst (λ (count : ℕ). Transition core_model (duplex_model M) core last streams later (IsServed core_model count turns core last)) each run;
+  pub one_more : (count : ℕ) (before between after : L) (streams : List (DuplexStream T)) (connection : T) (stream : DuplexStream T) → AreAccepted N count before between streams → N.Accepted between after (connection ∷ [])
+      → IsNewDuplex connection stream → AreAccepted N (count + 1) before after (streams ++ stream ∷ [])
+  one_more count before between after streams connection stream so_far next new = record {
+    each = length-append streams (stream ∷ []) ∙ ap (λ (n : ℕ). n + 1) so_far.each;
+    accepted = subst (N.Accepted before after) (ap (λ (one : T). map inner_of streams ++ one ∷ []) (sym new.inner_is) ∙ sym (map-append inner_of streams (stream ∷ [])))
+        (N.more_accepted before between after (map inner_of streams) (connection ∷ []) so_far.accepted next);
+    sound = all_and IsOpen streams stream so_far.sound new.closed;
   }
 
-  pub round_reached : (old new : Store D g) (core last : Core D g) (sessions : ℕ) (streams later : List (DuplexStream T)) → IsNewCore 0 old core → new ≡ store_of (committer_of last) → length streams ≡ sessions
-      → AllByRecursion (HasArrived Arrived) streams → Reached core_model (duplex_model M) core last streams later AnySteps → ReachesByRound M Arrived sessions old new
-  round_reached old new core last sessions streams later made left each accepted run = record {
+  -- The round doesn't begin if a further connection can't be accepted.
+  pub gone_at_a_fault : {A F : Type 0} (count most : ℕ) (before between after : L) (streams : List (DuplexStream T)) (result : Result A F) → count ≤ most → AreAccepted N count before between streams → N.Accepted between after [] → OnErr result (AreLetGo N most before after)
+  gone_at_a_fault count most before between after streams (Ok value) few so_far none = tt
+  gone_at_a_fault count most before between after streams (Err fault) few so_far none = record {
+    gone = map inner_of streams;
+    most = omega (arith, few, so_far.each, length-map streams inner_of);
+    accepted = subst (N.Accepted before after) (append-nil (map inner_of streams)) (N.more_accepted before between after (map inner_of streams) [] so_far.accepted none);
+  }
+
+  pub none_gone : (most : ℕ) (socket : L) → AreLetGo N most socket socket
+  none_gone most socket = record { gone = []; most = omega arith; accepted = N.none_accepted socket }
+
+-- ---- rounds
+
+module _ {D : Type 0} {g : sectors.Ghosts D} {T L : Type 0} (M : CallModel T) (N : ListenerModel L T) where
+  -- one more round
+  pub rounds_more : (sessions turns : ℕ) (earlier : List ℕ) (old mid new : Store D g) (before between after : L) → ServesRounds M N sessions earlier old mid before between
+      → ServesRound M N sessions turns mid new between after → ServesRounds M N sessions (earlier ++ turns ∷ []) old new before after
+  rounds_more sessions turns [] old mid new before between after same round = (
+    new,
+    after,
+    subst (λ (store : Store D g). ServesRound M N sessions turns store new before after) same.0
+        (subst (λ (socket : L). ServesRound M N sessions turns mid new socket after) same.1 round),
+    (refl, refl),
+  )
+  rounds_more sessions turns (first ∷ earlier) old mid new before between after h round =
+      (h.0, h.1, h.2, rounds_more sessions turns earlier h.0 mid new h.1 between after h.3 round)
+
+  pub round_served : (old new : Store D g) (before after : L) (core last : Core D g) (sessions turns : ℕ) (streams later : List (DuplexStream T)) → IsNewCore 0 old core → new ≡ store_of (committer_of last)
+      → AreAccepted N sessions before after streams → Transition core_model (duplex_model M) core last streams later (IsServed core_model (length streams) turns core last)
+      → ServesRound M N sessions turns old new before after
+  round_served old new before after core last sessions turns streams later made left accepted run = record {
     core = core;
     made = made;
     last = last;
     left = left;
     streams = streams;
     later = later;
-    each = each;
+    accepted = accepted;
+    run = subst (λ (count : ℕ). Transition core_model (duplex_model M) core last streams later (IsServed core_model count turns core last)) accepted.each run;
+  }
+
+  pub round_reached : (old new : Store D g) (before after : L) (core last : Core D g) (sessions : ℕ) (streams later : List (DuplexStream T)) → IsNewCore 0 old core → new ≡ store_of (committer_of last)
+      → AreAccepted N sessions before after streams → Reached core_model (duplex_model M) core last streams later AnySteps → ReachesByRound M N sessions old new before after
+  round_reached old new before after core last sessions streams later made left accepted run = record {
+    core = core;
+    made = made;
+    last = last;
+    left = left;
+    streams = streams;
+    later = later;
     accepted = accepted;
     run = run;
   }
 
   -- not every session has a stream
-  pub streams_refused : (sessions : ℕ) (store : Store D g) (fault : ServingError) → (fault ≡ Command (Refused Memory)) ⊎ (fault ≡ Command File) → StopsRound M Arrived sessions store store fault
-  streams_refused sessions store fault (inl memory) = inl (no_memory_for store store fault memory refl)
-  streams_refused sessions store fault (inr file) = inr (inl (file, refl))
+  pub streams_refused : (sessions : ℕ) (store : Store D g) (before after : L) (fault : ServingError) → (fault ≡ Command (Refused Memory)) ⊎ (fault ≡ Command File) → StopsRound M N sessions store store before after fault
+  streams_refused sessions store before after fault (inl memory) = inl (no_memory_for store store fault memory refl)
+  streams_refused sessions store before after fault (inr file) = inr (inl (file, refl))
 
-  pub round_stopped : (old new : Store D g) (core last : Core D g) (sessions : ℕ) (streams later : List (DuplexStream T)) (fault : ServeFault StoreError) → IsNewCore 0 old core → new ≡ store_of (committer_of last)
-      → length streams ≡ sessions → AllByRecursion (HasArrived Arrived) streams
-      → ((error : StoreError) → Some fault ≡ Some (serving.Core error) → Refuses core last error)
+  pub round_stopped : (old new : Store D g) (before after : L) (core last : Core D g) (sessions : ℕ) (streams later : List (DuplexStream T)) (fault : ServeFault StoreError) → IsNewCore 0 old core
+      → new ≡ store_of (committer_of last) → AreAccepted N sessions before after streams → ((error : StoreError) → Some fault ≡ Some (serving.Core error) → Refuses core last error)
       → (Some fault ≡ Some serving.ReadFault → EndsAs core_model (duplex_model M) core last streams later (IsCut core_model (length streams) core last))
-      → StopsRound M Arrived sessions old new (of_serving fault)
-  round_stopped old new core last sessions streams later (serving.Core error) made left each accepted refused cut = inl (error, refl, core_refused old new core last error made left (refused error refl))
-  round_stopped old new core last sessions streams later serving.ReadFault made left each accepted refused cut = inr (inr (
+      → StopsRound M N sessions old new before after (of_serving fault)
+  round_stopped old new before after core last sessions streams later (serving.Core error) made left accepted refused cut = inl (error, refl, core_refused old new core last error made left (refused error refl))
+  round_stopped old new before after core last sessions streams later serving.ReadFault made left accepted refused cut = inr (inr (
     refl,
     record {
       core = core;
@@ -150,8 +184,7 @@ module _ {D : Type 0} {g : sectors.Ghosts D} {T : Type 0} (M : CallModel T) (Arr
       left = left;
       streams = streams;
       later = later;
-      each = each;
       accepted = accepted;
-      run = subst (λ (count : ℕ). EndsAs core_model (duplex_model M) core last streams later (IsCut core_model count core last)) each (cut refl);
+      run = subst (λ (count : ℕ). EndsAs core_model (duplex_model M) core last streams later (IsCut core_model count core last)) accepted.each (cut refl);
     },
   ))

@@ -1,5 +1,5 @@
 -- Serving a store by a new core: what was done, and the store that remains.
-use Rattle.std.specs.Prelude.{◌≡◌, ◌⊎◌, ℕ, false, Option, List, [], ◌∷◌, length}
+use Rattle.std.specs.Prelude.{◌≡◌, ◌⊎◌, ℕ, ◌≤◌, false, Option, List, [], ◌∷◌, length, map}
 use Rattle.std.specs.List.{AllByRecursion}
 use Rattle.audit_disk_model.specs.declared.sectors.Sectors as sectors
 use Rattle.audit_store.specs.declared.store.Store.{Store}
@@ -17,6 +17,7 @@ use Rattle.audit_server.specs.CoreModel.{core_model}
 use Rattle.audit_server.specs.NewCore.{IsNewCore}
 use Rattle.audit_text.specs.declared.fault.LinesError.{LinesError}
 use Rattle.audit_text.specs.declared.fault.LinesError.TheVariants.{Write, Memory}
+use Rattle.audit_serve_sockets.specs.Listening.{ListenerModel}
 use Rattle.audit_serve_sockets.specs.Looping.{BringsLines, LoopTransition, LoopReached}
 use Rattle.audit_cli_base.specs.declared.fault.CommandError.TheVariants.{File, Lines, Refused}
 use Rattle.audit_cli_serve.specs.declared.fault.ServingError.{ServingError}
@@ -55,76 +56,94 @@ module _ {D : Type 0} {g : sectors.Ghosts D} where
       ⊎ ((fault ≡ Command File)
       ⊎ (((cause : LinesError) × (fault ≡ Command (Lines cause))) ⊎ ((number : ℕ) × (fault ≡ BadFrameLine number))))
 
--- a stream over a connection that arrived, on which no write has failed
-pub record HasArrived {T : Type 0} (Arrived : T → Type 0) (stream : DuplexStream T) : Type 0 where
-  pub arrived : Arrived (inner_of stream)
-  pub sound : stream.closed ≡ false
+-- no write has failed on the stream
+abbrev pub IsOpen : {T : Type 0} → DuplexStream T → Type 0
+IsOpen stream = stream.closed ≡ false
 
--- Rounds over connections, given what the connections' calls do, and which connections arrived at the socket.
-module _ {D : Type 0} {g : sectors.Ghosts D} {T : Type 0} (M : CallModel T) (Arrived : T → Type 0) where
-  -- A new core over the store served the streams of this many connections that arrived, through their calls, in this
-  -- many passes.
-  pub record ServesRound (sessions turns : ℕ) (old new : Store D g) : Type 0 where
+-- ---- the connections of a round
+
+module _ {T L : Type 0} (N : ListenerModel L T) where
+  -- these are streams over all connections that the socket accepted, as many as a round has sessions
+  pub record AreAccepted (sessions : ℕ) (before after : L) (streams : List (DuplexStream T)) : Type 0 where
+    pub each : length streams ≡ sessions
+    pub accepted : N.Accepted before after (map inner_of streams)
+    pub sound : AllByRecursion IsOpen streams
+
+  -- at most that many connections were accepted, and let go
+  pub record AreLetGo (sessions : ℕ) (before after : L) : Type 0 where
+    pub gone : List T
+    pub most : length gone ≤ sessions
+    pub accepted : N.Accepted before after gone
+
+-- Rounds over connections, given what the connections' calls do, and which connections the socket accepts.
+module _ {D : Type 0} {g : sectors.Ghosts D} {T L : Type 0} (M : CallModel T) (N : ListenerModel L T) where
+  -- A new core over the store served the streams of the connections that were accepted, of all of them, in this many
+  -- passes.
+  pub record ServesRound (sessions turns : ℕ) (old new : Store D g) (before after : L) : Type 0 where
     pub core : Core D g
     pub made : IsNewCore 0 old core
     pub last : Core D g
     pub left : new ≡ store_of (committer_of last)
     pub streams : List (DuplexStream T)
     pub later : List (DuplexStream T)
-    pub each : length streams ≡ sessions
-    pub accepted : AllByRecursion (HasArrived Arrived) streams
+    pub accepted : AreAccepted N sessions before after streams
     pub run : Transition core_model (duplex_model M) core last streams later
         (IsServed core_model sessions turns core last)
 
   -- rounds in order, each by a new core over the store that the previous one left
-  abbrev pub ServesRounds : ℕ → List ℕ → Store D g → Store D g → Type 0
-  ServesRounds sessions [] old new = new ≡ old
-  ServesRounds sessions (turns ∷ later) old new = (mid : Store D g) × ServesRound sessions turns old mid
-      × ServesRounds sessions later mid new
+  abbrev pub ServesRounds : ℕ → List ℕ → Store D g → Store D g → L → L → Type 0
+  ServesRounds sessions [] old new before after = (new ≡ old) × (after ≡ before)
+  ServesRounds sessions (turns ∷ later) old new before after = (mid : Store D g) × (between : L)
+      × ServesRound sessions turns old mid before between × ServesRounds sessions later mid new between after
 
   -- ---- whatever stopped the round
 
-  -- a new core over the store did some steps for such streams
-  pub record ReachesByRound (sessions : ℕ) (old new : Store D g) : Type 0 where
+  -- A new core over the store did some steps for such streams.
+  pub record ReachesByRound (sessions : ℕ) (old new : Store D g) (before after : L) : Type 0 where
     pub core : Core D g
     pub made : IsNewCore 0 old core
     pub last : Core D g
     pub left : new ≡ store_of (committer_of last)
     pub streams : List (DuplexStream T)
     pub later : List (DuplexStream T)
-    pub each : length streams ≡ sessions
-    pub accepted : AllByRecursion (HasArrived Arrived) streams
+    pub accepted : AreAccepted N sessions before after streams
     pub run : Reached core_model (duplex_model M) core last streams later AnySteps
 
+  -- The round didn't begin: some of the connections that it is for were accepted, and were let go.
+  pub record IsNotBegun (sessions : ℕ) (old new : Store D g) (before after : L) : Type 0 where
+    pub same : new ≡ old
+    pub gone : AreLetGo N sessions before after
+
   -- rounds in order, followed by a part of one, or by nothing
-  pub record ReachesByRounds (sessions : ℕ) (turns : List ℕ) (old new : Store D g) : Type 0 where
+  pub record ReachesByRounds (sessions : ℕ) (turns : List ℕ) (old new : Store D g) (before after : L) : Type 0 where
     pub mid : Store D g
-    pub served : ServesRounds sessions turns old mid
-    pub last : (new ≡ mid) ⊎ ReachesByRound sessions mid new
+    pub between : L
+    pub served : ServesRounds sessions turns old mid before between
+    pub last : IsNotBegun sessions mid new between after ⊎ ReachesByRound sessions mid new between after
 
   -- ---- why the round stopped
 
   -- a round had as many passes as the limit allows, and the sessions that were still live were ended
-  pub record CutsRound (sessions : ℕ) (old new : Store D g) : Type 0 where
+  pub record CutsRound (sessions : ℕ) (old new : Store D g) (before after : L) : Type 0 where
     pub core : Core D g
     pub made : IsNewCore 0 old core
     pub last : Core D g
     pub left : new ≡ store_of (committer_of last)
     pub streams : List (DuplexStream T)
     pub later : List (DuplexStream T)
-    pub each : length streams ≡ sessions
-    pub accepted : AllByRecursion (HasArrived Arrived) streams
+    pub accepted : AreAccepted N sessions before after streams
     pub run : EndsAs core_model (duplex_model M) core last streams later (IsCut core_model sessions core last)
 
   -- Why a round stopped: a step or memory was refused, a connection couldn't be accepted, or it had as many passes as
   -- the limit allows.
-  abbrev pub StopsRound : ℕ → Store D g → Store D g → ServingError → Type 0
-  StopsRound sessions old new fault = HasRefused old new fault
-      ⊎ (((fault ≡ Command File) × (new ≡ old)) ⊎ ((fault ≡ TooManyPasses) × CutsRound sessions old new))
+  abbrev pub StopsRound : ℕ → Store D g → Store D g → L → L → ServingError → Type 0
+  StopsRound sessions old new before after fault = HasRefused old new fault
+      ⊎ (((fault ≡ Command File) × (new ≡ old)) ⊎ ((fault ≡ TooManyPasses) × CutsRound sessions old new before after))
 
   -- Rounds were served. Then one stopped with this error, or the line of the last one wasn't written.
-  pub record StopsRounds (sessions : ℕ) (old new : Store D g) (fault : ServingError) : Type 0 where
+  pub record StopsRounds (sessions : ℕ) (old new : Store D g) (before after : L) (fault : ServingError) : Type 0 where
     pub turns : List ℕ
     pub mid : Store D g
-    pub served : ServesRounds sessions turns old mid
-    pub stops : StopsRound sessions mid new fault ⊎ (IsLineLost fault × (new ≡ mid))
+    pub between : L
+    pub served : ServesRounds sessions turns old mid before between
+    pub stops : StopsRound sessions mid new between after fault ⊎ (IsLineLost fault × (new ≡ mid))

@@ -185,9 +185,9 @@ where
     requires { sessions ≤ SESSIONS }
     ensures words { IfErr result IsNoWordError }
 {
-    let (bound, lock) = SocketFile::bind(rt, alloc, socket, mode)?;
+    let (mut bound, lock) = SocketFile::bind(rt, alloc, socket, mode)?;
     // The store stays locked until the socket's file is removed.
-    let (_store, served) = serve_rounds(alloc, store, &bound, rounds, sessions, output);
+    let (_store, served) = serve_rounds(alloc, store, &mut bound, rounds, sessions, output);
     let served = unless_replaced(served, output.is_replaced());
     after_removing(served, bound.remove(rt, socket, lock))
 }

@@ -1,6 +1,5 @@
 //! Rounds of serving, each by a new core over the same store.
-ghost use Rattle.std.specs.Prelude.{◌≡◌, ◌⊎◌, ◌≤◌, List, ℕ, length, map, vec_len, IfOk, IfErr, OnOk, OnErr};
-ghost use Rattle.std.specs.List.{AllByRecursion};
+ghost use Rattle.std.specs.Prelude.{◌≡◌, ◌⊎◌, ◌≤◌, List, ℕ, length, IfOk, IfErr, OnOk, OnErr};
 ghost use Rattle.std.specs.Io.KnownBytes.{Appends};
 ghost use Rattle.audit_base.specs.declared.limits.TheConstants.{SESSIONS};
 ghost use Rattle.audit_server_model.specs.Serving.{StoreKeepsOn};
@@ -9,7 +8,7 @@ ghost use Rattle.audit_store.specs.declared.store_error.StoreError.TheVariants.{
 ghost use Rattle.audit_cli_base.specs.declared.fault.CommandError.TheVariants.{File, Refused};
 ghost use Rattle.audit_cli_serve.specs.declared.fault.ServingError.TheVariants.{Command};
 ghost use Rattle.audit_cli_serve.specs.Served.{ServesRound, ServesRounds, ReachesByRound, ReachesByRounds, StopsRound};
-ghost use Rattle.audit_cli_serve.specs.Served.{StopsRounds, HasArrived};
+ghost use Rattle.audit_cli_serve.specs.Served.{StopsRounds, AreAccepted, AreLetGo, IsNotBegun};
 
 use crate::fault::{ServingError, fault_of_serving, no_memory};
 use audit_disk_model::Sectors;
@@ -24,11 +23,12 @@ use std::io::Write;
 /// the store serves them until the last one has ended. After each round a line is written with its number, counted
 /// from 1, and the number of its passes.
 ///
-/// The store is returned as the rounds left it. A fault in a round ends serving, and that round has no line.
+/// Every connection that is accepted is one of a round, and is served in it, unless the round can't begin. The store is
+/// returned as the rounds left it. A fault in a round ends serving, and that round has no line.
 pub fn serve_rounds<D, T, L, W>(
     alloc: Global,
     store: Store<D>,
-    socket: &L,
+    socket: &mut L,
     rounds: u64,
     sessions: usize,
     writer: &mut W,
@@ -42,15 +42,15 @@ where
     // Whatever happens, a stop at any moment keeps the events that the store held, and so does the returned store.
     ensures kept { StoreKeepsOn store result.0 }
     // On success each round was served and has its line. A new core served it, over the store that the previous round
-    // left, through calls of connections that arrived at the socket.
+    // left, through calls of all connections that the socket accepted for it.
     ensures served { OnOk result.1 ((turns : List ℕ) × (length turns ≡ rounds)
-        × ServesRounds T.calls (L.arrived socket.now) sessions turns store result.0
+        × ServesRounds T.calls L.model sessions turns store result.0 socket.old socket.new
         × Appends (W.contents writer.old) (W.contents writer.new) (round_lines 1 turns)) }
     // On an error some rounds were served, and some steps of one more were done.
     ensures stopped { OnErr result.1 ((turns : List ℕ)
-        × ReachesByRounds T.calls (L.arrived socket.now) sessions turns store result.0) }
+        × ReachesByRounds T.calls L.model sessions turns store result.0 socket.old socket.new) }
     // The error states why serving stopped, and what a refusal states about the store holds.
-    ensures fault { IfErr result.1 (StopsRounds T.calls (L.arrived socket.now) sessions store result.0) }
+    ensures fault { IfErr result.1 (StopsRounds T.calls L.model sessions store result.0 socket.old socket.new) }
 {
     let mut store = store;
     for round in 0..rounds {
@@ -71,11 +71,11 @@ where
 // that refused memory isn't reported as a fault of the socket.
 fn accept_streams<T: Duplex + Drop, L: Listener<T>>(
     alloc: Global,
-    socket: &L,
+    socket: &mut L,
     count: usize,
 ) -> Result<Vec<DuplexStream<T>>, ServingError>
-    ensures all { IfOk result (λ streams. vec_len streams ≡ count) }
-    ensures accepted { IfOk result (λ streams. AllByRecursion (HasArrived (L.arrived socket.now)) streams.items) }
+    ensures accepted { IfOk result (λ streams. AreAccepted L.model count socket.old socket.new streams.items) }
+    ensures gone { OnErr result (AreLetGo L.model count socket.old socket.new) }
     ensures fault { IfErr result (λ fault. (fault ≡ Command (Refused Memory)) ⊎ (fault ≡ Command File)) }
 {
     let Ok(mut streams) = Vec::with_capacity(alloc, count) else {
@@ -91,15 +91,16 @@ fn accept_streams<T: Duplex + Drop, L: Listener<T>>(
 fn serve_round<D: Sectors + Drop, T: Duplex + Drop, L: Listener<T>>(
     alloc: Global,
     store: Store<D>,
-    socket: &L,
+    socket: &mut L,
     sessions: usize,
 ) -> (Store<D>, Result<u64, ServingError>)
     requires { sessions ≤ SESSIONS }
     ensures kept { StoreKeepsOn store result.0 }
-    ensures served { IfOk result.1 (λ turns. ServesRound T.calls (L.arrived socket.now) sessions turns store result.0) }
-    ensures reached { (result.0 ≡ store)
-        ⊎ ReachesByRound T.calls (L.arrived socket.now) sessions store result.0 }
-    ensures fault { IfErr result.1 (StopsRound T.calls (L.arrived socket.now) sessions store result.0) }
+    ensures served { IfOk result.1 (λ turns. ServesRound T.calls L.model sessions turns store result.0
+        socket.old socket.new) }
+    ensures reached { IsNotBegun T.calls L.model sessions store result.0 socket.old socket.new
+        ⊎ ReachesByRound T.calls L.model sessions store result.0 socket.old socket.new }
+    ensures fault { IfErr result.1 (StopsRound T.calls L.model sessions store result.0 socket.old socket.new) }
 {
     let mut streams = match accept_streams(alloc, socket, sessions) {
         Ok(streams) => streams,

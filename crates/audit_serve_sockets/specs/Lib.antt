@@ -4,3 +4,4 @@ pub mod Input
 pub mod LoopFaults
 pub mod Looping
 pub mod RoundLine
+pub mod Listening

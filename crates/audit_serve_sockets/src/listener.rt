@@ -1,4 +1,4 @@
-ghost use Rattle.std.specs.Prelude.{IfOk};
+ghost use Rattle.audit_serve_sockets.specs.Listening.{ListenerModel, accepted_by, unknown_connections};
 
 use crate::socket_file::SocketFile;
 use std::io;
@@ -6,19 +6,19 @@ use std::os::unix::net::UnixStream;
 
 /// A socket on which connections arrive.
 pub trait Listener<T> {
-    /// The connection arrived at the socket.
-    ghost arrived: { Self → T → Type 0 };
+    /// Which connections the socket has accepted.
+    ghost model: { ListenerModel Self T };
 
-    /// Waits for the next connection.
-    fn next_connection(&self) -> io::Result<T>
-        ensures { IfOk result (λ connection. arrived self.now connection) };
+    /// Waits for the next connection, and accepts it. On an error none was accepted.
+    fn next_connection(&mut self) -> io::Result<T>
+        ensures { model.Accepted self.old self.new (accepted_by result) };
 }
 
 /// Nothing is known of the system's sockets: the call is the system's.
 impl Listener<UnixStream> for SocketFile {
-    ghost arrived = { λ socket connection. Unit {0} };
+    ghost model = { unknown_connections };
 
-    fn next_connection(&self) -> io::Result<UnixStream> {
+    fn next_connection(&mut self) -> io::Result<UnixStream> {
         self.accept()
     }
 }

@@ -1,12 +1,10 @@
-use Rattle.std.proofs.Common.{◌≡◌, vec_len, vec_capacity}
-use Rattle.std.specs.List.{AllByRecursion}
-use Rattle.audit_cli_serve.specs.Served.{HasArrived}
+use Rattle.std.proofs.Common.{◌≡◌, vec_capacity}
+use Rattle.audit_cli_serve.specs.Served.{AreAccepted}
 use Rattle.audit_cli_serve.proofs.rounds.accept_streams.Given as goal
 
--- one stream for each connection that arrived, with capacity for all
+-- one stream for each connection that was accepted, with capacity for all
 abbrev pub invariant-loop : goal.invariant-loop
 invariant-loop g l = record {
-  each : vec_len l.streams ≡ l.counter;
+  accepted : AreAccepted g.L.Listener.model l.counter l.fn.socket l.socket l.streams.items;
   room : vec_capacity l.streams ≡ l.fn.count;
-  accepted : AllByRecursion (HasArrived (g.L.Listener.arrived l.fn.socket)) l.streams.items;
 }

@@ -4,7 +4,7 @@ use Rattle.audit_server_model.proofs.Serving.{kept_then}
 use Rattle.audit_cli_serve.specs.declared.fault.ServingError.{ServingError}
 use Rattle.audit_cli_serve.specs.Served.{ServesRound, StopsRound}
 use Rattle.audit_cli_serve.proofs.RoundLines.{round_more}
-use Rattle.audit_cli_serve.proofs.Served.{rounds_more, line_lost}
+use Rattle.audit_cli_serve.proofs.Served.{rounds_more, none_gone, line_lost}
 use Rattle.audit_cli_serve.proofs.rounds.serve_rounds.Goals as goal
 
 pub returns-in-Err-clause-kept : goal.returns-in-Err-clause-kept
@@ -16,57 +16,66 @@ returns-in-Err-write_round-clause-kept g c = kept_then c.args.store c.loop-round
 pub returns-in-Err-clause-stopped : goal.returns-in-Err-clause-stopped
 returns-in-Err-clause-stopped g c =
     let before = c.loop-round.invariant.served in
-    (before.0, record { mid = c.loop-round.store; served = before.2; last = c.serve_round-kept.ensures.reached })
+    (before.0, record { mid = c.loop-round.store; between = c.loop-round.socket; served = before.2; last = c.serve_round-kept.ensures.reached })
 
 pub returns-in-Err-write_round-clause-stopped : goal.returns-in-Err-write_round-clause-stopped
 returns-in-Err-write_round-clause-stopped g c =
     let M = g.T.Duplex.calls in
-    let arrived = g.L.Listener.arrived c.args.socket.now in
+    let N = g.L.Listener.model in
+    let between = c.loop-round.socket in
+    let after = c.serve_round-kept.new.socket in
     let before = c.loop-round.invariant.served in
     let left = c.serve_round-kept.result.0 in
-    let round : ServesRound M arrived c.args.sessions c.in-Ok.turns c.loop-round.store left =
-    subst (λ (answer : Result ℕ ServingError). IfOk answer (λ turns. ServesRound M arrived c.args.sessions turns c.loop-round.store left)) c.in-Ok.is c.serve_round-kept.ensures.served in
-    (before.0 ++ c.in-Ok.turns ∷ [], record { mid = left; served = rounds_more M arrived c.args.sessions c.in-Ok.turns before.0 c.args.store c.loop-round.store left before.2 round; last = inl refl })
+    let round : ServesRound M N c.args.sessions c.in-Ok.turns c.loop-round.store left between after =
+    subst (λ (answer : Result ℕ ServingError). IfOk answer (λ turns. ServesRound M N c.args.sessions turns c.loop-round.store left between after)) c.in-Ok.is c.serve_round-kept.ensures.served in
+    (before.0 ++ c.in-Ok.turns ∷ [], record { mid = left; between = after; served = rounds_more M N c.args.sessions c.in-Ok.turns before.0 c.args.store c.loop-round.store left c.args.socket.now between after before.2 round; last = inl (record { same = refl; gone = none_gone N c.args.sessions after }) })
 
 pub returns-in-Err-clause-fault : goal.returns-in-Err-clause-fault
 returns-in-Err-clause-fault g c =
     let M = g.T.Duplex.calls in
-    let arrived = g.L.Listener.arrived c.args.socket.now in
+    let N = g.L.Listener.model in
+    let between = c.loop-round.socket in
+    let after = c.serve_round-kept.new.socket in
     let before = c.loop-round.invariant.served in
     let left = c.serve_round-kept.result.0 in
-    let stops : StopsRound M arrived c.args.sessions c.loop-round.store left c.in-Err.fault =
-    subst (λ (answer : Result ℕ ServingError). IfErr answer (StopsRound M arrived c.args.sessions c.loop-round.store left)) c.in-Err.is c.serve_round-kept.ensures.fault in
-    record { turns = before.0; mid = c.loop-round.store; served = before.2; stops = inl stops }
+    let stops : StopsRound M N c.args.sessions c.loop-round.store left between after c.in-Err.fault =
+    subst (λ (answer : Result ℕ ServingError). IfErr answer (StopsRound M N c.args.sessions c.loop-round.store left between after)) c.in-Err.is c.serve_round-kept.ensures.fault in
+    record { turns = before.0; mid = c.loop-round.store; between = between; served = before.2; stops = inl stops }
 
 pub returns-in-Err-write_round-clause-fault : goal.returns-in-Err-write_round-clause-fault
 returns-in-Err-write_round-clause-fault g c =
     let M = g.T.Duplex.calls in
-    let arrived = g.L.Listener.arrived c.args.socket.now in
+    let N = g.L.Listener.model in
+    let between = c.loop-round.socket in
+    let after = c.serve_round-kept.new.socket in
     let before = c.loop-round.invariant.served in
     let left = c.serve_round-kept.result.0 in
-    let round : ServesRound M arrived c.args.sessions c.in-Ok.turns c.loop-round.store left =
-    subst (λ (answer : Result ℕ ServingError). IfOk answer (λ turns. ServesRound M arrived c.args.sessions turns c.loop-round.store left)) c.in-Ok.is c.serve_round-kept.ensures.served in
+    let round : ServesRound M N c.args.sessions c.in-Ok.turns c.loop-round.store left between after =
+    subst (λ (answer : Result ℕ ServingError). IfOk answer (λ turns. ServesRound M N c.args.sessions turns c.loop-round.store left between after)) c.in-Ok.is c.serve_round-kept.ensures.served in
     record {
       turns = before.0 ++ c.in-Ok.turns ∷ [];
       mid = left;
-      served = rounds_more M arrived c.args.sessions c.in-Ok.turns before.0 c.args.store c.loop-round.store left before.2 round;
+      between = after;
+      served = rounds_more M N c.args.sessions c.in-Ok.turns before.0 c.args.store c.loop-round.store left c.args.socket.now between after before.2 round;
       stops = inr (line_lost c.in-Err-write_round.fault c.into.result c.into.ensures c.in-Err-write_round.ensures.fault, refl);
     }
 
 pub loop-round-preserved : goal.loop-round-preserved
 loop-round-preserved g c =
     let M = g.T.Duplex.calls in
-    let arrived = g.L.Listener.arrived c.args.socket.now in
+    let N = g.L.Listener.model in
+    let between = c.loop-round.socket in
+    let after = c.serve_round-kept.new.socket in
     let before = c.loop-round.invariant.served in
     let left = c.serve_round-kept.result.0 in
-    let round : ServesRound M arrived c.args.sessions c.in-Ok.turns c.loop-round.store left =
-    subst (λ (answer : Result ℕ ServingError). IfOk answer (λ turns. ServesRound M arrived c.args.sessions turns c.loop-round.store left)) c.in-Ok.is c.serve_round-kept.ensures.served in
+    let round : ServesRound M N c.args.sessions c.in-Ok.turns c.loop-round.store left between after =
+    subst (λ (answer : Result ℕ ServingError). IfOk answer (λ turns. ServesRound M N c.args.sessions turns c.loop-round.store left between after)) c.in-Ok.is c.serve_round-kept.ensures.served in
     record {
       kept = kept_then c.args.store c.loop-round.store left c.loop-round.invariant.kept c.serve_round-kept.ensures.kept;
       served = (
         before.0 ++ c.in-Ok.turns ∷ [],
         omega (arith, before.1, length-append before.0 (c.in-Ok.turns ∷ [])),
-        rounds_more M arrived c.args.sessions c.in-Ok.turns before.0 c.args.store c.loop-round.store left before.2 round,
+        rounds_more M N c.args.sessions c.in-Ok.turns before.0 c.args.store c.loop-round.store left c.args.socket.now between after before.2 round,
         round_more (g.W.Write.contents c.args.writer.now) (g.W.Write.contents c.loop-round.writer) (g.W.Write.contents c.write_round.new.writer) before.0 c.in-Ok.turns (c.loop-round.round + 1) before.3 (omega (arith, before.1)) c.in_default.ensures.written,
       );
     }

@@ -9,6 +9,6 @@ use Rattle.audit_cli_serve.proofs.rounds.serve_rounds.Given as goal
 abbrev pub invariant-loop-round : goal.invariant-loop-round
 invariant-loop-round g l = record {
   kept : StoreKeepsOn l.fn.store l.store;
-  served : (turns : List ℕ) × (length turns ≡ l.round) × ServesRounds g.T.Duplex.calls (g.L.Listener.arrived l.fn.socket) l.sessions turns l.fn.store l.store
+  served : (turns : List ℕ) × (length turns ≡ l.round) × ServesRounds g.T.Duplex.calls g.L.Listener.model l.sessions turns l.fn.store l.store l.fn.socket l.socket
       × Appends (g.W.Write.contents l.fn.writer) (g.W.Write.contents l.writer) (round_lines 1 turns);
 }
