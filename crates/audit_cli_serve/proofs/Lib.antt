@@ -1,2 +1,3 @@
 pub mod RoundLines
 pub mod Served
+pub mod Carried

@@ -1,4 +1,5 @@
 -- Arguments that aren't checked by the parser of the command line.
+use denote.Ref.{Bor}
 use Rattle.std.specs.Prelude.{ℕ, nat_le, ◌&&◌, Option, Some, None, Result, Ok, Err, List, if◌then◌else◌}
 use Rattle.audit_text.specs.Number.{number_in_text}
 use Rattle.audit_base.specs.declared.limits.TheConstants.{SESSIONS}
@@ -20,3 +21,8 @@ judged_sessions (Some sessions) = if nat_le 1 sessions && nat_le sessions SESSIO
 
 abbrev pub sessions_asked : List ℕ → Result ℕ CommandError
 sessions_asked word = judged_sessions (number_in_text word)
+
+-- one session, unless a word gives their number
+abbrev pub sessions_wanted : Option (Bor (List ℕ)) → Result ℕ CommandError
+sessions_wanted None = Ok 1
+sessions_wanted (Some word) = sessions_asked word.now

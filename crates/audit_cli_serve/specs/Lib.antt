@@ -3,3 +3,4 @@ pub mod Faults
 pub mod Rounds
 pub mod Served
 pub mod Words
+pub mod Carried

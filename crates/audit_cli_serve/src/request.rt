@@ -1,9 +1,12 @@
 //! The requests to serve sessions, and how they are carried out.
-ghost use Rattle.std.specs.Prelude.{◌≡◌, ◌⊎◌, ◌≤◌, true, false, None, Ok, Err, IfSome, IfOk, IfErr};
+ghost use Rattle.std.specs.Prelude.{◌≡◌, ◌⊎◌, ◌≤◌, List, ℕ, length, IsOk, true, false, Ok, Err, IfOk, IfErr, OnOk};
 ghost use Rattle.std.specs.Io.KnownBytes.{Keeps};
 ghost use Rattle.audit_base.specs.declared.limits.TheConstants.{SESSIONS};
 ghost use Rattle.audit_cli_base.specs.Arguments.{RefusesWords};
-ghost use Rattle.audit_cli_base.specs.declared.fault.CommandError.TheVariants.{Replaced};
+ghost use Rattle.audit_cli_base.specs.declared.fault.CommandError.TheVariants.{File, Replaced};
+ghost use Rattle.audit_cli_serve.specs.Arguments.{rounds_asked, sessions_wanted};
+ghost use Rattle.audit_cli_serve.specs.Carried.{ServesAt, ServesOpened, IsStoppedAt, LoopsAt, LoopsOpened, IsPerformed};
+ghost use Rattle.audit_cli_serve.specs.Carried.{IsCarriedOut};
 ghost use Rattle.audit_cli_serve.specs.Faults.{IsNoWordError};
 ghost use Rattle.audit_cli_serve.specs.declared.fault.ServingError.TheVariants.{Command};
 ghost use Rattle.audit_cli_serve.specs.Words.{IsWrongNumber, HasWrongWord, IsServingFault};
@@ -13,12 +16,13 @@ use crate::fault::ServingError;
 use crate::looping::loop_over;
 use crate::rounds::serve_rounds;
 use audit_cli_base::{
-    CommandError, Opened, Status, StoreWatch, WatchedOutput, open_store, report_flush,
+    CommandError, FileDevice, Opened, Status, StoreWatch, WatchedOutput, open_store, report_flush,
     socket_mode_asked, socket_path_asked,
 };
 use audit_disk::{SystemFile, SystemFiles};
 use audit_disk_model::Sectors;
-use audit_serve_sockets::{Link, SocketFile};
+use audit_serve_passes::Duplex;
+use audit_serve_sockets::{Link, Listener, SocketFile};
 use audit_store::Store;
 use audit_text::LinesError;
 use std::alloc::Global;
@@ -79,6 +83,10 @@ where
     ensures words { HasWrongWord request.entry → (result ≡ Status.Usage) ⊎ (result ≡ Status.Device) }
     ensures only { result ≡ Status.Usage → HasWrongWord request.entry }
     ensures unwritten { HasWrongWord request.entry → Keeps (W.contents output.old) (W.contents output.new) }
+    // The status is that of the result; on success what was asked for was served.
+    ensures carried { IsCarriedOut ⟦<FileDevice<F::File> as Sectors>⟧ ⟦<UnixStream as Duplex>⟧.calls
+        ⟦<SocketFile as Listener<UnixStream>>⟧.model request.entry (R.remaining input.old)
+        (W.contents output.old) (W.contents output.new) result }
 {
     let done = perform(rt, alloc, request, input, output);
     let flushed = output.flush();
@@ -102,6 +110,8 @@ where
     F::File: SystemFile,
     ensures words { RefusesWords (IsServingFault request.entry) (W.contents output.old) (W.contents output.new) result }
     ensures only { result ≡ Err (ServingError.Command CommandError.BadArgument) → HasWrongWord request.entry }
+    ensures served { IsPerformed ⟦<FileDevice<F::File> as Sectors>⟧ ⟦<UnixStream as Duplex>⟧.calls
+        ⟦<SocketFile as Listener<UnixStream>>⟧.model request.entry (R.remaining input.old) result }
 {
     match request {
         Request::Serve {
@@ -133,6 +143,7 @@ fn sessions_or_one(word: Option<&str>) -> Result<usize, CommandError>
     ensures wrong { IsWrongNumber word.entry → result ≡ Err CommandError.BadArgument }
     ensures fault { IfErr result (λ fault. (fault ≡ CommandError.BadArgument) × IsWrongNumber word.entry) }
     ensures few { IfOk result (λ sessions. sessions ≤ SESSIONS) }
+    ensures asked { IfOk result (λ sessions. sessions_wanted word.entry ≡ Ok sessions) }
 {
     match word {
         Some(word) => sessions_asked(word),
@@ -154,6 +165,8 @@ where
     F::File: SystemFile,
     requires { sessions ≤ SESSIONS }
     ensures words { IfErr result IsNoWordError }
+    ensures served { OnOk result (ServesOpened ⟦<FileDevice<F::File> as Sectors>⟧
+        ⟦<UnixStream as Duplex>⟧.calls ⟦<SocketFile as Listener<UnixStream>>⟧.model sessions rounds) }
 {
     let Opened { content, identity } = open_store(rt, alloc, file)?;
     let watch = StoreWatch::new(rt, file, identity, content.sectors());
@@ -184,6 +197,11 @@ where
     F::File: SystemFile,
     requires { sessions ≤ SESSIONS }
     ensures words { IfErr result IsNoWordError }
+    // Nothing else is done to the store.
+    ensures served { OnOk result ((turns : List ℕ) × (length turns ≡ rounds)
+        × ServesAt ⟦<UnixStream as Duplex>⟧.calls ⟦<SocketFile as Listener<UnixStream>>⟧.model sessions turns store) }
+    ensures stopped { IfErr result (IsStoppedAt ⟦<UnixStream as Duplex>⟧.calls
+        ⟦<SocketFile as Listener<UnixStream>>⟧.model sessions store) }
 {
     let (mut bound, lock) = SocketFile::bind(rt, alloc, socket, mode)?;
     // The store stays locked until the socket's file is removed.
@@ -209,7 +227,9 @@ fn after_removing(
     served: Result<(), ServingError>,
     removed: io::Result<()>,
 ) -> Result<(), ServingError>
-    ensures { IfErr served IsNoWordError → IfErr result IsNoWordError }
+    ensures words { IfErr served IsNoWordError → IfErr result IsNoWordError }
+    ensures done { OnOk result (IsOk served) }
+    ensures stopped { IfErr result (λ fault. (served ≡ Err fault) ⊎ (fault ≡ Command File)) }
 {
     served?;
     Ok(removed?)
@@ -227,6 +247,7 @@ fn loop_file<F: SystemFiles + Net + Clock, R: Read, W: Write>(
 where
     F::File: SystemFile,
     ensures words { IfErr result IsNoWordError }
+    ensures looped { OnOk result (LoopsOpened ⟦<FileDevice<F::File> as Sectors>⟧ (R.remaining input.old)) }
 {
     let Opened { content, identity } = open_store(rt, alloc, file)?;
     let watch = StoreWatch::new(rt, file, identity, content.sectors());
@@ -246,6 +267,8 @@ fn loop_store<F: SystemFiles + Net + Clock, D: Sectors + Drop, R: Read, W: Write
 where
     F::File: SystemFile,
     ensures words { IfErr result IsNoWordError }
+    // Nothing else is done to the store.
+    ensures looped { OnOk result (LoopsAt (R.remaining input.old) store) }
 {
     // The input's buffer is allocated before the socket's file is made, so that the file is removed whatever is
     // refused later.
@@ -269,6 +292,7 @@ fn loop_bound<F: Files + Net, D: Sectors + Drop, R: BufRead, W: Write>(
     output: &mut W,
 ) -> (Store<D>, Result<(), ServingError>)
     ensures words { IfErr result.1 IsNoWordError }
+    ensures looped { OnOk result.1 (LoopsAt (R.remaining reader.old) store) }
 {
     match connect(rt, bound, socket) {
         Ok(mut link) => loop_over(alloc, store, &mut link, reader, output),
