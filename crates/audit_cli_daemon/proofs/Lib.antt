@@ -1,2 +1,3 @@
 pub mod Daemon
 pub mod State
+pub mod Carried

@@ -2,3 +2,4 @@ pub mod Words
 pub mod State
 pub mod Running
 pub mod Marks
+pub mod Carried

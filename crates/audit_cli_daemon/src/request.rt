@@ -1,6 +1,6 @@
 //! The requests to run a daemon and to stop it, and how they are carried out.
-ghost use Rattle.std.specs.Prelude.{◌≡◌, ◌⊎◌, ◌≤◌, true, false, None, Ok, Err, IfSome, IfOk, IfErr};
-ghost use Rattle.std.specs.Io.KnownBytes.{Keeps};
+ghost use Rattle.std.specs.Prelude.{◌≡◌, ◌⊎◌, ◌≤◌, true, false, None, Ok, Err, IfSome, IfOk, IfErr, OnOk, IsOk, codes};
+ghost use Rattle.std.specs.Io.KnownBytes.{Keeps, Appends};
 ghost use Rattle.audit_serve_ready.specs.declared.limits.TheConstants.{MAX_BACKLOG};
 ghost use Rattle.audit_cli_base.specs.Arguments.{number_asked};
 ghost use Rattle.audit_cli_base.specs.Faults.{IsNoWordFault};
@@ -9,6 +9,11 @@ ghost use Rattle.audit_cli_daemon.specs.declared.request.Settings.{Settings};
 ghost use Rattle.audit_disk.specs.declared.files.TheConstants.{OWNER_ONLY};
 ghost use Rattle.audit_cli_daemon.specs.declared.arguments.TheConstants.{DEFAULT_IDLE, DEFAULT_RESERVE};
 ghost use Rattle.audit_cli_daemon.specs.Words.{HasBadSetting, HasBadWord, backlog_asked};
+ghost use Rattle.audit_cli_daemon.specs.Running.{ServesStore};
+ghost use Rattle.audit_cli_daemon.specs.Carried.{ServesBetween, IsPerformed, IsCarriedOut};
+ghost use Rattle.audit_cli_daemon.specs.State.{ready_line};
+ghost use Rattle.audit_store.specs.Store.{active_header};
+ghost use Rattle.audit_text.specs.NumberedLine.{numbered_line};
 
 use crate::arguments::{DEFAULT_IDLE, DEFAULT_RESERVE, backlog_asked};
 use crate::client_journal::ClientJournal;
@@ -20,15 +25,16 @@ use crate::state_line::write_state;
 use crate::stopping::stop;
 use crate::watched_store::WatchedStore;
 use audit_cli_base::{
-    CommandError, Opened, Status, StoreWatch, number_asked, open_store, report, report_end,
-    socket_mode_asked, socket_path_asked,
+    CommandError, FileDevice, Opened, Status, StoreWatch, number_asked, open_store, report,
+    report_end, socket_mode_asked, socket_path_asked,
 };
 use audit_cli_host::Dial;
 use audit_disk::{SystemFile, SystemFiles};
 use audit_disk_model::Sectors;
 use audit_proof::Commitment;
-use audit_serve_door::{Room, SocketDoor, StopOrders};
+use audit_serve_door::{Client, Room, SocketDoor, StopOrders};
 use audit_serve_passes::Rights;
+use audit_serve_ready::ReadyStream;
 use audit_store::{Store, StoreError};
 use std::alloc::Global;
 use std::cell::RefCell;
@@ -103,6 +109,11 @@ where
     ensures only { (settings : Settings) → request.entry ≡ Request.Run settings → result ≡ Status.Usage
         → HasBadSetting settings }
     ensures unwritten { HasBadWord request.entry → Keeps (W.contents output.old) (W.contents output.new) }
+    // The status is that of the result. On success clients were served over the store, with the reserve and the backlog
+    // that were asked for, and its first and last state were written.
+    ensures carried { (settings : Settings) → request.entry ≡ Request.Run settings
+        → IsCarriedOut ⟦<FileDevice<F::File> as Sectors>⟧ ⟦<Client as ReadyStream>⟧.calls settings
+        (W.contents output.old) (W.contents output.new) result }
 {
     match request {
         Request::Run(settings) => run_daemon(rt, alloc, settings, explains, output, messages),
@@ -127,6 +138,8 @@ where
     ensures words { HasBadSetting settings.entry → (result ≡ Status.Usage) ⊎ (result ≡ Status.Device) }
     ensures only { result ≡ Status.Usage → HasBadSetting settings.entry }
     ensures unwritten { HasBadSetting settings.entry → Keeps (W.contents output.old) (W.contents output.new) }
+    ensures carried { IsCarriedOut ⟦<FileDevice<F::File> as Sectors>⟧ ⟦<Client as ReadyStream>⟧.calls settings.entry
+        (W.contents output.old) (W.contents output.new) result }
 {
     let mut sparing = Sparing::new(messages);
     let status = run_sparing(rt, alloc, settings, explains, output, &mut sparing);
@@ -148,6 +161,8 @@ where
     ensures words { HasBadSetting settings.entry → (result ≡ Status.Usage) ⊎ (result ≡ Status.Device) }
     ensures only { result ≡ Status.Usage → HasBadSetting settings.entry }
     ensures unwritten { HasBadSetting settings.entry → Keeps (W.contents output.old) (W.contents output.new) }
+    ensures carried { IsCarriedOut ⟦<FileDevice<F::File> as Sectors>⟧ ⟦<Client as ReadyStream>⟧.calls settings.entry
+        (W.contents output.old) (W.contents output.new) result }
 {
     let mut orders = None;
     let done = perform(rt, alloc, settings, explains, output, messages, &mut orders);
@@ -173,6 +188,8 @@ where
     ensures words { HasBadSetting settings.entry → result ≡ Err CommandError.BadArgument }
     ensures only { result ≡ Err CommandError.BadArgument → HasBadSetting settings.entry }
     ensures unwritten { HasBadSetting settings.entry → Keeps (W.contents output.old) (W.contents output.new) }
+    ensures served { IsPerformed ⟦<FileDevice<F::File> as Sectors>⟧ ⟦<Client as ReadyStream>⟧.calls settings.entry
+        (W.contents output.old) (W.contents output.new) result }
 {
     let judged = judge(settings)?;
     let sockets = Sockets::new(alloc, settings.socket, settings.reader)?;
@@ -247,6 +264,8 @@ where
     F::File: SystemFile,
     requires { judged.most ≤ MAX_BACKLOG }
     ensures cause { IfErr result IsNoWordFault }
+    ensures served { OnOk result (ServesBetween ⟦<Client as ReadyStream>⟧.calls judged.reserve judged.most store
+        (W.contents output.old) (W.contents output.new)) }
 {
     let shared = RefCell::new(messages);
     let mut made = Made::none();
@@ -261,7 +280,10 @@ where
 }
 
 // Closes the store, and returns its last state.
-fn closed<D: Sectors + Drop>(store: Store<D>) -> Commitment {
+fn closed<D: Sectors + Drop>(store: Store<D>) -> Commitment
+    ensures count { result.count ≡ (active_header store).count }
+    ensures root { result.root ≡ (active_header store).root }
+{
     store.commitment()
 }
 
@@ -274,7 +296,10 @@ fn report_stopped<N: Net, W: Write>(
     output: &mut W,
     orders: &mut Option<StopOrders>,
 ) -> Result<(), CommandError>
-    ensures { IfErr served IsNoWordFault → IfErr result IsNoWordFault }
+    ensures cause { IfErr served IsNoWordFault → IfErr result IsNoWordFault }
+    ensures served { OnOk result (IsOk served) }
+    ensures written { OnOk result (Appends (W.contents output.old) (W.contents output.new)
+        (numbered_line (codes "stopped ") state.count state.root)) }
 {
     served?;
     removed?;
@@ -313,6 +338,10 @@ where
     F::File: SystemFile,
     requires { judged.most ≤ MAX_BACKLOG }
     ensures cause { IfErr result.1 IsNoWordFault }
+    ensures ready { OnOk result.1 (Appends (W.contents output.old) (W.contents output.new)
+        (ready_line (active_header store))) }
+    ensures served { OnOk result.1 (ServesStore ⟦<Client as ReadyStream>⟧.calls judged.reserve judged.most
+        store result.0) }
 {
     let gauge = gauge_of(&watch, judged.reserve, messages);
     let journal = ClientJournal::new(messages, explains);

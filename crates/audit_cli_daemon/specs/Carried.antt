@@ -1,0 +1,48 @@
+-- What running a daemon comes to, apart from its files and its sockets.
+use Rattle.std.specs.Prelude.{◌≡◌, ◌⊎◌, ℕ, Option, Result, Ok, Err, List, ◌++◌}
+use Rattle.std.specs.Io.KnownBytes.{Appends, Keeps}
+use Rattle.audit_disk_model.specs.declared.sectors.Sectors as sectors
+use Rattle.audit_store.specs.Store.{active_header}
+use Rattle.audit_store.specs.declared.store.Store.{Store}
+use Rattle.audit_serve_passes.specs.Streams.{CallModel}
+use Rattle.audit_cli_base.specs.Arguments.{number_asked}
+use Rattle.audit_cli_base.specs.Faults.{status_of_end}
+use Rattle.audit_cli_base.specs.declared.status.Status.{Status}
+use Rattle.audit_cli_base.specs.declared.status.Status.TheVariants as ends
+use Rattle.audit_cli_base.specs.declared.fault.CommandError.{CommandError}
+use Rattle.audit_cli_daemon.specs.declared.arguments.TheConstants.{DEFAULT_RESERVE}
+use Rattle.audit_cli_daemon.specs.declared.request.Settings.{Settings}
+use Rattle.audit_cli_daemon.specs.Running.{ServesStore}
+use Rattle.audit_cli_daemon.specs.State.{ready_line, stopped_line}
+use Rattle.audit_cli_daemon.specs.Words.{backlog_asked}
+
+-- Clients were served over a store, with this reserve and backlog. Its state was written before the first and after the
+-- last of them.
+pub record ServesBetween {D : Type 0} {g : sectors.Ghosts D} {S : Type 0} (N : CallModel S) (reserve backlog : ℕ)
+    (opened : Store D g) (before after : Option (List ℕ)) : Type 0 where
+  pub left : Store D g
+  pub served : ServesStore N reserve backlog opened left
+  pub lines : Appends before after (ready_line (active_header opened) ++ stopped_line (active_header left))
+
+module _ {D : Type 0} (g : sectors.Ghosts D) {S : Type 0} (N : CallModel S) where
+  -- so were they over the store that was opened, with the reserve and the backlog that were asked for
+  pub record ServesAsked (settings : Settings) (before after : Option (List ℕ)) : Type 0 where
+    pub reserve : ℕ
+    pub reserve_is : number_asked settings.reserve DEFAULT_RESERVE ≡ Ok reserve
+    pub backlog : ℕ
+    pub backlog_is : backlog_asked settings.backlog ≡ Ok backlog
+    pub opened : Store D g
+    pub served : ServesBetween N reserve backlog opened before after
+
+  abbrev pub IsPerformed : Settings → Option (List ℕ) → Option (List ℕ) → Result (Unit {0}) CommandError → Type 0
+  IsPerformed settings before after (Ok done) = ServesAsked settings before after
+  IsPerformed settings before after (Err fault) = Unit {0}
+
+  -- A daemon ran with this result, and the output was then flushed. The program's status is that of the result, or that
+  -- of an output that couldn't be flushed.
+  pub record IsCarriedOut (settings : Settings) (before after : Option (List ℕ)) (status : Status) : Type 0 where
+    pub done : Result (Unit {0}) CommandError
+    pub written : Option (List ℕ)
+    pub served : IsPerformed settings before written done
+    pub flushed : Keeps written after
+    pub status_is : (status ≡ status_of_end done) ⊎ (status ≡ ends.Device)
