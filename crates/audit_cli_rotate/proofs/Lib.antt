@@ -2,3 +2,4 @@ pub mod Leaf
 pub mod Sizes
 pub mod Held
 pub mod OwnKey
+pub mod Carried

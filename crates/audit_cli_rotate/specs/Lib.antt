@@ -4,3 +4,4 @@ pub mod Links
 pub mod Linked
 pub mod Lines
 pub mod Rotated
+pub mod Carried

@@ -1,15 +1,20 @@
-use Rattle.std.proofs.Common.{◌≡◌, ◌∙◌, ◌⊎◌, Result, Ok, Err, IsOk, IsErr, refl, inl, inr}
+use Rattle.std.proofs.Common.{◌≡◌, ◌∙◌, ap, subst}
 use Rattle.audit_cli_rotate.specs.declared.fault.RotationError.TheVariants.{Command}
+use Rattle.audit_cli_rotate.specs.Carried.{status_of_end}
+use Rattle.audit_cli_rotate.proofs.Carried.{status_by}
 use Rattle.audit_cli_rotate.proofs.request.run.Goals as goal
-
-flush_ended : {A E : Type 0} (flushed : Result A E) → IsOk flushed ⊎ IsErr flushed
-flush_ended (Ok done) = inl refl
-flush_ended (Err error) = inr refl
 
 pub returns-clause-words : goal.returns-clause-words
 returns-clause-words g c = λ fault wrong.
-    let status = c.report_rotation-status.ensures (Command fault) (c.perform-done.ensures.words fault wrong) in
-    elim (flush_ended c.flush-flushed.result) [
-      | inl whole ↦ inl (c.report_flush.ensures.whole whole ∙ status)
-      | inr failed ↦ inr (c.report_flush.ensures.failed failed)
-    ]
+    status_by c.flush-flushed.result _ c.report_flush.result
+    (λ whole. c.report_flush.ensures.whole whole ∙ c.report_rotation-status.ensures ∙ ap status_of_end (c.perform-done.ensures.words fault wrong)) c.report_flush.ensures.failed
+
+pub returns-clause-carried : goal.returns-clause-carried
+returns-clause-carried g c = record {
+  done = c.perform-done.result;
+  written = g.W.Write.contents c.perform-done.new.output;
+  rotated = c.perform-done.ensures.rotated;
+  flushed = c.flush-flushed.ensures.bytes;
+  status_is = status_by c.flush-flushed.result (status_of_end c.perform-done.result) c.report_flush.result
+      (λ whole. c.report_flush.ensures.whole whole ∙ c.report_rotation-status.ensures) c.report_flush.ensures.failed;
+}
