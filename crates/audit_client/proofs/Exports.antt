@@ -8,7 +8,7 @@ use Rattle.std.proofs.lemmas.List.Elements.{filter-append}
 use Rattle.std.proofs.lemmas.List.{map-append, length-map}
 use Rattle.std.proofs.lemmas.List.Folds.{concat-append}
 use Rattle.audit_tree.specs.Subtree.{leaf_hash_of, root_of}
-use Rattle.audit_verify.specs.Frontier.{FrontierData, IsFrontierOf}
+use Rattle.audit_tree.specs.Frontier.{FrontierData, IsFrontierOf}
 use Rattle.audit_wire.specs.declared.request.Request.{Request}
 use Rattle.audit_wire.specs.declared.request.Request.TheVariants as request
 use Rattle.audit_wire.specs.declared.reply.Reply.{Reply}

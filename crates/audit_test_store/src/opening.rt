@@ -1,9 +1,9 @@
 // The expected values come from the rows of the format's definition, and from an independent model of the store.
 use audit_chain::{Event, FIRST_LINK, Key, Sealed, seal};
 use audit_disk::{FailOnce, MemDisk, Sectors};
-use audit_log::{Chosen, GENERATION_LIMIT, Header, LogError, VERSION, write_header};
+use audit_log::{Chosen, GENERATION_LIMIT, Header, VERSION, write_header};
 use audit_store_layout::LogIndex;
-use audit_store_opening::{HeaderRefusal, find_header, scan};
+use audit_store_opening::{HeaderRefusal, ScanFault, find_header, index_room, judge, scan};
 use audit_tree::leaf_hash;
 use std::alloc::Global;
 use std::process::Abort;
@@ -161,18 +161,22 @@ fn header_after(sealed: &Sealed) -> Header {
     }
 }
 
+// Reads the log into an index, which takes the same verdict as judging it alone.
 fn scanned(
     rt: &impl Abort,
     alloc: Global,
     disk: &mut MemDisk,
     header: &Header,
-) -> Result<LogIndex, LogError> {
+) -> Result<LogIndex, ScanFault> {
     check!(rt; header.meets_rules(header.generation % 2) && disk.size() == header.sectors);
-    scan(alloc, disk, header)
+    let judged = judge(disk, header);
+    let found = scan(disk, header, index_room(alloc, header).expect(rt, "memory"));
+    check!(rt; judged.err() == found.as_ref().err().copied());
+    found
 }
 
-fn is_damaged(found: Result<LogIndex, LogError>) -> bool {
-    found.err() == Some(LogError::DamagedLog { index: 1 })
+fn is_damaged(found: Result<LogIndex, ScanFault>) -> bool {
+    found.err() == Some(ScanFault::DamagedLog { index: 1 })
 }
 
 #[test]

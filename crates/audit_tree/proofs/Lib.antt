@@ -1,6 +1,7 @@
 pub mod Choices
 pub mod Completed
 pub mod Depth
+pub mod Frontiers
 pub mod HashLengths
 pub mod OlderNode
 pub mod PathLemmas

@@ -1,3 +1,4 @@
+pub mod Frontier
 pub mod History
 pub mod PostOrder
 pub mod Paths
