@@ -33,9 +33,6 @@ entry_replies-more first (e ∷ es) entry =
     ap (λ (rest : List Reply). reply.Entry (entry_tag first) e ∷ rest)
     (entry_replies-more (suc first) es entry ∙ ap (λ (n : ℕ). entry_replies (suc first) es ++ reply.Entry (entry_tag n) entry ∷ []) same)
 
-pub replies_none : (known : Option (List ℕ)) → ReadsReplies known known []
-replies_none known = record { bodies = []; bytes = consumes_none known; read = refl }
-
 -- one more reply was read
 pub replies_more : (old mid new : Option (List ℕ)) (given : List Reply) (one : Reply) → ReadsReplies old mid given → ReadsReply mid new one → ReadsReplies old new (given ++ one ∷ [])
 replies_more old mid new given one h k = record {
@@ -89,6 +86,23 @@ converses_on w0 w1 w2 r0 r1 asked later given so_far sent = record {
   sent = subst (Appends w0 w2) (sym (flat_map-append request_frame asked later)) (appends_more w0 w1 w2 _ _ so_far.sent sent);
   replies = so_far.replies;
 }
+
+-- the reply with the next entry was read
+pub reads_entry : {w0 w1 r0 r1 r2 : Option (List ℕ)} {asked : List Request} {given : List Reply} {ahead : ℕ} {entries : List (List ℕ)} {entry : List ℕ} → Converses w0 w1 r0 r1 asked given → AreForEntries asked given ahead entries
+    → ReadsReply r1 r2 (reply.Entry (entry_tag (length entries)) entry)
+    → Converses w0 w1 r0 r2 asked (given ++ reply.Entry (entry_tag (length entries)) entry ∷ []) × AreForEntries asked (given ++ reply.Entry (entry_tag (length entries)) entry ∷ []) ahead (entries ++ entry ∷ [])
+reads_entry {r0 = r0} {r1 = r1} {r2 = r2} {given = given} {entries = entries} {entry = entry} on about read =
+    let last : Reply = reply.Entry (entry_tag (length entries)) entry in
+    let same : 0 + length entries ≡ length entries = omega arith in (
+      record { sent = on.sent; replies = replies_more r0 r1 r2 given last on.replies read },
+      record {
+        requests = about.requests;
+        replies =
+            filter-append gives_no_increment given (last ∷ []) ∙ ap (λ (l : List Reply). l ++ last ∷ []) about.replies
+            ∙ ap (λ (n : ℕ). entry_replies 0 entries ++ reply.Entry (entry_tag n) entry ∷ []) (sym same)
+            ∙ sym (entry_replies-more 0 entries entry);
+      },
+    )
 
 module _ {w0 w1 w2 r0 r1 r2 o0 o1 o2 : Option (List ℕ)} {f1 f2 : FrontierData} {ahead next count size more : ℕ} (so_far : ReceivesEntries w0 w1 r0 r1 f1 o0 o1 ahead count size) (asks : AsksEntries w1 w2 ahead next) (one : ReceivesEntry r1 r2 f1 f2 o1 o2 count more) where
   pub received_more : (sum : ℕ) → sum ≡ size + more → ReceivesEntries w0 w2 r0 r2 f2 o0 o2 next (count + 1) sum

@@ -14,8 +14,8 @@ use Rattle.audit_client.specs.declared.send_error.SendError.{SendError}
 use Rattle.audit_client.specs.declared.send_error.SendError.TheVariants.{Input, Client, Output}
 use Rattle.audit_client.specs.Conversation.{ReadsReplies}
 use Rattle.audit_client.specs.Sending.{is_refusal, refusals_in, answer_line, answer_lines, AnswersLine, AreAnswers, TakesAnswer, FailsAnswer, Prints, PrintsAll, TakesAnswers}
-use Rattle.audit_client.proofs.Conversations.{consumes_more, appends_none, appends_more, appends_kept}
-use Rattle.audit_client.proofs.Exports.{replies_none, replies_more}
+use Rattle.audit_client.proofs.Conversations.{consumes_more, appends_none, appends_more, appends_kept, replies_none}
+use Rattle.audit_client.proofs.Exports.{replies_more}
 
 -- ---- lists of answers
 

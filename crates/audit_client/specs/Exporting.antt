@@ -1,7 +1,8 @@
 -- All entries of a log, which are asked for ahead of their replies and judged together.
-use Rattle.std.specs.Prelude.{◌≡◌, ℕ, zero, suc, ◌+◌, ◌-◌, Bool, true, false, Option, List, [], ◌∷◌, ◌++◌, length, map}
+use Rattle.std.specs.Prelude.{◌≡◌, ◌<◌, ◌≤◌, ℕ, zero, suc, ◌+◌, ◌-◌, Bool, true, false, Option, List, [], ◌∷◌, ◌++◌, length, map}
 use Rattle.std.specs.List.{flat_map, concat, filter}
 use Rattle.std.specs.Io.KnownBytes.{Appends}
+use Rattle.audit_text.specs.Writing.{WritesInPart}
 use Rattle.sha2.specs.Sha256.{sha256}
 use Rattle.audit_tree.specs.Subtree.{leaf_hash_of, root_of}
 use Rattle.audit_proof.specs.declared.commitment.Commitment.{Commitment}
@@ -67,10 +68,28 @@ pub record WritesExport (old new : Option (List ℕ)) (entries : List (List ℕ)
   pub count : export.count ≡ length entries
   pub size : export.size ≡ length (concat entries)
 
+-- a prefix of the bytes was written, and not all of them
+pub record WritesFront (old new : Option (List ℕ)) (bytes : List ℕ) : Type 0 where
+  pub front : List ℕ
+  pub rest : List ℕ
+  pub split : bytes ≡ front ++ rest
+  pub appended : Appends old new front
+  pub lacks : 0 < length rest
+
 -- the requests for the entries from one index on up to another were written to a connection
 pub record AsksEntries (old new : Option (List ℕ)) (asked next : ℕ) : Type 0 where
   pub requests : List Request
   pub sent : Appends old new (flat_map request_frame requests)
+  pub plain : filter asks_no_increment requests ≡ requests
+  pub all : entry_requests next ≡ entry_requests asked ++ requests
+
+-- the same up to an index after `index`, and at most `end`; but only a prefix of their bytes was written
+pub record AsksInPart (old new : Option (List ℕ)) (asked index end : ℕ) : Type 0 where
+  pub next : ℕ
+  pub further : index < next
+  pub within : next ≤ end
+  pub requests : List Request
+  pub part : WritesInPart old new (flat_map request_frame requests)
   pub plain : filter asks_no_increment requests ≡ requests
   pub all : entry_requests next ≡ entry_requests asked ++ requests
 

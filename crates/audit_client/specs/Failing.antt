@@ -1,18 +1,19 @@
--- When each error of a question comes, by what the server said.
+-- When each error of a question comes, by what was written and read.
 use Rattle.std.specs.Prelude.{◌≡◌, ◌⊎◌, ◌<◌, ◌≤◌, ℕ, Option, Some, None, List, [], ◌∷◌, ◌++◌, map, length, IfSome}
-use Rattle.std.specs.List.{flat_map}
+use Rattle.std.specs.List.{flat_map, concat}
 use Rattle.std.specs.Io.KnownBytes.{Appends, Consumes}
 use Rattle.sha2.specs.Sha256.{sha256}
 use Rattle.audit_base.specs.declared.limits.TheConstants.{MAX_COUNT}
 use Rattle.audit_tree.specs.Subtree.{leaf_hash_of, root_of}
 use Rattle.audit_proof.specs.declared.commitment.Commitment.{Commitment}
 use Rattle.audit_proof.specs.Acceptance.{commitment_to, AcceptsMembership, AcceptsIncrement}
+use Rattle.audit_proof.specs.ProofBytes.{Member, Increment}
 use Rattle.audit_wire.specs.declared.request.Request.{Request}
 use Rattle.audit_wire.specs.declared.request.Request.TheVariants as request
 use Rattle.audit_wire.specs.declared.reply.Reply.{Reply}
 use Rattle.audit_wire.specs.declared.reply.Reply.TheVariants as reply
 use Rattle.audit_wire.specs.Frame.{frame}
-use Rattle.audit_wire.specs.Reply.{reply_in, IsReply}
+use Rattle.audit_wire.specs.Reply.{reply_in, IsReply, HasParts}
 use Rattle.audit_wire.specs.Stream.{request_frame}
 use Rattle.audit_client.specs.declared.asking.TheConstants.{NEWEST_TAG, ASKED_TAG, JOIN_TAG}
 use Rattle.audit_client.specs.declared.fault.ClientError.{ClientError}
@@ -22,11 +23,11 @@ use Rattle.audit_client.specs.declared.putting.AskError.TheVariants as asking
 use Rattle.audit_client.specs.declared.keeping.WatchError.{WatchError}
 use Rattle.audit_client.specs.declared.keeping.WatchError.TheVariants as watching
 use Rattle.audit_client.specs.declared.watching.Unseen.{Unseen}
-use Rattle.audit_client.specs.Asking.{not_due, IsOneEntry}
-use Rattle.audit_client.specs.Conversation.{Converses}
-use Rattle.audit_client.specs.Exporting.{entry_tag, piece_tag, AreForEntries}
+use Rattle.audit_client.specs.Asking.{not_due, newest_reply, IsOneEntry, AnswersMember, AnswersIncrement}
+use Rattle.audit_client.specs.Conversation.{ReadsReply, ReadsPart, Converses, BreaksOff}
+use Rattle.audit_client.specs.Exporting.{entry_tag, piece_tag, AreForEntries, WritesFront}
 
--- the connection ended or was silent, or memory ran out, which may be at any time
+-- the connection ended or was silent, or memory ran out
 abbrev pub IsLost : ClientError → Type 0
 IsLost client.Ended = Unit {0}
 IsLost client.TimedOut = Unit {0}
@@ -39,9 +40,11 @@ pub record Hears (old new : Option (List ℕ)) (said : Option Reply) : Type 0 wh
   pub bytes : Consumes old new (frame body)
   pub heard : reply_in body ≡ said
 
--- a frame was read that is no reply, and that is the error; or the connection was lost
+-- Less than a frame was read; or a frame was, and memory was refused for the parts of its reply; or it is no reply.
 abbrev pub FailsToRead : Option (List ℕ) → Option (List ℕ) → ClientError → Type 0
-FailsToRead old new error = IsLost error ⊎ ((error ≡ client.BadReply) × Hears old new None)
+FailsToRead old new error = (IsLost error × ReadsPart old new)
+    ⊎ (((error ≡ client.Memory) × (said : Reply) × HasParts said × Hears old new (Some said))
+    ⊎ ((error ≡ client.BadReply) × Hears old new None))
 
 -- the frames of these requests were written, these replies read to those before the last, and this to the last
 pub record Exchanges (written_old written_new read_old read_new : Option (List ℕ)) (asked : List Request)
@@ -52,6 +55,15 @@ pub record Exchanges (written_old written_new read_old read_new : Option (List �
   pub bytes : Consumes read_old read_new (flat_map frame bodies ++ frame last)
   pub replies : map reply_in bodies ≡ map (λ reply. Some reply) given
   pub heard : reply_in last ≡ said
+
+-- The connection broke off before a reply to the last of these requests; or the reply was read, and memory was refused
+-- for its parts.
+abbrev pub IsUnanswered : Option (List ℕ) → Option (List ℕ) → Option (List ℕ) → Option (List ℕ) → List Request
+    → List Reply → ClientError → Type 0
+IsUnanswered written_old written_new read_old read_new asked given error =
+    (IsLost error × BreaksOff written_old written_new read_old read_new asked given)
+    ⊎ ((error ≡ client.Memory) × (said : Reply) × HasParts said
+    × Exchanges written_old written_new read_old read_new asked given (Some said))
 
 -- the error for what was said to a request with this tag and isn't its answer
 abbrev pub error_for : ℕ → Option Reply → ClientError
@@ -69,6 +81,13 @@ pub record IsAnsweredOtherwise (written_old written_new read_old read_new : Opti
   pub exchange : Exchanges written_old written_new read_old read_new asked given said
   pub error_is : error ≡ error_for tag said
   pub otherwise : IfSome said (λ reply. IsAnswer reply → ⊥)
+
+-- the last of these requests has no answer: no reply, or another
+abbrev pub HasNoAnswer : Option (List ℕ) → Option (List ℕ) → Option (List ℕ) → Option (List ℕ) → List Request
+    → List Reply → ℕ → (Reply → Type 0) → ClientError → Type 0
+HasNoAnswer written_old written_new read_old read_new asked given tag IsAnswer error =
+    IsUnanswered written_old written_new read_old read_new asked given error
+    ⊎ IsAnsweredOtherwise written_old written_new read_old read_new asked given tag IsAnswer error
 
 -- ---- answers
 
@@ -91,21 +110,21 @@ IsEntryReply index given = (entry : List ℕ) × (given ≡ reply.Entry (entry_t
 
 -- ---- questions
 
--- the newest commitment was asked for, and something else came
+-- the newest commitment was asked for, and didn't come
 abbrev pub FailsNewest : Option (List ℕ) → Option (List ℕ) → Option (List ℕ) → Option (List ℕ) → ClientError → Type 0
-FailsNewest written_old written_new read_old read_new error = IsLost error ⊎ IsAnsweredOtherwise
+FailsNewest written_old written_new read_old read_new error = HasNoAnswer
     written_old written_new read_old read_new (request.Commitment NEWEST_TAG ∷ []) [] NEWEST_TAG IsNewestReply error
 
 abbrev pub FailsClosing : Option (List ℕ) → Option (List ℕ) → Option (List ℕ) → Option (List ℕ) → ClientError → Type 0
-FailsClosing written_old written_new read_old read_new error = IsLost error ⊎ IsAnsweredOtherwise
+FailsClosing written_old written_new read_old read_new error = HasNoAnswer
     written_old written_new read_old read_new (request.Close ASKED_TAG ∷ []) [] ASKED_TAG IsClosingReply error
 
--- After this conversation the increment between two commitments was asked for with this tag, and something else came;
--- or it came, and isn't accepted.
+-- After this conversation the increment between two commitments was asked for with this tag, and didn't come; or it
+-- came, and isn't accepted.
 abbrev pub IsNotJoinedBy : ℕ → Option (List ℕ) → Option (List ℕ) → Option (List ℕ) → Option (List ℕ) → List Request
     → List Reply → Commitment → Commitment → ClientError → Type 0
 IsNotJoinedBy tag written_old written_new read_old read_new asked given older newer error =
-    IsAnsweredOtherwise written_old written_new read_old read_new
+    HasNoAnswer written_old written_new read_old read_new
     (asked ++ request.Incremental tag older.count newer.count ∷ []) given tag (IsIncrementReply tag) error
     ⊎ ((error ≡ client.NotAccepted) × (hashes : List (List ℕ)) × Converses written_old written_new read_old read_new
     (asked ++ request.Incremental tag older.count newer.count ∷ []) (given ++ reply.Incremental tag hashes ∷ [])
@@ -119,23 +138,19 @@ IsNotJoined written_old written_new read_old read_new asked given older newer er
 abbrev pub FailsJoiningBy : ℕ → Option (List ℕ) → Option (List ℕ) → Option (List ℕ) → Option (List ℕ) → Commitment
     → Commitment → ClientError → Type 0
 FailsJoiningBy tag written_old written_new read_old read_new older newer error =
-    IsLost error ⊎ IsNotJoinedBy tag written_old written_new read_old read_new [] [] older newer error
+    IsNotJoinedBy tag written_old written_new read_old read_new [] [] older newer error
 
 abbrev pub FailsJoining : Option (List ℕ) → Option (List ℕ) → Option (List ℕ) → Option (List ℕ) → Commitment
     → Commitment → ClientError → Type 0
 FailsJoining written_old written_new read_old read_new older newer error =
     FailsJoiningBy JOIN_TAG written_old written_new read_old read_new older newer error
 
--- the reply with the newest commitment
-abbrev pub newest_reply : Commitment → Reply
-newest_reply newest = reply.Commitment NEWEST_TAG newest.count newest.root
-
--- An entry was asked for, and something else came, before or after the newest commitment; or a proof came, and isn't
+-- The newest commitment didn't come; or the membership proof of an entry under it didn't; or a proof came, and isn't
 -- accepted under that commitment, or what it is accepted for isn't one entry alone.
 abbrev pub FailsEntry : Option (List ℕ) → Option (List ℕ) → Option (List ℕ) → Option (List ℕ) → ℕ → ClientError → Type 0
 FailsEntry written_old written_new read_old read_new index error =
     FailsNewest written_old written_new read_old read_new error ⊎ ((newest : Commitment) × (
-    IsAnsweredOtherwise written_old written_new read_old read_new
+    HasNoAnswer written_old written_new read_old read_new
     (request.Commitment NEWEST_TAG ∷ request.Membership ASKED_TAG index newest.count ∷ [])
     (newest_reply newest ∷ []) ASKED_TAG IsMemberReply error
     ⊎ ((hashes : List (List ℕ)) × (entry : List ℕ)
@@ -157,46 +172,58 @@ IsDoubted written_old written_new read_old read_new asked given newest count Acc
     × IsNotJoined written_old written_new read_old read_new asked given (record { count = count; root = root }) newest
     error)
 
--- A membership proof under a count was asked for, and something else came, before or after the newest commitment; or a
--- proof came, and is doubted.
+-- The newest commitment didn't come; or the membership proof under a count didn't; or a proof came, and is doubted, or
+-- is the answer, and memory was refused for its bytes.
 abbrev pub FailsMember : Option (List ℕ) → Option (List ℕ) → Option (List ℕ) → Option (List ℕ) → ℕ → ℕ → ClientError
     → Type 0
 FailsMember written_old written_new read_old read_new index count error =
     FailsNewest written_old written_new read_old read_new error ⊎ ((newest : Commitment) × (
-    IsAnsweredOtherwise written_old written_new read_old read_new
+    HasNoAnswer written_old written_new read_old read_new
     (request.Commitment NEWEST_TAG ∷ request.Membership ASKED_TAG index count ∷ [])
     (newest_reply newest ∷ []) ASKED_TAG IsMemberReply error
-    ⊎ ((hashes : List (List ℕ)) × (entry : List ℕ) × IsDoubted written_old written_new read_old read_new
+    ⊎ (((hashes : List (List ℕ)) × (entry : List ℕ) × IsDoubted written_old written_new read_old read_new
     (request.Commitment NEWEST_TAG ∷ request.Membership ASKED_TAG index count ∷ [])
     (newest_reply newest ∷ reply.Membership ASKED_TAG hashes entry ∷ []) newest count
-    (λ under. AcceptsMembership sha256 under index entry hashes) error)))
+    (λ under. AcceptsMembership sha256 under index entry hashes) error)
+    ⊎ ((error ≡ client.Memory) × (proof : Member) × (proof.index ≡ index) × (proof.count ≡ count)
+    × AnswersMember written_old written_new read_old read_new newest proof))))
 
 -- the same of an incremental proof between two counts, under the newer
 abbrev pub FailsIncrement : Option (List ℕ) → Option (List ℕ) → Option (List ℕ) → Option (List ℕ) → ℕ → ℕ → ClientError
     → Type 0
 FailsIncrement written_old written_new read_old read_new older newer error =
     FailsNewest written_old written_new read_old read_new error ⊎ ((newest : Commitment) × (
-    IsAnsweredOtherwise written_old written_new read_old read_new
+    HasNoAnswer written_old written_new read_old read_new
     (request.Commitment NEWEST_TAG ∷ request.Incremental ASKED_TAG older newer ∷ [])
     (newest_reply newest ∷ []) ASKED_TAG (IsIncrementReply ASKED_TAG) error
-    ⊎ ((hashes : List (List ℕ)) × IsDoubted written_old written_new read_old read_new
+    ⊎ (((hashes : List (List ℕ)) × IsDoubted written_old written_new read_old read_new
     (request.Commitment NEWEST_TAG ∷ request.Incremental ASKED_TAG older newer ∷ [])
     (newest_reply newest ∷ reply.Incremental ASKED_TAG hashes ∷ []) newest newer
-    (λ under. (root : List ℕ) × AcceptsIncrement sha256 (record { count = older; root = root }) under hashes) error)))
+    (λ under. (root : List ℕ) × AcceptsIncrement sha256 (record { count = older; root = root }) under hashes) error)
+    ⊎ ((error ≡ client.Memory) × (proof : Increment) × (proof.older ≡ older) × (proof.newer ≡ newer)
+    × AnswersIncrement written_old written_new read_old read_new newest proof))))
 
 -- ---- all entries
+
+-- the entry of this index was read, and not all of it was written
+pub record TearsEntry (read_old read_new old new : Option (List ℕ)) (index : ℕ) : Type 0 where
+  pub entry : List ℕ
+  pub read : ReadsReply read_old read_new (reply.Entry (entry_tag index) entry)
+  pub part : WritesFront old new entry
 
 -- The entry of this index was to be read, and something else came.
 abbrev pub IsNotTheEntry : Option (List ℕ) → Option (List ℕ) → ℕ → ClientError → Type 0
 IsNotTheEntry read_old read_new index error = (said : Option Reply) × Hears read_old read_new said
     × (error ≡ error_for (entry_tag index) said) × IfSome said (λ given. IsEntryReply index given → ⊥)
 
--- The connection was lost, or the entry couldn't be written, or something else came.
-abbrev pub FailsReceiving : Option (List ℕ) → Option (List ℕ) → ℕ → ClientError → Type 0
-FailsReceiving read_old read_new index error =
-    IsLost error ⊎ ((error ≡ client.Output) ⊎ IsNotTheEntry read_old read_new index error)
+-- Nothing came, or something else than the entry of this index; or it came, and couldn't be written.
+abbrev pub FailsReceiving : Option (List ℕ) → Option (List ℕ) → Option (List ℕ) → Option (List ℕ) → ℕ → ClientError
+    → Type 0
+FailsReceiving read_old read_new old new index error = FailsToRead read_old read_new error
+    ⊎ (IsNotTheEntry read_old read_new index error
+    ⊎ ((error ≡ client.Output) × TearsEntry read_old read_new old new index))
 
--- After this conversation entries were asked for, up to a number of them; some came, and then something else.
+-- After this conversation entries were asked for, up to a number of them; some came, and the next one didn't.
 pub record LacksEntry (written_old written_new read_old read_new : Option (List ℕ)) (asked : List Request)
     (given : List Reply) (count : ℕ) (error : ClientError) : Type 0 where
   pub entries : List (List ℕ)
@@ -206,48 +233,73 @@ pub record LacksEntry (written_old written_new read_old read_new : Option (List 
   pub requests : List Request
   pub replies : List Reply
   pub about : AreForEntries requests replies ahead entries
-  pub otherwise : IsAnsweredOtherwise written_old written_new read_old read_new (asked ++ requests)
+  pub fails : HasNoAnswer written_old written_new read_old read_new (asked ++ requests)
       (given ++ replies) (entry_tag (length entries)) (IsEntryReply (length entries)) error
 
 -- After this conversation some entries came, and the commitment to them isn't joined to the newest.
 pub record DoubtsEntries (written_old written_new read_old read_new : Option (List ℕ)) (asked : List Request)
     (given : List Reply) (newest : Commitment) (error : ClientError) : Type 0 where
   pub entries : List (List ℕ)
+  pub fewer : length entries < newest.count
   pub requests : List Request
   pub replies : List Reply
   pub about : AreForEntries requests replies (length entries) entries
   pub doubted : IsNotJoinedBy (piece_tag (length entries)) written_old written_new read_old read_new
       (asked ++ requests) (given ++ replies) (commitment_to entries) newest error
 
--- The newest commitment is one of more entries than a log has; or an entry didn't come, or the entries up to one aren't
--- joined to the newest; or all came, and the newest isn't the commitment to them.
-abbrev pub IsNoExport : Option (List ℕ) → Option (List ℕ) → Option (List ℕ) → Option (List ℕ) → Commitment → ClientError
-    → Type 0
-IsNoExport written_old written_new read_old read_new newest error =
+-- After this conversation some entries came, and not all of the last one was written.
+pub record CannotWrite (written_old written_new read_old read_new old new : Option (List ℕ)) (asked : List Request)
+    (given : List Reply) (count : ℕ) (error : ClientError) : Type 0 where
+  pub output : error ≡ client.Output
+  pub entries : List (List ℕ)
+  pub last : List ℕ
+  pub ahead : ℕ
+  pub within : ahead ≤ count
+  pub requests : List Request
+  pub replies : List Reply
+  pub about : AreForEntries requests replies ahead (entries ++ last ∷ [])
+  pub conversation : Converses written_old written_new read_old read_new (asked ++ requests) (given ++ replies)
+  pub mid : Option (List ℕ)
+  pub written : Appends old mid (concat entries)
+  pub part : WritesFront mid new last
+
+-- An entry didn't come, or couldn't be written; or the entries up to one aren't joined to the newest commitment.
+abbrev pub LacksEntries : Option (List ℕ) → Option (List ℕ) → Option (List ℕ) → Option (List ℕ) → Option (List ℕ)
+    → Option (List ℕ) → List Request → List Reply → Commitment → ClientError → Type 0
+LacksEntries written_old written_new read_old read_new old new asked given newest error =
+    LacksEntry written_old written_new read_old read_new asked given newest.count error
+    ⊎ (DoubtsEntries written_old written_new read_old read_new asked given newest error
+    ⊎ CannotWrite written_old written_new read_old read_new old new asked given newest.count error)
+
+-- The newest commitment is one of more entries than a log has; or entries lack, aren't joined or can't be written; or
+-- all came, and the newest isn't the commitment to them.
+abbrev pub IsNoExport : Option (List ℕ) → Option (List ℕ) → Option (List ℕ) → Option (List ℕ) → Option (List ℕ)
+    → Option (List ℕ) → Commitment → ClientError → Type 0
+IsNoExport written_old written_new read_old read_new old new newest error =
     ((error ≡ client.BadReply) × (MAX_COUNT < newest.count) × Converses written_old written_new read_old read_new
     (request.Commitment NEWEST_TAG ∷ []) (newest_reply newest ∷ []))
-    ⊎ (LacksEntry written_old written_new read_old read_new (request.Commitment NEWEST_TAG ∷ [])
-    (newest_reply newest ∷ []) newest.count error
-    ⊎ (DoubtsEntries written_old written_new read_old read_new (request.Commitment NEWEST_TAG ∷ [])
+    ⊎ (LacksEntries written_old written_new read_old read_new old new (request.Commitment NEWEST_TAG ∷ [])
     (newest_reply newest ∷ []) newest error
     ⊎ ((error ≡ client.NotAccepted) × (entries : List (List ℕ)) × (newest.count ≡ length entries)
     × (requests : List Request) × (replies : List Reply) × AreForEntries requests replies (length entries) entries
     × Converses written_old written_new read_old read_new
     (request.Commitment NEWEST_TAG ∷ requests) (newest_reply newest ∷ replies)
-    × ((newest.root ≡ root_of sha256 (map leaf_hash_of entries)) → ⊥))))
+    × ((newest.root ≡ root_of sha256 (map leaf_hash_of entries)) → ⊥)))
 
--- All entries were asked for, and the newest commitment wasn't given, or they couldn't be written, or aren't accepted.
-abbrev pub FailsExport : Option (List ℕ) → Option (List ℕ) → Option (List ℕ) → Option (List ℕ) → ClientError → Type 0
-FailsExport written_old written_new read_old read_new error =
-    FailsNewest written_old written_new read_old read_new error ⊎ ((error ≡ client.Output)
-    ⊎ ((newest : Commitment) × IsNoExport written_old written_new read_old read_new newest error))
+-- All entries were asked for, and the newest commitment didn't come; or it came, and the entries to it didn't.
+abbrev pub FailsExport : Option (List ℕ) → Option (List ℕ) → Option (List ℕ) → Option (List ℕ) → Option (List ℕ)
+    → Option (List ℕ) → ClientError → Type 0
+FailsExport written_old written_new read_old read_new old new error =
+    FailsNewest written_old written_new read_old read_new error
+    ⊎ ((newest : Commitment) × IsNoExport written_old written_new read_old read_new old new newest error)
 
 -- ---- answers that are put
 
--- the answer failed in this way, or it couldn't be written; or the file couldn't be begun or put
-abbrev pub FailsPutting : {E : Type 0} → (ClientError → Type 0) → AskError E → Type 0
-FailsPutting Fails (asking.Client error) = Fails error ⊎ (error ≡ client.Output)
-FailsPutting Fails (asking.Out error) = Unit {0}
+-- The answer failed in this way; or it was had, and couldn't be written; or the file couldn't be begun or put.
+abbrev pub FailsPutting : {E : Type 0} → (List ℕ → Type 0) → (ClientError → Type 0) → AskError E → Type 0
+FailsPutting IsAnswer Fails (asking.Client error) =
+    Fails error ⊎ ((error ≡ client.Output) × (bytes : List ℕ) × IsAnswer bytes)
+FailsPutting IsAnswer Fails (asking.Out error) = Unit {0}
 
 -- ---- witnesses
 
@@ -261,16 +313,16 @@ Disbelieves written_old written_new read_old read_new kept newest error =
     ⊎ (((error ≡ client.OtherRoot) × (newest.count ≡ kept.count) × (newest ≡ kept → ⊥)
     × Converses written_old written_new read_old read_new
     (request.Commitment NEWEST_TAG ∷ []) (newest_reply newest ∷ []))
-    ⊎ IsNotJoined written_old written_new read_old read_new (request.Commitment NEWEST_TAG ∷ [])
-    (newest_reply newest ∷ []) kept newest error)
+    ⊎ ((0 < kept.count) × (kept.count < newest.count) × IsNotJoined written_old written_new read_old read_new
+    (request.Commitment NEWEST_TAG ∷ []) (newest_reply newest ∷ []) kept newest error))
 
--- No newest commitment was given, and that is why; or this one was, and isn't believed, or the connection was lost.
+-- No newest commitment was given, and that is why; or this one was, and isn't believed.
 abbrev pub FailsWatch : Option (List ℕ) → Option (List ℕ) → Option (List ℕ) → Option (List ℕ) → Option Commitment
     → Unseen → Type 0
 FailsWatch written_old written_new read_old read_new kept unseen =
     ((unseen.given ≡ None) × FailsNewest written_old written_new read_old read_new unseen.error)
     ⊎ ((newest before : Commitment) × (kept ≡ Some before) × (unseen.given ≡ Some newest)
-    × (IsLost unseen.error ⊎ Disbelieves written_old written_new read_old read_new before newest unseen.error))
+    × Disbelieves written_old written_new read_old read_new before newest unseen.error)
 
 -- the same of a witness that keeps what it sees
 abbrev pub FailsKeeping : {E : Type 0} → Option (List ℕ) → Option (List ℕ) → Option (List ℕ) → Option (List ℕ)

@@ -9,13 +9,13 @@ ghost use Rattle.audit_wire.specs.declared.request.Request.{Request};
 ghost use Rattle.audit_wire.specs.declared.request.Request.TheVariants as request;
 ghost use Rattle.audit_wire.specs.declared.reply.Reply.TheVariants as reply;
 ghost use Rattle.audit_client.specs.Asking.{not_due, AnswersMember, AnswersIncrement, AnswersEntry, IsOneEntry};
+ghost use Rattle.audit_client.specs.Asking.{IsVouchedIn};
 ghost use Rattle.audit_client.specs.Conversation.{Converses};
-ghost use Rattle.audit_client.specs.Failing.{IsLost, IsAnsweredOtherwise, IsNoAnswer, IsNewestReply};
+ghost use Rattle.audit_client.specs.Failing.{HasNoAnswer, IsNoAnswer, IsNewestReply};
 ghost use Rattle.audit_client.specs.Failing.{IsClosingReply};
 ghost use Rattle.audit_client.specs.Failing.{IsMemberReply, IsIncrementReply, FailsNewest, FailsClosing};
 ghost use Rattle.audit_client.specs.Failing.{FailsJoining, FailsJoiningBy, FailsEntry, FailsMember};
 ghost use Rattle.audit_client.specs.Failing.{FailsIncrement};
-ghost use Rattle.audit_client.specs.Joined.{IsVouchedFor};
 
 use crate::conversation::ask;
 use crate::fault::ClientError;
@@ -202,9 +202,8 @@ fn vouch<W: Write, R: Read>(
     older: &Commitment,
     newest: &Commitment,
 ) -> Result<(), ClientError>
-    ensures done { OnOk result ((asked : List Request) × (given : List Reply)
-        × Converses (W.contents to.old) (W.contents to.new) (R.remaining from.old) (R.remaining from.new) asked given
-        × IsVouchedFor older.now newest.now) }
+    ensures done { OnOk result (IsVouchedIn (W.contents to.old) (W.contents to.new) (R.remaining from.old)
+        (R.remaining from.new) [] [] older.now newest.now) }
     ensures other { OnErr result (older.now ≡ newest.now → ⊥) }
     ensures fault { IfErr result (FailsJoining (W.contents to.old) (W.contents to.new) (R.remaining from.old)
         (R.remaining from.new) older.now newest.now) }
@@ -223,9 +222,10 @@ pub fn join<W: Write, R: Read>(
     older: &Commitment,
     newer: &Commitment,
 ) -> Result<(), ClientError>
-    ensures done { OnOk result ((asked : List Request) × (given : List Reply) × (hashes : List (List ℕ))
-        × Converses (W.contents to.old) (W.contents to.new) (R.remaining from.old) (R.remaining from.new) asked given
-        × AcceptsIncrement sha256 older.now newer.now hashes) }
+    ensures done { OnOk result ((hashes : List (List ℕ)) × Converses (W.contents to.old) (W.contents to.new)
+        (R.remaining from.old) (R.remaining from.new)
+        (request.Incremental JOIN_TAG older.now.count newer.now.count ∷ [])
+        (reply.Incremental JOIN_TAG hashes ∷ []) × AcceptsIncrement sha256 older.now newer.now hashes) }
     ensures fault { IfErr result (FailsJoining (W.contents to.old) (W.contents to.new) (R.remaining from.old)
         (R.remaining from.new) older.now newer.now) }
 {
@@ -241,13 +241,10 @@ pub(crate) fn join_by<W: Write, R: Read>(
     older: &Commitment,
     newer: &Commitment,
 ) -> Result<(), ClientError>
-    ensures done { OnOk result ((asked : List Request) × (given : List Reply) × (hashes : List (List ℕ))
-        × Converses (W.contents to.old) (W.contents to.new) (R.remaining from.old) (R.remaining from.new) asked given
-        × AcceptsIncrement sha256 older.now newer.now hashes) }
-    ensures asked { OnOk result ((hashes : List (List ℕ)) × Converses (W.contents to.old) (W.contents to.new)
+    ensures done { OnOk result ((hashes : List (List ℕ)) × Converses (W.contents to.old) (W.contents to.new)
         (R.remaining from.old) (R.remaining from.new)
         (request.Incremental own_tag older.now.count newer.now.count ∷ [])
-        (reply.Incremental own_tag hashes ∷ [])) }
+        (reply.Incremental own_tag hashes ∷ []) × AcceptsIncrement sha256 older.now newer.now hashes) }
     ensures fault { IfErr result (FailsJoiningBy own_tag (W.contents to.old) (W.contents to.new)
         (R.remaining from.old) (R.remaining from.new) older.now newer.now) }
 {
@@ -274,9 +271,9 @@ fn ask_member<W: Write, R: Read>(
     ensures count { IfOk result (λ proof. proof.count ≡ count) }
     ensures few { IfOk result (λ proof. vec_len proof.hashes ≤ MAX_MEMBER_HASHES) }
     ensures short { IfOk result (λ proof. vec_len proof.entry ≤ MAX_ENTRY) }
-    ensures fault { IfErr result (λ error. IsLost error ⊎ IsAnsweredOtherwise (W.contents to.old) (W.contents to.new)
+    ensures fault { IfErr result (HasNoAnswer (W.contents to.old) (W.contents to.new)
         (R.remaining from.old) (R.remaining from.new) (request.Membership ASKED_TAG index count ∷ []) [] ASKED_TAG
-        IsMemberReply error) }
+        IsMemberReply) }
 {
     let asked = RequestView::Membership {
         tag: ASKED_TAG,
@@ -328,9 +325,9 @@ fn ask_increment<W: Write, R: Read>(
     ensures older { IfOk result (λ proof. proof.older ≡ older) }
     ensures newer { IfOk result (λ proof. proof.newer ≡ newer) }
     ensures few { IfOk result (λ proof. vec_len proof.hashes ≤ MAX_INCREMENT_HASHES) }
-    ensures fault { IfErr result (λ error. IsLost error ⊎ IsAnsweredOtherwise (W.contents to.old) (W.contents to.new)
+    ensures fault { IfErr result (HasNoAnswer (W.contents to.old) (W.contents to.new)
         (R.remaining from.old) (R.remaining from.new) (request.Incremental own_tag older newer ∷ []) [] own_tag
-        (IsIncrementReply own_tag) error) }
+        (IsIncrementReply own_tag)) }
 {
     let asked = RequestView::Incremental {
         tag: own_tag,

@@ -1,5 +1,6 @@
 //! Requests that are written to a connection, and replies that are read from it.
-ghost use Rattle.std.specs.Prelude.{◌≡◌, ◌≤◌, ◌⊎◌, ◌∷◌, [], length, take, Some, None, IfOk, IfErr, OnOk, OnErr};
+ghost use Rattle.std.specs.Prelude.{◌≡◌, ◌^◌, ◌<◌, ◌≤◌, ◌⊎◌, ◌∷◌, [], length, take, Some, None};
+ghost use Rattle.std.specs.Prelude.{IfOk, IfErr, OnOk, OnErr};
 ghost use Rattle.std.specs.Int.{w16, to_be_bytes};
 ghost use Rattle.std.specs.Io.KnownBytes.{Appends, Consumes, Keeps};
 ghost use Rattle.audit_text.specs.Writing.{WritesInPart};
@@ -9,8 +10,9 @@ ghost use Rattle.audit_wire.specs.Request.{IsRequest};
 ghost use Rattle.audit_wire.specs.Stream.{request_frame};
 ghost use Rattle.audit_wire.specs.View.{request_shown};
 ghost use Rattle.audit_client.specs.declared.fault.ClientError.TheVariants.{BadReply};
-ghost use Rattle.audit_client.specs.Conversation.{ReadsReply, Converses};
-ghost use Rattle.audit_client.specs.Failing.{IsLost, FailsToRead, Exchanges};
+ghost use Rattle.audit_client.specs.Conversation.{ReadsReply, ReadsPart, ReadsFewer, Converses};
+ghost use Rattle.audit_client.specs.Exporting.{WritesFront};
+ghost use Rattle.audit_client.specs.Failing.{IsLost, FailsToRead, Exchanges, IsUnanswered};
 
 use crate::fault::ClientError;
 use audit_wire::{LENGTH_BYTES, Reply, ReplyError, RequestView, read_reply, write_request};
@@ -30,8 +32,10 @@ pub fn ask<W: Write, R: Read>(
         (R.remaining from.old) (R.remaining from.new) (request_shown request.entry ∷ []) (given ∷ [])) }
     ensures heard { IfOk result (λ given. Exchanges (W.contents to.old) (W.contents to.new)
         (R.remaining from.old) (R.remaining from.new) (request_shown request.entry ∷ []) [] (Some given)) }
-    ensures fault { IfErr result (λ error. IsLost error ⊎ ((error ≡ BadReply) × Exchanges (W.contents to.old)
-        (W.contents to.new) (R.remaining from.old) (R.remaining from.new) (request_shown request.entry ∷ []) [] None)) }
+    ensures fault { IfErr result (λ error. IsUnanswered (W.contents to.old) (W.contents to.new)
+        (R.remaining from.old) (R.remaining from.new) (request_shown request.entry ∷ []) [] error
+        ⊎ ((error ≡ BadReply) × Exchanges (W.contents to.old) (W.contents to.new) (R.remaining from.old)
+        (R.remaining from.new) (request_shown request.entry ∷ []) [] None)) }
 {
     send_request(alloc, to, request)?;
     let mut body = Vec::new(alloc);
@@ -47,6 +51,8 @@ fn send_request<W: Write>(
 ) -> Result<(), ClientError>
     requires { IsRequest (request_shown request) }
     ensures sent { OnOk result (Appends (W.contents to.old) (W.contents to.new)
+        (request_frame (request_shown request.entry))) }
+    ensures part { OnErr result (WritesInPart (W.contents to.old) (W.contents to.new)
         (request_frame (request_shown request.entry))) }
     ensures fault { IfErr result IsLost }
 {
@@ -68,19 +74,23 @@ pub fn send_bytes<W: Write>(to: &mut W, bytes: &[u8]) -> Result<(), ClientError>
     }
 }
 
-fn send_rest<W: Write>(to: &mut W, bytes: &[u8]) -> Result<(), ClientError>
+// Writes all bytes. After an error a prefix of them was written, and not all.
+pub(crate) fn send_rest<W: Write>(to: &mut W, bytes: &[u8]) -> Result<(), ClientError>
     ensures sent { OnOk result (Appends (W.contents to.old) (W.contents to.new) bytes.now) }
-    ensures part { OnErr result (WritesInPart (W.contents to.old) (W.contents to.new) bytes.now) }
+    ensures part { OnErr result (WritesFront (W.contents to.old) (W.contents to.new) bytes.now) }
     ensures fault { IfErr result IsLost }
 {
+    if bytes.is_empty() {
+        return Ok(());
+    }
     let mut rest = bytes;
     for _ in 0..u64::MAX {
-        if rest.is_empty() {
-            return Ok(());
-        }
         let written = send_once(to, rest)?;
         let (_, left) = rest.split_at(written);
         rest = left;
+        if rest.is_empty() {
+            return Ok(());
+        }
     }
     Err(ClientError::Ended)
 }
@@ -127,7 +137,7 @@ pub fn next_reply<R: Read>(
 #[tactic(auto, using(crate::proofs::Conversations::frame_read))]
 fn read_body<R: Read>(from: &mut R, body: &mut Vec<u8>) -> Result<(), ClientError>
     ensures read { OnOk result (Consumes (R.remaining from.old) (R.remaining from.new) (frame body.new.items)) }
-    ensures fault { IfErr result IsLost }
+    ensures fault { IfErr result (λ error. IsLost error × ReadsPart (R.remaining from.old) (R.remaining from.new)) }
 {
     let size = read_size(from)?;
     read_sized(from, body, size as usize)
@@ -137,7 +147,8 @@ fn read_body<R: Read>(from: &mut R, body: &mut Vec<u8>) -> Result<(), ClientErro
 fn read_size<R: Read>(from: &mut R) -> Result<u16, ClientError>
     ensures read { IfOk result (λ size. Consumes (R.remaining from.old) (R.remaining from.new)
         (to_be_bytes w16 size)) }
-    ensures fault { IfErr result IsLost }
+    ensures fault { IfErr result (λ error. IsLost error
+        × ReadsFewer (R.remaining from.old) (R.remaining from.new) LENGTH_BYTES) }
 {
     let mut size = [0; LENGTH_BYTES];
     receive(from, &mut size)?;
@@ -155,9 +166,13 @@ fn size_in(field: &[u8]) -> u16
 fn read_sized<R: Read>(from: &mut R, body: &mut Vec<u8>, size: usize) -> Result<(), ClientError>
     ensures read { OnOk result (Consumes (R.remaining from.old) (R.remaining from.new) body.new.items) }
     ensures size { OnOk result (length body.new.items ≡ size) }
-    ensures fault { IfErr result IsLost }
+    ensures fault { IfErr result (λ error. IsLost error
+        × ReadsFewer (R.remaining from.old) (R.remaining from.new) size) }
 {
     body.clear();
+    if size == 0 {
+        return Ok(());
+    }
     body.resize(size, 0)?;
     receive(from, body)
 }
@@ -165,11 +180,41 @@ fn read_sized<R: Read>(from: &mut R, body: &mut Vec<u8>, size: usize) -> Result<
 // Reads as many bytes as the buffer has.
 fn receive<R: Read>(from: &mut R, buffer: &mut [u8]) -> Result<(), ClientError>
     ensures read { OnOk result (Consumes (R.remaining from.old) (R.remaining from.new) buffer.new) }
+    ensures fault { IfErr result (λ error. IsLost error
+        × ReadsFewer (R.remaining from.old) (R.remaining from.new) (length buffer.old)) }
+{
+    if buffer.is_empty() {
+        return Ok(());
+    }
+    let mut filled = 0;
+    for _ in 0..u64::MAX {
+        let read = receive_once(from, &mut buffer[filled..])?;
+        filled += read;
+        if filled == buffer.len() {
+            return Ok(());
+        }
+    }
+    Err(ClientError::Ended)
+}
+
+// Reads once. An interrupted read counts as no bytes, so the caller tries again.
+fn receive_once<R: Read>(from: &mut R, buffer: &mut [u8]) -> Result<usize, ClientError>
+    ensures within { IfOk result (λ read. read ≤ length buffer.new) }
+    ensures read { IfOk result (λ read. Consumes (R.remaining from.old) (R.remaining from.new)
+        (take read buffer.new)) }
+    ensures kept { OnErr result (Keeps (R.remaining from.old) (R.remaining from.new)) }
     ensures fault { IfErr result IsLost }
 {
-    match from.read_exact(buffer) {
-        Ok(()) => Ok(()),
-        Err(error) => Err(fault_of(&error)),
+    match from.read(buffer) {
+        Ok(0) => Err(ClientError::Ended),
+        Ok(read) => Ok(read),
+        Err(error) => {
+            if error.kind() == ErrorKind::Interrupted {
+                Ok(0)
+            } else {
+                Err(fault_of(&error))
+            }
+        }
     }
 }
 

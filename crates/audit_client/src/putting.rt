@@ -65,7 +65,8 @@ pub fn put_entry<W: Write, R: Read, O: Out>(
         × IsGivenEntry (W.contents to.old) (W.contents to.new) (R.remaining from.old) (R.remaining from.new)
         index bytes) }
     // Why it failed, and that nothing is put unless it was the file.
-    ensures fault { IfErr result (FailsPutting (FailsEntry (W.contents to.old) (W.contents to.new)
+    ensures fault { IfErr result (FailsPutting (IsGivenEntry (W.contents to.old) (W.contents to.new)
+        (R.remaining from.old) (R.remaining from.new) index) (FailsEntry (W.contents to.old) (W.contents to.new)
         (R.remaining from.old) (R.remaining from.new) index)) }
     ensures untouched { (error : ClientError) → result ≡ Err (AskError.Client error) → O.file out.new ≡ O.file out.old }
 {
@@ -90,7 +91,8 @@ pub fn put_member<W: Write, R: Read, O: Out>(
     ensures done { IfOk result (λ size. (bytes : List ℕ) × (size ≡ length bytes) × IsFile (O.file out.new) bytes
         × IsGivenMember (W.contents to.old) (W.contents to.new) (R.remaining from.old) (R.remaining from.new)
         index count bytes) }
-    ensures fault { IfErr result (FailsPutting (FailsMember (W.contents to.old) (W.contents to.new)
+    ensures fault { IfErr result (FailsPutting (IsGivenMember (W.contents to.old) (W.contents to.new)
+        (R.remaining from.old) (R.remaining from.new) index count) (FailsMember (W.contents to.old) (W.contents to.new)
         (R.remaining from.old) (R.remaining from.new) index count)) }
     ensures untouched { (error : ClientError) → result ≡ Err (AskError.Client error) → O.file out.new ≡ O.file out.old }
 {
@@ -115,7 +117,8 @@ pub fn put_increment<W: Write, R: Read, O: Out>(
     ensures done { IfOk result (λ size. (bytes : List ℕ) × (size ≡ length bytes) × IsFile (O.file out.new) bytes
         × IsGivenIncrement (W.contents to.old) (W.contents to.new) (R.remaining from.old) (R.remaining from.new)
         older newer bytes) }
-    ensures fault { IfErr result (FailsPutting (FailsIncrement (W.contents to.old) (W.contents to.new)
+    ensures fault { IfErr result (FailsPutting (IsGivenIncrement (W.contents to.old) (W.contents to.new)
+        (R.remaining from.old) (R.remaining from.new) older newer) (FailsIncrement (W.contents to.old) (W.contents to.new)
         (R.remaining from.old) (R.remaining from.new) older newer)) }
     ensures untouched { (error : ClientError) → result ≡ Err (AskError.Client error) → O.file out.new ≡ O.file out.old }
 {
@@ -129,7 +132,7 @@ fn put_bytes<O: Out>(bytes: &[u8], out: &mut O) -> Result<u64, AskError<O::Error
     ensures only { (O.file out.new ≡ O.file out.old) ⊎ IsFile (O.file out.new) bytes.now }
     ensures done { OnOk result (IsFile (O.file out.new) bytes.now) }
     ensures size { IfOk result (λ size. size ≡ length bytes.now) }
-    ensures fault { IfErr result (FailsPutting (λ error. ⊥)) }
+    ensures fault { IfErr result (FailsPutting (λ answer. answer ≡ bytes.now) (λ error. ⊥)) }
     ensures untouched { (error : ClientError) → result ≡ Err (AskError.Client error) → O.file out.new ≡ O.file out.old }
 {
     let mut draft = match out.draft() {
@@ -158,8 +161,9 @@ pub fn put_export<W: Write, R: Read, O: Out>(
     ensures done { IfOk result (λ export. (entries : List (List ℕ)) × (export.count ≡ length entries)
         × (export.size ≡ length (concat entries)) × IsFile (O.file out.new) (concat entries)
         × GivesExport (W.contents to.old) (W.contents to.new) (R.remaining from.old) (R.remaining from.new) entries) }
-    ensures fault { IfErr result (FailsPutting (FailsExport (W.contents to.old) (W.contents to.new)
-        (R.remaining from.old) (R.remaining from.new))) }
+    ensures fault { IfErr result (FailsPutting (λ answer. ⊥) (λ error. (begun left : O.Draft)
+        × FailsExport (W.contents to.old) (W.contents to.new) (R.remaining from.old) (R.remaining from.new)
+        (O.Draft.contents begun) (O.Draft.contents left) error)) }
     ensures untouched { (error : ClientError) → result ≡ Err (AskError.Client error) → O.file out.new ≡ O.file out.old }
 {
     let mut draft = match out.draft() {

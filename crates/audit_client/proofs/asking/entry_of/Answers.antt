@@ -8,10 +8,7 @@ pub returns-clause-done : goal.returns-clause-done
 returns-clause-done g c = (
   c.in_ok-newest.newest,
   record {
-    asked = _;
-    given = _;
     conversation = converses_more _ _ _ _ _ _ _ _ _ _ c.in_ok-newest.ensures.done c.in_ok-proof.ensures.done;
-    begins = record { requests = _; replies = _; first = refl; answer = refl };
     hashes = c.in_ok-proof.proof.hashes.items;
     accepted = rw (sym c.deref.ensures.value, sym c.deref-2.ensures.value) (c.accepts_member.ensures.exact.0 (search rules));
     alone = rw (sym c.deref-3.ensures.value) (c.is_one_entry.ensures.0 (search rules));

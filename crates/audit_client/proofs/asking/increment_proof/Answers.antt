@@ -3,7 +3,7 @@ use Rattle.std.proofs.lemmas.Option.{none-some}
 use Rattle.std.proofs.lemmas.Result.{err_from_is_err_and}
 use Rattle.audit_proof.specs.ProofBytes.{increment_in}
 use Rattle.audit_client.proofs.Conversations.{converses_more}
-use Rattle.audit_client.proofs.Failures.{fails_increment_after, increment_unvouched}
+use Rattle.audit_client.proofs.Failures.{vouched_after, fails_increment_after, increment_unvouched}
 use Rattle.audit_client.proofs.asking.increment_proof.Goals as goal
 
 pub returns-clause-done : goal.returns-clause-done
@@ -16,14 +16,10 @@ returns-clause-done g c =
       c.in_ok-proof.ensures.newer,
       c.in_ok-write_increment.ensures.ok,
       record {
-        asked = _;
-        given = _;
-        conversation = converses_more _ _ _ _ _ _ _ _ _ _ c.in_ok-newest.ensures.done (converses_more _ _ _ _ _ _ _ _ _ _ c.in_ok-proof.ensures.done v.2);
-        begins = record { requests = _; replies = _; first = refl; answer = refl };
         older_root = c.in-Some.roots.0;
         newer_root = c.in-Some.roots.1;
         accepted = rw (c.in_ok-proof.ensures.older, c.in_ok-proof.ensures.newer, sym c.deref.ensures.value) c.in-Some.ensures.roots;
-        vouched = rw (c.in_ok-proof.ensures.newer) v.3;
+        vouched = rw (c.in_ok-proof.ensures.older, c.in_ok-proof.ensures.newer) (vouched_after _ _ _ _ _ _ _ _ _ _ (converses_more _ _ _ _ _ _ _ _ _ _ c.in_ok-newest.ensures.done c.in_ok-proof.ensures.done) v);
       },
     )
 
@@ -47,12 +43,33 @@ returns-in_err-vouch-clause-fault g c =
 pub returns-in_default-clause-fault : goal.returns-in_default-clause-fault
 returns-in_default-clause-fault g c = inr (
   c.in_ok-newest.newest,
-  inr (
+  inr (inl (
     c.in_ok-proof.proof.hashes.items,
     inl (
       refl,
       converses_more _ _ _ _ _ _ _ _ _ _ c.in_ok-newest.ensures.done c.in_ok-proof.ensures.done,
       λ root accepted. none-some _ (sym c.in_default.is ∙ c.roots_of_increment.ensures.only accepted.0 root (rw (c.deref.ensures.value) accepted.1)),
     ),
-  ),
+  )),
 )
+
+pub returns-in_err-write_increment-clause-fault : goal.returns-in_err-write_increment-clause-fault
+returns-in_err-write_increment-clause-fault g c =
+    let p = err_from_is_err_and c.from_residual-in_err-write_increment.result c.from_residual-in_err-write_increment.ensures.1 in
+    let v = c.in_ok-vouch.ensures.done in
+    let proof = c.in_ok-proof.proof in
+    rw (p.1, p.2) (inr (
+      c.in_ok-newest.newest,
+      inr (inr (
+        refl,
+        increment_in proof,
+        c.in_ok-proof.ensures.older,
+        c.in_ok-proof.ensures.newer,
+        record {
+          older_root = c.in-Some.roots.0;
+          newer_root = c.in-Some.roots.1;
+          accepted = rw (c.in_ok-proof.ensures.older, c.in_ok-proof.ensures.newer, sym c.deref.ensures.value) c.in-Some.ensures.roots;
+          vouched = rw (c.in_ok-proof.ensures.older, c.in_ok-proof.ensures.newer) (vouched_after _ _ _ _ _ _ _ _ _ _ (converses_more _ _ _ _ _ _ _ _ _ _ c.in_ok-newest.ensures.done c.in_ok-proof.ensures.done) v);
+        },
+      )),
+    ))

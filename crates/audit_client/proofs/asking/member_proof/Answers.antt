@@ -3,7 +3,7 @@ use Rattle.std.proofs.lemmas.Option.{none-some}
 use Rattle.std.proofs.lemmas.Result.{err_from_is_err_and}
 use Rattle.audit_proof.specs.ProofBytes.{member_in}
 use Rattle.audit_client.proofs.Conversations.{converses_more}
-use Rattle.audit_client.proofs.Failures.{fails_member_after, member_unvouched}
+use Rattle.audit_client.proofs.Failures.{vouched_after, fails_member_after, member_unvouched}
 use Rattle.audit_client.proofs.asking.member_proof.Goals as goal
 
 pub returns-clause-done : goal.returns-clause-done
@@ -16,13 +16,9 @@ returns-clause-done g c =
       c.in_ok-proof.ensures.count,
       c.in_ok-write_member.ensures.ok,
       record {
-        asked = _;
-        given = _;
-        conversation = converses_more _ _ _ _ _ _ _ _ _ _ c.in_ok-newest.ensures.done (converses_more _ _ _ _ _ _ _ _ _ _ c.in_ok-proof.ensures.done v.2);
-        begins = record { requests = _; replies = _; first = refl; answer = refl };
         root = c.in-Some.root;
         accepted = rw (c.in_ok-proof.ensures.index, c.in_ok-proof.ensures.count, sym c.deref.ensures.value, sym c.deref-2.ensures.value) c.in-Some.ensures.root;
-        vouched = rw (c.in_ok-proof.ensures.count) v.3;
+        vouched = rw (c.in_ok-proof.ensures.index, c.in_ok-proof.ensures.count) (vouched_after _ _ _ _ _ _ _ _ _ _ (converses_more _ _ _ _ _ _ _ _ _ _ c.in_ok-newest.ensures.done c.in_ok-proof.ensures.done) v);
       },
     )
 
@@ -46,7 +42,7 @@ returns-in_err-vouch-clause-fault g c =
 pub returns-in_default-clause-fault : goal.returns-in_default-clause-fault
 returns-in_default-clause-fault g c = inr (
   c.in_ok-newest.newest,
-  inr (
+  inr (inl (
     c.in_ok-proof.proof.hashes.items,
     c.in_ok-proof.proof.entry.items,
     inl (
@@ -54,5 +50,25 @@ returns-in_default-clause-fault g c = inr (
       converses_more _ _ _ _ _ _ _ _ _ _ c.in_ok-newest.ensures.done c.in_ok-proof.ensures.done,
       λ root accepted. none-some _ (sym c.in_default.is ∙ c.root_of_membership.ensures.only root (rw (c.deref.ensures.value, c.deref-2.ensures.value) accepted)),
     ),
-  ),
+  )),
 )
+
+pub returns-in_err-write_member-clause-fault : goal.returns-in_err-write_member-clause-fault
+returns-in_err-write_member-clause-fault g c =
+    let p = err_from_is_err_and c.from_residual-in_err-write_member.result c.from_residual-in_err-write_member.ensures.1 in
+    let v = c.in_ok-vouch.ensures.done in
+    let proof = c.in_ok-proof.proof in
+    rw (p.1, p.2) (inr (
+      c.in_ok-newest.newest,
+      inr (inr (
+        refl,
+        member_in proof,
+        c.in_ok-proof.ensures.index,
+        c.in_ok-proof.ensures.count,
+        record {
+          root = c.in-Some.root;
+          accepted = rw (c.in_ok-proof.ensures.index, c.in_ok-proof.ensures.count, sym c.deref.ensures.value, sym c.deref-2.ensures.value) c.in-Some.ensures.root;
+          vouched = rw (c.in_ok-proof.ensures.index, c.in_ok-proof.ensures.count) (vouched_after _ _ _ _ _ _ _ _ _ _ (converses_more _ _ _ _ _ _ _ _ _ _ c.in_ok-newest.ensures.done c.in_ok-proof.ensures.done) v);
+        },
+      )),
+    ))

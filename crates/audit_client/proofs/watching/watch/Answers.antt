@@ -7,14 +7,10 @@ use Rattle.audit_client.proofs.watching.watch.Goals as goal
 pub returns-in-Ok-clause-seen : goal.returns-in-Ok-clause-seen
 returns-in-Ok-clause-seen g c =
     let j = c.in-Ok.ensures.done in
-    rw c.in-Some.is (record {
-      asked = _;
-      given = _;
-      newest = c.in_ok-newest.newest;
-      conversation = converses_more _ _ _ _ _ _ _ _ _ _ c.in_ok-newest.ensures.done j.3;
-      begins = record { requests = _; replies = _; first = refl; answer = refl };
-      judged = (refl, omega (arith, c.if-newest-kept.false, c.if-newest-kept-2.false), inr (j.2, j.4));
-    })
+    rw c.in-Some.is (
+      omega (arith, c.if-newest-kept.false, c.if-newest-kept-2.false),
+      inr (omega arith, (j.0, converses_more _ _ _ _ _ _ _ _ _ _ c.in_ok-newest.ensures.done j.1, j.2)),
+    )
 
 pub returns-in_err-newest-clause-fault : goal.returns-in_err-newest-clause-fault
 returns-in_err-newest-clause-fault g c =
@@ -28,5 +24,5 @@ returns-in-Err-clause-fault g c =
       c.in-Some.kept,
       refl,
       c.not_seen-in-Err.ensures.given,
-      rw c.not_seen-in-Err.ensures.error (fails_to_join_after _ _ _ _ _ _ _ _ _ c.in_ok-newest.ensures.done c.in-Err.ensures.fault),
+      rw c.not_seen-in-Err.ensures.error (fails_to_join_after _ _ _ _ _ _ _ _ _ c.in_ok-newest.ensures.done (λ none. omega arith) (λ fewer. omega arith) (λ same. omega arith) c.in-Err.ensures.fault),
     ))
