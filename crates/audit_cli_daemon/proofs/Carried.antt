@@ -13,7 +13,7 @@ use Rattle.audit_cli_base.specs.declared.fault.CommandError.{CommandError}
 use Rattle.audit_cli_daemon.specs.declared.arguments.TheConstants.{DEFAULT_RESERVE}
 use Rattle.audit_cli_daemon.specs.declared.request.Request.TheVariants.{Run}
 use Rattle.audit_cli_daemon.specs.declared.request.Settings.{Settings}
-use Rattle.audit_cli_daemon.specs.Carried.{ServesBetween, IsPerformed}
+use Rattle.audit_cli_daemon.specs.Carried.{ServesBetween, IsDaemonDone}
 use Rattle.audit_cli_daemon.specs.Running.{ServesStore}
 use Rattle.audit_cli_daemon.specs.State.{ready_line, stopped_line}
 use Rattle.audit_cli_daemon.specs.Words.{backlog_asked}
@@ -38,6 +38,6 @@ module _ {D : Type 0} {g : sectors.Ghosts D} {S : Type 0} (N : CallModel S) (res
   }
 
 pub performed : {D : Type 0} (g : sectors.Ghosts D) {S : Type 0} (N : CallModel S) (settings : Settings) (reserve backlog : ℕ) (opened : Store D g) (before after : Option (List ℕ)) (done : Ending)
-    → number_asked settings.reserve DEFAULT_RESERVE ≡ Ok reserve → backlog_asked settings.backlog ≡ Ok backlog → OnOk done (ServesBetween N reserve backlog opened before after) → IsPerformed g N settings before after done
+    → number_asked settings.reserve DEFAULT_RESERVE ≡ Ok reserve → backlog_asked settings.backlog ≡ Ok backlog → OnOk done (ServesBetween N reserve backlog opened before after) → IsDaemonDone g N settings before after done
 performed g N settings reserve backlog opened before after (Err fault) reserve_is backlog_is served = tt
 performed g N settings reserve backlog opened before after (Ok done) reserve_is backlog_is served = record { reserve = reserve; reserve_is = reserve_is; backlog = backlog; backlog_is = backlog_is; opened = opened; served = served }

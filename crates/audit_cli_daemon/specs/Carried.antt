@@ -26,7 +26,7 @@ pub record ServesBetween {D : Type 0} {g : sectors.Ghosts D} {S : Type 0} (N : C
 
 module _ {D : Type 0} (g : sectors.Ghosts D) {S : Type 0} (N : CallModel S) where
   -- so were they over the store that was opened, with the reserve and the backlog that were asked for
-  pub record ServesAsked (settings : Settings) (before after : Option (List ℕ)) : Type 0 where
+  pub record ServesClientsAsked (settings : Settings) (before after : Option (List ℕ)) : Type 0 where
     pub reserve : ℕ
     pub reserve_is : number_asked settings.reserve DEFAULT_RESERVE ≡ Ok reserve
     pub backlog : ℕ
@@ -34,15 +34,15 @@ module _ {D : Type 0} (g : sectors.Ghosts D) {S : Type 0} (N : CallModel S) wher
     pub opened : Store D g
     pub served : ServesBetween N reserve backlog opened before after
 
-  abbrev pub IsPerformed : Settings → Option (List ℕ) → Option (List ℕ) → Result (Unit {0}) CommandError → Type 0
-  IsPerformed settings before after (Ok done) = ServesAsked settings before after
-  IsPerformed settings before after (Err fault) = Unit {0}
+  abbrev pub IsDaemonDone : Settings → Option (List ℕ) → Option (List ℕ) → Result (Unit {0}) CommandError → Type 0
+  IsDaemonDone settings before after (Ok done) = ServesClientsAsked settings before after
+  IsDaemonDone settings before after (Err fault) = Unit {0}
 
   -- A daemon ran with this result, and the output was then flushed. The program's status is that of the result, or that
   -- of an output that couldn't be flushed.
-  pub record IsCarriedOut (settings : Settings) (before after : Option (List ℕ)) (status : Status) : Type 0 where
+  pub record IsDaemonCarriedOut (settings : Settings) (before after : Option (List ℕ)) (status : Status) : Type 0 where
     pub done : Result (Unit {0}) CommandError
     pub written : Option (List ℕ)
-    pub served : IsPerformed settings before written done
+    pub served : IsDaemonDone settings before written done
     pub flushed : Keeps written after
     pub status_is : (status ≡ status_of_end done) ⊎ (status ≡ ends.Device)

@@ -10,7 +10,7 @@ ghost use Rattle.audit_disk.specs.declared.files.TheConstants.{OWNER_ONLY};
 ghost use Rattle.audit_cli_daemon.specs.declared.arguments.TheConstants.{DEFAULT_IDLE, DEFAULT_RESERVE};
 ghost use Rattle.audit_cli_daemon.specs.Words.{HasBadSetting, HasBadWord, backlog_asked};
 ghost use Rattle.audit_cli_daemon.specs.Running.{ServesStore};
-ghost use Rattle.audit_cli_daemon.specs.Carried.{ServesBetween, IsPerformed, IsCarriedOut};
+ghost use Rattle.audit_cli_daemon.specs.Carried.{ServesBetween, IsDaemonDone, IsDaemonCarriedOut};
 ghost use Rattle.audit_cli_daemon.specs.State.{ready_line};
 ghost use Rattle.audit_store.specs.Store.{active_header};
 ghost use Rattle.audit_text.specs.NumberedLine.{numbered_line};
@@ -112,7 +112,7 @@ where
     // The status is that of the result. On success clients were served over the store, with the reserve and the backlog
     // that were asked for, and its first and last state were written.
     ensures carried { (settings : Settings) → request.entry ≡ Request.Run settings
-        → IsCarriedOut ⟦<FileDevice<F::File> as Sectors>⟧ ⟦<Client as ReadyStream>⟧.calls settings
+        → IsDaemonCarriedOut ⟦<FileDevice<F::File> as Sectors>⟧ ⟦<Client as ReadyStream>⟧.calls settings
         (W.contents output.old) (W.contents output.new) result }
 {
     match request {
@@ -138,7 +138,7 @@ where
     ensures words { HasBadSetting settings.entry → (result ≡ Status.Usage) ⊎ (result ≡ Status.Device) }
     ensures only { result ≡ Status.Usage → HasBadSetting settings.entry }
     ensures unwritten { HasBadSetting settings.entry → Keeps (W.contents output.old) (W.contents output.new) }
-    ensures carried { IsCarriedOut ⟦<FileDevice<F::File> as Sectors>⟧ ⟦<Client as ReadyStream>⟧.calls settings.entry
+    ensures carried { IsDaemonCarriedOut ⟦<FileDevice<F::File> as Sectors>⟧ ⟦<Client as ReadyStream>⟧.calls settings.entry
         (W.contents output.old) (W.contents output.new) result }
 {
     let mut sparing = Sparing::new(messages);
@@ -161,7 +161,7 @@ where
     ensures words { HasBadSetting settings.entry → (result ≡ Status.Usage) ⊎ (result ≡ Status.Device) }
     ensures only { result ≡ Status.Usage → HasBadSetting settings.entry }
     ensures unwritten { HasBadSetting settings.entry → Keeps (W.contents output.old) (W.contents output.new) }
-    ensures carried { IsCarriedOut ⟦<FileDevice<F::File> as Sectors>⟧ ⟦<Client as ReadyStream>⟧.calls settings.entry
+    ensures carried { IsDaemonCarriedOut ⟦<FileDevice<F::File> as Sectors>⟧ ⟦<Client as ReadyStream>⟧.calls settings.entry
         (W.contents output.old) (W.contents output.new) result }
 {
     let mut orders = None;
@@ -188,7 +188,7 @@ where
     ensures words { HasBadSetting settings.entry → result ≡ Err CommandError.BadArgument }
     ensures only { result ≡ Err CommandError.BadArgument → HasBadSetting settings.entry }
     ensures unwritten { HasBadSetting settings.entry → Keeps (W.contents output.old) (W.contents output.new) }
-    ensures served { IsPerformed ⟦<FileDevice<F::File> as Sectors>⟧ ⟦<Client as ReadyStream>⟧.calls settings.entry
+    ensures served { IsDaemonDone ⟦<FileDevice<F::File> as Sectors>⟧ ⟦<Client as ReadyStream>⟧.calls settings.entry
         (W.contents output.old) (W.contents output.new) result }
 {
     let judged = judge(settings)?;

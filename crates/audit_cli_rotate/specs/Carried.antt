@@ -10,9 +10,9 @@ use Rattle.audit_cli_rotate.specs.Lines.{rotated_lines}
 use Rattle.audit_cli_rotate.specs.declared.fault.RotationError.{RotationError}
 
 -- the status if the output was written completely
-abbrev pub status_of_end : Result (Unit {0}) RotationError → Status
-status_of_end (Ok done) = ends.Done
-status_of_end (Err fault) = rotation_status fault
+abbrev pub rotation_end_status : Result (Unit {0}) RotationError → Status
+rotation_end_status (Ok done) = ends.Done
+rotation_end_status (Err fault) = rotation_status fault
 
 -- A log is closed, and a store of this size continues it: the lines with the state of both were written.
 pub record SaysRotated (sectors : ℕ) (before after : Option (List ℕ)) : Type 0 where
@@ -28,15 +28,15 @@ pub record SaysAsked (word : List ℕ) (before after : Option (List ℕ)) : Type
   pub sectors_are : sectors_asked word ≡ Ok sectors
   pub says : SaysRotated sectors before after
 
-abbrev pub IsPerformed : List ℕ → Option (List ℕ) → Option (List ℕ) → Result (Unit {0}) RotationError → Type 0
-IsPerformed word before after (Ok done) = SaysAsked word before after
-IsPerformed word before after (Err fault) = Unit {0}
+abbrev pub IsRotationDone : List ℕ → Option (List ℕ) → Option (List ℕ) → Result (Unit {0}) RotationError → Type 0
+IsRotationDone word before after (Ok done) = SaysAsked word before after
+IsRotationDone word before after (Err fault) = Unit {0}
 
 -- A rotation had this result, and the output was then flushed. The program's status is that of the result, or that of
 -- an output that couldn't be flushed.
-pub record IsCarriedOut (word : List ℕ) (before after : Option (List ℕ)) (status : Status) : Type 0 where
+pub record IsRotationCarriedOut (word : List ℕ) (before after : Option (List ℕ)) (status : Status) : Type 0 where
   pub done : Result (Unit {0}) RotationError
   pub written : Option (List ℕ)
-  pub rotated : IsPerformed word before written done
+  pub rotated : IsRotationDone word before written done
   pub flushed : Keeps written after
-  pub status_is : (status ≡ status_of_end done) ⊎ (status ≡ ends.Device)
+  pub status_is : (status ≡ rotation_end_status done) ⊎ (status ≡ ends.Device)

@@ -4,7 +4,7 @@ ghost use Rattle.std.specs.Io.KnownBytes.{Keeps};
 ghost use Rattle.audit_cli_base.specs.declared.fault.CommandError.{CommandError};
 ghost use Rattle.audit_cli_base.specs.Arguments.{sectors_asked};
 ghost use Rattle.audit_cli_base.specs.Faults.{status_of};
-ghost use Rattle.audit_cli_rotate.specs.Carried.{status_of_end, IsPerformed, IsCarriedOut};
+ghost use Rattle.audit_cli_rotate.specs.Carried.{rotation_end_status, IsRotationDone, IsRotationCarriedOut};
 
 use crate::fault::RotationError;
 use crate::files::rotate_file;
@@ -50,7 +50,7 @@ where
         → Keeps (W.contents output.old) (W.contents output.new) }
     // The status is that of the result. On success the lines of a closed log and of a store of the size asked for, which
     // continues it, were written.
-    ensures carried { IsCarriedOut request.entry.sectors.now (W.contents output.old) (W.contents output.new) result }
+    ensures carried { IsRotationCarriedOut request.entry.sectors.now (W.contents output.old) (W.contents output.new) result }
 {
     let done = perform(rt, alloc, request, output);
     let flushed = output.flush();
@@ -63,7 +63,7 @@ fn report_rotation<M: Write>(
     request: Request<'_>,
     messages: &mut M,
 ) -> Status
-    ensures { result ≡ status_of_end done }
+    ensures { result ≡ rotation_end_status done }
 {
     match done {
         Ok(()) => Status::Done,
@@ -84,7 +84,7 @@ where
         → result ≡ Err (RotationError.Command fault) }
     ensures unwritten { (fault : CommandError) → sectors_asked request.entry.sectors.now ≡ Err fault
         → Keeps (W.contents output.old) (W.contents output.new) }
-    ensures rotated { IsPerformed request.entry.sectors.now (W.contents output.old) (W.contents output.new) result }
+    ensures rotated { IsRotationDone request.entry.sectors.now (W.contents output.old) (W.contents output.new) result }
 {
     let sectors = sectors_asked(request.sectors)?;
     let first_key = read_first_key(rt, alloc, request.key_file)?;

@@ -10,7 +10,7 @@ use Rattle.audit_serve_sockets.specs.Listening.{ListenerModel}
 use Rattle.audit_serve_sockets.specs.Looping.{IsWholeLoop}
 use Rattle.audit_cli_base.specs.declared.fault.CommandError.TheVariants.{File, Replaced}
 use Rattle.audit_cli_serve.specs.Arguments.{rounds_asked, sessions_wanted}
-use Rattle.audit_cli_serve.specs.Carried.{IsPerformed, LoopsAt, LoopsOpened, ServesAt, IsStoppedAt, ServesOpened}
+use Rattle.audit_cli_serve.specs.Carried.{IsServingDone, LoopsAt, LoopsOpened, ServesAt, IsStoppedAt, ServesOpened}
 use Rattle.audit_cli_serve.specs.Served.{LoopsOver, ServesRounds, StopsRounds}
 use Rattle.audit_cli_serve.specs.declared.fault.ServingError.{ServingError}
 use Rattle.audit_cli_serve.specs.declared.fault.ServingError.TheVariants.{Command}
@@ -72,6 +72,6 @@ module _ {D : Type 0} {g : sectors.Ghosts D} {T L : Type 0} (M : CallModel T) (N
 
 module _ {D : Type 0} (g : sectors.Ghosts D) {T L : Type 0} (M : CallModel T) (N : ListenerModel L T) where
   pub performed : (input : Option (List ℕ)) (file socket rounds : Bor (List ℕ)) (sessions mode : Option (Bor (List ℕ))) (count each : ℕ) (done : Ending) → rounds_asked rounds.now ≡ Ok count → sessions_wanted sessions ≡ Ok each
-      → OnOk done (ServesOpened g M N each count) → IsPerformed g M N (Serve file socket rounds sessions mode) input done
+      → OnOk done (ServesOpened g M N each count) → IsServingDone g M N (Serve file socket rounds sessions mode) input done
   performed input file socket rounds sessions mode count each (Ok done) asked wanted served = record { count = count; rounds_are = asked; each = each; sessions_are = wanted; served = served }
   performed input file socket rounds sessions mode count each (Err fault) asked wanted served = tt

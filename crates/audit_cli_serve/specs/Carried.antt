@@ -23,9 +23,9 @@ use Rattle.audit_cli_serve.specs.declared.request.Request.{Request}
 use Rattle.audit_cli_serve.specs.declared.request.Request.TheVariants.{Serve, Loop}
 
 -- the status if the output was written completely
-abbrev pub status_of_end : Result (Unit {0}) ServingError → Status
-status_of_end (Ok done) = ends.Done
-status_of_end (Err fault) = serving_status fault
+abbrev pub serving_end_status : Result (Unit {0}) ServingError → Status
+serving_end_status (Ok done) = ends.Done
+serving_end_status (Err fault) = serving_status fault
 
 module _ {D : Type 0} {g : sectors.Ghosts D} where
   -- a whole session was served over a store, whose bytes the lines of the input spell
@@ -73,7 +73,7 @@ module _ {D : Type 0} (g : sectors.Ghosts D) {T L : Type 0} (M : CallModel T) (N
     pub served : ServesAt M N sessions turns opened
 
   -- as many as asked for, each of as many sessions
-  pub record ServesAsked (rounds : List ℕ) (sessions : Option (Bor (List ℕ))) : Type 0 where
+  pub record ServesRoundsAsked (rounds : List ℕ) (sessions : Option (Bor (List ℕ))) : Type 0 where
     pub count : ℕ
     pub rounds_are : rounds_asked rounds ≡ Ok count
     pub each : ℕ
@@ -81,20 +81,20 @@ module _ {D : Type 0} (g : sectors.Ghosts D) {T L : Type 0} (M : CallModel T) (N
     pub served : ServesOpened each count
 
   abbrev pub IsServedAsAsked : Request → Option (List ℕ) → Type 0
-  IsServedAsAsked (Serve file socket rounds sessions mode) input = ServesAsked rounds.now sessions
+  IsServedAsAsked (Serve file socket rounds sessions mode) input = ServesRoundsAsked rounds.now sessions
   IsServedAsAsked (Loop file socket mode) input = LoopsOpened g input
 
   -- a request was carried out with this result: on success what it asks for was served
-  abbrev pub IsPerformed : Request → Option (List ℕ) → Result (Unit {0}) ServingError → Type 0
-  IsPerformed request input (Ok done) = IsServedAsAsked request input
-  IsPerformed request input (Err fault) = Unit {0}
+  abbrev pub IsServingDone : Request → Option (List ℕ) → Result (Unit {0}) ServingError → Type 0
+  IsServingDone request input (Ok done) = IsServedAsAsked request input
+  IsServingDone request input (Err fault) = Unit {0}
 
   -- A request was carried out with this result, and the output was then flushed. The program's status is that of the
   -- result, or that of an output that couldn't be flushed.
-  pub record IsCarriedOut (request : Request) (input before after : Option (List ℕ)) (status : Status) : Type 0 where
+  pub record IsServingCarriedOut (request : Request) (input before after : Option (List ℕ)) (status : Status) : Type 0 where
     pub done : Result (Unit {0}) ServingError
     pub written : Option (List ℕ)
     pub words : RefusesWords (IsServingFault request) before written done
-    pub served : IsPerformed request input done
+    pub served : IsServingDone request input done
     pub flushed : Keeps written after
-    pub status_is : (status ≡ status_of_end done) ⊎ (status ≡ ends.Device)
+    pub status_is : (status ≡ serving_end_status done) ⊎ (status ≡ ends.Device)

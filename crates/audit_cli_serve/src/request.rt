@@ -5,8 +5,8 @@ ghost use Rattle.audit_base.specs.declared.limits.TheConstants.{SESSIONS};
 ghost use Rattle.audit_cli_base.specs.Arguments.{RefusesWords};
 ghost use Rattle.audit_cli_base.specs.declared.fault.CommandError.TheVariants.{File, Replaced};
 ghost use Rattle.audit_cli_serve.specs.Arguments.{rounds_asked, sessions_wanted};
-ghost use Rattle.audit_cli_serve.specs.Carried.{ServesAt, ServesOpened, IsStoppedAt, LoopsAt, LoopsOpened, IsPerformed};
-ghost use Rattle.audit_cli_serve.specs.Carried.{IsCarriedOut};
+ghost use Rattle.audit_cli_serve.specs.Carried.{ServesAt, ServesOpened, IsStoppedAt, LoopsAt, LoopsOpened, IsServingDone};
+ghost use Rattle.audit_cli_serve.specs.Carried.{IsServingCarriedOut};
 ghost use Rattle.audit_cli_serve.specs.Faults.{IsNoWordError};
 ghost use Rattle.audit_cli_serve.specs.declared.fault.ServingError.TheVariants.{Command};
 ghost use Rattle.audit_cli_serve.specs.Words.{IsWrongNumber, HasWrongWord, IsServingFault};
@@ -84,7 +84,7 @@ where
     ensures only { result ≡ Status.Usage → HasWrongWord request.entry }
     ensures unwritten { HasWrongWord request.entry → Keeps (W.contents output.old) (W.contents output.new) }
     // The status is that of the result; on success what was asked for was served.
-    ensures carried { IsCarriedOut ⟦<FileDevice<F::File> as Sectors>⟧ ⟦<UnixStream as Duplex>⟧.calls
+    ensures carried { IsServingCarriedOut ⟦<FileDevice<F::File> as Sectors>⟧ ⟦<UnixStream as Duplex>⟧.calls
         ⟦<SocketFile as Listener<UnixStream>>⟧.model request.entry (R.remaining input.old)
         (W.contents output.old) (W.contents output.new) result }
 {
@@ -110,7 +110,7 @@ where
     F::File: SystemFile,
     ensures words { RefusesWords (IsServingFault request.entry) (W.contents output.old) (W.contents output.new) result }
     ensures only { result ≡ Err (ServingError.Command CommandError.BadArgument) → HasWrongWord request.entry }
-    ensures served { IsPerformed ⟦<FileDevice<F::File> as Sectors>⟧ ⟦<UnixStream as Duplex>⟧.calls
+    ensures served { IsServingDone ⟦<FileDevice<F::File> as Sectors>⟧ ⟦<UnixStream as Duplex>⟧.calls
         ⟦<SocketFile as Listener<UnixStream>>⟧.model request.entry (R.remaining input.old) result }
 {
     match request {

@@ -1,13 +1,13 @@
 use Rattle.std.proofs.Common.{◌≡◌, ◌∙◌, ap, subst}
 use Rattle.audit_cli_rotate.specs.declared.fault.RotationError.TheVariants.{Command}
-use Rattle.audit_cli_rotate.specs.Carried.{status_of_end}
+use Rattle.audit_cli_rotate.specs.Carried.{rotation_end_status}
 use Rattle.audit_cli_rotate.proofs.Carried.{status_by}
 use Rattle.audit_cli_rotate.proofs.request.run.Goals as goal
 
 pub returns-clause-words : goal.returns-clause-words
 returns-clause-words g c = λ fault wrong.
     status_by c.flush-flushed.result _ c.report_flush.result
-    (λ whole. c.report_flush.ensures.whole whole ∙ c.report_rotation-status.ensures ∙ ap status_of_end (c.perform-done.ensures.words fault wrong)) c.report_flush.ensures.failed
+    (λ whole. c.report_flush.ensures.whole whole ∙ c.report_rotation-status.ensures ∙ ap rotation_end_status (c.perform-done.ensures.words fault wrong)) c.report_flush.ensures.failed
 
 pub returns-clause-carried : goal.returns-clause-carried
 returns-clause-carried g c = record {
@@ -15,6 +15,6 @@ returns-clause-carried g c = record {
   written = g.W.Write.contents c.perform-done.new.output;
   rotated = c.perform-done.ensures.rotated;
   flushed = c.flush-flushed.ensures.bytes;
-  status_is = status_by c.flush-flushed.result (status_of_end c.perform-done.result) c.report_flush.result
+  status_is = status_by c.flush-flushed.result (rotation_end_status c.perform-done.result) c.report_flush.result
       (λ whole. c.report_flush.ensures.whole whole ∙ c.report_rotation-status.ensures) c.report_flush.ensures.failed;
 }

@@ -4,7 +4,7 @@ use Rattle.std.proofs.KnownBytes.{Keeps-trans}
 use Rattle.audit_cli_base.specs.declared.fault.CommandError.TheVariants.{BadArgument}
 use Rattle.audit_cli_base.specs.declared.status.Status.{Status}
 use Rattle.audit_cli_base.specs.declared.status.Status.TheVariants as ends
-use Rattle.audit_cli_serve.specs.Carried.{status_of_end}
+use Rattle.audit_cli_serve.specs.Carried.{serving_end_status}
 use Rattle.audit_cli_serve.specs.Faults.{serving_status}
 use Rattle.audit_cli_serve.specs.declared.fault.ServingError.{ServingError}
 use Rattle.audit_cli_serve.specs.declared.fault.ServingError.TheVariants.{Command}
@@ -35,8 +35,8 @@ returns-clause-unwritten g c wrong =
     (c.perform-done.ensures.words (Command BadArgument) (wrong, refl)).1 c.flush-flushed.ensures.bytes
 
 -- the output was flushed, or it couldn't be
-status_by : {E : Type 0} (flushed : Result Unit E) (status ended : Status) (done : Result Unit ServingError) → (IsOk flushed → ended ≡ status) → (IsErr flushed → ended ≡ ends.Device) → status ≡ status_of_end done
-    → (ended ≡ status_of_end done) ⊎ (ended ≡ ends.Device)
+status_by : {E : Type 0} (flushed : Result Unit E) (status ended : Status) (done : Result Unit ServingError) → (IsOk flushed → ended ≡ status) → (IsErr flushed → ended ≡ ends.Device) → status ≡ serving_end_status done
+    → (ended ≡ serving_end_status done) ⊎ (ended ≡ ends.Device)
 status_by (Ok x) status ended done whole failed is = inl (whole refl ∙ is)
 status_by (Err error) status ended done whole failed is = inr (failed refl)
 
@@ -49,7 +49,7 @@ returns-clause-carried g c = record {
   flushed = c.flush-flushed.ensures.bytes;
   status_is = status_by c.flush-flushed.result c.match-done.status c.report_flush.result c.perform-done.result c.report_flush.ensures.whole c.report_flush.ensures.failed
       (elim c.match-done.branch [
-        | in-Ok w ↦ w.status-is ∙ sym (ap status_of_end w.in-Ok.is)
-        | in-Err w ↦ w.status-is ∙ w.report-status.ensures ∙ sym (ap status_of_end w.in-Err.is)
+        | in-Ok w ↦ w.status-is ∙ sym (ap serving_end_status w.in-Ok.is)
+        | in-Err w ↦ w.status-is ∙ w.report-status.ensures ∙ sym (ap serving_end_status w.in-Err.is)
       ]);
 }
