@@ -119,13 +119,16 @@ IsLineUnwritten lines.Memory old new line = Keeps old new
 IsLineUnwritten _ old new line = ⊥
 
 -- the same in the second pass
-abbrev pub IsSecondFault : OfflineError → List ℕ → Option (List ℕ) → Option (List ℕ) → Type 0
-IsSecondFault (Export fault) first_key before after = fault.cause ≡ ReadFault
-    → IsGivenUp first_key BYTE_LIMIT before after fault
-IsSecondFault (Lines fault) first_key before after = IsUnwrittenReport fault
+abbrev pub IsSecondFault : OfflineError → List ℕ → Option (List ℕ) → Option (List ℕ) → (failed : Type 0) → Type 0
+IsSecondFault (Export fault) first_key before after failed = fault.cause ≡ ReadFault
+    → IsGivenUp first_key BYTE_LIMIT before after failed fault
+IsSecondFault (Lines fault) first_key before after failed = IsUnwrittenReport fault
 
--- A reader's fault is that of one of the two readers. Writing the lines can fail only by a write or by memory.
-abbrev pub IsPassFault : OfflineError → List ℕ → (first second : Option (List ℕ) × Option (List ℕ)) → Type 0
-IsPassFault (Export fault) first_key first second = fault.cause ≡ ReadFault
-    → IsGivenUp first_key BYTE_LIMIT first.0 first.1 fault ⊎ IsGivenUp first_key BYTE_LIMIT second.0 second.1 fault
-IsPassFault (Lines fault) first_key first second = IsUnwrittenReport fault
+-- A reader's fault is that of one of the two readers, whose last read failed if it exceeded no limit. Writing the lines
+-- can fail only by a write or by memory.
+abbrev pub IsPassFault : OfflineError → List ℕ → (first second : Option (List ℕ) × Option (List ℕ))
+    → (first_failed second_failed : Type 0) → Type 0
+IsPassFault (Export fault) first_key first second first_failed second_failed = fault.cause ≡ ReadFault
+    → IsGivenUp first_key BYTE_LIMIT first.0 first.1 first_failed fault
+    ⊎ IsGivenUp first_key BYTE_LIMIT second.0 second.1 second_failed fault
+IsPassFault (Lines fault) first_key first second first_failed second_failed = IsUnwrittenReport fault
