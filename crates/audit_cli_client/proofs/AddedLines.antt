@@ -97,7 +97,7 @@ word_read seen stored =
 
 -- ---- lines
 
-other_first : (byte : ℕ) (bytes line : List ℕ) (lines : List (List ℕ)) → (byte == line_feed) ≡ false → lines_of bytes ≡ line ∷ lines → lines_of (byte ∷ bytes) ≡ (byte ∷ line) ∷ lines
+pub other_first : (byte : ℕ) (bytes line : List ℕ) (lines : List (List ℕ)) → (byte == line_feed) ≡ false → lines_of bytes ≡ line ∷ lines → lines_of (byte ∷ bytes) ≡ (byte ∷ line) ∷ lines
 unfolding lines_of
 other_first byte bytes line lines other is =
     cond-false (byte == line_feed) ([] ∷ lines_of bytes) (onto_first byte (lines_of bytes)) other ∙ ap (onto_first byte) is
@@ -128,12 +128,12 @@ last_open : (byte : ℕ) (ends : Bool) (after : List (List ℕ)) → ends ≡ fa
 last_open byte true after is = absurd (grind arith)
 last_open byte false after is = refl
 
-not_false : (b : Bool) → not b ≡ false → b ≡ true
+pub not_false : (b : Bool) → not b ≡ false → b ≡ true
 not_false true is = refl
 not_false false is = absurd (grind arith)
 
 -- after whole lines
-after_whole : (text after : List ℕ) → lacks_feed text ≡ false → lines_of (text ++ after) ≡ lines_of text ++ lines_of after
+pub after_whole : (text after : List ℕ) → lacks_feed text ≡ false → lines_of (text ++ after) ≡ lines_of text ++ lines_of after
 unfolding lines_of
 after_whole [] after is = refl
 after_whole (byte ∷ []) after is = last_whole byte (byte == line_feed) (lines_of after) (not_false (byte == line_feed) is)
@@ -146,7 +146,7 @@ after_open [] after is = absurd (grind arith)
 after_open (byte ∷ []) after is = last_open byte (byte == line_feed) (lines_of after) (not-true (byte == line_feed) is)
 after_open (byte ∷ next ∷ bytes) after is = byte_more byte next bytes (line_feed ∷ after) (lines_of after) (after_open (next ∷ bytes) after is)
 
-no_lines : lines_of [] ≡ []
+pub no_lines : lines_of [] ≡ []
 unfolding lines_of
 no_lines = refl
 
@@ -163,7 +163,7 @@ commitment_line seen stored =
     all_words (decimal seen.count) (encode_lower seen.root) (digits_word (decimal seen.count) (decimal_is_IsNumeral seen.count stored.count).0.1) (root_word seen.root stored.bytes) (commitment_word seen) [] (append_assoc (decimal seen.count) (58 ∷ []) (encode_lower seen.root))
     ∙ ap (λ (l : List (List ℕ)). commitment_word seen ∷ l) no_lines
 
-line_added : (text : List ℕ) (lacks : Bool) (seen : Commitment) → IsStored seen → lacks_feed text ≡ lacks → lines_of (text ++ line_after lacks seen) ≡ lines_of text ++ commitment_word seen ∷ []
+pub line_added : (text : List ℕ) (lacks : Bool) (seen : Commitment) → IsStored seen → lacks_feed text ≡ lacks → lines_of (text ++ line_after lacks seen) ≡ lines_of text ++ commitment_word seen ∷ []
 line_added text true seen stored is = after_open text (commitment_word seen ++ line_feed ∷ []) is ∙ ap (λ (l : List (List ℕ)). lines_of text ++ l) (commitment_line seen stored)
 line_added text false seen stored is = after_whole text (commitment_word seen ++ line_feed ∷ []) is ∙ ap (λ (l : List (List ℕ)). lines_of text ++ l) (commitment_line seen stored)
 

@@ -1,5 +1,5 @@
 -- The errors of commands that ask a server, and the status with which the program exits after each.
-use Rattle.std.specs.Prelude.{◌≡◌, ℕ, Option, Some, None, List, codes, Result, Ok, Err}
+use Rattle.std.specs.Prelude.{◌≡◌, ℕ, Bool, true, false, Option, Some, None, List, codes, Result, Ok, Err}
 use Rattle.audit_wire.specs.declared.refusal.Refusal.{Refusal}
 use Rattle.audit_wire.specs.declared.refusal.Refusal.TheVariants as refusal
 use Rattle.audit_store.specs.declared.store_error.StoreError.TheVariants as store
@@ -43,6 +43,14 @@ remote_status (Contradicted found) = ends.Refused
 remote_status (BadStateLine line) = ends.Refused
 remote_status StateInUse = ends.Device
 remote_status (NotAcknowledged lines first) = ends.Device
+
+-- A later try may succeed: the server isn't there or doesn't answer, or another witness looks.
+abbrev pub is_passing : RemoteError → Bool
+is_passing (NoConnection kind) = true
+is_passing StateInUse = true
+is_passing (Server client.Ended) = true
+is_passing (Server client.TimedOut) = true
+is_passing _ = false
 
 -- there is no connection, for any cause
 abbrev pub IsNoConnection : RemoteError → Type 0

@@ -1,9 +1,10 @@
 //! Laws of requests to a server, and of a witness's file. Each function does nothing: its contract is the law.
-ghost use Rattle.std.specs.Prelude.{◌≡◌, ◌∷◌, ◌++◌, [], ℕ, Some, List};
+ghost use Rattle.std.specs.Prelude.{◌≡◌, ◌∷◌, ◌++◌, [], ℕ, Bool, Some, List};
 ghost use Rattle.audit_text.specs.Lines.{lines_of};
 ghost use Rattle.audit_cli_offline.specs.CommitmentWord.{commitment_in_word};
 ghost use Rattle.audit_proof.specs.declared.commitment.Commitment.{Commitment};
-ghost use Rattle.audit_cli_client.specs.State.{IsStored, commitment_word, lacks_feed, line_after};
+ghost use Rattle.audit_cli_client.specs.State.{IsStored, HoldsState, commitment_word, kept_in, lacks_feed, line_after};
+ghost use Rattle.audit_client.specs.Keeping.{last_kept};
 ghost use Rattle.audit_cli_client.specs.declared.arguments.TheConstants.{MAX_SECONDS, MAX_WINDOW};
 ghost use Rattle.audit_cli_client.specs.declared.request.TheConstants.{TIMEOUT, WINDOW};
 
@@ -13,6 +14,13 @@ pub fn limits_are_these_numbers()
     ensures window { MAX_WINDOW ≡ 1024 }
     ensures default_seconds { TIMEOUT ≡ 30 }
     ensures default_window { WINDOW ≡ 64 }
+{}
+
+/// The last commitment in a witness's file is the newest of those that it was seen to hold: so the next look begins from
+/// the one that this look kept.
+pub fn the_next_look_begins_from_what_was_kept()
+    ensures { (file : List ℕ) (kept : List Commitment) (end : ℕ) (lacks : Bool) → HoldsState file kept end lacks
+        → last_kept (kept_in file) ≡ last_kept kept }
 {}
 
 /// What is added to a witness's file is one line after the others, and is read as the commitment that was added: the

@@ -18,8 +18,11 @@ mod sending;
 mod state_file;
 mod state_lines;
 mod state_lock;
+mod state_text;
 mod watching;
 
 pub use contradiction::Contradiction;
 pub use fault::RemoteError;
 pub use request::{Request, run};
+pub use state_file::StateFile;
+pub use state_text::StateText;

@@ -1,87 +1,57 @@
 //! The file of a witness: a line for each commitment that it saw, the newest last.
-ghost use Rattle.std.specs.Prelude.{◌≡◌, ◌⊎◌, ◌∷◌, ◌++◌, [], OnOk, OnErr};
+ghost use Rattle.std.specs.Prelude.{◌≡◌, ◌⊎◌, ◌∷◌, ◌++◌, [], ◌-◌, ◌≤◌, ℕ, List, Some, length, take, IfOk, IfSome, OnOk, OnErr};
+ghost use Rattle.audit_client.specs.Keeping.{last_kept};
+ghost use Rattle.audit_cli_client.specs.State.{HoldsState, IsStored, kept_in, line_after};
 
 use crate::fault::RemoteError;
 use crate::state_lines::{Tail, line_after, tail_in};
-use crate::state_lock::sync_folder;
+use crate::state_text::StateText;
+use audit_base::Hash;
+use audit_cli_base::CommandError;
 use audit_client::Kept;
 use audit_proof::Commitment;
-use audit_text::{read_input, split_at_first};
+use audit_text::split_line;
 use std::alloc::Global;
-use std::fs::{Files, OpenFile};
-use std::io::{self, Read, Seek, SeekFrom, Write};
 
 // The most bytes at the end of the file that a look reads and judges.
 const TAIL_LEN: u64 = 1 << 16;
 
-// How many bytes are read at a time to number the lines before them.
-const PIECE_LEN: usize = 1 << 12;
-
 /// The file of a witness, open and locked, so that one witness at a time looks by it. Only its end is read, and each
 /// line is added at its end.
 #[derive(Drop)]
-pub struct StateFile<'a, R: Files> {
-    rt: &'a R,
+pub struct StateFile<T: StateText> {
     alloc: Global,
-    path: &'a str,
-    file: R::File,
+    file: T,
     // The commitments in the lines that were read, and in those that were added.
     kept: Vec<Commitment>,
     // The bytes up to the end of the last line, or of what is there of it.
     end: u64,
     lacks_feed: bool,
+    ghost holds: { (bytes : List ℕ) → T.text file ≡ Some bytes → HoldsState bytes kept.items end lacks_feed },
 }
 
-impl<'a, R: Files> StateFile<'a, R> {
-    /// Reads the end of an open file, which the caller has locked.
-    pub fn read(
-        rt: &'a R,
-        alloc: Global,
-        path: &'a str,
-        file: R::File,
-    ) -> Result<StateFile<'a, R>, RemoteError> {
+impl<T: StateText> StateFile<T> {
+    /// Reads the end of an open file, which the caller has locked. The newest commitment is that of its last line, but
+    /// for one that was cut off.
+    pub fn read(alloc: Global, file: T) -> Result<StateFile<T>, RemoteError>
+        ensures kept { IfOk result (λ state. T.text state.file ≡ T.text file) }
+        ensures newest { IfOk result (λ state. (bytes : List ℕ) → T.text file ≡ Some bytes
+            → last_kept (kept_in bytes) ≡ last_kept state.kept.items) }
+    {
         let mut file = file;
-        let length = file.seek(SeekFrom::End(0))?;
-        let tail = tail_of(alloc, &mut file, length)?;
+        let size = file.length()?;
+        let tail = tail_of(alloc, &mut file, size)?;
         Ok(StateFile {
-            rt,
             alloc,
-            path,
             file,
             kept: tail.kept,
-            end: length.saturating_sub(tail.torn as u64),
+            end: size.saturating_sub(tail.torn as u64),
             lacks_feed: tail.lacks_feed,
         })
     }
-
-    // Adds a commitment and its line.
-    fn add_line(&mut self, seen: &Commitment, line: &[u8]) -> Result<(), RemoteError>
-        ensures done { OnOk result (self.new.kept.items ≡ self.old.kept.items ++ seen.now ∷ []) }
-        ensures part { OnErr result ((self.new.kept.items ≡ self.old.kept.items)
-            ⊎ (self.new.kept.items ≡ self.old.kept.items ++ seen.now ∷ [])) }
-    {
-        self.kept.reserve(1)?;
-        self.append(line)?;
-        self.kept.push_reserved(*seen);
-        Ok(())
-    }
-
-    // Appends bytes to the file, in place of a line that was cut off, and syncs it and its name. After a fault they are
-    // cut off again, if the system allows it.
-    fn append(&mut self, line: &[u8]) -> Result<(), RemoteError>
-        ensures { self.new.kept ≡ self.old.kept }
-    {
-        if let Err(error) = write_at_end(&mut self.file, self.end, line) {
-            let _ = self.file.set_len(self.end);
-            return Err(error.into());
-        }
-        self.end = self.end.saturating_add(line.len() as u64);
-        self.lacks_feed = false;
-        Ok(sync_folder(self.rt, self.path)?)
-    }
 }
 
-impl<R: Files> Kept for StateFile<'_, R> {
+impl<T: StateText> Kept for StateFile<T> {
     type Error = RemoteError;
 
     ghost kept = { λ state. state.kept.items };
@@ -90,60 +60,65 @@ impl<R: Files> Kept for StateFile<'_, R> {
         self.kept.last().copied()
     }
 
-    fn add(&mut self, seen: &Commitment) -> Result<(), RemoteError> {
-        let line = line_after(self.alloc, self.lacks_feed, seen)?;
-        self.add_line(seen, &line)
+    // The line goes after the others, in place of one that was cut off.
+    fn add(&mut self, seen: &Commitment) -> Result<(), RemoteError>
+        ensures done { OnOk result (self.new.kept.items ≡ self.old.kept.items ++ seen.now ∷ []) }
+        ensures part { OnErr result ((self.new.kept.items ≡ self.old.kept.items)
+            ⊎ (self.new.kept.items ≡ self.old.kept.items ++ seen.now ∷ [])) }
+        ensures written { OnOk result (IfSome (T.text self.old.file) (λ bytes. T.text self.new.file
+            ≡ Some (take self.old.end bytes ++ line_after self.old.lacks_feed seen.now))) }
+    {
+        let seen = stored(seen.count, seen.root);
+        let line = line_after(self.alloc, self.lacks_feed, &seen)?;
+        let Some(end) = self.end.checked_add(line.len() as u64) else {
+            return Err(RemoteError::Command(CommandError::File));
+        };
+        self.kept.reserve(1)?;
+        self.file.replace_from(self.end, &line)?;
+        self.kept.push_reserved(seen);
+        self.end = end;
+        self.lacks_feed = false;
+        Ok(())
     }
 }
 
-fn write_at_end<F: OpenFile + Write + Seek>(file: &mut F, end: u64, line: &[u8]) -> io::Result<()> {
-    file.set_len(end)?;
-    file.seek(SeekFrom::Start(end))?;
-    file.write_all(line)?;
-    file.sync_all()
+// A commitment: a number of eight bytes, and a hash.
+fn stored(count: u64, root: Hash) -> Commitment
+    ensures same { result ≡ record { count = count; root = root } }
+    ensures stored { IsStored result }
+{
+    Commitment { count, root }
 }
 
 // What the end of a file of this length holds. Of a long file the line in which the end begins is left out.
-fn tail_of<F: Read + Seek>(alloc: Global, file: &mut F, length: u64) -> Result<Tail, RemoteError> {
-    let start = length.saturating_sub(TAIL_LEN);
-    file.seek(SeekFrom::Start(start))?;
-    let text = read_input(alloc, file)?;
+fn tail_of<T: StateText>(alloc: Global, file: &mut T, size: u64) -> Result<Tail, RemoteError>
+    ensures kept { T.text file.new ≡ T.text file.old }
+    ensures read { IfOk result (λ tail. IfSome (T.text file.old) (λ bytes. size ≡ length bytes
+        → HoldsState bytes tail.kept.items (size - tail.torn) tail.lacks_feed)) }
+{
+    let start = size.saturating_sub(TAIL_LEN);
+    let text = file.read_from(alloc, start)?;
     if start == 0 {
         return tail_in(alloc, &text);
     }
-    let (_, lines) = split_at_first(&text, b'\n');
-    let (tail, before) = if lines.is_empty() {
-        (Err(RemoteError::BadStateLine(1)), start)
-    } else {
-        (
-            tail_in(alloc, lines),
-            length.saturating_sub(lines.len() as u64),
-        )
-    };
-    match tail {
+    let (_, lines) = split_line(&text);
+    match tail_in(alloc, lines) {
+        Ok(tail) if !tail.kept.is_empty() => Ok(tail),
+        Ok(_) => Err(bad_line(file, start, 1)),
         Err(RemoteError::BadStateLine(line)) => {
-            let lines = feeds_before(file, before)?;
-            Err(RemoteError::BadStateLine(lines.saturating_add(line)))
+            let before = size.saturating_sub(lines.len() as u64);
+            Err(bad_line(file, before, line))
         }
-        other => other,
+        Err(fault) => Err(fault),
     }
 }
 
-// How many lines end in the first bytes of a file.
-fn feeds_before<F: Read + Seek>(file: &mut F, bytes: u64) -> io::Result<u64> {
-    let mut piece = [0; PIECE_LEN];
-    let mut feeds = 0u64;
-    let mut left = bytes;
-    file.seek(SeekFrom::Start(0))?;
-    for _ in 0..bytes {
-        let most = left.min(PIECE_LEN as u64) as usize;
-        let taken = file.read(&mut piece[..most])?;
-        if taken == 0 {
-            return Ok(feeds);
-        }
-        let ended = piece[..taken].iter().filter(|byte| **byte == b'\n').count();
-        feeds = feeds.saturating_add(ended as u64);
-        left = left.saturating_sub(taken as u64);
+// The fault of a line that isn't one of a witness: the number of the line, which is counted from a place on.
+fn bad_line<T: StateText>(file: &mut T, before: u64, line: u64) -> RemoteError
+    ensures { T.text file.new ≡ T.text file.old }
+{
+    match file.feeds_before(before) {
+        Ok(lines) => RemoteError::BadStateLine(lines.saturating_add(line)),
+        Err(error) => error.into(),
     }
-    Ok(feeds)
 }

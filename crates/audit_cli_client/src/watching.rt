@@ -8,6 +8,7 @@ use crate::line::{LineEnd, Pace};
 use crate::state_file::StateFile;
 use crate::state_lines::push_commitment_line;
 use crate::state_lock::{Locked, lock_state, remove_made};
+use crate::state_text::StateAt;
 use audit_cli_host::Dial;
 use audit_client::{ClientError, Kept, Sight, watch_and_keep};
 use audit_disk::SystemFile;
@@ -160,7 +161,12 @@ where
 {
     socket_identity(rt, post.socket)?;
     let Locked { file, is_made } = lock_state(rt, post.state, Duration::from_secs(post.seconds))?;
-    let mut kept = StateFile::read(rt, alloc, post.state, file)?;
+    let text = StateAt {
+        rt,
+        path: post.state,
+        file,
+    };
+    let mut kept = StateFile::read(alloc, text)?;
     let sight = look_and_keep(rt, alloc, post, &mut kept);
     if is_made && sight.is_err() {
         remove_made(rt, post.state);

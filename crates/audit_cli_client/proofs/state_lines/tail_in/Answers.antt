@@ -1,4 +1,4 @@
-use Rattle.std.proofs.Common.{sym, subst, arith, inl, refl}
+use Rattle.std.proofs.Common.{sym, subst, arith}
 use Rattle.std.proofs.lemmas.Bool.{eqb-true, eqb-false}
 use Rattle.audit_text.specs.Lines.{IsCutInLines}
 use Rattle.audit_cli_client.proofs.StateLines.{IsReadUpTo, none_read, one_line_more, all_lines_read, last_read_if}
@@ -13,7 +13,7 @@ loop-rest-preserved c =
     let cut : IsCutInLines c.loop-rest.rest.now c.split_at_first.result.0.now c.split_at_first.result.1.now = record { first = c.split_at_first.ensures.before; after = c.split_at_first.ensures.after } in
     record {
       read = subst (λ kept. IsReadUpTo c.args.text.now kept c.split_at_first.result.1.now) (sym c.in_ok-push.ensures.items)
-          (one_line_more c.args.text.now c.loop-rest.kept.items c.in-Some.commitment c.loop-rest.rest.now c.split_at_first.result.0.now c.split_at_first.result.1.now c.loop-rest.invariant.read (omega (arith, some)) cut (sym c.in-Some.ensures));
+          (one_line_more c.args.text.now c.loop-rest.kept.items c.in-Some.commitment c.loop-rest.rest.now c.split_at_first.result.0.now c.split_at_first.result.1.now c.loop-rest.invariant.read (omega (arith, some)) cut c.if-line-rest.false (sym c.in-Some.ensures));
     }
 
 pub returns-then-line-rest : goal.returns-then-line-rest
@@ -23,4 +23,4 @@ returns-then-line-rest c =
     last_read_if c.args.text.now c.loop-rest.kept.items c.loop-rest.rest.now c.split_at_first.result.0.now c.split_at_first.result.1.now c.last_in.result c.loop-rest.invariant.read (omega (arith, some)) cut c.if-line-rest.true c.last_in.ensures
 
 pub returns : goal.returns
-returns c = inl (refl, all_lines_read c.args.text.now c.loop-rest.kept.items c.loop-rest.rest.now c.loop-rest.invariant.read (eqb-true _ _ (sym c.loop-rest-test.ensures)))
+returns c = all_lines_read c.args.text.now c.loop-rest.kept.items c.loop-rest.rest.now c.loop-rest.invariant.read (eqb-true _ _ (sym c.loop-rest-test.ensures))
