@@ -17,6 +17,7 @@ use Rattle.audit_server.specs.declared.server_core.Core.{Core}
 use Rattle.audit_server.specs.Core.{committer_of, Refuses}
 use Rattle.audit_server.specs.CoreModel.{core_model, refuses_after}
 use Rattle.audit_serve_ready.specs.Slot.{SlotData, vacant, kept_of}
+use Rattle.audit_serve_ready.specs.Door.{DoorModel}
 use Rattle.audit_serve_ready.specs.Clients.{ClientChange, a_pass, a_coming, a_refusal, a_going, next_first, AreChanges, StopsServing}
 use Rattle.audit_server.specs.NewCore.{IsNewCore}
 use Rattle.audit_server.proofs.Keeping.{kept_served, kept_stopped}
@@ -59,8 +60,8 @@ module _ {D : Type 0} {g : sectors.Ghosts D} {S : Type 0} (N : CallModel S) (bac
   kept_by_core old new core last made left kept =
       subst (StoreKeepsOn old) (sym left) (subst (λ (store : Store D g). StoreKeepsOn store (store_in last)) made kept)
 
-  kept_when_served : (old new : Store D g) (core last : Core D g) (after : List (SlotData S)) → store_in core ≡ old → new ≡ store_in last → IsServedBy N backlog core last no_clients after → StoreKeepsOn old new
-  kept_when_served old new core last after made left served = kept_by_core old new core last made left (kept_served N backlog 0 served.turn core last no_clients served.between served.served)
+  kept_when_served : {E : Type 0} (doors : DoorModel E S) (was now : E) (old new : Store D g) (core last : Core D g) (after : List (SlotData S)) → store_in core ≡ old → new ≡ store_in last → IsServedBy N doors backlog was now core last no_clients after → StoreKeepsOn old new
+  kept_when_served doors was now old new core last after made left served = kept_by_core old new core last made left (kept_served N backlog 0 served.turn core last no_clients served.between served.served)
 
   kept_when_stopped : (old new : Store D g) (core last : Core D g) (after : List (SlotData S)) (fault : CommandError) → store_in core ≡ old → new ≡ store_in last → EndsByRefusal N backlog core last no_clients after fault → StoreKeepsOn old new
   kept_when_stopped old new core last after fault made left stopped = kept_by_core old new core last made left (kept_stopped N backlog 0 core last no_clients after stopped.2)
@@ -93,19 +94,19 @@ module _ {D : Type 0} {g : sectors.Ghosts D} {S : Type 0} (N : CallModel S) (bac
 
   -- What a daemon came to, whose core was new and whose places had no clients.
   module _ (reserve : ℕ) (old new : Store D g) (core last : Core D g) (before after : List (SlotData S)) (vacant : before ≡ no_clients) (made : IsNewCore reserve old core) (left : new ≡ store_in last) where
-    served_by : IsServedBy N backlog core last before after → IsServedBy N backlog core last no_clients after
-    served_by served = subst (λ (slots : List (SlotData S)). IsServedBy N backlog core last slots after) vacant served
+    served_by : {E : Type 0} (doors : DoorModel E S) (was now : E) → IsServedBy N doors backlog was now core last before after → IsServedBy N doors backlog was now core last no_clients after
+    served_by doors was now served = subst (λ (slots : List (SlotData S)). IsServedBy N doors backlog was now core last slots after) vacant served
 
     stopped_by : (fault : CommandError) → EndsByRefusal N backlog core last before after fault → EndsByRefusal N backlog core last no_clients after fault
     stopped_by fault stopped = subst (λ (slots : List (SlotData S)). EndsByRefusal N backlog core last slots after fault) vacant stopped
 
-    pub kept_either : (result : Result (Unit {0}) CommandError) → OnOk result (IsServedBy N backlog core last before after) → IfErr result (EndsByRefusal N backlog core last before after) → StoreKeepsOn old new
-    kept_either (Ok done) served stopped = kept_when_served old new core last after made.store_is left (served_by served)
-    kept_either (Err fault) served stopped = kept_when_stopped old new core last after fault made.store_is left (stopped_by fault stopped)
+    pub kept_either : {E : Type 0} (doors : DoorModel E S) (was now : E) (result : Result (Unit {0}) CommandError) → OnOk result (IsServedBy N doors backlog was now core last before after) → IfErr result (EndsByRefusal N backlog core last before after) → StoreKeepsOn old new
+    kept_either doors was now (Ok done) served stopped = kept_when_served doors was now old new core last after made.store_is left (served_by doors was now served)
+    kept_either doors was now (Err fault) served stopped = kept_when_stopped old new core last after fault made.store_is left (stopped_by fault stopped)
 
-    pub store_served : (result : Result (Unit {0}) CommandError) → OnOk result (IsServedBy N backlog core last before after) → OnOk result (ServesStore N reserve backlog old new)
-    store_served (Ok done) served = record { core = core; made = made; last = last; left = left; after = after; served = served_by served; within = (served_by served).within (new_owes reserve old core made) (vacant_within reserve old core made) }
-    store_served (Err fault) served = tt
+    pub store_served : {E : Type 0} (doors : DoorModel E S) (was now : E) (result : Result (Unit {0}) CommandError) → OnOk result (IsServedBy N doors backlog was now core last before after) → OnOk result (ServesStore N doors reserve backlog was now old new)
+    store_served doors was now (Ok done) served = record { core = core; made = made; last = last; left = left; after = after; served = served_by doors was now served; within = (served_by doors was now served).within (new_owes reserve old core made) (vacant_within reserve old core made) }
+    store_served doors was now (Err fault) served = tt
 
     pub daemon_stopped : (written later : Option (List ℕ)) (result : Result (Unit {0}) CommandError) → Appends written later (ready_line (active_header old)) → IfErr result (EndsByRefusal N backlog core last before after)
         → IfErr result (StopsDaemon N reserve backlog old new written later)

@@ -3,3 +3,4 @@ pub mod State
 pub mod Running
 pub mod Marks
 pub mod Carried
+pub mod Gauged

@@ -11,7 +11,9 @@ use Rattle.audit_serve_passes.specs.Streams.{CallModel}
 use Rattle.audit_serve_ready.specs.Slot.{SlotData, vacant}
 use Rattle.audit_serve_ready.specs.Places.{WritesOn}
 use Rattle.audit_serve_ready.specs.Backlog.{OwesNothing, AreWithinBacklog}
+use Rattle.audit_serve_ready.specs.Door.{DoorModel}
 use Rattle.audit_serve_ready.specs.Clients.{ServesClients, StopsServing}
+use Rattle.audit_serve_ready.specs.Rounds.{ServesUntilStopped, IsWritten}
 use Rattle.audit_server_model.specs.Serving.{IsRefusedAs}
 use Rattle.audit_server.specs.declared.server_core.Core.{Core}
 use Rattle.audit_server.specs.Core.{committer_of, Refuses}
@@ -26,35 +28,40 @@ use Rattle.audit_cli_daemon.specs.State.{ready_line}
 abbrev pub no_clients : {S : Type 0} → List (SlotData S)
 no_clients = replicate SESSIONS vacant
 
-module _ {D : Type 0} {g : sectors.Ghosts D} {S : Type 0} (N : CallModel S) where
-  -- Clients were served as they came and went, and then took what was kept for them, as far as they did. At the end of
-  -- serving, whenever that was, each had at most the backlog or one longest reply kept for it, if it was so at the
-  -- start.
-  pub record IsServedBy (backlog : ℕ) (old new : Core D g) (before after : List (SlotData S)) : Type 0 where
+module _ {D : Type 0} {g : sectors.Ghosts D} {E S : Type 0} (N : CallModel S) (doors : DoorModel E S) where
+  -- Clients were served in rounds as they came and went, until the door said to stop or let no replies leave; then they
+  -- took what was kept for them, until nothing was, or the door said to stop. At the end of serving, whenever that was,
+  -- each had at most the backlog or one longest reply kept for it, if it was so at the start.
+  pub record IsServedBy (backlog : ℕ) (was now : E) (old new : Core D g) (before after : List (SlotData S))
+      : Type 0 where
     pub between : List (SlotData S)
     pub turn : ℕ
+    pub stopped : E
+    pub rounds : ServesUntilStopped core_model N doors backlog was stopped old new before between
+    pub written : IsWritten N doors stopped now between after
     pub served : ServesClients core_model N backlog 0 turn old new before between
     pub within : OwesNothing core_model (length before) old → AreWithinBacklog core_model backlog old before
         → AreWithinBacklog core_model backlog new between
     pub finished : WritesOn N between after
 
-  -- the core refused a step
-  abbrev pub EndsByRefusal : ℕ → Core D g → Core D g → List (SlotData S) → List (SlotData S) → CommandError → Type 0
-  EndsByRefusal backlog old new before after fault = (error : StoreError) × (fault ≡ Refused error)
-      × StopsServing core_model N backlog (λ first later. Refuses first later error) 0 old new before after
-
   -- the same by a new core over the store, with this reserve and backlog
-  pub record ServesStore (reserve backlog : ℕ) (old new : Store D g) : Type 0 where
+  pub record ServesStore (reserve backlog : ℕ) (was now : E) (old new : Store D g) : Type 0 where
     pub core : Core D g
     pub made : IsNewCore reserve old core
     pub last : Core D g
     pub left : new ≡ store_of (committer_of last)
     pub after : List (SlotData S)
-    pub served : IsServedBy backlog core last no_clients after
+    pub served : IsServedBy backlog was now core last no_clients after
     -- What was kept for each client, and what its session was owed, was at most the backlog or one longest reply.
     pub within : AreWithinBacklog core_model backlog last served.between
 
-  -- the same up to the pass in which the core refused a step
+module _ {D : Type 0} {g : sectors.Ghosts D} {S : Type 0} (N : CallModel S) where
+  -- the core refused a step
+  abbrev pub EndsByRefusal : ℕ → Core D g → Core D g → List (SlotData S) → List (SlotData S) → CommandError → Type 0
+  EndsByRefusal backlog old new before after fault = (error : StoreError) × (fault ≡ Refused error)
+      × StopsServing core_model N backlog (λ first later. Refuses first later error) 0 old new before after
+
+  -- A new core over the store, with this reserve and backlog, served clients up to the pass in which it refused a step.
   pub record StopsStore (reserve backlog : ℕ) (error : StoreError) (old new : Store D g) : Type 0 where
     pub core : Core D g
     pub made : IsNewCore reserve old core

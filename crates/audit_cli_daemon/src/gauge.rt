@@ -95,6 +95,10 @@ impl<'n, 'a, 'b, E, F: Drop, M> GaugedDoor<'n, 'a, 'b, E, F, M> {
 }
 
 impl<E: Door, F: Read + Seek, M: Write> Door for GaugedDoor<'_, '_, '_, E, F, M> {
+    ghost use Rattle.audit_cli_daemon.specs.Gauged.{gauged_calls};
+
+    ghost calls = { gauged_calls E.calls };
+
     type Stream = E::Stream;
 
     fn next_client(&mut self, place: usize) -> Option<Newcomer<E::Stream>> {

@@ -1,5 +1,5 @@
 ghost use Rattle.std.specs.Prelude.{◌≡◌, ◌<◌, ◌≤◌, [], ◌∷◌, length, IfOk, IfSome};
-ghost use Rattle.audit_serve_ready.specs.Ready.{ready_read_calls, ready_write_call};
+ghost use Rattle.audit_serve_ready.specs.Ready.{ready_read_call, ready_write_call};
 ghost use Rattle.audit_serve_door.specs.Metered.{metered_calls, IsNewMetered, inner_of_metered, moves_of_metered};
 ghost use Rattle.audit_serve_door.specs.Moves.{count_after};
 

@@ -1,6 +1,6 @@
 ghost use Rattle.std.specs.Prelude.{◌<◌, ◌≤◌, [], ◌∷◌, length, IfOk, IfSome};
 ghost use Rattle.audit_serve_passes.specs.Pairs.{unknown_calls};
-ghost use Rattle.audit_serve_ready.specs.Ready.{ready_read_calls, ready_write_call};
+ghost use Rattle.audit_serve_ready.specs.Ready.{ready_read_call, ready_write_call};
 
 use audit_serve_passes::StreamError;
 use audit_serve_ready::ReadyStream;

@@ -1,3 +1,5 @@
+ghost use Rattle.audit_serve_ready.specs.Door.{unknown_door};
+
 use crate::choice::next_entry;
 use crate::client::Client;
 use crate::entrance::{Arrival, Entrance};
@@ -377,7 +379,10 @@ impl<'a, C: Clock, J: Journal + Drop, W: Watch + Drop> SocketDoor<'a, C, J, W> {
     }
 }
 
+/// Nothing is known of its calls: who comes, and when, is the system's.
 impl<C: Clock, J: Journal + Drop, W: Watch + Drop> Door for SocketDoor<'_, C, J, W> {
+    ghost calls = { unknown_door };
+
     type Stream = Client;
 
     fn next_client(&mut self, place: usize) -> Option<Newcomer<Client>> {

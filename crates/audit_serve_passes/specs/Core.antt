@@ -29,6 +29,8 @@ pub record CoreModel (C : Type 0) : Type 1 where
   pub refusal : ℕ
   -- from the first state to the second a session was started anew with these rights, and nothing else has changed
   pub Begins : ℕ → Rights → C → C → Type 0
+  -- memory was refused for a session that was to be started anew
+  pub LacksMemory : ℕ → C → C → Type 0
   -- the core did these steps from the first state to the second, and these bytes were taken from each session's output
   pub DidSteps : C → C → List StepData → (ℕ → List ℕ) → Type 0
   -- from the first state to the second the core did these steps, of which the last may be a part of a refused step,

@@ -7,6 +7,8 @@ use Rattle.audit_serve_passes.specs.Steps.{StepData, bytes_fed}
 pub data StreamCall : Type 0 where
   -- a read returned these bytes: none only at the end of the stream
   a_read : List ℕ → StreamCall
+  -- a read found nothing yet, of a stream that doesn't wait
+  a_read_in_vain : StreamCall
   -- a read failed
   a_failed_read : StreamCall
   -- all of these bytes were written
@@ -35,6 +37,7 @@ bytes_read (call ∷ calls) = bytes_given call ++ bytes_read calls
 -- the bytes that a call, or a list of calls, had to write
 abbrev pub bytes_asked : StreamCall → List ℕ
 bytes_asked (a_read bytes) = []
+bytes_asked a_read_in_vain = []
 bytes_asked a_failed_read = []
 bytes_asked (a_write bytes) = bytes
 bytes_asked (a_failed_write bytes) = bytes
@@ -55,6 +58,7 @@ has_failed_write (call ∷ calls) = is_failed_write call || has_failed_write cal
 -- how many times calls end a session: once for each read at the end of the stream and for each failed call
 abbrev pub ends_of_call : StreamCall → ℕ
 ends_of_call (a_read (byte ∷ bytes)) = 0
+ends_of_call a_read_in_vain = 0
 ends_of_call (a_write bytes) = 0
 ends_of_call _ = 1
 
@@ -66,6 +70,7 @@ ends_of_calls (call ∷ calls) = ends_of_call call + ends_of_calls calls
 abbrev pub AreWrittenWhole : Bool → List StreamCall → Type 0
 AreWrittenWhole closed [] = Unit {0}
 AreWrittenWhole closed (a_read bytes ∷ calls) = AreWrittenWhole closed calls
+AreWrittenWhole closed (a_read_in_vain ∷ calls) = AreWrittenWhole closed calls
 AreWrittenWhole closed (a_failed_read ∷ calls) = AreWrittenWhole closed calls
 AreWrittenWhole closed (a_write bytes ∷ calls) = (closed ≡ false) × AreWrittenWhole closed calls
 AreWrittenWhole closed (a_failed_write bytes ∷ calls) = (closed ≡ false) × AreWrittenWhole true calls

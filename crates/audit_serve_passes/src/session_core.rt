@@ -94,7 +94,8 @@ pub trait SessionCore {
         ensures begun { OnOk result (model.Begins session rights self.old self.new) }
         ensures idle { model.Idle self.new }
         ensures outputs { (other : ℕ) → model.output self.new other ≡ model.output self.old other }
-        ensures refused { OnErr result (model.DidSteps self.old self.new [] no_bytes) };
+        ensures refused { OnErr result (model.DidSteps self.old self.new [] no_bytes) }
+        ensures memory { OnErr result (model.LacksMemory session self.old self.new) };
 
     /// Returns whether a session has ended: by `end`, by bytes that aren't a request, or by a request that its rights
     /// don't allow.

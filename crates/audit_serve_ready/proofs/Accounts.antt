@@ -3,7 +3,7 @@ use Rattle.std.proofs.Common.{◌≡◌, ◌⊎◌, ℕ, ◌+◌, Bool, true, fa
 use Rattle.std.proofs.lemmas.List.{append-nil}
 use Rattle.std.proofs.lemmas.Bool.{cases_Bool}
 use Rattle.audit_serve_passes.specs.Steps.{StepData, bytes_fed, ends_in}
-use Rattle.audit_serve_passes.specs.Streams.{StreamCall, a_read, a_failed_read, a_write, a_failed_write, CallModel, bytes_read, bytes_sent, has_failed_write, AreWrittenWhole}
+use Rattle.audit_serve_passes.specs.Streams.{StreamCall, a_read, a_read_in_vain, a_failed_read, a_write, a_failed_write, CallModel, bytes_read, bytes_sent, has_failed_write, AreWrittenWhole}
 use Rattle.audit_serve_passes.specs.CallLaws.{or_of_three, bytes_read-append, bytes_sent-append, failed-append}
 use Rattle.audit_serve_passes.specs.Transition.{AreElsewhere}
 use Rattle.audit_serve_passes.proofs.Calls.{or_left, or_right, nothing_sent, whole-append}
@@ -24,6 +24,7 @@ last-append (call ∷ calls) later =
 whole_weaker : (x y : Bool) → (x ≡ true → y ≡ true) → (calls : List StreamCall) → AreWrittenWhole y calls → AreWrittenWhole x calls
 whole_weaker x y shuts [] whole = tt
 whole_weaker x y shuts (a_read bytes ∷ calls) whole = whole_weaker x y shuts calls whole
+whole_weaker x y shuts (a_read_in_vain ∷ calls) whole = whole_weaker x y shuts calls whole
 whole_weaker x y shuts (a_failed_read ∷ calls) whole = whole_weaker x y shuts calls whole
 whole_weaker x y shuts (a_write bytes ∷ calls) whole = (still x y shuts whole.0, whole_weaker x y shuts calls whole.1)
   where

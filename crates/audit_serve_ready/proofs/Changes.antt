@@ -7,7 +7,7 @@ use Rattle.audit_serve_ready.specs.Places.{slot_at, ServesPlaces, StopsAtPlaces}
 use Rattle.audit_serve_ready.specs.Backlog.{TakesTurn}
 use Rattle.audit_serve_ready.specs.Clients.{ClientChange, a_pass, next_first, first_after, first_after_all, IsChange, AreChanges, ServesClients, StopsServing}
 
-first_after-append : {S : Type 0} (first : ℕ) (changes later : List (ClientChange S)) → first_after_all first (changes ++ later) ≡ first_after_all (first_after_all first changes) later
+pub first_after-append : {S : Type 0} (first : ℕ) (changes later : List (ClientChange S)) → first_after_all first (changes ++ later) ≡ first_after_all (first_after_all first changes) later
 first_after-append first [] later = refl
 first_after-append first (change ∷ changes) later = first_after-append (first_after first change) changes later
 

@@ -8,3 +8,13 @@ pub mod Sending
 pub mod Changes
 pub mod Staying
 pub mod Rounds
+pub mod PlaceByPlace
+pub mod Offers
+pub mod Goings
+pub mod Comings
+pub mod RoundByRound
+pub mod TurnByTurn
+pub mod TurnNumbers
+pub mod PlaceWrites
+pub mod Stages
+pub mod Hearing

@@ -111,10 +111,10 @@ module _ {S : Type 0} (N : CallModel S) where
 
   -- ---- writing alone
 
-  pub writes_none : (slots : List (SlotData S)) → WritesOn N slots slots
+  unfoldable pub writes_none : (slots : List (SlotData S)) → WritesOn N slots slots
   writes_none slots = record { count = refl; calls = no_calls; at = λ k within. (refl, refl, accounted_none N (slot_at k slots)) }
 
-  pub writes_then : (before between after : List (SlotData S)) → WritesOn N before between → WritesOn N between after → WritesOn N before after
+  unfoldable pub writes_then : (before between after : List (SlotData S)) → WritesOn N before between → WritesOn N between after → WritesOn N before after
   writes_then before between after first second = record {
     count = second.count ∙ first.count;
     calls = λ k. first.calls k ++ second.calls k;
@@ -127,7 +127,7 @@ module _ {S : Type 0} (N : CallModel S) where
         );
   }
 
-  pub place_writes : (k : ℕ) (slots : List (SlotData S)) (slot after : SlotData S) → k < length slots → slot_at k slots ≡ slot → IsPushed N [] slot after → WritesOn N slots (set slots k after)
+  unfoldable pub place_writes : (k : ℕ) (slots : List (SlotData S)) (slot after : SlotData S) → k < length slots → slot_at k slots ≡ slot → IsPushed N [] slot after → WritesOn N slots (set slots k after)
   place_writes k slots slot after within is pushed = record {
     count = length-set slots k after;
     calls = calls_for k pushed.calls;

@@ -1,22 +1,66 @@
 -- What is sent to a client: kept and written.
-use Rattle.std.proofs.Common.{◌≡◌, ℕ, true, false, Option, Some, None, List, [], ◌∷◌, ◌++◌, take, drop, refl, sym, ap, subst, ◌∙◌, append_assoc, true≢false}
+use Rattle.std.proofs.lemmas.Bool.{cases_Bool}
+use Rattle.std.proofs.Common.{◌≡◌, ◌≢◌, inl, inr, ℕ, true, false, not, ◌&&◌, Option, Some, None, List, [], ◌∷◌, ◌++◌, take, drop, refl, sym, ap, subst, ◌∙◌, append_assoc, true≢false}
 use Rattle.std.proofs.lemmas.List.{append-nil, take-append-drop}
 use Rattle.audit_serve_passes.specs.Streams.{a_write, a_failed_write, CallModel}
 use Rattle.audit_serve_ready.specs.declared.reception.Reception.{Reception}
 use Rattle.audit_serve_ready.specs.declared.reception.Reception.TheVariants as reception
-use Rattle.audit_serve_ready.specs.Slot.{SlotData, vacant, serving, unheard, client_of, slot_data, is_mute, is_no_client, unread_of, kept_of, HasCalled, IsAccounted, IsPushed}
+use Rattle.audit_serve_ready.specs.Slot.{SlotData, vacant, serving, unheard, closing, closed, has_bytes, has_kept, slot_data, is_mute, is_shut, is_no_client, unread_of, kept_of, HasCalled, IsAccounted, IsPushed}
 use Rattle.audit_serve_ready.proofs.Accounts.{accounted_none, accounted_then}
+
+-- a client for which something is kept takes replies
+pub kept_heard : {S : Type 0} (slot : SlotData S) → has_kept slot ≡ true → is_mute slot ≡ false
+kept_heard vacant kept = absurd (true≢false (sym kept))
+kept_heard (serving client unread bytes) kept = refl
+kept_heard (unheard client unread) kept = absurd (true≢false (sym kept))
+kept_heard (closing client unread) kept = absurd (true≢false (sym kept))
+
+pub mute_closed : {S : Type 0} (slot : SlotData S) → is_mute (closed slot) ≡ true
+mute_closed vacant = refl
+mute_closed (serving client unread kept) = refl
+mute_closed (unheard client unread) = refl
+mute_closed (closing client unread) = refl
+
+pub unread_closed : {S : Type 0} (slot : SlotData S) → unread_of (closed slot) ≡ unread_of slot
+unread_closed vacant = refl
+unread_closed (serving client unread kept) = refl
+unread_closed (unheard client unread) = refl
+unread_closed (closing client unread) = refl
+
+-- what a place is as the code has it
+pub closes : {S : Type 0} (client : Option S) (how : Reception) (unread kept rest : List ℕ) → slot_data client unread rest reception.Shut ≡ closed (slot_data client unread kept how)
+closes None how unread kept rest = refl
+closes (Some client) reception.Takes unread kept rest = refl
+closes (Some client) reception.Drops unread kept rest = refl
+closes (Some client) reception.Shut unread kept rest = refl
+
+pub kept_data : {S : Type 0} (client : Option S) (how : Reception) (unread kept : List ℕ) → has_kept (slot_data client unread kept how) ≡ (not (is_mute (slot_data client unread kept how)) && has_bytes kept)
+kept_data None how unread kept = refl
+kept_data (Some client) reception.Takes unread kept = refl
+kept_data (Some client) reception.Drops unread kept = refl
+kept_data (Some client) reception.Shut unread kept = refl
 
 module _ {S : Type 0} (N : CallModel S) where
   -- kept, then pushed
-  pub sent_then : (sent : List ℕ) (old kept pushed : SlotData S) → IsAccounted N sent [] old kept → unread_of kept ≡ unread_of old → IsPushed N [] kept pushed → IsPushed N sent old pushed
-  sent_then sent old kept pushed first same push = record {
+  pub sent_then : (sent : List ℕ) (old kept pushed : SlotData S) → IsAccounted N sent [] old kept → unread_of kept ≡ unread_of old → (is_mute old ≡ false → is_mute kept ≡ true → is_shut kept ≡ true)
+      → (is_shut old ≡ false → is_shut kept ≡ true → (kept_of old ≢ []) × (sent ≢ [])) → IsPushed N [] kept pushed → IsPushed N sent old pushed
+  sent_then sent old kept pushed first same drops shuts push = record {
     calls = push.calls;
+    offered = push.offered;
     quiet = push.quiet;
+    no_reads = push.no_reads;
     unread = push.unread ∙ same;
     accounted =
         subst (λ (bytes : List ℕ). IsAccounted N bytes push.calls old pushed) (append-nil sent)
         (accounted_then N sent [] [] push.calls old kept pushed first push.accounted);
+    dropped = λ heard mute. elim (cases_Bool (is_mute kept)) [
+      | inl e ↦ inr (push.accounted.shut (drops heard e))
+      | inr e ↦ push.dropped e mute
+    ];
+    closed = λ open_ shut. elim (cases_Bool (is_shut kept)) [
+      | inl e ↦ shuts open_ e
+      | inr e ↦ absurd ((push.closed e shut).1 refl)
+    ];
   }
 
   -- the bytes are dropped in a place that takes none
@@ -34,33 +78,43 @@ module _ {S : Type 0} (N : CallModel S) where
   }
 
   -- what was kept is dropped when the place is shut
-  pub closed_drops : (client : Option S) (how : Reception) (unread kept rest : List ℕ) → IsAccounted N [] [] (slot_data client unread kept how) (slot_data client unread rest reception.Shut)
-  closed_drops None how unread kept rest = accounted_none N vacant
-  closed_drops (Some client) how unread kept rest = record {
-    client = same_client client how;
-    dropped = kept_of (slot_data (Some client) unread kept how);
-    written = append-nil (kept_of (slot_data (Some client) unread kept how));
+  pub closed_accounted : (slot : SlotData S) → IsAccounted N [] [] slot (closed slot)
+  closed_accounted vacant = accounted_none N vacant
+  closed_accounted (serving client unread kept) = record {
+    client = N.nothing_called client;
+    dropped = kept;
+    written = append-nil kept;
     none_dropped = λ now. absurd (true≢false now);
     whole = tt;
     mute = λ mute. refl;
     fails = λ failed. absurd (true≢false (sym failed));
     shut = λ shut. refl;
   }
-    where
-      same_client : (client : S) (how : Reception) → HasCalled N (client_of (slot_data (Some client) unread kept how)) (Some client) []
-      same_client client reception.Takes = N.nothing_called client
-      same_client client reception.Drops = N.nothing_called client
-      same_client client reception.Shut = N.nothing_called client
+  closed_accounted (unheard client unread) = record {
+    client = N.nothing_called client;
+    dropped = [];
+    written = refl;
+    none_dropped = λ now. refl;
+    whole = tt;
+    mute = λ mute. refl;
+    fails = λ failed. absurd (true≢false (sym failed));
+    shut = λ shut. refl;
+  }
+  closed_accounted (closing client unread) = accounted_none N (closing client unread)
 
-  pub push_none : (slot : SlotData S) → IsPushed N [] slot slot
-  push_none slot = record { calls = []; quiet = refl; unread = refl; accounted = accounted_none N slot }
+  pub push_none : (slot : SlotData S) → has_kept slot ≡ false → IsPushed N [] slot slot
+  push_none slot none = record { calls = []; offered = λ kept. absurd (true≢false (sym kept ∙ none)); quiet = refl; no_reads = refl; unread = refl; accounted = accounted_none N slot; dropped = λ heard mute. absurd (true≢false (sym mute ∙ heard)); closed = λ live shut. absurd (true≢false (sym shut ∙ live)) }
 
   -- a write took this number of the bytes that are kept
   pub push_some : (client after : S) (unread kept rest : List ℕ) (count : ℕ) → N.DidCalls client after (a_write (take count kept) ∷ []) → kept ≡ take count kept ++ rest → IsPushed N [] (serving client unread kept) (serving after unread rest)
   push_some client after unread kept rest count did split = record {
     calls = a_write (take count kept) ∷ [];
+    offered = λ still. refl;
     quiet = refl;
+    no_reads = refl;
     unread = refl;
+    dropped = λ heard mute. absurd (true≢false (sym mute));
+    closed = λ live shut. absurd (true≢false (sym shut));
     accounted = record {
       client = did;
       dropped = [];
@@ -77,8 +131,12 @@ module _ {S : Type 0} (N : CallModel S) where
   pub push_failed : (client after : S) (unread kept : List ℕ) → N.DidCalls client after (a_failed_write kept ∷ []) → IsPushed N [] (serving client unread kept) (unheard after unread)
   push_failed client after unread kept did = record {
     calls = a_failed_write kept ∷ [];
+    offered = λ still. refl;
     quiet = refl;
+    no_reads = refl;
     unread = refl;
+    dropped = λ heard mute. inl refl;
+    closed = λ live shut. absurd (true≢false (sym shut));
     accounted = record {
       client = did;
       dropped = [];

@@ -1,15 +1,16 @@
 -- The turn of one session.
-use Rattle.std.proofs.Common.{◌≡◌, ℕ, ◌≤◌, Bool, true, false, ◌||◌, eqb, cond, Result, Ok, Err, OnOk, OnErr, List, [], ◌∷◌, ◌++◌, length, take, drop, refl, sym, ap, subst, ◌∙◌, arith, inl, inr}
+use Rattle.std.proofs.Common.{◌≡◌, ℕ, ◌≤◌, Bool, true, false, ◌||◌, eqb, cond, Result, Ok, Err, IfOk, OnOk, OnErr, List, [], ◌∷◌, ◌++◌, length, take, drop, refl, sym, ap, subst, ◌∙◌, arith, inl, inr, true≢false}
 use Rattle.std.proofs.lemmas.Bool.{eq-eqb, cond-true}
-use Rattle.std.proofs.lemmas.List.{append-nil, take-append-drop, length-append}
+use Rattle.std.proofs.lemmas.List.{append-nil, take-append-drop, length-append, length-take}
 use Rattle.audit_serve_passes.specs.declared.limits.TheConstants.{MAX_PIECE}
 use Rattle.audit_serve_passes.specs.Steps.{StepData, a_piece, an_end, AreAbout, IsPartOf, bytes_fed}
 use Rattle.audit_serve_passes.specs.Streams.{StreamCall, CallModel, bytes_read}
 use Rattle.audit_serve_passes.specs.Core.{CoreModel, GoesBy, no_bytes, bytes_for}
 use Rattle.audit_serve_passes.proofs.Transitions.{no_bytes_for}
 use Rattle.audit_serve_passes.proofs.Turns.{end_brings_nothing}
-use Rattle.audit_serve_ready.specs.Slot.{SlotData, unread_of, with_unread, is_shut, HasLooked, IsAccounted}
-use Rattle.audit_serve_ready.specs.Places.{has_last_read, CoreDid, ServesPlace, StopsAtPlace}
+use Rattle.audit_serve_ready.specs.Slot.{SlotData, vacant, serving, unheard, closing, unread_of, with_unread, is_shut, IsSamePlace, HasLooked, IsAccounted}
+use Rattle.audit_serve_ready.specs.Places.{has_last_read, CoreDid, IsServedAt, ServesPlace, StopsAtPlace}
+use Rattle.audit_serve_ready.specs.Reading.{IsTurn, IsFedPiece, HasTurn}
 use Rattle.audit_serve_ready.proofs.Accounts.{accounted_none, unread_put, unread_accounted, served_then}
 
 one_piece : (k : ℕ) (piece : List ℕ) → bytes_fed k (a_piece k piece ∷ []) ≡ piece
@@ -19,10 +20,28 @@ end_about : (k : ℕ) (part : List StepData) → IsPartOf (an_end k) part → Ar
 end_about k part (inl none) = subst (AreAbout k) (sym none) tt
 end_about k part (inr whole) = subst (AreAbout k) (sym whole) (refl, tt)
 
+pub no_front : (front rest : List ℕ) → front ++ rest ≡ [] → front ≡ []
+no_front [] rest none = refl
+no_front (byte ∷ front) rest none = absurd (cc none)
+
+piece_turn : (k : ℕ) (piece : List ℕ) → length piece ≤ MAX_PIECE → IsTurn k (a_piece k piece)
+piece_turn k [] most = inr refl
+piece_turn k (byte ∷ piece) most = inl (refl, omega arith, most)
+
+same_unread : {S : Type 0} (bytes : List ℕ) (slot : SlotData S) → IsSamePlace slot (with_unread bytes slot)
+same_unread bytes vacant = record { kept = refl; mute = refl; shut = refl }
+same_unread bytes (serving client unread kept) = record { kept = refl; mute = refl; shut = refl }
+same_unread bytes (unheard client unread) = record { kept = refl; mute = refl; shut = refl }
+same_unread bytes (closing client unread) = record { kept = refl; mute = refl; shut = refl }
+
 -- what follows of a result follows of it in any form
 pub on_ok : {A E : Type 0} {P Q : Type 0} (result : Result A E) → (P → Q) → OnOk result P → OnOk result Q
 on_ok (Ok value) then_ holds = then_ holds
 on_ok (Err error) then_ holds = tt
+
+pub if_ok_both : {A E Q : Type 0} {P R : A → Type 0} (result : Result A E) → IfOk result P → OnOk result Q → ((value : A) → P value → Q → R value) → IfOk result R
+if_ok_both (Ok value) one other by = by value one other
+if_ok_both (Err error) one other by = tt
 
 pub on_err : {A E : Type 0} {P Q : Type 0} (result : Result A E) → (P → Q) → OnErr result P → OnErr result Q
 on_err (Ok value) then_ holds = tt
@@ -36,16 +55,6 @@ module _ {C S : Type 0} (M : CoreModel C) (N : CallModel S) where
   taking_none_in_part k old new steps = subst (λ (taken : ℕ → List ℕ). M.DidStepsInPart old new steps taken) (no_bytes_for k)
 
   -- ---- a place that is shut
-
-  pub shut_done : (k : ℕ) (old new : C) (slot : SlotData S) → is_shut slot ≡ true → M.DidSteps old new (an_end k ∷ []) no_bytes → ServesPlace N (M.DidSteps old new) k [] slot slot
-  shut_done k old new slot shut did = record {
-    steps = an_end k ∷ [];
-    sent = [];
-    calls = [];
-    did = taking_none k old new (an_end k ∷ []) did;
-    about = (refl, tt);
-    served = record { read = refl; ends = inr shut; accounted = accounted_none N slot };
-  }
 
   pub shut_stopped : (k : ℕ) (old new : C) (slot : SlotData S) → is_shut slot ≡ true → GoesBy M (an_end k) old new → StopsAtPlace N (M.DidStepsInPart old new) k slot slot
   shut_stopped k old new slot shut goes = record {
@@ -76,29 +85,7 @@ module _ {C S : Type 0} (M : CoreModel C) (N : CallModel S) where
   looked : (before after : SlotData S) (calls : List StreamCall) → HasLooked N before after calls → unread_of before ++ bytes_read calls ≡ unread_of after ++ []
   looked before after calls look = look.read ∙ sym (append-nil (unread_of after))
 
-  -- nothing was there,
-  pub look_done : (k : ℕ) (core : C) (before after : SlotData S) (calls : List StreamCall) → HasLooked N before after calls → ServesPlace N (M.DidSteps core core) k [] before after
-  look_done k core before after calls look = record {
-    steps = [];
-    sent = [];
-    calls = calls;
-    did = taking_none k core core [] (M.nothing_done core);
-    about = tt;
-    served = record { read = looked before after calls look; ends = inl refl; accounted = look.accounted };
-  }
-
-  -- or the stream was over,
-  pub over_done : (k : ℕ) (old new : C) (before after : SlotData S) (calls : List StreamCall) → HasLooked N before after calls → has_last_read calls ≡ true → M.DidSteps old new (an_end k ∷ []) no_bytes
-      → ServesPlace N (M.DidSteps old new) k [] before after
-  over_done k old new before after calls look last did = record {
-    steps = an_end k ∷ [];
-    sent = [];
-    calls = calls;
-    did = taking_none k old new (an_end k ∷ []) did;
-    about = (refl, tt);
-    served = record { read = looked before after calls look; ends = inr (ap (λ (x : Bool). x || is_shut after) last); accounted = look.accounted };
-  }
-
+  -- the stream was over,
   pub over_stopped : (k : ℕ) (old new : C) (before after : SlotData S) (calls : List StreamCall) → HasLooked N before after calls → has_last_read calls ≡ true → GoesBy M (an_end k) old new
       → StopsAtPlace N (M.DidStepsInPart old new) k before after
   over_stopped k old new before after calls look last goes = record {
@@ -135,25 +122,92 @@ module _ {C S : Type 0} (M : CoreModel C) (N : CallModel S) where
 
   -- ---- a piece of what is unread
 
-  pub fed_done : (k : ℕ) (taken : ℕ) (old new : C) (slot : SlotData S) → is_shut slot ≡ false → M.DidSteps old new (a_piece k (take taken (unread_of slot)) ∷ []) no_bytes
-      → ServesPlace N (M.DidSteps old new) k [] slot (with_unread (drop taken (unread_of slot)) slot)
-  fed_done k taken old new slot live did =
+  fed_at : (k : ℕ) (taken : ℕ) (slot : SlotData S) → is_shut slot ≡ false → IsServedAt N k (a_piece k (take taken (unread_of slot)) ∷ []) [] [] [] slot (with_unread (drop taken (unread_of slot)) slot)
+  fed_at k taken slot live =
       let bytes : List ℕ = unread_of slot in
       record {
-        steps = a_piece k (take taken bytes) ∷ [];
-        sent = [];
-        calls = [];
-        did = taking_none k old new (a_piece k (take taken bytes) ∷ []) did;
-        about = (refl, tt);
-        served = record {
-          read = append-nil bytes
-              ∙ sym (take-append-drop taken bytes)
-              ∙ ap (λ (front : List ℕ). front ++ drop taken bytes) (sym (one_piece k (take taken bytes)))
-              ∙ ap (λ (rest : List ℕ). bytes_fed k (a_piece k (take taken bytes) ∷ []) ++ rest) (sym (append-nil (unread_of (with_unread (drop taken bytes) slot)) ∙ unread_put (drop taken bytes) slot live));
-          ends = inl refl;
-          accounted = unread_accounted N (drop taken bytes) slot;
-        };
+        read = append-nil bytes
+            ∙ sym (take-append-drop taken bytes)
+            ∙ ap (λ (front : List ℕ). front ++ drop taken bytes) (sym (one_piece k (take taken bytes)))
+            ∙ ap (λ (rest : List ℕ). bytes_fed k (a_piece k (take taken bytes) ∷ []) ++ rest) (sym (append-nil (unread_of (with_unread (drop taken bytes) slot)) ∙ unread_put (drop taken bytes) slot live));
+        ends = inl refl;
+        accounted = unread_accounted N (drop taken bytes) slot;
       }
+
+  pub is_fed : (k : ℕ) (taken : ℕ) (old new : C) (slot : SlotData S) → is_shut slot ≡ false → length (unread_of slot) ≤ MAX_PIECE → M.DidSteps old new (a_piece k (take taken (unread_of slot)) ∷ []) no_bytes
+      → IsFedPiece M N k old new slot (with_unread (drop taken (unread_of slot)) slot)
+  is_fed k taken old new slot live most did = record {
+    piece = take taken (unread_of slot);
+    most = omega (arith, most, length-take taken (unread_of slot));
+    did = did;
+    served = fed_at k taken slot live;
+    same = same_unread (drop taken (unread_of slot)) slot;
+  }
+
+  -- ---- the turns of a session
+
+  -- whose place is shut,
+  pub shut_turn : (k : ℕ) (old new : C) (slot : SlotData S) → is_shut slot ≡ true → M.DidSteps old new (an_end k ∷ []) no_bytes → M.ended new [] k ≡ true → HasTurn M N k true old new slot slot
+  shut_turn k old new slot shut did over = record {
+    steps = an_end k ∷ [];
+    calls = [];
+    did = did;
+    taken = (an_end k, refl, inl refl);
+    served = record { read = refl; ends = inr shut; accounted = accounted_none N slot };
+    seen = inl (shut, over);
+    last = λ last. over;
+    same = record { kept = refl; mute = refl; shut = refl };
+    quiet = refl;
+    unread = λ idle. absurd (true≢false idle);
+  }
+
+  -- of whose client nothing was there,
+  pub vain_turn : (k : ℕ) (core : C) (before after : SlotData S) (calls : List StreamCall) → HasLooked N before after calls → has_last_read calls ≡ false → unread_of after ≡ [] → HasTurn M N k false core core before after
+  vain_turn k core before after calls look going none = record {
+    steps = [];
+    calls = calls;
+    did = M.nothing_done core;
+    taken = refl;
+    served = record { read = looked before after calls look; ends = inl refl; accounted = look.accounted };
+    seen = inr look.asked;
+    last = λ last. absurd (true≢false (sym last ∙ going));
+    same = look.same;
+    quiet = look.quiet;
+    unread = λ idle. none ∙ sym (no_front (unread_of before) (bytes_read calls) (look.read ∙ none));
+  }
+
+  -- whose client's stream is over,
+  pub over_turn : (k : ℕ) (old new : C) (before after : SlotData S) (calls : List StreamCall) → HasLooked N before after calls → has_last_read calls ≡ true → M.DidSteps old new (an_end k ∷ []) no_bytes → M.ended new [] k ≡ true
+      → HasTurn M N k true old new before after
+  over_turn k old new before after calls look last did over = record {
+    steps = an_end k ∷ [];
+    calls = calls;
+    did = did;
+    taken = (an_end k, refl, inl refl);
+    served = record { read = looked before after calls look; ends = inr (ap (λ (x : Bool). x || is_shut after) last); accounted = look.accounted };
+    seen = inr look.asked;
+    last = λ last. over;
+    same = look.same;
+    quiet = look.quiet;
+    unread = λ idle. absurd (true≢false idle);
+  }
+
+  -- and of whose client bytes are unread
+  pub fed_turn : (k : ℕ) (had : Bool) (old new : C) (before between after : SlotData S) (calls : List StreamCall) → had ≡ true → HasLooked N before between calls → has_last_read calls ≡ false → IsFedPiece M N k old new between after → HasTurn M N k had old new before after
+  fed_turn k false old new before between after calls is look going fed = absurd (true≢false (sym is))
+  fed_turn k true old new before between after calls is look going fed = record {
+    steps = a_piece k fed.piece ∷ [];
+    calls = calls;
+    did = fed.did;
+    taken = (a_piece k fed.piece, refl, piece_turn k fed.piece fed.most);
+    served = subst (λ (all : List StreamCall). IsServedAt N k (a_piece k fed.piece ∷ []) [] [] all before after) (append-nil calls)
+        (served_then N k [] (a_piece k fed.piece ∷ []) [] [] [] calls [] before between after (record { read = looked before between calls look; ends = inl refl; accounted = look.accounted }) fed.served);
+    seen = inr look.asked;
+    last = λ last. absurd (true≢false (sym last ∙ going));
+    same = record { kept = fed.same.kept ∙ look.same.kept; mute = fed.same.mute ∙ look.same.mute; shut = fed.same.shut ∙ look.same.shut };
+    quiet = look.quiet;
+    unread = λ idle. absurd (true≢false idle);
+  }
 
   -- one that was refused, at most in part: the rest is lost
   pub fed_stopped : (k : ℕ) (old new : C) (slot : SlotData S) → is_shut slot ≡ false → length (unread_of slot) ≤ MAX_PIECE → GoesBy M (a_piece k (unread_of slot)) old new

@@ -53,8 +53,9 @@ module _ {C S : Type 0} (M : CoreModel C) (N : CallModel S) (backlog : ℕ) wher
     pub begun : M.Begins k client.rights old new
     pub place : after ≡ slice_set before k (serving client.stream [] [])
 
-  -- nothing was done
-  pub record IsTurnedAway (old new : C) (before after : List (SlotData S)) : Type 0 where
+  -- Memory was refused for the session of a client, and nothing was done.
+  pub record IsTurnedAway (k : ℕ) (old new : C) (before after : List (SlotData S)) : Type 0 where
+    pub refused : M.LacksMemory k old new
     pub did : M.DidSteps old new [] no_bytes
     pub places : after ≡ before
 
@@ -72,7 +73,7 @@ module _ {C S : Type 0} (M : CoreModel C) (N : CallModel S) (backlog : ℕ) wher
   IsChange first (a_pass steps taken calls) old new before after =
       IsClientPass first steps taken calls old new before after
   IsChange first (a_coming k client) old new before after = IsComing k client old new before after
-  IsChange first (a_refusal k client) old new before after = IsTurnedAway old new before after
+  IsChange first (a_refusal k client) old new before after = IsTurnedAway k old new before after
   IsChange first (a_going k) old new before after = IsGoing k old new before after
 
   -- these changes in order, of which the first pass has session `first` first

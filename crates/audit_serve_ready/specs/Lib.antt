@@ -1,7 +1,10 @@
 pub mod Ready
+pub mod Door
 pub mod Slot
 pub mod Places
+pub mod Reading
 pub mod Backlog
 pub mod Clients
+pub mod Rounds
 pub mod Stays
 pub mod Turns

@@ -1,11 +1,13 @@
 -- What is done for the clients that are in their places.
-use Rattle.std.specs.Prelude.{◌≡◌, ◌⊎◌, ℕ, ◌<◌, ◌≤◌, Bool, true, false, ◌||◌, List, [], ◌∷◌, ◌++◌, length, slice_index_or}
+use Rattle.std.specs.Prelude.{◌≡◌, ◌≢◌, ◌⊎◌, ℕ, ◌<◌, ◌≤◌, Bool, true, false, ◌||◌, List, [], ◌∷◌, ◌++◌, length}
+use Rattle.std.specs.Prelude.{slice_index_or}
 use Rattle.audit_serve_passes.specs.declared.limits.TheConstants.{MAX_PIECE}
 use Rattle.audit_serve_passes.specs.Steps.{StepData, AreAbout, bytes_fed, ends_in}
 use Rattle.audit_serve_passes.specs.Streams.{StreamCall, a_read, a_failed_read, CallModel}
-use Rattle.audit_serve_passes.specs.Streams.{bytes_read}
+use Rattle.audit_serve_passes.specs.Streams.{bytes_read, has_failed_write}
 use Rattle.audit_serve_passes.specs.Core.{bytes_for}
-use Rattle.audit_serve_ready.specs.Slot.{SlotData, vacant, unread_of, is_shut, IsAccounted}
+use Rattle.audit_serve_ready.specs.Slot.{SlotData, vacant, unread_of, kept_of, is_shut, is_mute, has_read, IsOffered}
+use Rattle.audit_serve_ready.specs.Slot.{IsAccounted}
 
 -- the place of a session
 abbrev pub slot_at : {S : Type 0} → ℕ → List (SlotData S) → SlotData S
@@ -82,3 +84,23 @@ module _ {S : Type 0} (N : CallModel S) where
     pub at : (k : ℕ) → k < length before → (bytes_read (calls k) ≡ [])
         × (unread_of (slot_at k after) ≡ unread_of (slot_at k before))
         × IsAccounted N [] (calls k) (slot_at k before) (slot_at k after)
+
+  -- What is kept was offered to each client that takes replies, and nothing was read.
+  pub record OffersKept (before after : List (SlotData S)) : Type 0 where
+    pub writes : WritesOn before after
+    pub offered : (k : ℕ) → k < length before → IsOffered (writes.calls k) (slot_at k after)
+
+  -- What was taken of the sessions' outputs was kept and offered at the places below a number. Replies are dropped
+  -- after a write that failed, or in a place that is shut; and that is for want of memory, which is asked for only if
+  -- replies are to be put behind others. The other places are as they were.
+  pub record WritesPlaces (Did : CoreDid) (count : ℕ) (taken : ℕ → List ℕ) (calls : ℕ → List StreamCall)
+      (before after : List (SlotData S)) : Type 0 where
+    pub pass : IsReadyPass Did (λ k. []) [] taken calls before after
+    pub offered : (k : ℕ) → k < count → IsOffered (calls k) (slot_at k after)
+    pub no_reads : (k : ℕ) → has_read (calls k) ≡ false
+    pub unread : (k : ℕ) → unread_of (slot_at k after) ≡ unread_of (slot_at k before)
+    pub dropped : (k : ℕ) → is_mute (slot_at k before) ≡ false → is_mute (slot_at k after) ≡ true
+        → (has_failed_write (calls k) ≡ true) ⊎ (is_shut (slot_at k after) ≡ true)
+    pub closed : (k : ℕ) → is_shut (slot_at k before) ≡ false → is_shut (slot_at k after) ≡ true
+        → (kept_of (slot_at k before) ≢ []) × (taken k ≢ [])
+    pub others : (k : ℕ) → count ≤ k → slot_at k after ≡ slot_at k before

@@ -1,12 +1,12 @@
 -- The calls of a stream that doesn't wait.
-use Rattle.std.specs.Prelude.{◌≡◌, ℕ, Option, Some, None, Result, Ok, Err, List, [], ◌∷◌, length, take}
+use Rattle.std.specs.Prelude.{◌≡◌, ℕ, Option, Some, None, Result, Ok, Err, List, [], length, take}
 use Rattle.audit_serve_passes.specs.declared.stream_fault.StreamError.{StreamError}
-use Rattle.audit_serve_passes.specs.Streams.{StreamCall, a_write, a_failed_write, read_call}
+use Rattle.audit_serve_passes.specs.Streams.{StreamCall, a_read_in_vain, a_write, a_failed_write, read_call}
 
--- a read that had this result; if no byte was there, it counts as no call
-abbrev pub ready_read_calls : Option (Result ℕ StreamError) → List ℕ → List StreamCall
-ready_read_calls None buffer = []
-ready_read_calls (Some given) buffer = read_call given buffer ∷ []
+-- a read that had this result
+abbrev pub ready_read_call : Option (Result ℕ StreamError) → List ℕ → StreamCall
+ready_read_call None buffer = a_read_in_vain
+ready_read_call (Some given) buffer = read_call given buffer
 
 -- a write with this result: the number of bytes that it took
 abbrev pub ready_write_call : Result ℕ StreamError → List ℕ → StreamCall

@@ -21,7 +21,7 @@ impl Model for Backlog {
 }
 
 impl Backlog {
-    ghost use Rattle.std.specs.Prelude.{◌≡◌, ◌≤◌, [], ◌++◌, length, drop, MatchResult, IsTrue, ◌↔◌};
+    ghost use Rattle.std.specs.Prelude.{◌≡◌, ◌≢◌, ◌≤◌, [], ◌++◌, length, drop, MatchResult, OnErr, IsTrue, ◌↔◌};
 
     pub(crate) fn new(alloc: Global) -> Backlog
         ensures { result ≡ [] }
@@ -44,10 +44,16 @@ impl Backlog {
         &self.bytes[self.start..]
     }
 
-    /// Appends bytes. The only error is that memory is refused; then the bytes are as before.
+    /// Appends bytes. The only error is that memory is refused; then the bytes are as before. None is asked for unless
+    /// bytes are to be put behind others.
     pub(crate) fn append(&mut self, more: Vec<u8>) -> Result<(), AllocError>
-        ensures { MatchResult result (λ done. self.new ≡ self.old ++ more.items) (λ error. self.new ≡ self.old) }
+        ensures appended { MatchResult result (λ done. self.new ≡ self.old ++ more.items)
+            (λ error. self.new ≡ self.old) }
+        ensures refused { OnErr result ((self.old ≢ []) × (more.items ≢ [])) }
     {
+        if more.is_empty() {
+            return Ok(());
+        }
         if self.len() == 0 {
             self.bytes = more;
             self.start = 0;

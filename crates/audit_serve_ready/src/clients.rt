@@ -1,10 +1,13 @@
-ghost use Rattle.std.specs.Prelude.{◌≡◌, ◌<◌, ◌≤◌, ℕ, [], true, false, length};
+ghost use Rattle.std.specs.Prelude.{◌≡◌, ◌<◌, ◌≤◌, ℕ, List, [], ◌∷◌, true, false, length};
 ghost use Rattle.audit_base.specs.declared.limits.TheConstants.{SESSIONS};
 ghost use Rattle.audit_serve_passes.specs.Transition.{AreEmpty};
-ghost use Rattle.audit_serve_ready.specs.Slot.{vacant, has_client, kept_of};
+ghost use Rattle.audit_serve_ready.specs.declared.departure.Departure.{Departure};
+ghost use Rattle.audit_serve_ready.specs.Door.{DoorCall, a_parting};
+ghost use Rattle.audit_serve_ready.specs.Slot.{vacant, client_of, has_client};
 ghost use Rattle.audit_serve_ready.specs.Places.{slot_at};
 ghost use Rattle.audit_serve_ready.specs.Backlog.{AreWithinBacklog};
-ghost use Rattle.audit_serve_ready.specs.Clients.{ServesClients};
+ghost use Rattle.audit_serve_ready.specs.Clients.{ClientChange, AreChanges};
+ghost use Rattle.audit_serve_ready.specs.Rounds.{is_done, is_free, IsLetGo, IsLetIn, IsOfferAnswered, ChangesPlaces};
 
 use crate::departure::Departure;
 use crate::door::Door;
@@ -15,15 +18,15 @@ use audit_serve_passes::SessionCore;
 /// Whether a place has a client whose session has ended and for which nothing is kept.
 fn may_go<C: SessionCore, S: ReadyStream + Drop>(core: &C, place: usize, slot: &Slot<S>) -> bool
     requires { place < SESSIONS }
-    ensures ended { result ≡ true → C.model.ended core.now [] place ≡ true }
-    ensures had { result ≡ true → has_client slot.now ≡ true }
-    ensures written { result ≡ true → kept_of slot.now ≡ [] }
+    ensures { result ≡ is_done C.model place core.now slot.now }
 {
-    core.ended(place) && slot.has_client() && slot.is_written()
+    core.ended(place) && slot.has_client() && !slot.has_kept()
 }
 
 fn part_with<D: Door>(place: usize, slot: &mut Slot<D::Stream>, is_cut_off: bool, door: &mut D)
-    ensures { slot.new ≡ vacant }
+    ensures left { slot.new ≡ vacant }
+    ensures told { has_client slot.old ≡ true → (client : D.Stream) × (why : Departure)
+        × (client_of slot.old ≡ Some client) × D.calls.DidCalls door.old door.new (a_parting place client why ∷ []) }
 {
     if let Some((client, departure)) = slot.leave() {
         let departure = if is_cut_off {
@@ -43,8 +46,9 @@ pub(crate) fn let_go<C: SessionCore, D: Door>(
 ) -> bool
     requires count { length slots.old ≤ SESSIONS }
     requires empty { AreEmpty C.model (length slots.old) core.now }
-    ensures went { (backlog first : ℕ)
-        → ServesClients C.model D.Stream.calls backlog first first core.now core.now slots.old slots.new }
+    ensures went { (backlog first : ℕ) → ChangesPlaces C.model D.Stream.calls D.calls backlog (IsLetGo C.model)
+        (length slots.old) first door.old door.new core.now core.now slots.old slots.new }
+    ensures none_done { (k : ℕ) → k < length slots.new → is_done C.model k core.now (slot_at k slots.new) ≡ false }
     ensures within { (backlog : ℕ) → AreWithinBacklog C.model backlog core.now slots.old
         → AreWithinBacklog C.model backlog core.now slots.new }
 {
@@ -61,8 +65,7 @@ pub(crate) fn let_go<C: SessionCore, D: Door>(
 /// Whether a place has no client, and its session has ended.
 fn is_free<C: SessionCore, S: ReadyStream + Drop>(core: &C, place: usize, slot: &Slot<S>) -> bool
     requires { place < SESSIONS }
-    ensures ended { result ≡ true → C.model.ended core.now [] place ≡ true }
-    ensures vacant { result ≡ true → has_client slot.now ≡ false }
+    ensures { result ≡ is_free C.model place core.now slot.now }
 {
     core.ended(place) && !slot.has_client()
 }
@@ -80,8 +83,13 @@ fn let_in_at<C: SessionCore, D: Door>(
     requires idle { C.model.Idle core.old }
     requires taken { C.model.output core.old place ≡ [] }
     requires vacant { has_client (slot_at place slots.old) ≡ false }
-    ensures came { (backlog first : ℕ)
-        → ServesClients C.model D.Stream.calls backlog first first core.old core.new slots.old slots.new }
+    ensures came { (told : List (DoorCall D.Stream)) × (changes : List (ClientChange D.Stream))
+        × D.calls.DidCalls door.old door.new told × IsOfferAnswered place told changes
+        × ((backlog first : ℕ) → AreChanges C.model D.Stream.calls backlog first changes core.old core.new
+        slots.old slots.new) }
+    ensures alone { (other : ℕ) → (other ≡ place → ⊥)
+        → (C.model.ended core.new [] other ≡ C.model.ended core.old [] other)
+        × (slot_at other slots.new ≡ slot_at other slots.old) }
     ensures idle { C.model.Idle core.new }
     ensures outputs { (other : ℕ) → C.model.output core.new other ≡ C.model.output core.old other }
     ensures within { (backlog : ℕ) → AreWithinBacklog C.model backlog core.old slots.old
@@ -98,7 +106,7 @@ fn let_in_at<C: SessionCore, D: Door>(
     true
 }
 
-/// Lets clients in, as long as there are vacant places and clients that have come. Returns whether one came.
+/// Offers each place that is free to whoever comes next. Returns whether a client came.
 pub(crate) fn let_in<C: SessionCore, D: Door>(
     core: &mut C,
     slots: &mut [Slot<D::Stream>],
@@ -107,8 +115,8 @@ pub(crate) fn let_in<C: SessionCore, D: Door>(
     requires count { length slots.old ≤ SESSIONS }
     requires idle { C.model.Idle core.old }
     requires empty { AreEmpty C.model (length slots.old) core.old }
-    ensures came { (backlog first : ℕ)
-        → ServesClients C.model D.Stream.calls backlog first first core.old core.new slots.old slots.new }
+    ensures came { (backlog first : ℕ) → ChangesPlaces C.model D.Stream.calls D.calls backlog (IsLetIn C.model)
+        (length slots.old) first door.old door.new core.old core.new slots.old slots.new }
     ensures idle { C.model.Idle core.new }
     ensures outputs { (other : ℕ) → C.model.output core.new other ≡ C.model.output core.old other }
     ensures within { (backlog : ℕ) → AreWithinBacklog C.model backlog core.old slots.old
@@ -117,10 +125,7 @@ pub(crate) fn let_in<C: SessionCore, D: Door>(
     let mut moved = false;
     for place in 0..slots.len() {
         if is_free(core, place, &slots[place]) {
-            if !let_in_at(core, place, slots, door) {
-                return moved;
-            }
-            moved = true;
+            moved |= let_in_at(core, place, slots, door);
         }
     }
     moved

@@ -1,10 +1,13 @@
 //! Reading what clients send while others are read, so that one commit has it.
-ghost use Rattle.std.specs.Prelude.{◌≡◌, ◌<◌, ◌≤◌, true, false, length, slice_index_or, IfErr, OnOk, OnErr};
+ghost use Rattle.std.specs.Prelude.{◌≡◌, ◌<◌, ◌≤◌, ℕ, List, true, false, length, slice_index_or, IfErr, OnOk, OnErr};
 ghost use Rattle.audit_base.specs.declared.limits.TheConstants.{SESSIONS};
-ghost use Rattle.audit_serve_passes.specs.Core.{no_bytes};
+ghost use Rattle.audit_serve_passes.specs.Steps.{StepData};
+ghost use Rattle.audit_serve_passes.specs.Streams.{StreamCall};
 ghost use Rattle.audit_serve_ready.specs.Backlog.{OwesNothing, OwesOnlyAfterTurns, AreWithinBacklog, MayAsk};
 ghost use Rattle.audit_serve_ready.specs.Backlog.{HasTakenRequest};
-ghost use Rattle.audit_serve_ready.specs.Places.{slot_at, ServesPlaces, StopsAtPlaces};
+ghost use Rattle.audit_serve_ready.specs.Places.{slot_at, StopsAtPlaces};
+ghost use Rattle.audit_serve_ready.specs.Reading.{TakesTurns, ReadsPlaces};
+ghost use Rattle.audit_serve_ready.specs.Rounds.{AsksDoor};
 
 use crate::door::Door;
 use crate::limits::MAX_ASKED;
@@ -32,7 +35,9 @@ fn is_one_awaited<C: SessionCore>(core: &C, count: usize, busy: &Marks, had_turn
 }
 
 /// Whether a pass has what it is to commit.
-fn is_gathered<D: Door>(door: &mut D, is_awaited: bool, moved: bool, found: bool) -> bool {
+fn is_gathered<D: Door>(door: &mut D, is_awaited: bool, moved: bool, found: bool) -> bool
+    ensures { AsksDoor D.calls door.old door.new }
+{
     !is_awaited || !moved || !door.asks_again(found)
 }
 
@@ -49,8 +54,8 @@ fn first_turn<C: SessionCore, S: ReadyStream + Drop>(
     ensures stopped { OnErr result (StopsAtPlaces S.calls (C.model.DidStepsInPart core.old core.new)
         slots.old slots.new) }
     ensures refused { IfErr result (C.refuses core.old core.new) }
-    ensures done { OnOk result (ServesPlaces S.calls (C.model.DidSteps core.old core.new) no_bytes
-        slots.old slots.new) }
+    ensures done { OnOk result (TakesTurns C.model S.calls (λ k. k ≡ first) had_turn.old had_turn.new
+        core.old core.new slots.old slots.new) }
     ensures within { OwesOnlyAfterTurns C.model (length slots.old) had_turn.old core.old
         → AreWithinBacklog C.model backlog core.old slots.old
         → OnOk result (OwesOnlyAfterTurns C.model (length slots.old) had_turn.new core.new
@@ -85,11 +90,12 @@ pub(crate) fn gather<C: SessionCore, D: Door>(
     ensures stopped { OnErr result (StopsAtPlaces D.Stream.calls (C.model.DidStepsInPart core.old core.new)
         slots.old slots.new) }
     ensures refused { IfErr result (C.refuses core.old core.new) }
-    ensures done { OnOk result (ServesPlaces D.Stream.calls (C.model.DidSteps core.old core.new) no_bytes
-        slots.old slots.new) }
+    ensures done { OnOk result ((steps : List StepData) × (calls : ℕ → List StreamCall)
+        × ReadsPlaces C.model D.Stream.calls steps calls core.old core.new slots.old slots.new) }
     ensures within { OwesNothing C.model (length slots.old) core.old
         → AreWithinBacklog C.model backlog core.old slots.old
         → OnOk result (AreWithinBacklog C.model backlog core.new slots.new) }
+    ensures askings { AsksDoor D.calls door.old door.new }
     ensures asked { first < length slots.old → MayAsk C.model backlog first core.old (slot_at first slots.old)
         → OnOk result (HasTakenRequest C.model backlog first core.old
         (slot_at first slots.old) (slot_at first slots.new)) }
@@ -102,7 +108,7 @@ pub(crate) fn gather<C: SessionCore, D: Door>(
     let mut found = first_turn(core, slots, first, &mut had_turn, backlog, &mut questions)?;
     let mut from = if first < slots.len() { 1 } else { 0 };
     let mut moved = false;
-    for _ in 0..MAX_READINGS {
+    for reading in 0..MAX_READINGS {
         let more = read_turns(
             core,
             slots,

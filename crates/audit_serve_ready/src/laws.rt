@@ -1,13 +1,15 @@
 //! Laws of serving, each the contract of a function that does nothing.
-ghost use Rattle.std.specs.Prelude.{ℕ, ◌*◌, ◌<◌, ◌≤◌, List, [], ◌∷◌};
+ghost use Rattle.std.specs.Prelude.{◌≡◌, ℕ, ◌*◌, ◌<◌, ◌≤◌, List, [], ◌∷◌, true, false, length};
 ghost use Rattle.audit_base.specs.declared.limits.TheConstants.{SESSIONS};
 ghost use Rattle.audit_serve_ready.specs.declared.newcomer.Newcomer.{Newcomer};
-ghost use Rattle.audit_serve_ready.specs.Slot.{SlotData, serving};
+ghost use Rattle.audit_serve_ready.specs.Slot.{SlotData, serving, has_client, has_kept};
 ghost use Rattle.audit_serve_ready.specs.Places.{slot_at, IsServedAt};
 ghost use Rattle.audit_serve_ready.specs.Clients.{ClientChange, a_coming, AreChanges};
 ghost use Rattle.audit_serve_ready.specs.Stays.{steps_in, taken_in, calls_in, StaysAt};
 ghost use Rattle.audit_serve_ready.specs.Turns.{passes_in, own_turns};
+ghost use Rattle.audit_serve_ready.specs.Rounds.{ServesPass, IsHeard, ServesPlacesOnce, AreRounds, IsOfferAnswered};
 
+use crate::door::Door;
 use crate::ready_stream::ReadyStream;
 use audit_serve_passes::SessionCore;
 
@@ -30,4 +32,38 @@ pub fn a_client_is_served_from_its_coming<C: SessionCore, S: ReadyStream>()
 pub fn each_session_has_its_turn<S: ReadyStream>()
     ensures { (k n first : ℕ) (changes : List (ClientChange S)) → k < SESSIONS → first < SESSIONS
         → SESSIONS * n ≤ passes_in changes → n ≤ own_turns k first changes }
+{}
+
+/// Rounds of serving are passes, comings and goings, of which the first pass has session 0 first: as many passes as there
+/// are rounds. So the laws above hold of them.
+pub fn rounds_are_changes<C: SessionCore, D: Door>()
+    ensures { (backlog rounds : ℕ) (was now : D) (old new : C) (before after : List (SlotData D.Stream))
+        → AreRounds C.model D.Stream.calls D.calls backlog rounds was now old new before after
+        → (changes : List (ClientChange D.Stream)) × (passes_in changes ≡ rounds)
+        × AreChanges C.model D.Stream.calls backlog 0 changes old new before after }
+{}
+
+/// Each session that is live is heard in each pass whose replies leave, whatever the clients of the others do: its client
+/// is asked for bytes, unless some are unread or the door dismissed it; whatever is taken in the pass is answered in it,
+/// so that each append is committed or refused; and what is kept for the client is offered to it.
+pub fn each_pass_hears_each_client<C: SessionCore, D: Door>()
+    ensures { (backlog first k : ℕ) (was now : D) (old new : C) (before after : List (SlotData D.Stream))
+        (pass : ServesPass C.model D.Stream.calls D.calls backlog true first was now old new before after)
+        → k < length before → C.model.ended old [] k ≡ false
+        → IsHeard C.model D.Stream.calls D.calls backlog k first (slot_at k pass.judged) (pass.reads k) (pass.writes k)
+        old new (slot_at k before) (slot_at k after) }
+{}
+
+/// Whoever is still there after the goings of a round has a session that goes on, or something is kept for it. And each
+/// place that was free after them was offered: it has a client now, or nobody came, or memory was refused for whoever
+/// came.
+pub fn whoever_is_done_goes<C: SessionCore, D: Door>()
+    ensures goes { (backlog first k : ℕ) (was now : D) (old new : C) (before after : List (SlotData D.Stream))
+        (once : ServesPlacesOnce C.model D.Stream.calls D.calls backlog first was now old new before after)
+        → k < length once.left → C.model.ended once.mid [] k ≡ true → has_client (slot_at k once.left) ≡ true
+        → has_kept (slot_at k once.left) ≡ true }
+    ensures comes { (backlog first k : ℕ) (was now : D) (old new : C) (before after : List (SlotData D.Stream))
+        (once : ServesPlacesOnce C.model D.Stream.calls D.calls backlog first was now old new before after)
+        → k < length once.left → C.model.ended once.mid [] k ≡ true → has_client (slot_at k once.left) ≡ false
+        → IsOfferAnswered k (once.comes.told k) (once.comes.changes k) }
 {}

@@ -1,6 +1,6 @@
 ghost use Rattle.std.specs.Prelude.{◌<◌, ◌≤◌, [], ◌∷◌, length, IfOk, IfSome};
 ghost use Rattle.audit_serve_passes.specs.Streams.{CallModel};
-ghost use Rattle.audit_serve_ready.specs.Ready.{ready_read_calls, ready_write_call};
+ghost use Rattle.audit_serve_ready.specs.Ready.{ready_read_call, ready_write_call};
 
 use audit_serve_passes::StreamError;
 
@@ -14,7 +14,7 @@ pub trait ReadyStream {
     fn read_ready(&mut self, buffer: &mut [u8]) -> Option<Result<usize, StreamError>>
         requires { 0 < length buffer.old }
         ensures within { IfSome result (λ given. IfOk given (λ count. count ≤ length buffer.new)) }
-        ensures did { calls.DidCalls self.old self.new (ready_read_calls result buffer.new) };
+        ensures did { calls.DidCalls self.old self.new (ready_read_call result buffer.new ∷ []) };
 
     /// Writes the first of these bytes, and reports how many: zero if none can be written now. After a fault some of
     /// them may be written.

@@ -1,13 +1,18 @@
-ghost use Rattle.std.specs.Prelude.{◌≡◌, ◌≢◌, ◌<◌, ◌≤◌, ℕ, true, length, IfOk, IfErr, OnOk};
+ghost use Rattle.std.specs.Prelude.{◌≡◌, ◌≢◌, ◌⊎◌, ◌<◌, ◌≤◌, ℕ, true, false, length, IfOk, IfErr, OnOk};
 ghost use Rattle.audit_base.specs.declared.limits.TheConstants.{SESSIONS};
 ghost use Rattle.audit_serve_ready.specs.declared.turns.Pass.{Pass};
 ghost use Rattle.audit_serve_ready.specs.Backlog.{OwesNothing, AreWithinBacklog};
-ghost use Rattle.audit_serve_ready.specs.Places.{WritesOn};
+ghost use Rattle.audit_serve_ready.specs.declared.next.Next.TheVariants as next;
+ghost use Rattle.audit_serve_ready.specs.Slot.{has_kept};
+ghost use Rattle.audit_serve_ready.specs.Places.{slot_at, WritesOn, OffersKept};
 ghost use Rattle.audit_serve_ready.specs.Clients.{next_first, ServesClients, StopsServing};
+ghost use Rattle.audit_serve_ready.specs.Rounds.{IsWritten, ServesPass, ServesPlacesOnce, IsRound};
+ghost use Rattle.audit_serve_ready.specs.Rounds.{ServesUntilStopped};
 
 use crate::clients::{let_go, let_in};
-use crate::door::{Door, Next};
+use crate::door::Door;
 use crate::gathering::Marks;
+use crate::next::Next;
 use crate::ready_stream::ReadyStream;
 use crate::slot::Slot;
 use crate::turns::{Pass, serve_present};
@@ -37,6 +42,10 @@ pub fn serve_clients<C: SessionCore, D: Door>(
     backlog: usize,
 ) -> Result<(), C::Error>
     requires { length slots.old ≤ SESSIONS }
+    // It went on in rounds until the door said to stop, or let no replies leave. In a round the clients that are there
+    // are served in a pass, whoever is done goes, and each place that is free is offered to whoever comes next.
+    ensures rounds { OnOk result (ServesUntilStopped C.model D.Stream.calls D.calls backlog door.old door.new
+        core.old core.new slots.old slots.new) }
     // Passes, comings and goings led from the old core and places to the new.
     // After each pass nothing waits to be answered, and the session with the first turn takes a request, if it waits.
     ensures served { OnOk result ((next : ℕ)
@@ -52,21 +61,51 @@ pub fn serve_clients<C: SessionCore, D: Door>(
 {
     let mut busy = [false; SESSIONS];
     let mut first = 0;
-    for _ in 0..u64::MAX {
-        let pass = serve_pass(core, slots, door, backlog, first, &mut busy)?;
+    for round in 0..u64::MAX {
+        let goes_on = serve_round(core, slots, door, backlog, first, &mut busy)?;
         first = next_first(first);
-        if !goes_on(door, pass) {
-            break;
+        if !goes_on {
+            return Ok(());
         }
     }
     Ok(())
 }
 
-/// Whether serving goes on after a pass. The door is asked unless it withheld the replies.
-fn goes_on<D: Door>(door: &mut D, pass: Pass) -> bool
-    ensures { result ≡ true → pass ≢ Pass.Withheld }
+/// Serves a round: a pass, goings and comings, and a pause. Returns whether serving goes on. The door is asked unless
+/// it withheld the replies.
+fn serve_round<C: SessionCore, D: Door>(
+    core: &mut C,
+    slots: &mut [Slot<D::Stream>],
+    door: &mut D,
+    backlog: usize,
+    first: usize,
+    busy: &mut Marks,
+) -> Result<bool, C::Error>
+    requires { length slots.old ≤ SESSIONS }
+    ensures served { OnOk result (ServesClients C.model D.Stream.calls backlog first (next_first first)
+        core.old core.new slots.old slots.new) }
+    ensures on { IfOk result (λ goes. goes ≡ true → IsRound C.model D.Stream.calls D.calls backlog next.Again first
+        door.old door.new core.old core.new slots.old slots.new) }
+    ensures over { IfOk result (λ goes. goes ≡ false → IsRound C.model D.Stream.calls D.calls backlog next.Stop first
+        door.old door.new core.old core.new slots.old slots.new
+        ⊎ ServesPass C.model D.Stream.calls D.calls backlog false first
+        door.old door.new core.old core.new slots.old slots.new) }
+    ensures stopped { IfErr result (λ error. StopsServing C.model D.Stream.calls backlog
+        (λ old new. C.refuses old new error) first core.old core.new slots.old slots.new) }
+    ensures within { OwesNothing C.model (length slots.old) core.old
+        → AreWithinBacklog C.model backlog core.old slots.old
+        → OnOk result (AreWithinBacklog C.model backlog core.new slots.new) }
+    ensures owes { IfOk result (λ goes. goes ≡ true → OwesNothing C.model (length slots.old) core.new) }
 {
-    pass != Pass::Withheld && door.pause(pass == Pass::Moved) == Next::Again
+    let pass = serve_pass(core, slots, door, backlog, first, busy)?;
+    if pass == Pass::Withheld {
+        return Ok(false);
+    }
+    let moved = pass == Pass::Moved;
+    match door.pause(moved) {
+        Next::Again => Ok(true),
+        Next::Stop => Ok(false),
+    }
 }
 
 /// The session that has the first turn in the next pass.
@@ -94,6 +133,10 @@ fn serve_pass<C: SessionCore, D: Door>(
         → AreWithinBacklog C.model backlog core.old slots.old
         → OnOk result (AreWithinBacklog C.model backlog core.new slots.new) }
     ensures owes { IfOk result (λ pass. pass ≢ Pass.Withheld → OwesNothing C.model (length slots.old) core.new) }
+    ensures once { IfOk result (λ pass. pass ≢ Pass.Withheld → ServesPlacesOnce C.model D.Stream.calls D.calls backlog
+        first door.old door.new core.old core.new slots.old slots.new) }
+    ensures withheld { IfOk result (λ pass. pass ≡ Pass.Withheld → ServesPass C.model D.Stream.calls D.calls backlog
+        false first door.old door.new core.old core.new slots.old slots.new) }
 {
     let pass = serve_present(core, slots, door, backlog, first, busy)?;
     if pass == Pass::Withheld {
@@ -107,21 +150,27 @@ fn serve_pass<C: SessionCore, D: Door>(
 /// Writes what is kept for the clients, as long as there is some and the door says to go on; nothing if the door lets
 /// no replies leave. Nothing is read, and no client goes.
 pub fn finish_writing<D: Door>(slots: &mut [Slot<D::Stream>], door: &mut D)
-    ensures { WritesOn D.Stream.calls slots.old slots.new }
+    ensures writes { WritesOn D.Stream.calls slots.old slots.new }
+    // It ends when nothing is kept, or when the door says to stop; or the door let no replies leave.
+    ensures written { IsWritten D.Stream.calls D.calls door.old door.new slots.old slots.new }
 {
     if !door.lets_reply() {
         return;
     }
-    for _ in 0..u64::MAX {
+    for times in 0..u64::MAX {
         let moved = push_all(slots);
-        if all_written(slots) || door.pause(moved) == Next::Stop {
-            break;
+        if all_written(slots) {
+            return;
+        }
+        match door.pause(moved) {
+            Next::Again => {}
+            Next::Stop => return,
         }
     }
 }
 
 fn push_all<S: ReadyStream + Drop>(slots: &mut [Slot<S>]) -> bool
-    ensures { WritesOn S.calls slots.old slots.new }
+    ensures { OffersKept S.calls slots.old slots.new }
 {
     let mut moved = false;
     for place in 0..slots.len() {
@@ -130,6 +179,13 @@ fn push_all<S: ReadyStream + Drop>(slots: &mut [Slot<S>]) -> bool
     moved
 }
 
-fn all_written<S: ReadyStream + Drop>(slots: &[Slot<S>]) -> bool {
-    slots.iter().all(|slot| slot.is_written())
+fn all_written<S: ReadyStream + Drop>(slots: &[Slot<S>]) -> bool
+    ensures { result ≡ true → (k : ℕ) → k < length slots.now → has_kept (slot_at k slots.now) ≡ false }
+{
+    for slot in slots {
+        if slot.has_kept() {
+            return false;
+        }
+    }
+    true
 }

@@ -1,5 +1,5 @@
 ghost use Rattle.std.specs.Prelude.{◌≡◌, ◌≤◌, [], ◌∷◌, false, replicate, IfOk, length};
-ghost use Rattle.audit_serve_ready.specs.Ready.{ready_read_calls, ready_write_call, IsReadInto};
+ghost use Rattle.audit_serve_ready.specs.Ready.{ready_read_call, ready_write_call, IsReadInto};
 ghost use Rattle.audit_serve_ready.specs.Slot.{vacant, is_no_client, HasCalled};
 
 use crate::backlog::Backlog;
@@ -75,7 +75,7 @@ fn read_some<S: ReadyStream>(
 ) -> Option<Result<usize, StreamError>>
     ensures into { IsReadInto result unread.new }
     ensures did { is_no_client client.old ≡ false
-        → HasCalled S.calls client.old client.new (ready_read_calls result unread.new) }
+        → HasCalled S.calls client.old client.new (ready_read_call result unread.new ∷ []) }
 {
     match client {
         Some(client) => unread.read_from(client),
@@ -88,12 +88,13 @@ fn read_some<S: ReadyStream>(
 
 impl<S: ReadyStream + Drop> Slot<S> {
     ghost use Rattle.std.specs.Prelude.{◌≡◌, ◌≢◌, ◌+◌, ◌-◌, ◌<◌, ◌≤◌, max, nat_eq, [], length, drop, true, false, List};
-    ghost use Rattle.std.specs.Prelude.{IfOk};
+    ghost use Rattle.std.specs.Prelude.{IfOk, MatchOption};
     ghost use Rattle.audit_serve_passes.specs.declared.limits.TheConstants.{MAX_PIECE};
     ghost use Rattle.audit_serve_passes.specs.Streams.{StreamCall};
     ghost use Rattle.audit_serve_ready.specs.declared.slot.Look.{Look};
-    ghost use Rattle.audit_serve_ready.specs.Places.{has_last_read};
-    ghost use Rattle.audit_serve_ready.specs.Slot.{vacant, serving, has_client, is_shut, is_mute, kept_of, unread_of};
+    ghost use Rattle.audit_serve_ready.specs.Reading.{IsFound};
+    ghost use Rattle.audit_serve_ready.specs.Slot.{vacant, serving, closed, client_of, has_client, has_kept, is_shut};
+    ghost use Rattle.audit_serve_ready.specs.Slot.{is_mute, kept_of, unread_of};
     ghost use Rattle.audit_serve_ready.specs.Slot.{with_unread, HasLooked, IsAccounted, IsPushed};
 
     /// A place with no client. The only error is that memory is refused.
@@ -110,7 +111,9 @@ impl<S: ReadyStream + Drop> Slot<S> {
     }
 
     /// The client, if there is one.
-    pub fn client(&self) -> Option<&S> {
+    pub fn client(&self) -> Option<&S>
+        ensures { MatchOption result (client_of self.now ≡ None) (λ client. client_of self.now ≡ Some client.now) }
+    {
         self.client.as_ref()
     }
 
@@ -135,11 +138,11 @@ impl<S: ReadyStream + Drop> Slot<S> {
         self.reception != Reception::Takes || self.client.is_none()
     }
 
-    /// Whether nothing is kept for the client.
-    pub(crate) fn is_written(&self) -> bool
-        ensures { result ≡ true → kept_of self.now ≡ [] }
+    /// Whether something is kept for a client that takes replies.
+    pub(crate) fn has_kept(&self) -> bool
+        ensures { result ≡ has_kept self.now }
     {
-        self.kept.len() == 0
+        !self.is_mute() && self.kept.len() > 0
     }
 
     /// Takes a client in.
@@ -155,7 +158,8 @@ impl<S: ReadyStream + Drop> Slot<S> {
 
     /// Gives the client back, with the reason for which it leaves. The place is vacant then.
     pub(crate) fn leave(&mut self) -> Option<(S, Departure)>
-        ensures { self.new ≡ vacant }
+        ensures left { self.new ≡ vacant }
+        ensures client { MatchOption result (client_of self.old ≡ None) (λ given. client_of self.old ≡ Some given.0) }
     {
         let departure = self.departure.unwrap_or(Departure::Malformed);
         self.kept.clear();
@@ -168,10 +172,7 @@ impl<S: ReadyStream + Drop> Slot<S> {
 
     /// Drops what is kept for the client, which is to be dropped too.
     pub(crate) fn close(&mut self, departure: Departure)
-        ensures accounted { IsAccounted S.calls [] [] self.old self.new }
-        ensures unread { unread_of self.new ≡ unread_of self.old }
-        ensures shut { is_shut self.new ≡ true }
-        ensures mute { is_mute self.new ≡ true }
+        ensures { self.new ≡ closed self.old }
     {
         self.kept.clear();
         self.reception = Reception::Shut;
@@ -222,7 +223,7 @@ impl<S: ReadyStream + Drop> Slot<S> {
     pub(crate) fn look(&mut self) -> Look
         requires { is_shut self.old ≡ false }
         ensures looked { (calls : List StreamCall) × HasLooked S.calls self.old self.new calls
-            × (result ≡ Look.Over → has_last_read calls ≡ true) }
+            × IsFound result calls self.new }
         ensures waits { unread_of self.old ≢ [] → (result ≡ Look.Bytes) × (self.new ≡ self.old) }
     {
         if !self.unread.is_empty() {
@@ -264,6 +265,9 @@ impl<S: ReadyStream + Drop> Slot<S> {
     fn keep(&mut self, bytes: Vec<u8>)
         ensures accounted { IsAccounted S.calls bytes.items [] self.old self.new }
         ensures unread { unread_of self.new ≡ unread_of self.old }
+        ensures dropped { is_mute self.old ≡ false → is_mute self.new ≡ true → is_shut self.new ≡ true }
+        ensures shut { is_shut self.old ≡ false → is_shut self.new ≡ true
+            → (kept_of self.old ≢ []) × (bytes.items ≢ []) }
     {
         if self.is_mute() {
             return;
@@ -277,7 +281,7 @@ impl<S: ReadyStream + Drop> Slot<S> {
     pub(crate) fn push(&mut self) -> bool
         ensures { IsPushed S.calls [] self.old self.new }
     {
-        if self.has_nothing_to_write() {
+        if !self.has_kept() {
             return false;
         }
         match write_some(&mut self.client, self.kept.as_slice()) {
@@ -292,11 +296,5 @@ impl<S: ReadyStream + Drop> Slot<S> {
                 true
             }
         }
-    }
-
-    fn has_nothing_to_write(&self) -> bool
-        ensures { result ≡ false → is_mute self.now ≡ false }
-    {
-        self.is_mute() || self.kept.len() == 0
     }
 }

@@ -1,14 +1,18 @@
-ghost use Rattle.std.specs.Prelude.{◌≡◌, ◌≢◌, ◌⊎◌, ◌+◌, ◌<◌, ◌≤◌, ℕ, [], true, false, length, slice_index_or};
-ghost use Rattle.std.specs.Prelude.{IfOk, IfErr, OnOk, OnErr};
+ghost use Rattle.std.specs.Prelude.{◌≡◌, ◌≢◌, ◌⊎◌, ◌+◌, ◌<◌, ◌≤◌, ℕ, List, [], true, false, length, slice_index_or};
+ghost use Rattle.std.specs.Prelude.{IfOk, IfErr, OnOk, OnErr, if◌then◌else◌};
 ghost use Rattle.audit_base.specs.declared.limits.TheConstants.{SESSIONS};
-ghost use Rattle.audit_serve_passes.specs.Core.{no_bytes};
+ghost use Rattle.audit_serve_passes.specs.Streams.{StreamCall};
+ghost use Rattle.audit_serve_passes.specs.Core.{bytes_for};
 ghost use Rattle.audit_serve_passes.specs.Transition.{AreEmpty};
 ghost use Rattle.audit_serve_ready.specs.declared.turns.Pass.{Pass};
 ghost use Rattle.audit_serve_ready.specs.declared.turns.Turn.{Turn};
 ghost use Rattle.audit_serve_ready.specs.Backlog.{OwesNothing, OwesOnlyAfterTurns, AreWithinBacklog, IsTurnWithin};
 ghost use Rattle.audit_serve_ready.specs.Backlog.{MayAsk, HasTakenRequest, KeepsTurns, TakesTurn};
-ghost use Rattle.audit_serve_ready.specs.Places.{slot_at, ServesPlace, ServesPlaces, StopsAtPlace, StopsAtPlaces};
-ghost use Rattle.audit_serve_ready.specs.Slot.{is_shut, is_mute, kept_of, unread_of};
+ghost use Rattle.audit_serve_ready.specs.Places.{slot_at, StopsAtPlace, StopsAtPlaces, WritesPlaces};
+ghost use Rattle.audit_serve_ready.specs.Reading.{is_had, turn_number, HasTurn, IsFedPiece, TakesTurns};
+ghost use Rattle.audit_serve_ready.specs.Door.{DoorCall};
+ghost use Rattle.audit_serve_ready.specs.Rounds.{IsJudgedByDoor, JudgesClients, ServesPass};
+ghost use Rattle.audit_serve_ready.specs.Slot.{client_of, closed, is_shut, is_mute, kept_of, unread_of, IsPushed};
 
 use crate::departure::Departure;
 use crate::door::Door;
@@ -39,6 +43,21 @@ pub(crate) enum Turn {
     Moved,
 }
 
+impl Turn {
+    ghost use Rattle.std.specs.Prelude.{◌≡◌};
+    ghost use Rattle.audit_serve_ready.specs.Reading.{is_had};
+
+    /// Whether the session has had its turn, since something was there.
+    fn is_had(self) -> bool
+        ensures { result ≡ is_had self }
+    {
+        match self {
+            Turn::Idle => false,
+            Turn::Held | Turn::Moved => true,
+        }
+    }
+}
+
 /// Feeds a session what is unread or there of its client's bytes, as far as its share and the questions' allow. The end
 /// of the stream, or a fault, ends the session, and so does a place that is shut.
 fn read_turn<C: SessionCore, S: ReadyStream + Drop>(
@@ -52,10 +71,10 @@ fn read_turn<C: SessionCore, S: ReadyStream + Drop>(
     ensures stopped { OnErr result (StopsAtPlace S.calls (C.model.DidStepsInPart core.old core.new) session
         slot.old slot.new) }
     ensures refused { IfErr result (C.refuses core.old core.new) }
-    ensures done { OnOk result (ServesPlace S.calls (C.model.DidSteps core.old core.new) session []
+    ensures done { IfOk result (λ turn. HasTurn C.model S.calls session (is_had turn) core.old core.new
         slot.old slot.new) }
     ensures within { OnOk result (IsTurnWithin C.model backlog session core.old core.new slot.old slot.new) }
-    ensures idle { IfOk result (λ turn. turn ≡ Turn.Idle → (core.new ≡ core.old) × (unread_of slot.old ≡ [])) }
+    ensures idle { IfOk result (λ turn. is_had turn ≡ false → (core.new ≡ core.old) × (unread_of slot.old ≡ [])) }
     ensures asked { questions.old.is_whole ≡ true → MayAsk C.model backlog session core.old slot.old
         → OnOk result (HasTakenRequest C.model backlog session core.old slot.old slot.new) }
 {
@@ -86,10 +105,9 @@ fn feed_turn<C: SessionCore, S: ReadyStream + Drop>(
     ensures stopped { OnErr result (StopsAtPlace S.calls (C.model.DidStepsInPart core.old core.new) session
         slot.old slot.new) }
     ensures refused { IfErr result (C.refuses core.old core.new) }
-    ensures done { OnOk result (ServesPlace S.calls (C.model.DidSteps core.old core.new) session []
-        slot.old slot.new) }
+    ensures done { OnOk result (IsFedPiece C.model S.calls session core.old core.new slot.old slot.new) }
     ensures within { OnOk result (IsTurnWithin C.model backlog session core.old core.new slot.old slot.new) }
-    ensures taken { IfOk result (λ turn. turn ≢ Turn.Idle) }
+    ensures taken { IfOk result (λ turn. is_had turn ≡ true) }
     ensures asked { questions.old.is_whole ≡ true → MayAsk C.model backlog session core.old slot.old
         → OnOk result (HasTakenRequest C.model backlog session core.old slot.old slot.new) }
 {
@@ -125,7 +143,8 @@ pub(crate) fn is_due<C: SessionCore>(core: &C, session: usize, had_turn: &Marks)
 fn session_of_turn(first: usize, number: usize, count: usize) -> usize
     requires some { number < count }
     requires few { count ≤ SESSIONS }
-    ensures { result < count }
+    ensures there { result < count }
+    ensures number { turn_number first count result ≡ number }
 {
     let place = first % count + number;
     if place < count { place } else { place - count }
@@ -146,8 +165,8 @@ pub(crate) fn turn_of<C: SessionCore, S: ReadyStream + Drop>(
     ensures stopped { OnErr result (StopsAtPlaces S.calls (C.model.DidStepsInPart core.old core.new)
         slots.old slots.new) }
     ensures refused { IfErr result (C.refuses core.old core.new) }
-    ensures done { OnOk result (ServesPlaces S.calls (C.model.DidSteps core.old core.new) no_bytes
-        slots.old slots.new) }
+    ensures done { OnOk result (TakesTurns C.model S.calls (λ k. k ≡ session) had_turn.old had_turn.new
+        core.old core.new slots.old slots.new) }
     ensures within { OwesOnlyAfterTurns C.model (length slots.old) had_turn.old core.old
         → AreWithinBacklog C.model backlog core.old slots.old
         → OnOk result (OwesOnlyAfterTurns C.model (length slots.old) had_turn.new core.new
@@ -163,7 +182,7 @@ pub(crate) fn turn_of<C: SessionCore, S: ReadyStream + Drop>(
         return Ok(false);
     }
     let turn = read_turn(core, session, &mut slots[session], backlog, questions)?;
-    had_turn[session] = turn != Turn::Idle;
+    had_turn[session] = turn.is_had();
     Ok(turn == Turn::Moved)
 }
 
@@ -182,8 +201,8 @@ pub(crate) fn read_turns<C: SessionCore, S: ReadyStream + Drop>(
     ensures stopped { OnErr result (StopsAtPlaces S.calls (C.model.DidStepsInPart core.old core.new)
         slots.old slots.new) }
     ensures refused { IfErr result (C.refuses core.old core.new) }
-    ensures done { OnOk result (ServesPlaces S.calls (C.model.DidSteps core.old core.new) no_bytes
-        slots.old slots.new) }
+    ensures done { OnOk result (TakesTurns C.model S.calls (λ k. from ≤ turn_number first (length slots.old) k)
+        had_turn.old had_turn.new core.old core.new slots.old slots.new) }
     ensures within { OwesOnlyAfterTurns C.model (length slots.old) had_turn.old core.old
         → AreWithinBacklog C.model backlog core.old slots.old
         → OnOk result (OwesOnlyAfterTurns C.model (length slots.old) had_turn.new core.new
@@ -208,7 +227,8 @@ fn write_turn<C: SessionCore, S: ReadyStream + Drop>(
     slot: &mut Slot<S>,
 ) -> bool
     requires { session < SESSIONS }
-    ensures done { ServesPlace S.calls (C.model.DidSteps core.old core.new) session [] slot.old slot.new }
+    ensures done { (sent : List ℕ) × C.model.DidSteps core.old core.new [] (bytes_for session sent)
+        × IsPushed S.calls sent slot.old slot.new }
     ensures empty { C.model.output core.new session ≡ [] }
     ensures others { (other : ℕ) → (other ≡ session → ⊥)
         → C.model.output core.new other ≡ C.model.output core.old other }
@@ -227,7 +247,8 @@ pub(crate) fn write_turns<C: SessionCore, S: ReadyStream + Drop>(
     slots: &mut [Slot<S>],
 ) -> bool
     requires { length slots.old ≤ SESSIONS }
-    ensures done { ServesPlaces S.calls (C.model.DidSteps core.old core.new) no_bytes slots.old slots.new }
+    ensures done { (taken : ℕ → List ℕ) × (calls : ℕ → List StreamCall) × WritesPlaces S.calls
+        (C.model.DidSteps core.old core.new) (length slots.old) taken calls slots.old slots.new }
     ensures empty { AreEmpty C.model (length slots.old) core.new }
     ensures idle { C.model.Idle core.old → C.model.Idle core.new }
     ensures within { (backlog : ℕ) → C.model.Idle core.old → AreWithinBacklog C.model backlog core.old slots.old
@@ -248,10 +269,10 @@ pub(crate) fn dismiss<C: SessionCore, D: Door>(
     slots: &mut [Slot<D::Stream>],
     door: &mut D,
 )
-    ensures done { ServesPlaces D.Stream.calls (C.model.DidSteps core.now core.now) no_bytes slots.old slots.new }
     ensures within { (backlog : ℕ) → AreWithinBacklog C.model backlog core.now slots.old
         → AreWithinBacklog C.model backlog core.now slots.new }
     ensures each { (k : ℕ) → (slot_at k slots.new ≡ slot_at k slots.old) ⊎ (is_mute (slot_at k slots.new) ≡ true) }
+    ensures judges { JudgesClients D.calls (length slots.old) door.old door.new slots.old slots.new }
 {
     for place in 0..slots.len() {
         if is_dismissed(&slots[place], place, door) {
@@ -260,7 +281,10 @@ pub(crate) fn dismiss<C: SessionCore, D: Door>(
     }
 }
 
-fn is_dismissed<D: Door>(slot: &Slot<D::Stream>, place: usize, door: &mut D) -> bool {
+fn is_dismissed<D: Door>(slot: &Slot<D::Stream>, place: usize, door: &mut D) -> bool
+    ensures { (told : List (DoorCall D.Stream)) × D.calls.DidCalls door.old door.new told
+        × IsJudgedByDoor place (client_of slot.now) told slot.now (if result then closed slot.now else slot.now) }
+{
     match slot.client() {
         Some(client) => door.dismisses(place, client),
         None => false,
@@ -282,8 +306,6 @@ pub(crate) fn serve_present<C: SessionCore, D: Door>(
     ensures stopped { OnErr result (StopsAtPlaces D.Stream.calls (C.model.DidStepsInPart core.old core.new)
         slots.old slots.new) }
     ensures refused { IfErr result (C.refuses core.old core.new) }
-    ensures done { OnOk result (ServesPlaces D.Stream.calls (C.model.DidSteps core.old core.new) no_bytes
-        slots.old slots.new) }
     ensures idle { OnOk result (C.model.Idle core.new) }
     ensures empty { IfOk result (λ pass. pass ≢ Pass.Withheld → AreEmpty C.model (length slots.old) core.new) }
     ensures within { OwesNothing C.model (length slots.old) core.old
@@ -291,6 +313,10 @@ pub(crate) fn serve_present<C: SessionCore, D: Door>(
         → OnOk result (AreWithinBacklog C.model backlog core.new slots.new) }
     ensures turn { first < length slots.old
         → OnOk result (TakesTurn C.model backlog first core.old (slot_at first slots.old) (slot_at first slots.new)) }
+    ensures pass { IfOk result (λ pass. pass ≢ Pass.Withheld → ServesPass C.model D.Stream.calls D.calls backlog true
+        first door.old door.new core.old core.new slots.old slots.new) }
+    ensures withheld { IfOk result (λ pass. pass ≡ Pass.Withheld → ServesPass C.model D.Stream.calls D.calls backlog
+        false first door.old door.new core.old core.new slots.old slots.new) }
 {
     dismiss(core, slots, door);
     let was_read = gather(core, slots, door, backlog, first, busy)?;

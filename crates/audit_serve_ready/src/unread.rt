@@ -27,9 +27,9 @@ impl Model for Unread {
 }
 
 impl Unread {
-    ghost use Rattle.std.specs.Prelude.{◌≡◌, ◌≢◌, ◌≤◌, [], length, drop, true, false, IfOk};
+    ghost use Rattle.std.specs.Prelude.{◌≡◌, ◌≢◌, ◌≤◌, [], ◌∷◌, length, drop, true, false, IfOk};
     ghost use Rattle.audit_serve_passes.specs.declared.limits.TheConstants.{MAX_PIECE};
-    ghost use Rattle.audit_serve_ready.specs.Ready.{ready_read_calls, IsReadInto};
+    ghost use Rattle.audit_serve_ready.specs.Ready.{ready_read_call, IsReadInto};
 
     /// No bytes. It reserves all the capacity that it will need. The only error is that memory is refused.
     pub(crate) fn new(alloc: Global) -> Result<Unread, AllocError>
@@ -76,7 +76,7 @@ impl Unread {
         stream: &mut S,
     ) -> Option<Result<usize, StreamError>>
         ensures into { IsReadInto result self.new }
-        ensures did { S.calls.DidCalls stream.old stream.new (ready_read_calls result self.new) }
+        ensures did { S.calls.DidCalls stream.old stream.new (ready_read_call result self.new ∷ []) }
     {
         let given = stream.read_ready(&mut self.piece);
         self.start = 0;

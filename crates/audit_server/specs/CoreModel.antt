@@ -43,6 +43,7 @@ module _ {D : Type 0} {g : sectors.Ghosts D} where
     output = output_of;
     Idle = λ core. waiting_of (committer_of core) ≡ nothing_waits;
     Begins = IsBegunAnew;
+    LacksMemory = λ k old new. Unit {0};
     DidSteps = λ old new. HasServed (data_of old) (data_of new);
     DidStepsInPart = λ old new. IsDurablyServed (data_of old) (data_of new);
     nothing_done = λ core. served_none (data_of core);

@@ -82,6 +82,7 @@ recorder_model = record {
   longest = 1;
   refusal = 0;
   Begins = IsLiveAgain;
+  LacksMemory = λ k old new. Unit {0};
   DidSteps = λ old new steps taken. EndedBy old new steps;
   DidStepsInPart = λ old new steps taken. Unit {0};
   nothing_done = λ core k. or_none (has_ended core k);

@@ -1,5 +1,6 @@
 // Each test sets what a stream returns and accepts, and compares what each client receives and why it left.
 ghost use Rattle.audit_serve_passes.specs.Pairs.{unknown_calls};
+ghost use Rattle.audit_serve_ready.specs.Door.{unknown_door};
 
 use crate::recorder::Recorder;
 use audit_base::SESSIONS;
@@ -55,6 +56,8 @@ struct Clients {
 }
 
 impl Door for Clients {
+    ghost calls = { unknown_door };
+
     type Stream = Client;
 
     fn next_client(&mut self, _place: usize) -> Option<Newcomer<Client>> {

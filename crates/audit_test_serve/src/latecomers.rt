@@ -1,6 +1,7 @@
 // Clients whose bytes come while others are read. The test sets what each read returns, and compares the steps that the
 // core was asked to do, in order.
 ghost use Rattle.audit_serve_passes.specs.Pairs.{unknown_calls};
+ghost use Rattle.audit_serve_ready.specs.Door.{unknown_door};
 
 use crate::recorder::{Asked, Recorder};
 use audit_serve_passes::{Rights, StreamError};
@@ -43,6 +44,8 @@ struct Crowd {
 }
 
 impl Door for Crowd {
+    ghost calls = { unknown_door };
+
     type Stream = Client;
 
     fn next_client(&mut self, _place: usize) -> Option<Newcomer<Client>> {

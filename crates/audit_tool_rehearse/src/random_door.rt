@@ -1,4 +1,6 @@
 //! A door by which clients come to a daemon in memory and go at random.
+ghost use Rattle.audit_serve_ready.specs.Door.{unknown_door};
+
 use crate::random::Random;
 use crate::streams::stream_of;
 use crate::visitor::Visitor;
@@ -69,6 +71,8 @@ impl RandomDoor {
 }
 
 impl Door for RandomDoor {
+    ghost calls = { unknown_door };
+
     type Stream = Visitor;
 
     fn next_client(&mut self, place: usize) -> Option<Newcomer<Visitor>> {

@@ -28,7 +28,7 @@ returns-clause-kept g c =
     let made : IsNewCore c.args.reserve c.args.store c.in-Ok-with_reserve.core = record { store_is = c.in-Ok-with_reserve.ensures.store; reserve_is = c.in-Ok-with_reserve.ensures.reserve; waiting = c.in-Ok-with_reserve.ensures.waiting; outputs = c.in-Ok-with_reserve.ensures.outputs; sessions = c.in-Ok-with_reserve.ensures.sessions } in
     let vacant : c.deref_mut.result.now ≡ no_clients = search rules in
     kept_either g.E.Stream.ReadyStream.calls c.args.most c.args.reserve c.args.store c.into_store-2.result c.in-Ok-with_reserve.core c.serve_slots-served.new.core c.deref_mut.result.now c.serve_slots-served.new.slots vacant made c.into_store-2.ensures
-    c.serve_slots-served.result c.serve_slots-served.ensures.served c.serve_slots-served.ensures.stopped
+    g.E.Door.calls c.args.door.now c.serve_slots-served.new.door c.serve_slots-served.result c.serve_slots-served.ensures.served c.serve_slots-served.ensures.stopped
 
 pub returns-clause-ready : goal.returns-clause-ready
 returns-clause-ready g c =
@@ -42,7 +42,7 @@ returns-clause-served g c =
     let made : IsNewCore c.args.reserve c.args.store c.in-Ok-with_reserve.core = record { store_is = c.in-Ok-with_reserve.ensures.store; reserve_is = c.in-Ok-with_reserve.ensures.reserve; waiting = c.in-Ok-with_reserve.ensures.waiting; outputs = c.in-Ok-with_reserve.ensures.outputs; sessions = c.in-Ok-with_reserve.ensures.sessions } in
     let vacant : c.deref_mut.result.now ≡ no_clients = search rules in
     store_served g.E.Stream.ReadyStream.calls c.args.most c.args.reserve c.args.store c.into_store-2.result c.in-Ok-with_reserve.core c.serve_slots-served.new.core c.deref_mut.result.now c.serve_slots-served.new.slots vacant made c.into_store-2.ensures
-    c.serve_slots-served.result c.serve_slots-served.ensures.served
+    g.E.Door.calls c.args.door.now c.serve_slots-served.new.door c.serve_slots-served.result c.serve_slots-served.ensures.served
 
 pub returns-clause-fault : goal.returns-clause-fault
 returns-clause-fault g c =

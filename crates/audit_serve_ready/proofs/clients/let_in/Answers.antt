@@ -1,42 +1,68 @@
-use Rattle.std.proofs.Common.{sym, subst, ◌∙◌, ap}
-use Rattle.audit_serve_ready.specs.Clients.{ServesClients}
-use Rattle.audit_serve_ready.proofs.Changes.{clients_then}
+use Rattle.std.proofs.Common.{◌≡◌, ◌+◌, ◌<◌, length, refl, sym, subst, ◌∙◌, ap, rules}
+use Rattle.audit_serve_passes.proofs.Transitions.{in_any}
+use Rattle.audit_serve_ready.specs.Slot.{vacant}
+use Rattle.audit_serve_ready.specs.Places.{slot_at}
+use Rattle.audit_serve_ready.specs.Rounds.{is_free, IsLetIn, ChangesPlaces}
 use Rattle.audit_serve_ready.specs.Backlog.{AreWithinBacklog}
+use Rattle.audit_serve_ready.proofs.Comings.{Coming, free_ended, free_vacant, coming_none, coming_taken, coming_offered}
 use Rattle.audit_serve_ready.proofs.clients.let_in.Goals as goal
-use Rattle.audit_serve_ready.proofs.clients.let_in.Goals.{then-is_free+else-not-let_in_at, else-is_free}
+use Rattle.audit_serve_ready.proofs.clients.let_in.Goals.{then-is_free, else-is_free}
 
-pub returns-then-not-let_in_at-clause-came : goal.returns-then-not-let_in_at-clause-came
-returns-then-not-let_in_at-clause-came g c =
-    λ backlog first. clients_then g.C.SessionCore.model g.D.Stream.ReadyStream.calls backlog first first first c.args.core.now c.loop-place.core c.let_in_at.new.core c.args.slots.now c.loop-place.slots c.let_in_at.new.slots (c.loop-place.invariant.0 backlog first) (c.let_in_at.ensures.came backlog first)
+pub loop-place-init : goal.loop-place-init
+loop-place-init g c = (coming_none g.C.SessionCore.model g.D.Stream.ReadyStream.calls g.D.Door.calls c.args.core.now c.args.door.now c.args.slots.now, c.requires.idle, c.requires.empty, (λ k. refl), λ backlog within. within)
+
+pub let_in_at-moved-requires-clause-ended : goal.let_in_at-moved-requires-clause-ended
+let_in_at-moved-requires-clause-ended g c =
+    free_ended g.C.SessionCore.model g.D.Stream.ReadyStream.calls g.D.Door.calls c.loop-place.place c.loop-place.core _ (sym c.is_free.ensures ∙ c.if-is_free.true)
+
+pub let_in_at-moved-requires-clause-vacant : goal.let_in_at-moved-requires-clause-vacant
+let_in_at-moved-requires-clause-vacant g c =
+    let M = g.C.SessionCore.model in
+    let l = c.loop-place in
+    let within : l.place < length l.slots = search rules in
+    free_vacant M g.D.Stream.ReadyStream.calls g.D.Door.calls l.place l.core (slot_at l.place l.slots)
+    (ap (is_free M l.place l.core) (in_any l.slots l.place vacant c.index-slots-place.result within) ∙ sym c.is_free.ensures ∙ c.if-is_free.true)
 
 pub loop-place-preserved : goal.loop-place-preserved
 loop-place-preserved g c =
     let M = g.C.SessionCore.model in
     let N = g.D.Stream.ReadyStream.calls in
+    let E = g.D.Door.calls in
     let l = c.loop-place in
     let old = c.args.core.now in
     let begun = c.args.slots.now in
+    let was = c.args.door.now in
+    let within : l.place < length l.slots = search rules in
+    let same = in_any l.slots l.place vacant c.index-slots-place.result within in
     elim c.if-is_free.branch [
-      | then-is_free+else-not-let_in_at w ↦ (
-        (λ backlog first. subst (λ core. ServesClients M N backlog first first old core begun c.if-is_free.slots) (sym w.core-is)
-            (subst (λ slots. ServesClients M N backlog first first old w.let_in_at.new.core begun slots) (sym w.slots-is)
-            (clients_then M N backlog first first first old l.core w.let_in_at.new.core begun l.slots w.let_in_at.new.slots (l.invariant.0 backlog first) (w.let_in_at.ensures.came backlog first)))),
-        subst (λ core. M.Idle core) (sym w.core-is) w.let_in_at.ensures.idle,
-        (λ k below. ap (λ core. M.output core k) w.core-is ∙ w.let_in_at.ensures.outputs k ∙ l.invariant.2 k below),
-        (λ k. ap (λ core. M.output core k) w.core-is ∙ w.let_in_at.ensures.outputs k ∙ l.invariant.3 k),
-        (λ backlog inside. subst (λ core. AreWithinBacklog M backlog core c.if-is_free.slots) (sym w.core-is) (subst (λ slots. AreWithinBacklog M backlog w.let_in_at.new.core slots) (sym w.slots-is) (w.let_in_at.ensures.within backlog (l.invariant.4 backlog inside)))),
-      )
-      | else-is_free w ↦ (
-        (λ backlog first. subst (λ core. ServesClients M N backlog first first old core begun c.if-is_free.slots) (sym w.core-is) (subst (λ slots. ServesClients M N backlog first first old l.core begun slots) (sym w.slots-is) (l.invariant.0 backlog first))),
-        subst (λ core. M.Idle core) (sym w.core-is) l.invariant.1,
-        (λ k below. ap (λ core. M.output core k) w.core-is ∙ l.invariant.2 k below),
-        (λ k. ap (λ core. M.output core k) w.core-is ∙ l.invariant.3 k),
-        (λ backlog inside. subst (λ core. AreWithinBacklog M backlog core c.if-is_free.slots) (sym w.core-is) (subst (λ slots. AreWithinBacklog M backlog l.core slots) (sym w.slots-is) (l.invariant.4 backlog inside))),
-      )
+      | then-is_free w ↦
+          let free = ap (is_free M l.place l.core) same ∙ sym c.is_free.ensures ∙ w.if-is_free.true in
+          let came = w.let_in_at-moved.ensures.came in (
+            subst (λ door. Coming M N E (l.place + 1) was door old c.if-is_free.core begun c.if-is_free.slots) (sym w.door-is)
+                (subst (λ core. Coming M N E (l.place + 1) was w.let_in_at-moved.new.door old core begun c.if-is_free.slots) (sym w.core-is)
+                (subst (λ slots. Coming M N E (l.place + 1) was w.let_in_at-moved.new.door old w.let_in_at-moved.new.core begun slots) (sym w.slots-is)
+                (coming_offered M N E l.place was l.door w.let_in_at-moved.new.door old l.core w.let_in_at-moved.new.core begun l.slots w.let_in_at-moved.new.slots came.0 came.1 l.invariant.0 free came.2 came.3 came.4 w.let_in_at-moved.ensures.alone))),
+            subst (λ core. M.Idle core) (sym w.core-is) w.let_in_at-moved.ensures.idle,
+            (λ k below. ap (λ core. M.output core k) w.core-is ∙ w.let_in_at-moved.ensures.outputs k ∙ l.invariant.2 k below),
+            (λ k. ap (λ core. M.output core k) w.core-is ∙ w.let_in_at-moved.ensures.outputs k ∙ l.invariant.3 k),
+            (λ backlog inside. subst (λ core. AreWithinBacklog M backlog core c.if-is_free.slots) (sym w.core-is) (subst (λ slots. AreWithinBacklog M backlog w.let_in_at-moved.new.core slots) (sym w.slots-is) (w.let_in_at-moved.ensures.within backlog (l.invariant.4 backlog inside)))),
+          )
+      | else-is_free w ↦
+          let taken = ap (is_free M l.place l.core) same ∙ sym c.is_free.ensures ∙ w.if-is_free.false in (
+            subst (λ door. Coming M N E (l.place + 1) was door old c.if-is_free.core begun c.if-is_free.slots) (sym w.door-is)
+                (subst (λ core. Coming M N E (l.place + 1) was l.door old core begun c.if-is_free.slots) (sym w.core-is)
+                (subst (λ slots. Coming M N E (l.place + 1) was l.door old l.core begun slots) (sym w.slots-is)
+                (coming_taken M N E l.place was l.door old l.core begun l.slots l.invariant.0 taken))),
+            subst (λ core. M.Idle core) (sym w.core-is) l.invariant.1,
+            (λ k below. ap (λ core. M.output core k) w.core-is ∙ l.invariant.2 k below),
+            (λ k. ap (λ core. M.output core k) w.core-is ∙ l.invariant.3 k),
+            (λ backlog inside. subst (λ core. AreWithinBacklog M backlog core c.if-is_free.slots) (sym w.core-is) (subst (λ slots. AreWithinBacklog M backlog l.core slots) (sym w.slots-is) (l.invariant.4 backlog inside))),
+          )
     ]
 
-pub returns-then-not-let_in_at-clause-outputs : goal.returns-then-not-let_in_at-clause-outputs
-returns-then-not-let_in_at-clause-outputs g c = λ k. c.let_in_at.ensures.outputs k ∙ c.loop-place.invariant.3 k
-
-pub returns-then-not-let_in_at-clause-within : goal.returns-then-not-let_in_at-clause-within
-returns-then-not-let_in_at-clause-within g c = λ backlog inside. c.let_in_at.ensures.within backlog (c.loop-place.invariant.4 backlog inside)
+pub returns-clause-came : goal.returns-clause-came
+returns-clause-came g c = λ backlog first.
+    let l = c.loop-place in
+    let all : l.place ≡ length c.args.slots.now = search rules in
+    subst (λ count. ChangesPlaces g.C.SessionCore.model g.D.Stream.ReadyStream.calls g.D.Door.calls backlog (IsLetIn g.C.SessionCore.model) count first c.args.door.now l.door c.args.core.now l.core c.args.slots.now l.slots) all
+    (l.invariant.0.came backlog first)

@@ -1,13 +1,13 @@
 use Rattle.std.proofs.Common.{◌≡◌, ℕ, length}
 use Rattle.audit_serve_passes.specs.Transition.{AreEmpty}
-use Rattle.audit_serve_ready.specs.Clients.{ServesClients}
 use Rattle.audit_serve_ready.specs.Backlog.{AreWithinBacklog}
+use Rattle.audit_serve_ready.proofs.Comings.{Coming}
 use Rattle.audit_serve_ready.proofs.clients.let_in.Given as goal
 
 abbrev pub invariant-loop-place : goal.invariant-loop-place
 invariant-loop-place g l =
     let M = g.C.SessionCore.model in
-    ((backlog first : ℕ) → ServesClients M g.D.Stream.ReadyStream.calls backlog first first l.fn.core l.core l.fn.slots l.slots)
+    Coming M g.D.Stream.ReadyStream.calls g.D.Door.calls l.place l.fn.door l.door l.fn.core l.core l.fn.slots l.slots
     × M.Idle l.core × AreEmpty M (length l.fn.slots) l.core
     × ((other : ℕ) → M.output l.core other ≡ M.output l.fn.core other)
     × ((backlog : ℕ) → AreWithinBacklog M backlog l.fn.core l.fn.slots → AreWithinBacklog M backlog l.core l.slots)

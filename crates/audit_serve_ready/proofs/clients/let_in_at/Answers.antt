@@ -1,22 +1,57 @@
-use Rattle.std.proofs.Common.{refl, rules}
+use Rattle.std.proofs.Common.{Some, None, [], ◌∷◌, ◌++◌, set, refl, rules}
+use Rattle.audit_serve_passes.specs.Core.{no_bytes}
+use Rattle.std.proofs.lemmas.List.{get_or-set_other}
+use Rattle.audit_serve_ready.specs.declared.departure.Departure.TheVariants.{Memory}
+use Rattle.audit_serve_ready.specs.Door.{an_offer, a_parting}
+use Rattle.audit_serve_ready.specs.Slot.{vacant}
 use Rattle.audit_serve_ready.specs.Clients.{a_coming, a_refusal}
-use Rattle.audit_serve_ready.proofs.Changes.{clients_none, one_change}
+use Rattle.audit_serve_ready.specs.Rounds.{nobody, let_in, turned_away}
 use Rattle.audit_serve_ready.proofs.Bounds.{refused_within, come_within}
 use Rattle.audit_serve_ready.proofs.clients.let_in_at.Goals as goal
 
 pub returns-in_default-clause-came : goal.returns-in_default-clause-came
-returns-in_default-clause-came g c = λ backlog first. clients_none g.C.SessionCore.model g.D.Stream.ReadyStream.calls backlog first c.args.core.now c.args.slots.now
+returns-in_default-clause-came g c = (an_offer c.args.place None ∷ [], [], c.in_default.ensures, nobody, (λ backlog first. (refl, refl)))
 
 pub returns-then-is_err-clause-came : goal.returns-then-is_err-clause-came
 returns-then-is_err-clause-came g c =
-    let M = g.C.SessionCore.model in
-    let N = g.D.Stream.ReadyStream.calls in
-    λ backlog first. one_change M N backlog first c.args.core.now c.reopen.new.self c.args.slots.now c.args.slots.now (a_refusal c.args.place c.in-Some.newcomer) (record { did = search rules; places = refl })
+    let client = c.in-Some.newcomer in
+    let offered = an_offer c.args.place (Some client) ∷ [] in
+    let parted = a_parting c.args.place client.stream Memory ∷ [] in (
+      offered ++ parted,
+      a_refusal c.args.place client ∷ [],
+      g.D.Door.calls.more_called c.args.door.now c.next_client.new.self c.gone.new.self offered parted c.in-Some.ensures c.gone.ensures,
+      turned_away client,
+      (λ backlog first. (c.reopen.new.self, c.args.slots.now, record { refused = search rules; did = search rules; places = refl }, (refl, refl))),
+    )
 
 pub returns-clause-came : goal.returns-clause-came
 returns-clause-came g c =
-    λ backlog first. one_change g.C.SessionCore.model g.D.Stream.ReadyStream.calls backlog first c.args.core.now c.reopen.new.self c.args.slots.now _ (a_coming c.args.place c.in-Some.newcomer)
-    (record { ended = c.requires.ended; idle = c.requires.idle; taken = c.requires.taken; within = c.requires.within; vacant = c.requires.vacant; begun = search rules; place = search rules })
+    let client = c.in-Some.newcomer in
+    let after = set c.args.slots.now c.args.place c.admit.new.self in (
+      an_offer c.args.place (Some client) ∷ [],
+      a_coming c.args.place client ∷ [],
+      c.in-Some.ensures,
+      let_in client,
+      (λ backlog first. (c.reopen.new.self, after, record { ended = c.requires.ended; idle = c.requires.idle; taken = c.requires.taken; within = c.requires.within; vacant = c.requires.vacant; begun = search rules; place = search rules }, (refl, refl))),
+    )
+
+pub returns-clause-alone : goal.returns-clause-alone
+returns-clause-alone g c = λ other apart.
+    let begun : g.C.SessionCore.model.Begins c.args.place c.in-Some.newcomer.rights c.args.core.now c.reopen.new.self = search rules in (
+      g.C.SessionCore.model.begun_alone c.args.core.now c.reopen.new.self c.args.place other c.in-Some.newcomer.rights begun apart,
+      get_or-set_other c.args.slots.now c.args.place other c.admit.new.self vacant apart,
+    )
+
+pub returns-in_default-clause-alone : goal.returns-in_default-clause-alone
+returns-in_default-clause-alone g c = λ other apart. (refl, refl)
+
+pub returns-then-is_err-clause-alone : goal.returns-then-is_err-clause-alone
+returns-then-is_err-clause-alone g c = λ other apart.
+    let M = g.C.SessionCore.model in
+    let did : M.DidSteps c.args.core.now c.reopen.new.self [] no_bytes = search rules in (
+      M.ended_by_steps c.args.core.now c.reopen.new.self [] [] no_bytes other did,
+      refl,
+    )
 
 pub returns-in_default-clause-within : goal.returns-in_default-clause-within
 returns-in_default-clause-within g c = λ backlog within. within

@@ -1,17 +1,30 @@
-use Rattle.std.proofs.Common.{length, refl, sym, subst, rules, arith}
+use Rattle.std.proofs.Common.{◌≤◌, inr, ℕ, List, false, length, replicate, refl, sym, subst, rules, arith}
+use Rattle.audit_serve_passes.specs.Steps.{StepData}
+use Rattle.audit_serve_passes.specs.Streams.{StreamCall}
 use Rattle.audit_serve_passes.specs.Core.{no_bytes}
+use Rattle.audit_serve_ready.specs.Reading.{ReadsPlaces}
+use Rattle.audit_serve_ready.specs.Rounds.{AsksDoor}
 use Rattle.audit_serve_passes.proofs.Turns.{if_err}
-use Rattle.audit_serve_ready.specs.Places.{slot_at, ServesPlaces}
+use Rattle.audit_serve_ready.specs.Places.{slot_at}
 use Rattle.audit_serve_ready.specs.Backlog.{AreWithinBacklog, HasTakenRequest}
-use Rattle.audit_serve_ready.proofs.Passes.{serves_more, stops_more}
+use Rattle.audit_serve_ready.proofs.Passes.{stops_more}
+use Rattle.audit_serve_ready.proofs.TurnByTurn.{turns_then, turns_mean, turns_serve, read_all}
+use Rattle.audit_serve_ready.proofs.TurnNumbers.{one_first, none_first, read_or_next}
+use Rattle.audit_serve_ready.proofs.PlaceByPlace.{asks_none, asks_then}
 use Rattle.audit_serve_ready.proofs.Changes.{if_err_is}
 use Rattle.audit_serve_ready.proofs.Bounds.{as_many, owes_as_many, unmarked, taken_still}
 use Rattle.audit_serve_ready.proofs.gathering.gather.Goals as goal
-use Rattle.audit_serve_ready.proofs.gathering.gather.Goals.{else-loop-test, then-loop-test+in_ok-more+then-is_gathered}
+use Rattle.audit_serve_ready.proofs.gathering.gather.Goals.{then-first-slots, else-first-slots, else-loop-reading-test, then-loop-reading-test+in_ok-more+then-is_gathered}
 
-pub loop-init : goal.loop-init
-loop-init g c = (
-  c.in_ok-found.ensures.done,
+pub loop-reading-init : goal.loop-reading-init
+loop-reading-init g c = (
+  elim c.if-first-slots.branch [
+    | then-first-slots w ↦ turns_mean g.C.SessionCore.model g.D.Stream.ReadyStream.calls (replicate 16 false) c.first_turn.new.had_turn c.args.core.now c.first_turn.new.core c.args.slots.now c.first_turn.new.slots
+        (λ k within meant. one_first c.args.first (length c.args.slots.now) c.if-first-slots.from k (omega (arith, w.if-first-slots.true, c.first_turn.auto.slots)) within w.from-is meant) c.in_ok-found.ensures.done
+    | else-first-slots w ↦ turns_mean g.C.SessionCore.model g.D.Stream.ReadyStream.calls (replicate 16 false) c.first_turn.new.had_turn c.args.core.now c.first_turn.new.core c.args.slots.now c.first_turn.new.slots
+        (λ k within meant. none_first c.args.first (length c.args.slots.now) c.if-first-slots.from k w.from-is meant) c.in_ok-found.ensures.done
+  ],
+  asks_none g.D.Door.calls c.args.door.now,
   (λ nothing inside. c.in_ok-found.ensures.within (λ k below due. nothing k below) inside),
   (λ below may. c.in_ok-found.ensures.asked refl (unmarked 16 c.args.first (omega (arith, below, c.requires))) below may),
 )
@@ -19,27 +32,30 @@ loop-init g c = (
 pub returns-in_err-more-clause-stopped : goal.returns-in_err-more-clause-stopped
 returns-in_err-more-clause-stopped g c =
     if_err c.from_residual-in_err-more.result
-    (stops_more g.C.SessionCore.model g.D.Stream.ReadyStream.calls c.args.core.now c.loop.core c.read_turns.new.core c.args.slots.now c.loop.slots c.read_turns.new.slots c.loop.invariant.0 c.in_err-more.ensures.stopped)
+    (stops_more g.C.SessionCore.model g.D.Stream.ReadyStream.calls c.args.core.now c.loop-reading.core c.read_turns.new.core c.args.slots.now c.loop-reading.slots c.read_turns.new.slots
+    (turns_serve g.C.SessionCore.model g.D.Stream.ReadyStream.calls (replicate 16 false) c.loop-reading.had_turn c.args.core.now c.loop-reading.core c.args.slots.now c.loop-reading.slots c.loop-reading.invariant.0) c.in_err-more.ensures.stopped)
 
 pub returns-in_err-more-clause-refused : goal.returns-in_err-more-clause-refused
 returns-in_err-more-clause-refused g c =
-    let before = c.loop.invariant.0 in
+    let before = c.loop-reading.invariant.0 in
     if_err_is c.from_residual-in_err-more.result λ error is.
     subst (g.C.SessionCore.refuses c.args.core.now c.read_turns.new.core) (search (rules, is))
-    (g.met.C.SessionCore.refuses_after c.args.core.now c.loop.core c.read_turns.new.core before.steps before.taken _ before.pass.did c.in_err-more.ensures.refused)
+    (g.met.C.SessionCore.refuses_after c.args.core.now c.loop-reading.core c.read_turns.new.core before.steps no_bytes _ before.pass.did c.in_err-more.ensures.refused)
 
-pub loop-preserved : goal.loop-preserved
-loop-preserved g c =
+pub loop-reading-preserved : goal.loop-reading-preserved
+loop-reading-preserved g c =
     let M = g.C.SessionCore.model in
-    let l = c.loop in
+    let l = c.loop-reading in
     let here = length l.slots in
     let all = length c.args.slots.now in (
-      serves_more M g.D.Stream.ReadyStream.calls c.args.core.now l.core c.read_turns.new.core c.args.slots.now l.slots c.read_turns.new.slots l.invariant.0 c.in_ok-more.ensures.done,
+      turns_then M g.D.Stream.ReadyStream.calls (replicate 16 false) l.had_turn c.read_turns.new.had_turn c.args.core.now l.core c.read_turns.new.core c.args.slots.now l.slots c.read_turns.new.slots l.invariant.0 c.in_ok-more.ensures.done
+          (λ k within meant. read_or_next c.args.first all here l.from l.reading k l.invariant.0.pass.count),
+      asks_then g.D.Door.calls c.args.door.now l.door c.is_gathered.new.door l.invariant.1 c.is_gathered.ensures,
       (λ nothing inside.
-          let were = l.invariant.1 nothing inside in
+          let were = l.invariant.2 nothing inside in
           as_many M c.args.backlog here all c.read_turns.new.had_turn c.read_turns.new.core c.read_turns.new.slots l.invariant.0.pass.count
           (c.in_ok-more.ensures.within (owes_as_many M here all l.had_turn l.core l.invariant.0.pass.count were.0) were.1)),
-      (λ below may. taken_still M c.args.backlog c.args.first c.args.core.now (slot_at c.args.first c.args.slots.now) l.had_turn c.read_turns.new.had_turn l.slots c.read_turns.new.slots c.in_ok-more.ensures.kept (l.invariant.2 below may)),
+      (λ below may. taken_still M c.args.backlog c.args.first c.args.core.now (slot_at c.args.first c.args.slots.now) l.had_turn c.read_turns.new.had_turn l.slots c.read_turns.new.slots c.in_ok-more.ensures.kept (l.invariant.3 below may)),
     )
 
 pub returns-clause-done : goal.returns-clause-done
@@ -48,27 +64,45 @@ returns-clause-done g c =
     let N = g.D.Stream.ReadyStream.calls in
     let core = c.args.core.now in
     let begun = c.args.slots.now in
-    elim c.loop-test.branch [
-      | else-loop-test w ↦
-          subst (λ new. ServesPlaces N (M.DidSteps core new) no_bytes begun c.loop-test.slots) (sym w.core-is)
-          (subst (λ slots. ServesPlaces N (M.DidSteps core c.loop.core) no_bytes begun slots) (sym w.slots-is) c.loop.invariant.0)
-      | then-loop-test+in_ok-more+then-is_gathered w ↦
-          subst (λ new. ServesPlaces N (M.DidSteps core new) no_bytes begun c.loop-test.slots) (sym w.core-is)
-          (subst (λ slots. ServesPlaces N (M.DidSteps core w.read_turns.new.core) no_bytes begun slots) (sym w.slots-is)
-          (serves_more M N core c.loop.core w.read_turns.new.core begun c.loop.slots w.read_turns.new.slots c.loop.invariant.0 w.in_ok-more.ensures.done))
+    let l = c.loop-reading in
+    let few : length begun ≤ 16 = c.requires in
+    elim c.loop-reading-test.branch [
+      | else-loop-reading-test w ↦
+          let some : 1 ≤ l.reading = omega (arith, w.loop-reading-test.false) in
+          subst (λ new. (steps : List StepData) × (calls : ℕ → List StreamCall) × ReadsPlaces M N steps calls core new begun c.loop-reading-test.slots) (sym w.core-is)
+          (subst (λ slots. (steps : List StepData) × (calls : ℕ → List StreamCall) × ReadsPlaces M N steps calls core l.core begun slots) (sym w.slots-is)
+          (read_all M N l.had_turn core l.core begun l.slots few (λ k within. inr some) l.invariant.0))
+      | then-loop-reading-test+in_ok-more+then-is_gathered w ↦
+          let done = turns_then M N (replicate 16 false) l.had_turn w.read_turns.new.had_turn core l.core w.read_turns.new.core begun l.slots w.read_turns.new.slots l.invariant.0 w.in_ok-more.ensures.done
+          (λ k within meant. read_or_next c.args.first (length begun) (length l.slots) l.from l.reading k l.invariant.0.pass.count) in
+          subst (λ new. (steps : List StepData) × (calls : ℕ → List StreamCall) × ReadsPlaces M N steps calls core new begun c.loop-reading-test.slots) (sym w.core-is)
+          (subst (λ slots. (steps : List StepData) × (calls : ℕ → List StreamCall) × ReadsPlaces M N steps calls core w.read_turns.new.core begun slots) (sym w.slots-is)
+          (read_all M N {Meant = λ k. Unit {0}} w.read_turns.new.had_turn core w.read_turns.new.core begun w.read_turns.new.slots few (λ k within. tt) done))
     ]
+
+pub returns-clause-askings : goal.returns-clause-askings
+returns-clause-askings g c =
+    let E = g.D.Door.calls in
+    elim c.loop-reading-test.branch [
+      | else-loop-reading-test w ↦ subst (AsksDoor E c.args.door.now) (sym w.door-is) c.loop-reading.invariant.1
+      | then-loop-reading-test+in_ok-more+then-is_gathered w ↦ subst (AsksDoor E c.args.door.now) (sym w.door-is)
+          (asks_then E c.args.door.now c.loop-reading.door w.is_gathered.new.door c.loop-reading.invariant.1 w.is_gathered.ensures)
+    ]
+
+pub returns-in_err-more-clause-askings : goal.returns-in_err-more-clause-askings
+returns-in_err-more-clause-askings g c = c.loop-reading.invariant.1
 
 pub returns-clause-within : goal.returns-clause-within
 returns-clause-within g c =
     let M = g.C.SessionCore.model in
     let backlog = c.args.backlog in λ nothing inside.
-    let were = c.loop.invariant.1 nothing inside in
-    elim c.loop-test.branch [
-      | else-loop-test w ↦ subst (λ core. AreWithinBacklog M backlog core c.loop-test.slots) (sym w.core-is) (subst (λ slots. AreWithinBacklog M backlog c.loop.core slots) (sym w.slots-is) were.1)
-      | then-loop-test+in_ok-more+then-is_gathered w ↦
-          subst (λ core. AreWithinBacklog M backlog core c.loop-test.slots) (sym w.core-is)
+    let were = c.loop-reading.invariant.2 nothing inside in
+    elim c.loop-reading-test.branch [
+      | else-loop-reading-test w ↦ subst (λ core. AreWithinBacklog M backlog core c.loop-reading-test.slots) (sym w.core-is) (subst (λ slots. AreWithinBacklog M backlog c.loop-reading.core slots) (sym w.slots-is) were.1)
+      | then-loop-reading-test+in_ok-more+then-is_gathered w ↦
+          subst (λ core. AreWithinBacklog M backlog core c.loop-reading-test.slots) (sym w.core-is)
           (subst (λ slots. AreWithinBacklog M backlog w.read_turns.new.core slots) (sym w.slots-is)
-          (w.in_ok-more.ensures.within (owes_as_many M (length c.loop.slots) (length c.args.slots.now) c.loop.had_turn c.loop.core c.loop.invariant.0.pass.count were.0) were.1).1)
+          (w.in_ok-more.ensures.within (owes_as_many M (length c.loop-reading.slots) (length c.args.slots.now) c.loop-reading.had_turn c.loop-reading.core c.loop-reading.invariant.0.pass.count were.0) were.1).1)
     ]
 
 pub returns-clause-asked : goal.returns-clause-asked
@@ -78,10 +112,10 @@ returns-clause-asked g c =
     let first = c.args.first in
     let core = c.args.core.now in
     let before = slot_at first c.args.slots.now in λ below may.
-    let took = c.loop.invariant.2 below may in
-    elim c.loop-test.branch [
-      | else-loop-test w ↦ subst (λ slots. HasTakenRequest M backlog first core before (slot_at first slots)) (sym w.slots-is) took.0
-      | then-loop-test+in_ok-more+then-is_gathered w ↦
+    let took = c.loop-reading.invariant.3 below may in
+    elim c.loop-reading-test.branch [
+      | else-loop-reading-test w ↦ subst (λ slots. HasTakenRequest M backlog first core before (slot_at first slots)) (sym w.slots-is) took.0
+      | then-loop-reading-test+in_ok-more+then-is_gathered w ↦
           subst (λ slots. HasTakenRequest M backlog first core before (slot_at first slots)) (sym w.slots-is)
-          (taken_still M backlog first core before c.loop.had_turn w.read_turns.new.had_turn c.loop.slots w.read_turns.new.slots w.in_ok-more.ensures.kept took).0
+          (taken_still M backlog first core before c.loop-reading.had_turn w.read_turns.new.had_turn c.loop-reading.slots w.read_turns.new.slots w.in_ok-more.ensures.kept took).0
     ]

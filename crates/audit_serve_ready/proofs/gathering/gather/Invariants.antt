@@ -1,14 +1,16 @@
-use Rattle.std.proofs.Common.{◌≡◌, ◌<◌, true, length, get_or}
-use Rattle.audit_serve_passes.specs.Core.{no_bytes}
-use Rattle.audit_serve_ready.specs.Places.{slot_at, ServesPlaces}
+use Rattle.std.proofs.Common.{◌≡◌, ◌⊎◌, ◌<◌, ◌≤◌, true, false, length, get_or, replicate}
+use Rattle.audit_serve_ready.specs.Places.{slot_at}
+use Rattle.audit_serve_ready.specs.Reading.{turn_number, TakesTurns}
+use Rattle.audit_serve_ready.specs.Rounds.{AsksDoor}
 use Rattle.audit_serve_ready.specs.Backlog.{OwesNothing, OwesOnlyAfterTurns, AreWithinBacklog, MayAsk, HasTakenRequest}
 use Rattle.audit_serve_ready.proofs.gathering.gather.Given as goal
 
-abbrev pub invariant-loop : goal.invariant-loop
-invariant-loop g l =
+abbrev pub invariant-loop-reading : goal.invariant-loop-reading
+invariant-loop-reading g l =
     let M = g.C.SessionCore.model in
     let first = l.fn.first in
-    ServesPlaces g.D.Stream.ReadyStream.calls (M.DidSteps l.fn.core l.core) no_bytes l.fn.slots l.slots
+    TakesTurns M g.D.Stream.ReadyStream.calls (λ k. (turn_number first (length l.fn.slots) k < l.from) ⊎ (1 ≤ l.reading)) (replicate 16 false) l.had_turn l.fn.core l.core l.fn.slots l.slots
+    × AsksDoor g.D.Door.calls l.fn.door l.door
     × (OwesNothing M (length l.fn.slots) l.fn.core → AreWithinBacklog M l.fn.backlog l.fn.core l.fn.slots
     → OwesOnlyAfterTurns M (length l.fn.slots) l.had_turn l.core × AreWithinBacklog M l.fn.backlog l.core l.slots)
     × (first < length l.fn.slots → MayAsk M l.fn.backlog first l.fn.core (slot_at first l.fn.slots)

@@ -1,12 +1,20 @@
-use Rattle.std.proofs.Common.{length, ap, ◌∙◌, rules, arith}
+use denote.Enum.Bare.{same_true}
+use Rattle.std.proofs.Common.{◌≢◌, true, false, length, sym, ap, ◌∙◌, rules, arith}
 use Rattle.audit_serve_ready.specs.Clients.{next_first}
-use Rattle.audit_serve_ready.proofs.Changes.{clients_then, one_pass}
+use Rattle.audit_serve_ready.specs.Rounds.{IsLetGo, IsLetIn}
+use Rattle.audit_serve_ready.specs.contracts.turns.Pass.{the_type}
+use Rattle.audit_serve_ready.proofs.Changes.{clients_then}
+use Rattle.audit_serve_ready.proofs.Stages.{pass_serves}
+use Rattle.audit_serve_ready.proofs.PlaceByPlace.{gone_turns, come_turns, changed_serves}
+use Rattle.audit_serve_ready.specs.declared.turns.Pass.TheVariants.{Withheld}
 use Rattle.audit_serve_ready.proofs.serving.serve_pass.Goals as goal
+use Rattle.audit_serve_ready.proofs.serving.serve_pass.Goals.{then-gone-come, else-gone-come}
 
 pub returns-clause-served : goal.returns-clause-served
 returns-clause-served g c =
     let M = g.C.SessionCore.model in
     let N = g.D.Stream.ReadyStream.calls in
+    let E = g.D.Door.calls in
     let core = c.args.core.now in
     let mid = c.serve_present.new.core in
     let begun = c.args.slots.now in
@@ -16,11 +24,30 @@ returns-clause-served g c =
     let first = c.args.first in
     let next = next_first first in
     clients_then M N backlog first next next core mid c.let_in-come.new.core begun left c.let_in-come.new.slots
-    (clients_then M N backlog first next next core mid mid begun turned left (one_pass M N backlog first core mid begun turned c.in_ok-pass.ensures.done c.in_ok-pass.ensures.idle c.in_ok-pass.ensures.turn) (c.let_go-gone.ensures.went backlog next)) (c.let_in-come.ensures.came backlog next)
+    (clients_then M N backlog first next next core mid mid begun turned left (pass_serves M N E backlog true first c.args.door.now c.serve_present.new.door core mid begun turned (c.in_ok-pass.ensures.pass (search rules)))
+    (changed_serves M N E backlog (IsLetGo M) (gone_turns M) (length turned) next c.serve_present.new.door c.let_go-gone.new.door mid mid turned left (c.let_go-gone.ensures.went backlog next)))
+    (changed_serves M N E backlog (IsLetIn M) (come_turns M) (length left) next c.let_go-gone.new.door c.let_in-come.new.door mid c.let_in-come.new.core left c.let_in-come.new.slots (c.let_in-come.ensures.came backlog next))
+
+pub returns-clause-once : goal.returns-clause-once
+returns-clause-once g c = λ apart.
+    let backlog = c.args.backlog in
+    let next = next_first c.args.first in
+    record {
+      mid = c.serve_present.new.core;
+      present = c.serve_present.new.slots;
+      left = c.let_go-gone.new.slots;
+      passed = c.serve_present.new.door;
+      parted = c.let_go-gone.new.door;
+      pass = c.in_ok-pass.ensures.pass (search rules);
+      goes = c.let_go-gone.ensures.went backlog next;
+      none_done = c.let_go-gone.ensures.none_done;
+      comes = c.let_in-come.ensures.came backlog next;
+    }
 
 pub returns-then-eq-clause-served : goal.returns-then-eq-clause-served
 returns-then-eq-clause-served g c =
-    one_pass g.C.SessionCore.model g.D.Stream.ReadyStream.calls c.args.backlog c.args.first c.args.core.now c.serve_present.new.core c.args.slots.now c.serve_present.new.slots c.in_ok-pass.ensures.done c.in_ok-pass.ensures.idle c.in_ok-pass.ensures.turn
+    pass_serves g.C.SessionCore.model g.D.Stream.ReadyStream.calls g.D.Door.calls c.args.backlog false c.args.first c.args.door.now c.serve_present.new.door c.args.core.now c.serve_present.new.core c.args.slots.now c.serve_present.new.slots
+    (c.in_ok-pass.ensures.withheld (same_true the_type (search rules) _ _ (sym c.if-eq.ensures)))
 
 pub returns-clause-within : goal.returns-clause-within
 returns-clause-within g c =
@@ -38,3 +65,11 @@ let_go-gone-requires-clause-empty g c = λ k below. c.in_ok-pass.ensures.empty (
 
 pub let_in-come-requires-clause-empty : goal.let_in-come-requires-clause-empty
 let_in-come-requires-clause-empty g c = λ k below. c.in_ok-pass.ensures.empty (search rules) k (omega (arith, below, c.serve_present.auto.slots, c.let_go-gone.auto.slots))
+
+pub returns-clause-withheld : goal.returns-clause-withheld
+returns-clause-withheld g c = λ is.
+    let apart : c.in_ok-pass.pass ≢ Withheld = search rules in
+    elim c.if-gone-come.branch [
+      | then-gone-come w ↦ absurd (cc (w.result-is, is))
+      | else-gone-come w ↦ absurd (apart (sym w.result-is ∙ is))
+    ]

@@ -3,8 +3,9 @@ use Rattle.audit_serve_passes.specs.declared.limits.TheConstants.{MAX_PIECE}
 use Rattle.audit_serve_passes.specs.Steps.{a_piece}
 use Rattle.audit_serve_passes.specs.Core.{GoesBy, no_bytes}
 use Rattle.audit_serve_ready.specs.Slot.{unread_of}
-use Rattle.audit_serve_ready.specs.Places.{ServesPlace, StopsAtPlace}
-use Rattle.audit_serve_ready.proofs.Visits.{fed_done, fed_stopped}
+use Rattle.audit_serve_ready.specs.Reading.{IsFedPiece}
+use Rattle.audit_serve_ready.specs.Places.{StopsAtPlace}
+use Rattle.audit_serve_ready.proofs.Visits.{is_fed, fed_stopped}
 use Rattle.audit_serve_passes.specs.Owing.{IsBeyondAllowance}
 use Rattle.audit_serve_ready.specs.Backlog.{IsTurnWithin, HasTakenRequest}
 use Rattle.audit_serve_ready.proofs.Asking.{took}
@@ -26,8 +27,9 @@ returns-after-taken-gt0-clause-done g c =
     let taken = c.in-Ok.taken in
     let k = c.args.session in
     let bytes : c.unread.result.now ≡ unread_of slot = c.unread.ensures.bytes c.requires.live in
-    subst (λ after. ServesPlace N (M.DidSteps old new) k [] slot after) (sym c.advance.ensures)
-    (fed_done M N k taken old new slot c.requires.live (subst (λ (all : List ℕ). M.DidSteps old new (a_piece k (take taken all) ∷ []) no_bytes) bytes c.in-Ok.ensures.did))
+    subst (λ after. IsFedPiece M N k old new slot after) (sym c.advance.ensures)
+    (is_fed M N k taken old new slot c.requires.live (subst (λ (all : List ℕ). length all ≤ MAX_PIECE) bytes c.unread.ensures.most)
+    (subst (λ (all : List ℕ). M.DidSteps old new (a_piece k (take taken all) ∷ []) no_bytes) bytes c.in-Ok.ensures.did))
 
 pub returns-in-Err-clause-stopped : goal.returns-in-Err-clause-stopped
 returns-in-Err-clause-stopped g c =

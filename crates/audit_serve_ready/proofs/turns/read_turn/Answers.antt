@@ -3,9 +3,10 @@ use Rattle.audit_serve_passes.specs.Steps.{an_end}
 use Rattle.audit_serve_passes.specs.Core.{no_bytes}
 use Rattle.audit_serve_passes.proofs.Turns.{if_err}
 use Rattle.audit_serve_ready.specs.Slot.{is_shut, unread_of}
+use Rattle.audit_serve_ready.specs.Reading.{IsFound, is_had}
 use Rattle.audit_serve_ready.specs.Backlog.{MayAsk, HasTakenRequest}
 use Rattle.audit_serve_ready.proofs.Asking.{never_shut, none_waits}
-use Rattle.audit_serve_ready.proofs.Visits.{shut_done, shut_stopped, look_done, over_done, over_stopped, look_then, look_stops, on_ok, on_err}
+use Rattle.audit_serve_ready.proofs.Visits.{shut_turn, shut_stopped, vain_turn, over_turn, over_stopped, fed_turn, look_stops, if_ok_both, on_ok, on_err}
 use Rattle.audit_serve_ready.proofs.Bounds.{turn_idle, turn_ended, turn_then, looked_length}
 use Rattle.audit_serve_ready.proofs.turns.read_turn.Goals as goal
 
@@ -17,25 +18,28 @@ returns-in_err-end-clause-stopped g c =
 pub returns-then-is_shut-clause-done : goal.returns-then-is_shut-clause-done
 returns-then-is_shut-clause-done g c =
     let shut : is_shut c.args.slot.now ≡ true = search rules in
-    shut_done g.C.SessionCore.model g.S.ReadyStream.calls c.args.session c.args.core.now c.end.new.self c.args.slot.now shut c.in_ok-end.ensures.did
+    shut_turn g.C.SessionCore.model g.S.ReadyStream.calls c.args.session c.args.core.now c.end.new.self c.args.slot.now shut c.in_ok-end.ensures.did c.in_ok-end.ensures.over
 
 pub returns-in-Nothing-clause-done : goal.returns-in-Nothing-clause-done
 returns-in-Nothing-clause-done g c =
-    look_done g.C.SessionCore.model g.S.ReadyStream.calls c.args.session c.args.core.now c.args.slot.now c.look.new.self c.look.ensures.looked.0 c.look.ensures.looked.1
+    let found = subst (λ found. IsFound found c.look.ensures.looked.0 c.look.new.self) c.in-Nothing.is c.look.ensures.looked.2 in
+    vain_turn g.C.SessionCore.model g.S.ReadyStream.calls c.args.session c.args.core.now c.args.slot.now c.look.new.self c.look.ensures.looked.0 c.look.ensures.looked.1 found.0 found.1
 
 pub returns-in_err-end-in-Over-clause-stopped : goal.returns-in_err-end-in-Over-clause-stopped
 returns-in_err-end-in-Over-clause-stopped g c =
+    let found = subst (λ found. IsFound found c.look.ensures.looked.0 c.look.new.self) c.in-Over.is c.look.ensures.looked.2 in
     if_err c.from_residual-in_err-end-in-Over.result
-    (over_stopped g.C.SessionCore.model g.S.ReadyStream.calls c.args.session c.args.core.now c.end-in-Over.new.self c.args.slot.now c.look.new.self c.look.ensures.looked.0 c.look.ensures.looked.1 (c.look.ensures.looked.2 c.in-Over.is) c.end-in-Over.ensures.reaches)
+    (over_stopped g.C.SessionCore.model g.S.ReadyStream.calls c.args.session c.args.core.now c.end-in-Over.new.self c.args.slot.now c.look.new.self c.look.ensures.looked.0 c.look.ensures.looked.1 found.0 c.end-in-Over.ensures.reaches)
 
 pub returns-in_ok-end-in-Over-clause-done : goal.returns-in_ok-end-in-Over-clause-done
 returns-in_ok-end-in-Over-clause-done g c =
-    over_done g.C.SessionCore.model g.S.ReadyStream.calls c.args.session c.args.core.now c.end-in-Over.new.self c.args.slot.now c.look.new.self c.look.ensures.looked.0 c.look.ensures.looked.1 (c.look.ensures.looked.2 c.in-Over.is) c.in_ok-end-in-Over.ensures.did
+    let found = subst (λ found. IsFound found c.look.ensures.looked.0 c.look.new.self) c.in-Over.is c.look.ensures.looked.2 in
+    over_turn g.C.SessionCore.model g.S.ReadyStream.calls c.args.session c.args.core.now c.end-in-Over.new.self c.args.slot.now c.look.new.self c.look.ensures.looked.0 c.look.ensures.looked.1 found.0 c.in_ok-end-in-Over.ensures.did c.in_ok-end-in-Over.ensures.over
 
 pub feed_turn-requires-clause-live : goal.feed_turn-requires-clause-live
 feed_turn-requires-clause-live g c =
     let live : is_shut c.args.slot.now ≡ false = search rules in
-    c.look.ensures.looked.1.shut ∙ live
+    c.look.ensures.looked.1.same.shut ∙ live
 
 pub returns-in-Bytes-clause-stopped : goal.returns-in-Bytes-clause-stopped
 returns-in-Bytes-clause-stopped g c =
@@ -45,7 +49,10 @@ returns-in-Bytes-clause-stopped g c =
 pub returns-in-Bytes-clause-done : goal.returns-in-Bytes-clause-done
 returns-in-Bytes-clause-done g c =
     let M = g.C.SessionCore.model in
-    on_ok c.feed_turn.result (look_then M g.S.ReadyStream.calls {Did = M.DidSteps c.args.core.now c.feed_turn.new.core} c.args.session [] c.args.slot.now c.look.new.self c.feed_turn.new.slot c.look.ensures.looked.0 c.look.ensures.looked.1) c.feed_turn.ensures.done
+    let N = g.S.ReadyStream.calls in
+    let going = subst (λ found. IsFound found c.look.ensures.looked.0 c.look.new.self) c.in-Bytes.is c.look.ensures.looked.2 in
+    if_ok_both c.feed_turn.result c.feed_turn.ensures.taken c.feed_turn.ensures.done
+    (λ turn had fed. fed_turn M N c.args.session (is_had turn) c.args.core.now c.feed_turn.new.core c.args.slot.now c.look.new.self c.feed_turn.new.slot c.look.ensures.looked.0 had c.look.ensures.looked.1 going fed)
 
 pub returns-then-is_shut-clause-within : goal.returns-then-is_shut-clause-within
 returns-then-is_shut-clause-within g c =

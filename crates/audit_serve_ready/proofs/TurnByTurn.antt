@@ -1,0 +1,302 @@
+-- Turns of reading, one after another.
+use Rattle.std.proofs.Common.{◌≡◌, ◌⊎◌, inl, inr, ◌∙◌, ℕ, ◌+◌, ◌<◌, ◌≤◌, Bool, true, false, ◌||◌, cond, List, [], ◌∷◌, ◌++◌, length, set, get_or, replicate, refl, sym, ap, subst, arith, true≢false}
+use Rattle.std.proofs.lemmas.Bool.{cases_Bool, cases_eq, ne_eqb}
+use Rattle.std.proofs.lemmas.List.{length-set, get_or-set_same, get_or-set_other}
+use Rattle.std.specs.List.{AllByRecursion}
+use Rattle.audit_serve_passes.specs.Steps.{StepData, a_piece, an_end, a_flush, IsAbout, AreAbout}
+use Rattle.audit_serve_passes.specs.Streams.{StreamCall, CallModel, calls_for, bytes_sent}
+use Rattle.audit_serve_passes.specs.Core.{CoreModel, no_bytes}
+use Rattle.audit_serve_passes.specs.CallLaws.{or_of_three, bytes_sent-append}
+use Rattle.audit_serve_passes.proofs.Calls.{calls_here, calls_there, or_left, or_right}
+use Rattle.audit_serve_passes.proofs.StreamSteps.{about_elsewhere}
+use Rattle.audit_serve_passes.proofs.Transitions.{none_of_both}
+use Rattle.audit_serve_ready.specs.Slot.{SlotData, vacant, unread_of, is_read, has_read, is_shut, IsSamePlace}
+use Rattle.audit_serve_ready.specs.Places.{slot_at, has_last_read, IsServedAt, IsReadyPass, ServesPlaces}
+use Rattle.audit_serve_ready.specs.Reading.{IsTurn, is_about, steps_about, mark, IsTurnTaken, IsAttended, HasTurn, IsTurnOfLive, TakesTurns, ReadsPlaces}
+use Rattle.audit_serve_ready.proofs.Accounts.{either_of, last-append, served_elsewhere}
+use Rattle.audit_serve_ready.proofs.Passes.{pass_then}
+use Rattle.audit_serve_ready.proofs.Bounds.{mark_set, unmarked, ended_still}
+
+abbrev one_if : Bool → ℕ
+one_if b = cond b 1 0
+
+abbrev one_of_one : Bool → ℕ
+one_of_one b = cond b 1 0 + 0
+
+pub read-append : (calls later : List StreamCall) → has_read (calls ++ later) ≡ (has_read calls || has_read later)
+read-append [] later = refl
+read-append (call ∷ calls) later =
+    ap (λ (more : Bool). is_read call || more) (read-append calls later) ∙ or_of_three (is_read call) (has_read calls) (has_read later)
+
+about-append : (k : ℕ) (steps later : List StepData) → steps_about k (steps ++ later) ≡ steps_about k steps + steps_about k later
+about-append k [] later = omega arith
+about-append k (step ∷ steps) later = ap (λ n. cond (is_about k step) 1 0 + n) (about-append k steps later) ∙ omega arith
+
+pub all_append : (P : StepData → Type 0) (steps later : List StepData) → AllByRecursion P steps → AllByRecursion P later → AllByRecursion P (steps ++ later)
+all_append P [] later first second = second
+all_append P (step ∷ steps) later first second = (first.0, all_append P steps later first.1 second)
+
+pub all_map : (P Q : StepData → Type 0) (steps : List StepData) → ((step : StepData) → P step → Q step) → AllByRecursion P steps → AllByRecursion Q steps
+all_map P Q [] by all = tt
+all_map P Q (step ∷ steps) by all = (by step all.0, all_map P Q steps by all.1)
+
+-- one step is about one session
+turn_about : (k : ℕ) (step : StepData) → IsTurn k step → IsAbout k step
+turn_about k (a_piece session piece) (inl visit) = visit.0
+turn_about k (an_end session) (inl visit) = visit
+turn_about k a_flush (inl visit) = visit
+turn_about k step (inr is) = subst (IsAbout k) (sym is) refl
+
+one_at_most : (k : ℕ) (step : StepData) → steps_about k (step ∷ []) ≤ 1
+one_at_most k step = elim (cases_Bool (is_about k step)) [
+  | inl is ↦ omega (arith, ap one_of_one is)
+  | inr apart ↦ omega (arith, ap one_of_one apart)
+]
+
+not_about : (k other : ℕ) (step : StepData) → (other ≡ k → ⊥) → IsAbout k step → is_about other step ≡ false
+not_about k other (a_piece session piece) apart about = ne_eqb session other (λ same. apart (sym same ∙ about))
+not_about k other (an_end session) apart about = ne_eqb session other (λ same. apart (sym same ∙ about))
+not_about k other a_flush apart about = refl
+
+none_about : (k other : ℕ) (step : StepData) → (other ≡ k → ⊥) → IsAbout k step → steps_about other (step ∷ []) ≡ 0
+none_about k other step apart about = ap one_of_one (not_about k other step apart about)
+
+module _ {S : Type 0} where
+  pub same_none : (slot : SlotData S) → IsSamePlace slot slot
+  same_none slot = record { kept = refl; mute = refl; shut = refl }
+
+  pub same_then : (a b c : SlotData S) → IsSamePlace a b → IsSamePlace b c → IsSamePlace a c
+  same_then a b c first second = record { kept = second.kept ∙ first.kept; mute = second.mute ∙ first.mute; shut = second.shut ∙ first.shut }
+
+module _ {C S : Type 0} (M : CoreModel C) (N : CallModel S) where
+  seen_first : (k : ℕ) (calls later : List StreamCall) (mid new : C) (before : SlotData S) → (M.ended mid [] k ≡ true → M.ended new [] k ≡ true) → IsAttended M N k calls mid before → IsAttended M N k (calls ++ later) new before
+  seen_first k calls later mid new before stays (inl (shut, ended)) = inl (shut, stays ended)
+  seen_first k calls later mid new before stays (inr (inl some)) = inr (inl some)
+  seen_first k calls later mid new before stays (inr (inr asked)) = inr (inr (read-append calls later ∙ or_left (has_read calls) (has_read later) asked))
+
+  seen_later : (k : ℕ) (calls later : List StreamCall) (new : C) (before between : SlotData S) → is_shut between ≡ is_shut before → unread_of between ≡ unread_of before → IsAttended M N k later new between → IsAttended M N k (calls ++ later) new before
+  seen_later k calls later new before between same unread (inl (shut, ended)) = inl (sym same ∙ shut, ended)
+  seen_later k calls later new before between same unread (inr (inl some)) = inr (inl (λ none. some (unread ∙ none)))
+  seen_later k calls later new before between same unread (inr (inr asked)) = inr (inr (read-append calls later ∙ or_right (has_read calls) (has_read later) asked))
+
+  pub turns_none : {Meant : ℕ → Type 0} (marks : List Bool) (core : C) (slots : List (SlotData S)) → ((k : ℕ) → k < length slots → get_or marks k true ≡ false → M.ended core [] k ≡ false → Meant k → ⊥) → TakesTurns M N Meant marks marks core core slots slots
+  turns_none marks core slots none = record {
+    steps = [];
+    calls = λ k. [];
+    pass = record { count = refl; did = M.nothing_done core; others = λ k above. refl; at = λ k within. served_elsewhere N k [] (slot_at k slots) tt };
+    turns = tt;
+    once = λ k. omega arith;
+    marks = λ k had. had;
+    seen = λ k within unmarked live meant. elim meant [
+      | inl is ↦ absurd (none k within unmarked live is)
+      | inr marked ↦ absurd (true≢false (sym marked ∙ unmarked))
+    ];
+    last = λ k within last. absurd (true≢false (sym last));
+    same = λ k. same_none (slot_at k slots);
+    quiet = λ k. refl;
+    alone = λ k unmarked. (refl, refl);
+  }
+
+  pub turns_then : {First Next Both : ℕ → Type 0} (had mid now : List Bool) (old between new : C) (before middle after : List (SlotData S)) → TakesTurns M N First had mid old between before middle → TakesTurns M N Next mid now between new middle after
+      → ((k : ℕ) → k < length before → Both k → First k ⊎ Next k) → TakesTurns M N Both had now old new before after
+  turns_then {First} {Next} {Both} had mid now old between new before middle after first second either = record {
+    steps = first.steps ++ second.steps;
+    calls = λ k. first.calls k ++ second.calls k;
+    pass = pass_then N {First = M.DidSteps old between} {Next = M.DidSteps between new} {Both = M.DidSteps old new} no_bytes first.steps second.steps no_bytes no_bytes first.calls second.calls before middle after first.pass second.pass
+        (λ did then_. M.more_done old between new first.steps second.steps no_bytes no_bytes did then_);
+    turns = all_append (IsTurnOfLive M N (length before) old) first.steps second.steps first.turns
+        (all_map (IsTurnOfLive M N (length middle) between) (IsTurnOfLive M N (length before) old) second.steps
+        (λ step is. (is.0, omega (arith, is.1, first.pass.count), was_live is.0 is.2, is.3)) second.turns);
+    once = λ k. omega (arith, about-append k first.steps second.steps, first.once k, second.once k);
+    marks = λ k marked. second.marks k (first.marks k marked);
+    seen = λ k within unmarked live meant. elim (cases_Bool (get_or mid k true)) [
+      | inl marked ↦ seen_first k (first.calls k) (second.calls k) between new (slot_at k before) (stays k) (first.seen k within unmarked live (inr marked))
+      | inr not_yet ↦ not_marked k within unmarked live not_yet meant
+    ];
+    last = λ k within last. either_of (has_last_read (first.calls k)) (has_last_read (second.calls k)) (sym (last-append (first.calls k) (second.calls k)) ∙ last) (λ is. stays k (first.last k within is))
+        (λ is. second.last k (omega (arith, within, first.pass.count)) is);
+    same = λ k. same_then (slot_at k before) (slot_at k middle) (slot_at k after) (first.same k) (second.same k);
+    quiet = λ k. bytes_sent-append (first.calls k) (second.calls k) ∙ none_of_both (bytes_sent (first.calls k)) (bytes_sent (second.calls k)) (first.quiet k) (second.quiet k);
+    alone = λ k unmarked.
+        let mine = first.alone k (before_too k unmarked) in
+        let then_ = second.alone k unmarked in (then_.0 ∙ mine.0, then_.1 ∙ mine.1);
+  }
+    where
+      stays : (k : ℕ) → M.ended between [] k ≡ true → M.ended new [] k ≡ true
+      stays k = ended_still M between new second.steps no_bytes k second.pass.did
+
+      was_live : (k : ℕ) → M.ended between [] k ≡ false → M.ended old [] k ≡ false
+      was_live k live = elim (cases_Bool (M.ended old [] k)) [
+        | inl ended ↦ absurd (true≢false (sym (ended_still M old between first.steps no_bytes k first.pass.did ended) ∙ live))
+        | inr is ↦ is
+      ]
+
+      before_too : (k : ℕ) → get_or now k true ≡ false → get_or mid k true ≡ false
+      before_too k unmarked = elim (cases_Bool (get_or mid k true)) [
+        | inl marked ↦ absurd (true≢false (sym (second.marks k marked) ∙ unmarked))
+        | inr is ↦ is
+      ]
+
+      by_next : (k : ℕ) → k < length before → M.ended old [] k ≡ false → get_or mid k true ≡ false → Next k ⊎ (get_or now k true ≡ true) → IsAttended M N k (first.calls k ++ second.calls k) new (slot_at k before)
+      by_next k within live not_yet meant =
+          let was = first.alone k not_yet in
+          seen_later k (first.calls k) (second.calls k) new (slot_at k before) (slot_at k middle) (first.same k).shut was.1
+          (second.seen k (omega (arith, within, first.pass.count)) not_yet (was.0 ∙ live) meant)
+
+      not_marked : (k : ℕ) → k < length before → get_or had k true ≡ false → M.ended old [] k ≡ false → get_or mid k true ≡ false → Both k ⊎ (get_or now k true ≡ true) → IsAttended M N k (first.calls k ++ second.calls k) new (slot_at k before)
+      not_marked k within unmarked live not_yet (inr marked) = by_next k within live not_yet (inr marked)
+      not_marked k within unmarked live not_yet (inl meant) = elim (either k within meant) [
+        | inl is ↦ seen_first k (first.calls k) (second.calls k) between new (slot_at k before) (stays k) (first.seen k within unmarked live (inl is))
+        | inr is ↦ by_next k within live not_yet (inl is)
+      ]
+
+  -- ---- one turn
+
+  about_all : (k : ℕ) (had : Bool) (steps : List StepData) → IsTurnTaken k had steps → AreAbout k steps
+  about_all k true steps taken = subst (AreAbout k) (sym taken.1) (turn_about k taken.0 taken.2, tt)
+  about_all k false steps none = subst (AreAbout k) (sym none) tt
+
+  turn_pass : (k : ℕ) (steps : List StepData) (calls : List StreamCall) (old new : C) (slots : List (SlotData S)) (after : SlotData S) → k < length slots → M.DidSteps old new steps no_bytes → AreAbout k steps → IsServedAt N k steps [] [] calls (slot_at k slots) after
+      → IsReadyPass N (M.DidSteps old new) no_bytes steps no_bytes (calls_for k calls) slots (set slots k after)
+  turn_pass k steps calls old new slots after within did about served = record {
+    count = length-set slots k after;
+    did = did;
+    others = λ other above. refl;
+    at = λ other inside. elim (cases_eq other k) [
+      | inl same ↦ subst (λ (j : ℕ). IsServedAt N j steps [] [] (calls_for k calls j) (slot_at j slots) (slot_at j (set slots k after))) (sym same)
+          (subst (λ (now : List StreamCall). IsServedAt N k steps [] [] now (slot_at k slots) (slot_at k (set slots k after))) (sym (calls_here k calls))
+          (subst (λ (now : SlotData S). IsServedAt N k steps [] [] calls (slot_at k slots) now) (sym (get_or-set_same slots k after vacant within)) served))
+      | inr apart ↦
+          subst (λ (now : List StreamCall). IsServedAt N other steps [] [] now (slot_at other slots) (slot_at other (set slots k after))) (sym (calls_there k other calls apart))
+          (subst (λ (now : SlotData S). IsServedAt N other steps [] [] [] (slot_at other slots) now) (sym (get_or-set_other slots k other after vacant apart))
+          (served_elsewhere N other steps (slot_at other slots) (about_elsewhere k other steps apart about)))
+    ];
+  }
+
+  mark_same : (k other : ℕ) (had : List Bool) (is : Bool) → (other ≡ k → ⊥) → mark (set had k is) other ≡ mark had other
+  mark_same k other had is apart = ap one_if (get_or-set_other had k other is true apart)
+
+  once_more : (k : ℕ) (had : List Bool) (is : Bool) (steps : List StepData) → get_or had k true ≡ false → IsTurnTaken k is steps → (other : ℕ) → steps_about other steps + mark had other ≤ mark (set had k is) other
+  once_more k had true steps due taken other = elim (cases_eq other k) [
+    | inl same ↦ omega (
+      arith,
+      ap (steps_about other) taken.1,
+      one_at_most other taken.0,
+      ap one_if (ap (λ (j : ℕ). get_or had j true) same ∙ due),
+      ap one_if (ap (λ (j : ℕ). get_or (set had k true) j true) same ∙ mark_set k had true (λ e. true≢false e)),
+    )
+    | inr apart ↦ omega (arith, ap (steps_about other) taken.1, none_about k other taken.0 apart (turn_about k taken.0 taken.2), mark_same k other had true apart)
+  ]
+  once_more k had false steps due none other = elim (cases_eq other k) [
+    | inl same ↦ omega (arith, ap (steps_about other) none, ap one_if (ap (λ (j : ℕ). get_or had j true) same ∙ due))
+    | inr apart ↦ omega (arith, ap (steps_about other) none, mark_same k other had false apart)
+  ]
+
+  turn_of_live : (k count : ℕ) (is : Bool) (core : C) (steps : List StepData) → k < count → M.ended core [] k ≡ false → IsTurnTaken k is steps → AllByRecursion (IsTurnOfLive M N count core) steps
+  turn_of_live k count true core steps below live taken = subst (AllByRecursion (IsTurnOfLive M N count core)) (sym taken.1) ((k, below, live, taken.2), tt)
+  turn_of_live k count false core steps below live none = subst (AllByRecursion (IsTurnOfLive M N count core)) (sym none) tt
+
+  -- whoever isn't the one whose turn it is
+  ended_same : (k other : ℕ) (is : Bool) (old new : C) (steps : List StepData) → (other ≡ k → ⊥) → M.DidSteps old new steps no_bytes → IsTurnTaken k is steps → M.ended new [] other ≡ M.ended old [] other
+  ended_same k other false old new steps apart did none =
+      M.ended_by_steps old new steps [] no_bytes other did ∙ ap (λ (all : List StepData). M.ended old (all ++ []) other) none
+  ended_same k other true old new steps apart did taken =
+      M.ended_by_steps old new steps [] no_bytes other did ∙ ap (λ (all : List StepData). M.ended old (all ++ []) other) taken.1
+      ∙ M.ended_alone old [] taken.0 other (λ about. step_of_both k other taken.0 apart (turn_about k taken.0 taken.2) about)
+    where
+      step_of_both : (k other : ℕ) (step : StepData) → (other ≡ k → ⊥) → IsAbout k step → IsAbout other step → ⊥
+      step_of_both k other (a_piece session piece) apart about also = apart (sym also ∙ about)
+      step_of_both k other (an_end session) apart about also = apart (sym also ∙ about)
+      step_of_both k other a_flush apart about also = about
+
+  unmarked_is : (k : ℕ) (had : List Bool) (is : Bool) → get_or (set had k is) k true ≡ false → is ≡ false
+  unmarked_is k had true unmarked = absurd (true≢false (sym (mark_set k had true (λ e. true≢false e)) ∙ unmarked))
+  unmarked_is k had false unmarked = refl
+
+  pub one_turn : (k : ℕ) (had : List Bool) (is : Bool) (old new : C) (slots : List (SlotData S)) (after : SlotData S) → k < length slots → get_or had k true ≡ false → M.ended old [] k ≡ false → HasTurn M N k is old new (slot_at k slots) after
+      → TakesTurns M N (λ j. j ≡ k) had (set had k is) old new slots (set slots k after)
+  one_turn k had is old new slots after within due live turn = record {
+    steps = turn.steps;
+    calls = calls_for k turn.calls;
+    pass = turn_pass k turn.steps turn.calls old new slots after within turn.did (about_all k is turn.steps turn.taken) turn.served;
+    turns = turn_of_live k (length slots) is old turn.steps within live turn.taken;
+    once = once_more k had is turn.steps due turn.taken;
+    marks = λ other marked. get_or-set_other had k other is true (λ same. true≢false (sym marked ∙ ap (λ (j : ℕ). get_or had j true) same ∙ due)) ∙ marked;
+    seen = λ other inside unmarked alive meant. elim (cases_eq other k) [
+      | inl same ↦ subst (λ (j : ℕ). IsAttended M N j (calls_for k turn.calls j) new (slot_at j slots)) (sym same) (subst (λ (calls : List StreamCall). IsAttended M N k calls new (slot_at k slots)) (sym (calls_here k turn.calls)) turn.seen)
+      | inr apart ↦ absurd (not_meant other apart unmarked meant)
+    ];
+    last = λ other inside last. elim (cases_eq other k) [
+      | inl same ↦ ap (M.ended new []) same ∙ turn.last (sym (ap has_last_read (calls_here k turn.calls)) ∙ sym (ap (λ (j : ℕ). has_last_read (calls_for k turn.calls j)) same) ∙ last)
+      | inr apart ↦ absurd (true≢false (sym last ∙ ap has_last_read (calls_there k other turn.calls apart)))
+    ];
+    same = λ other. elim (cases_eq other k) [
+      | inl same ↦ subst (λ (j : ℕ). IsSamePlace (slot_at j slots) (slot_at j (set slots k after))) (sym same) (subst (IsSamePlace (slot_at k slots)) (sym (get_or-set_same slots k after vacant within)) turn.same)
+      | inr apart ↦ subst (IsSamePlace (slot_at other slots)) (sym (get_or-set_other slots k other after vacant apart)) (same_none (slot_at other slots))
+    ];
+    quiet = λ other. elim (cases_eq other k) [
+      | inl same ↦ ap (λ (j : ℕ). bytes_sent (calls_for k turn.calls j)) same ∙ ap bytes_sent (calls_here k turn.calls) ∙ turn.quiet
+      | inr apart ↦ ap bytes_sent (calls_there k other turn.calls apart)
+    ];
+    alone = λ other unmarked. elim (cases_eq other k) [
+      | inl same ↦
+          let idle = unmarked_is k had is (sym (ap (λ (j : ℕ). get_or (set had k is) j true) same) ∙ unmarked) in (
+            ap (M.ended new []) same ∙ nothing_done is turn.steps turn.did turn.taken idle ∙ sym (ap (M.ended old []) same),
+            ap (λ (j : ℕ). unread_of (slot_at j (set slots k after))) same ∙ ap unread_of (get_or-set_same slots k after vacant within) ∙ turn.unread idle ∙ sym (ap (λ (j : ℕ). unread_of (slot_at j slots)) same),
+          )
+      | inr apart ↦ (ended_same k other is old new turn.steps apart turn.did turn.taken, ap unread_of (get_or-set_other slots k other after vacant apart))
+    ];
+  }
+    where
+      not_meant : (other : ℕ) → (other ≡ k → ⊥) → get_or had other true ≡ false → (other ≡ k) ⊎ (get_or (set had k is) other true ≡ true) → ⊥
+      not_meant other apart unmarked (inl same) = apart same
+      not_meant other apart unmarked (inr marked) = true≢false (sym marked ∙ get_or-set_other had k other is true apart ∙ unmarked)
+
+      nothing_done : (is : Bool) (steps : List StepData) → M.DidSteps old new steps no_bytes → IsTurnTaken k is steps → is ≡ false → M.ended new [] k ≡ M.ended old [] k
+      nothing_done true steps did taken idle = absurd (true≢false idle)
+      nothing_done false steps did none idle = M.ended_by_steps old new steps [] no_bytes k did ∙ ap (λ (all : List StepData). M.ended old (all ++ []) k) none
+
+  -- what others are meant
+  pub turns_mean : {Meant Other : ℕ → Type 0} (had now : List Bool) (old new : C) (before after : List (SlotData S)) → ((k : ℕ) → k < length before → Other k → Meant k) → TakesTurns M N Meant had now old new before after → TakesTurns M N Other had now old new before after
+  turns_mean {Meant} {Other} had now old new before after by done = record {
+    steps = done.steps;
+    calls = done.calls;
+    pass = done.pass;
+    turns = done.turns;
+    once = done.once;
+    marks = done.marks;
+    seen = λ k within unmarked live meant. done.seen k within unmarked live (to k within meant);
+    last = done.last;
+    same = done.same;
+    quiet = done.quiet;
+    alone = done.alone;
+  }
+    where
+      to : (k : ℕ) → k < length before → Other k ⊎ (get_or now k true ≡ true) → Meant k ⊎ (get_or now k true ≡ true)
+      to k within (inl meant) = inl (by k within meant)
+      to k within (inr marked) = inr marked
+
+  -- as what is done for the places
+  pub turns_serve : {Meant : ℕ → Type 0} (had now : List Bool) (old new : C) (before after : List (SlotData S)) → TakesTurns M N Meant had now old new before after → ServesPlaces N (M.DidSteps old new) no_bytes before after
+  turns_serve had now old new before after done = record { steps = done.steps; taken = no_bytes; calls = done.calls; pass = done.pass }
+
+  -- of all sessions, of which none had had its turn
+  turns_read : {Meant : ℕ → Type 0} (now : List Bool) (old new : C) (before after : List (SlotData S)) → length before ≤ 16 → ((k : ℕ) → k < length before → Meant k) → (done : TakesTurns M N Meant (replicate 16 false) now old new before after)
+      → ReadsPlaces M N done.steps done.calls old new before after
+  turns_read now old new before after few all done = record {
+    pass = done.pass;
+    turns = done.turns;
+    once = λ k. omega (arith, done.once k, most_one (get_or now k true));
+    seen = λ k within live. done.seen k within (unmarked 16 k (omega (arith, within, few))) live (inl (all k within));
+    last = done.last;
+    same = done.same;
+    quiet = done.quiet;
+  }
+    where
+      most_one : (b : Bool) → cond b 1 0 ≤ 1
+      most_one true = omega arith
+      most_one false = omega arith
+
+  pub read_all : {Meant : ℕ → Type 0} (now : List Bool) (old new : C) (before after : List (SlotData S)) → length before ≤ 16 → ((k : ℕ) → k < length before → Meant k) → TakesTurns M N Meant (replicate 16 false) now old new before after
+      → (steps : List StepData) × (calls : ℕ → List StreamCall) × ReadsPlaces M N steps calls old new before after
+  read_all {Meant} now old new before after few all done = (done.steps, done.calls, turns_read {Meant = Meant} now old new before after few all done)

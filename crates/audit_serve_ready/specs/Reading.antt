@@ -1,0 +1,115 @@
+-- Reading in a pass: the turns of the sessions.
+use Rattle.std.specs.Prelude.{◌≡◌, ◌⊎◌, ℕ, ◌+◌, ◌-◌, ◌%◌, ◌<◌, ◌≤◌, nat_le, Bool, true, false, ◌==◌, if◌then◌else◌}
+use Rattle.std.specs.Prelude.{List, [], ◌∷◌, length, slice_index_or}
+use Rattle.std.specs.List.{AllByRecursion}
+use Rattle.audit_serve_passes.specs.declared.limits.TheConstants.{MAX_PIECE}
+use Rattle.audit_serve_passes.specs.Steps.{StepData, a_piece, an_end, a_flush}
+use Rattle.audit_serve_passes.specs.Rounds.{IsVisit}
+use Rattle.audit_serve_passes.specs.Streams.{StreamCall, CallModel, bytes_sent}
+use Rattle.audit_serve_passes.specs.Core.{CoreModel, no_bytes}
+use Rattle.audit_serve_ready.specs.declared.slot.Look.{Look}
+use Rattle.audit_serve_ready.specs.declared.slot.Look.TheVariants as look
+use Rattle.audit_serve_ready.specs.declared.turns.Turn.{Turn}
+use Rattle.audit_serve_ready.specs.declared.turns.Turn.TheVariants as turn
+use Rattle.audit_serve_ready.specs.Slot.{SlotData, unread_of, is_shut, IsAskedForBytes, IsSamePlace}
+use Rattle.audit_serve_ready.specs.Places.{slot_at, has_last_read, IsServedAt, IsReadyPass}
+
+-- A session's turn: it is visited, or its bytes have to wait, so that none is taken.
+abbrev pub IsTurn : ℕ → StepData → Type 0
+IsTurn k step = IsVisit k step ⊎ (step ≡ a_piece k [])
+
+-- how many of these steps are about session k
+abbrev pub is_about : ℕ → StepData → Bool
+is_about k (a_piece session piece) = session == k
+is_about k (an_end session) = session == k
+is_about k a_flush = false
+
+abbrev pub steps_about : ℕ → List StepData → ℕ
+steps_about k [] = 0
+steps_about k (step ∷ steps) = (if is_about k step then 1 else 0) + steps_about k steps
+
+-- the number of a session's turn among so many, if session `first` has the first one
+abbrev pub turn_number : ℕ → ℕ → ℕ → ℕ
+turn_number first count k =
+    if nat_le (first % count) k then k - first % count else (k + count) - first % count
+
+-- whether a session is marked as one that has had its turn, as a number
+abbrev pub mark : List Bool → ℕ → ℕ
+mark marks k = if slice_index_or marks k true then 1 else 0
+
+-- what a look at a client's bytes found: the stream was read to its end or failed, or not; and bytes are unread or not
+abbrev pub IsFound : {S : Type 0} → Look → List StreamCall → SlotData S → Type 0
+IsFound look.Nothing calls slot = (has_last_read calls ≡ false) × (unread_of slot ≡ [])
+IsFound look.Over calls slot = (has_last_read calls ≡ true) × (unread_of slot ≡ [])
+IsFound look.Bytes calls slot = has_last_read calls ≡ false
+
+-- in a turn something was taken, or has to wait, or the session was ended
+abbrev pub is_had : Turn → Bool
+is_had turn.Idle = false
+is_had turn.Held = true
+is_had turn.Moved = true
+
+-- one step, which is a turn, or none
+abbrev pub IsTurnTaken : ℕ → Bool → List StepData → Type 0
+IsTurnTaken k true steps = (step : StepData) × (steps ≡ step ∷ []) × IsTurn k step
+IsTurnTaken k false steps = steps ≡ []
+
+module _ {C S : Type 0} (M : CoreModel C) (N : CallModel S) where
+  -- A session whose place is shut is ended; the client of another one was asked for bytes.
+  abbrev pub IsAttended : ℕ → List StreamCall → C → SlotData S → Type 0
+  IsAttended k calls new before = ((is_shut before ≡ true) × (M.ended new [] k ≡ true)) ⊎ IsAskedForBytes calls before
+
+  -- a session was fed the first of what is unread
+  pub record IsFedPiece (k : ℕ) (old new : C) (before after : SlotData S) : Type 0 where
+    pub piece : List ℕ
+    pub most : length piece ≤ MAX_PIECE
+    pub did : M.DidSteps old new (a_piece k piece ∷ []) no_bytes
+    pub served : IsServedAt N k (a_piece k piece ∷ []) [] [] [] before after
+    pub same : IsSamePlace before after
+
+  -- the turn of a session
+  pub record HasTurn (k : ℕ) (had : Bool) (old new : C) (before after : SlotData S) : Type 0 where
+    pub steps : List StepData
+    pub calls : List StreamCall
+    pub did : M.DidSteps old new steps no_bytes
+    pub taken : IsTurnTaken k had steps
+    pub served : IsServedAt N k steps [] [] calls before after
+    pub seen : IsAttended k calls new before
+    pub last : has_last_read calls ≡ true → M.ended new [] k ≡ true
+    pub same : IsSamePlace before after
+    pub quiet : bytes_sent calls ≡ []
+    pub unread : had ≡ false → unread_of after ≡ unread_of before
+
+  -- a step is the turn of a session below a number that is live
+  abbrev pub IsTurnOfLive : ℕ → C → StepData → Type 0
+  IsTurnOfLive count core step = (k : ℕ) × (k < count) × (M.ended core [] k ≡ false) × IsTurn k step
+
+  -- Some sessions had their turns, each at most one: those that are marked now and weren't before. Whoever else is
+  -- meant was asked for bytes in vain.
+  pub record TakesTurns (Meant : ℕ → Type 0) (had now : List Bool) (old new : C)
+      (before after : List (SlotData S)) : Type 0 where
+    pub steps : List StepData
+    pub calls : ℕ → List StreamCall
+    pub pass : IsReadyPass N (M.DidSteps old new) no_bytes steps no_bytes calls before after
+    pub turns : AllByRecursion (IsTurnOfLive (length before) old) steps
+    pub once : (k : ℕ) → steps_about k steps + mark had k ≤ mark now k
+    pub marks : (k : ℕ) → slice_index_or had k true ≡ true → slice_index_or now k true ≡ true
+    pub seen : (k : ℕ) → k < length before → slice_index_or had k true ≡ false → M.ended old [] k ≡ false
+        → (Meant k ⊎ (slice_index_or now k true ≡ true)) → IsAttended k (calls k) new (slot_at k before)
+    pub last : (k : ℕ) → k < length before → has_last_read (calls k) ≡ true → M.ended new [] k ≡ true
+    pub same : (k : ℕ) → IsSamePlace (slot_at k before) (slot_at k after)
+    pub quiet : (k : ℕ) → bytes_sent (calls k) ≡ []
+    pub alone : (k : ℕ) → slice_index_or now k true ≡ false
+        → (M.ended new [] k ≡ M.ended old [] k) × (unread_of (slot_at k after) ≡ unread_of (slot_at k before))
+
+  -- What reading does in a pass: each live session has at most one turn, and it has one or is asked for bytes in vain.
+  -- Whoever's stream is over then is ended, and so is whoever's place is shut. Nothing is written.
+  pub record ReadsPlaces (steps : List StepData) (calls : ℕ → List StreamCall) (old new : C)
+      (before after : List (SlotData S)) : Type 0 where
+    pub pass : IsReadyPass N (M.DidSteps old new) no_bytes steps no_bytes calls before after
+    pub turns : AllByRecursion (IsTurnOfLive (length before) old) steps
+    pub once : (k : ℕ) → steps_about k steps ≤ 1
+    pub seen : (k : ℕ) → k < length before → M.ended old [] k ≡ false → IsAttended k (calls k) new (slot_at k before)
+    pub last : (k : ℕ) → k < length before → has_last_read (calls k) ≡ true → M.ended new [] k ≡ true
+    pub same : (k : ℕ) → IsSamePlace (slot_at k before) (slot_at k after)
+    pub quiet : (k : ℕ) → bytes_sent (calls k) ≡ []
