@@ -1,19 +1,26 @@
 -- What running a daemon comes to.
-use Rattle.std.specs.Prelude.{OnOk, IsOk, codes}
+use denote.Ref.{Bor}
+use Rattle.std.specs.Prelude.{OnOk, IsOk, codes, result_and}
 use Rattle.std.specs.Io.KnownBytes.{Appends}
-use Rattle.std.proofs.Common.{◌≡◌, ◌∙◌, ℕ, Option, Result, Ok, Err, List, ap, subst}
+use Rattle.std.proofs.Common.{◌≡◌, ◌∙◌, ℕ, Bool, true, false, Option, Result, Ok, Err, List, refl, ap, subst}
 use Rattle.std.proofs.KnownBytes.{Appends-trans}
 use Rattle.audit_disk_model.specs.declared.sectors.Sectors as sectors
 use Rattle.audit_store.specs.Store.{active_header}
 use Rattle.audit_store.specs.declared.store.Store.{Store}
 use Rattle.audit_serve_passes.specs.Streams.{CallModel}
+use Rattle.audit_serve_ready.specs.Door.{DoorModel}
 use Rattle.audit_text.specs.NumberedLine.{numbered_line}
 use Rattle.audit_cli_base.specs.Arguments.{number_asked}
 use Rattle.audit_cli_base.specs.declared.fault.CommandError.{CommandError}
-use Rattle.audit_cli_daemon.specs.declared.arguments.TheConstants.{DEFAULT_RESERVE}
+use Rattle.audit_cli_daemon.specs.declared.arguments.TheConstants.{DEFAULT_IDLE, DEFAULT_RESERVE}
 use Rattle.audit_cli_daemon.specs.declared.request.Request.TheVariants.{Run}
 use Rattle.audit_cli_daemon.specs.declared.request.Settings.{Settings}
-use Rattle.audit_cli_daemon.specs.Carried.{ServesBetween, IsDaemonDone}
+use Rattle.audit_cli_daemon.specs.Carried.{ServesAtDoor, ServesBetween, IsDaemonDone}
+use Rattle.audit_serve_passes.specs.declared.rights.Rights.{Rights}
+use Rattle.audit_serve_passes.specs.declared.rights.Rights.TheVariants as rights
+use Rattle.audit_serve_door.specs.declared.socket_door.SocketDoor.{SocketDoor}
+use Rattle.audit_cli_daemon.specs.declared.gauge.GaugedDoor.{GaugedDoor}
+use Rattle.audit_cli_daemon.specs.Rights.{rights_at, rights_of_others, IsDoorFor}
 use Rattle.audit_cli_daemon.specs.Running.{ServesStore}
 use Rattle.audit_cli_daemon.specs.State.{ready_line, stopped_line}
 use Rattle.audit_cli_daemon.specs.Words.{backlog_asked}
@@ -24,10 +31,10 @@ Ending = Result (Unit {0}) CommandError
 pub same_settings : (one other : Settings) → Run one ≡ Run other → one ≡ other
 same_settings one other same = cc same
 
-module _ {D : Type 0} {g : sectors.Ghosts D} {S : Type 0} (N : CallModel S) (reserve backlog : ℕ) where
-  pub serves_between : (opened left : Store D g) (before mid after : Option (List ℕ)) (served result : Ending) (count : ℕ) (root : List ℕ) → OnOk served (Appends before mid (ready_line (active_header opened))) × OnOk served (ServesStore N reserve backlog opened left)
+module _ {D : Type 0} {g : sectors.Ghosts D} {S E : Type 0} (N : CallModel S) (doors : DoorModel E S) (Opens : E → Type 0) (reserve backlog : ℕ) where
+  pub serves_between : (opened left : Store D g) (before mid after : Option (List ℕ)) (served result : Ending) (count : ℕ) (root : List ℕ) → OnOk served (Appends before mid (ready_line (active_header opened))) × OnOk served (ServesAtDoor N doors Opens reserve backlog opened left)
       → OnOk result (IsOk served) → OnOk result (Appends mid after (numbered_line (codes "stopped ") count root)) → count ≡ (active_header left).count → root ≡ (active_header left).root
-      → OnOk result (ServesBetween N reserve backlog opened before after)
+      → OnOk result (ServesBetween N doors Opens reserve backlog opened before after)
   serves_between opened left before mid after served (Err fault) count root both ok stopped count_is root_is = tt
   serves_between opened left before mid after (Err fault) (Ok done) count root both ok stopped count_is root_is = absurd (cc ok)
   serves_between opened left before mid after (Ok served) (Ok done) count root (ready, store) ok stopped count_is root_is = record {
@@ -37,7 +44,31 @@ module _ {D : Type 0} {g : sectors.Ghosts D} {S : Type 0} (N : CallModel S) (res
         (subst (Appends mid after) (ap (λ n. numbered_line (codes "stopped ") n root) count_is ∙ ap (numbered_line (codes "stopped ") (active_header left).count) root_is) stopped);
   }
 
-pub performed : {D : Type 0} (g : sectors.Ghosts D) {S : Type 0} (N : CallModel S) (settings : Settings) (reserve backlog : ℕ) (opened : Store D g) (before after : Option (List ℕ)) (done : Ending)
-    → number_asked settings.reserve DEFAULT_RESERVE ≡ Ok reserve → backlog_asked settings.backlog ≡ Ok backlog → OnOk done (ServesBetween N reserve backlog opened before after) → IsDaemonDone g N settings before after done
-performed g N settings reserve backlog opened before after (Err fault) reserve_is backlog_is served = tt
-performed g N settings reserve backlog opened before after (Ok done) reserve_is backlog_is served = record { reserve = reserve; reserve_is = reserve_is; backlog = backlog; backlog_is = backlog_is; opened = opened; served = served }
+pub serves_at_door : {D : Type 0} {g : sectors.Ghosts D} {S E : Type 0} (N : CallModel S) (doors : DoorModel E S) (Opens : E → Type 0) (reserve backlog : ℕ) (was now : E) (opened left : Store D g) (first other : Ending) → Opens was
+    → OnOk first (ServesStore N doors reserve backlog was now opened left) → OnOk (result_and first other) (ServesAtDoor N doors Opens reserve backlog opened left)
+serves_at_door N doors Opens reserve backlog was now opened left (Err fault) other opens served = tt
+serves_at_door N doors Opens reserve backlog was now opened left (Ok first) (Err fault) opens served = tt
+serves_at_door N doors Opens reserve backlog was now opened left (Ok first) (Ok done) opens served = record { was = was; opens = opens; now = now; served = served }
+
+-- the rights of those that don't only read
+pub others_by : (may_close : Bool) (others : Rights) → (may_close ≡ true → others ≡ rights.Close) → (may_close ≡ false → others ≡ rights.Append) → others ≡ rights_of_others may_close
+others_by true others closing appending = closing refl
+others_by false others closing appending = appending refl
+
+module _ {D : Type 0} (g : sectors.Ghosts D) {S C J W F T : Type 0} (N : CallModel S) (doors : DoorModel (GaugedDoor (SocketDoor C J W) F T) S) where
+  pub performed : (settings : Settings) (readers : Option (Bor (List ℕ))) (others : Rights) (idle reserve backlog : ℕ) (opened : Store D g) (before after : Option (List ℕ)) (done : Ending) → readers ≡ settings.reader → others ≡ rights_of_others settings.may_close
+      → number_asked settings.idle DEFAULT_IDLE ≡ Ok idle → number_asked settings.reserve DEFAULT_RESERVE ≡ Ok reserve → backlog_asked settings.backlog ≡ Ok backlog
+      → OnOk done (ServesBetween N doors (IsDoorFor (rights_at readers others) idle) reserve backlog opened before after) → IsDaemonDone g N doors settings before after done
+  performed settings readers others idle reserve backlog opened before after (Err fault) readers_are others_are idle_is reserve_is backlog_is served = tt
+  performed settings readers others idle reserve backlog opened before after (Ok done) readers_are others_are idle_is reserve_is backlog_is served = record {
+    reserve = reserve;
+    reserve_is = reserve_is;
+    backlog = backlog;
+    backlog_is = backlog_is;
+    idle = idle;
+    idle_is = idle_is;
+    opened = opened;
+    served =
+        subst (λ (there : Option (Bor (List ℕ))). ServesBetween N doors (IsDoorFor (rights_at there (rights_of_others settings.may_close)) idle) reserve backlog opened before after) readers_are
+        (subst (λ (allowed : Rights). ServesBetween N doors (IsDoorFor (rights_at readers allowed) idle) reserve backlog opened before after) others_are served);
+  }

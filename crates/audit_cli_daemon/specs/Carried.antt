@@ -5,34 +5,51 @@ use Rattle.audit_disk_model.specs.declared.sectors.Sectors as sectors
 use Rattle.audit_store.specs.Store.{active_header}
 use Rattle.audit_store.specs.declared.store.Store.{Store}
 use Rattle.audit_serve_passes.specs.Streams.{CallModel}
+use Rattle.audit_serve_ready.specs.Door.{DoorModel}
 use Rattle.audit_cli_base.specs.Arguments.{number_asked}
 use Rattle.audit_cli_base.specs.Faults.{status_of_end}
 use Rattle.audit_cli_base.specs.declared.status.Status.{Status}
 use Rattle.audit_cli_base.specs.declared.status.Status.TheVariants as ends
 use Rattle.audit_cli_base.specs.declared.fault.CommandError.{CommandError}
-use Rattle.audit_cli_daemon.specs.declared.arguments.TheConstants.{DEFAULT_RESERVE}
+use Rattle.audit_cli_daemon.specs.declared.arguments.TheConstants.{DEFAULT_IDLE, DEFAULT_RESERVE}
 use Rattle.audit_cli_daemon.specs.declared.request.Settings.{Settings}
+use Rattle.audit_serve_door.specs.declared.socket_door.SocketDoor.{SocketDoor}
+use Rattle.audit_cli_daemon.specs.declared.gauge.GaugedDoor.{GaugedDoor}
+use Rattle.audit_cli_daemon.specs.Rights.{rights_at, rights_of_others, IsDoorFor}
 use Rattle.audit_cli_daemon.specs.Running.{ServesStore}
 use Rattle.audit_cli_daemon.specs.State.{ready_line, stopped_line}
 use Rattle.audit_cli_daemon.specs.Words.{backlog_asked}
 
--- Clients were served over a store, with this reserve and backlog. Its state was written before the first and after the
--- last of them.
-pub record ServesBetween {D : Type 0} {g : sectors.Ghosts D} {S : Type 0} (N : CallModel S) (reserve backlog : ℕ)
-    (opened : Store D g) (before after : Option (List ℕ)) : Type 0 where
-  pub left : Store D g
-  pub served : ServesStore N reserve backlog opened left
-  pub lines : Appends before after (ready_line (active_header opened) ++ stopped_line (active_header left))
+module _ {D : Type 0} {g : sectors.Ghosts D} {S E : Type 0} (N : CallModel S) (doors : DoorModel E S)
+    (Opens : E → Type 0) where
+  -- clients that came in by such a door were served over a store, with this reserve and backlog
+  pub record ServesAtDoor (reserve backlog : ℕ) (opened left : Store D g) : Type 0 where
+    pub was : E
+    pub opens : Opens was
+    pub now : E
+    pub served : ServesStore N doors reserve backlog was now opened left
 
-module _ {D : Type 0} (g : sectors.Ghosts D) {S : Type 0} (N : CallModel S) where
-  -- so were they over the store that was opened, with the reserve and the backlog that were asked for
+  -- The store's state was written before the first and after the last of them.
+  pub record ServesBetween (reserve backlog : ℕ) (opened : Store D g) (before after : Option (List ℕ)) : Type 0 where
+    pub left : Store D g
+    pub served : ServesAtDoor reserve backlog opened left
+    pub lines : Appends before after (ready_line (active_header opened) ++ stopped_line (active_header left))
+
+module _ {D : Type 0} (g : sectors.Ghosts D) {S C J W F T : Type 0} (N : CallModel S)
+    (doors : DoorModel (GaugedDoor (SocketDoor C J W) F T) S) where
+  -- So were they over the store that was opened, with the reserve and the backlog that were asked for, and came in by
+  -- sockets with the rights and with the time for idle clients that were asked for.
   pub record ServesClientsAsked (settings : Settings) (before after : Option (List ℕ)) : Type 0 where
     pub reserve : ℕ
     pub reserve_is : number_asked settings.reserve DEFAULT_RESERVE ≡ Ok reserve
     pub backlog : ℕ
     pub backlog_is : backlog_asked settings.backlog ≡ Ok backlog
+    pub idle : ℕ
+    pub idle_is : number_asked settings.idle DEFAULT_IDLE ≡ Ok idle
     pub opened : Store D g
-    pub served : ServesBetween N reserve backlog opened before after
+    pub served : ServesBetween N doors
+        (IsDoorFor (rights_at settings.reader (rights_of_others settings.may_close)) idle) reserve backlog opened
+        before after
 
   abbrev pub IsDaemonDone : Settings → Option (List ℕ) → Option (List ℕ) → Result (Unit {0}) CommandError → Type 0
   IsDaemonDone settings before after (Ok done) = ServesClientsAsked settings before after

@@ -4,3 +4,4 @@ pub mod Running
 pub mod Marks
 pub mod Carried
 pub mod Gauged
+pub mod Rights

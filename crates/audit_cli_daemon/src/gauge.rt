@@ -83,8 +83,12 @@ pub struct GaugedDoor<'n, 'a, 'b, E, F, M> {
 }
 
 impl<'n, 'a, 'b, E, F: Drop, M> GaugedDoor<'n, 'a, 'b, E, F, M> {
+    ghost use Rattle.std.specs.Prelude.{◌≡◌};
+
     /// The door with this gauge, or without one.
-    pub fn new(door: E, gauge: Option<Gauge<'n, 'a, 'b, F, M>>) -> GaugedDoor<'n, 'a, 'b, E, F, M> {
+    pub fn new(door: E, gauge: Option<Gauge<'n, 'a, 'b, F, M>>) -> GaugedDoor<'n, 'a, 'b, E, F, M>
+        ensures { result.door ≡ door }
+    {
         GaugedDoor { door, gauge }
     }
 

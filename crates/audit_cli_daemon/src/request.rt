@@ -1,5 +1,6 @@
 //! The requests to run a daemon and to stop it, and how they are carried out.
 ghost use Rattle.std.specs.Prelude.{◌≡◌, ◌⊎◌, ◌≤◌, true, false, None, Ok, Err, IfSome, IfOk, IfErr, OnOk, IsOk, codes};
+ghost use Rattle.std.specs.Prelude.{map};
 ghost use Rattle.std.specs.Io.KnownBytes.{Keeps, Appends};
 ghost use Rattle.audit_serve_ready.specs.declared.limits.TheConstants.{MAX_BACKLOG};
 ghost use Rattle.audit_cli_base.specs.Arguments.{number_asked};
@@ -9,9 +10,10 @@ ghost use Rattle.audit_cli_daemon.specs.declared.request.Settings.{Settings};
 ghost use Rattle.audit_disk.specs.declared.files.TheConstants.{OWNER_ONLY};
 ghost use Rattle.audit_cli_daemon.specs.declared.arguments.TheConstants.{DEFAULT_IDLE, DEFAULT_RESERVE};
 ghost use Rattle.audit_cli_daemon.specs.Words.{HasBadSetting, HasBadWord, backlog_asked};
-ghost use Rattle.audit_cli_daemon.specs.Running.{ServesStore};
-ghost use Rattle.audit_cli_daemon.specs.Carried.{ServesBetween, IsDaemonDone, IsDaemonCarriedOut};
+ghost use Rattle.audit_cli_daemon.specs.Carried.{ServesAtDoor, ServesBetween, IsDaemonDone, IsDaemonCarriedOut};
+ghost use Rattle.audit_cli_daemon.specs.Rights.{rights_at, IsIdleTime, IsDoorFor};
 ghost use Rattle.audit_cli_daemon.specs.State.{ready_line};
+ghost use Rattle.audit_serve_door.specs.Entrances.{rights_of, rights_of_door, idle_of_door};
 ghost use Rattle.audit_store.specs.Store.{active_header};
 ghost use Rattle.audit_text.specs.NumberedLine.{numbered_line};
 
@@ -34,7 +36,7 @@ use audit_disk_model::Sectors;
 use audit_proof::Commitment;
 use audit_serve_door::{Client, Room, SocketDoor, StopOrders};
 use audit_serve_passes::Rights;
-use audit_serve_ready::ReadyStream;
+use audit_serve_ready::{Door, ReadyStream};
 use audit_store::{Store, StoreError};
 use std::alloc::Global;
 use std::cell::RefCell;
@@ -112,7 +114,8 @@ where
     // The status is that of the result. On success clients were served over the store, with the reserve and the backlog
     // that were asked for, and its first and last state were written.
     ensures carried { (settings : Settings) → request.entry ≡ Request.Run settings
-        → IsDaemonCarriedOut ⟦<FileDevice<F::File> as Sectors>⟧ ⟦<Client as ReadyStream>⟧.calls settings
+        → IsDaemonCarriedOut ⟦<FileDevice<F::File> as Sectors>⟧ ⟦<Client as ReadyStream>⟧.calls
+        ⟦<DaemonDoor<F, F::File, Sparing<'static, M>> as Door>⟧.calls settings
         (W.contents output.old) (W.contents output.new) result }
 {
     match request {
@@ -138,7 +141,8 @@ where
     ensures words { HasBadSetting settings.entry → (result ≡ Status.Usage) ⊎ (result ≡ Status.Device) }
     ensures only { result ≡ Status.Usage → HasBadSetting settings.entry }
     ensures unwritten { HasBadSetting settings.entry → Keeps (W.contents output.old) (W.contents output.new) }
-    ensures carried { IsDaemonCarriedOut ⟦<FileDevice<F::File> as Sectors>⟧ ⟦<Client as ReadyStream>⟧.calls settings.entry
+    ensures carried { IsDaemonCarriedOut ⟦<FileDevice<F::File> as Sectors>⟧ ⟦<Client as ReadyStream>⟧.calls
+        ⟦<DaemonDoor<F, F::File, Sparing<'static, M>> as Door>⟧.calls settings.entry
         (W.contents output.old) (W.contents output.new) result }
 {
     let mut sparing = Sparing::new(messages);
@@ -161,7 +165,8 @@ where
     ensures words { HasBadSetting settings.entry → (result ≡ Status.Usage) ⊎ (result ≡ Status.Device) }
     ensures only { result ≡ Status.Usage → HasBadSetting settings.entry }
     ensures unwritten { HasBadSetting settings.entry → Keeps (W.contents output.old) (W.contents output.new) }
-    ensures carried { IsDaemonCarriedOut ⟦<FileDevice<F::File> as Sectors>⟧ ⟦<Client as ReadyStream>⟧.calls settings.entry
+    ensures carried { IsDaemonCarriedOut ⟦<FileDevice<F::File> as Sectors>⟧ ⟦<Client as ReadyStream>⟧.calls
+        ⟦<DaemonDoor<F, F::File, Sparing<'static, M>> as Door>⟧.calls settings.entry
         (W.contents output.old) (W.contents output.new) result }
 {
     let mut orders = None;
@@ -188,7 +193,8 @@ where
     ensures words { HasBadSetting settings.entry → result ≡ Err CommandError.BadArgument }
     ensures only { result ≡ Err CommandError.BadArgument → HasBadSetting settings.entry }
     ensures unwritten { HasBadSetting settings.entry → Keeps (W.contents output.old) (W.contents output.new) }
-    ensures served { IsDaemonDone ⟦<FileDevice<F::File> as Sectors>⟧ ⟦<Client as ReadyStream>⟧.calls settings.entry
+    ensures served { IsDaemonDone ⟦<FileDevice<F::File> as Sectors>⟧ ⟦<Client as ReadyStream>⟧.calls
+        ⟦<DaemonDoor<F, F::File, Sparing<'static, M>> as Door>⟧.calls settings.entry
         (W.contents output.old) (W.contents output.new) result }
 {
     let judged = judge(settings)?;
@@ -233,8 +239,13 @@ fn judge(settings: Settings<'_>) -> Result<Judged, CommandError>
 }
 
 // How long a client may be idle, if there is an end.
-fn time_of(seconds: u64) -> Option<Duration> {
-    (seconds > 0).then_some(Duration::from_secs(seconds))
+fn time_of(seconds: u64) -> Option<Duration>
+    ensures { IsIdleTime seconds result }
+{
+    if seconds == 0 {
+        return None;
+    }
+    Some(Duration::from_secs(seconds))
 }
 
 fn fault_of(kind: ErrorKind) -> CommandError
@@ -264,7 +275,9 @@ where
     F::File: SystemFile,
     requires { judged.most ≤ MAX_BACKLOG }
     ensures cause { IfErr result IsNoWordFault }
-    ensures served { OnOk result (ServesBetween ⟦<Client as ReadyStream>⟧.calls judged.reserve judged.most store
+    ensures served { OnOk result (ServesBetween ⟦<Client as ReadyStream>⟧.calls
+        ⟦<DaemonDoor<F, F::File, Sparing<'static, M>> as Door>⟧.calls
+        (IsDoorFor (rights_at sockets.now.readers judged.rights) judged.idle) judged.reserve judged.most store
         (W.contents output.old) (W.contents output.new)) }
 {
     let shared = RefCell::new(messages);
@@ -340,8 +353,9 @@ where
     ensures cause { IfErr result.1 IsNoWordFault }
     ensures ready { OnOk result.1 (Appends (W.contents output.old) (W.contents output.new)
         (ready_line (active_header store))) }
-    ensures served { OnOk result.1 (ServesStore ⟦<Client as ReadyStream>⟧.calls judged.reserve judged.most
-        store result.0) }
+    ensures served { OnOk result.1 (ServesAtDoor ⟦<Client as ReadyStream>⟧.calls
+        ⟦<DaemonDoor<F, F::File, M> as Door>⟧.calls (IsDoorFor (map rights_of listening.entrances.items) judged.idle)
+        judged.reserve judged.most store result.0) }
 {
     let gauge = gauge_of(&watch, judged.reserve, messages);
     let journal = ClientJournal::new(messages, explains);
@@ -376,6 +390,16 @@ where
     Some(Gauge::new(watch.open()?, watch.path(), most, messages))
 }
 
+// The door of a daemon, with its gauge, as contracts name it.
+type DaemonDoor<F, G, M> = GaugedDoor<
+    'static,
+    'static,
+    'static,
+    ServedDoor<'static, 'static, 'static, F, M>,
+    G,
+    M,
+>;
+
 // The door of a daemon.
 type ServedDoor<'a, 'b, 'c, F, M> = SocketDoor<
     'a,
@@ -393,6 +417,8 @@ fn open_door<'a, 'b, 'c, F: Files + Net + Clock, M: Write>(
     watch: WatchedStore<'a, F>,
 ) -> Result<ServedDoor<'a, 'b, 'c, F, M>, CommandError>
     ensures cause { IfErr result IsNoWordFault }
+    ensures rights { IfOk result (λ door. rights_of_door door ≡ map rights_of listening.entrances.items) }
+    ensures idle { IfOk result (λ door. idle_of_door door ≡ idle) }
 {
     let Listening { entrances, orders } = listening;
     match SocketDoor::new(rt, rt, alloc, entrances, orders, idle, journal, watch) {

@@ -1,3 +1,7 @@
+ghost use Rattle.std.specs.Prelude.{◌≡◌, ◌↔◌, map, IfOk, IsSome};
+ghost use Rattle.audit_serve_door.specs.Entrances.{rights_of};
+ghost use Rattle.audit_cli_daemon.specs.Rights.{rights_at};
+
 use audit_disk::{OWNER_ONLY, SystemFile};
 use audit_serve_door::{Entrance, StopOrders};
 use audit_serve_passes::Rights;
@@ -65,7 +69,9 @@ impl<'a> Sockets<'a> {
         alloc: Global,
         clients: &'a str,
         readers: Option<&'a str>,
-    ) -> Result<Sockets<'a>, AllocError> {
+    ) -> Result<Sockets<'a>, AllocError>
+        ensures { IfOk result (λ sockets. sockets.readers ≡ readers.entry) }
+    {
         Ok(Sockets {
             clients,
             readers,
@@ -85,6 +91,9 @@ impl<'a> Sockets<'a> {
     ) -> io::Result<Listening>
     where
         R::File: SystemFile,
+        // Whoever comes by the readers' socket only reads; the others have these rights.
+        ensures { IfOk result (λ listening.
+            map rights_of listening.entrances.items ≡ rights_at self.now.readers rights) }
     {
         let clients = self.bind_clients(rt, alloc, mode, made)?;
         let orders = self.bind_stop(rt, alloc, made)?;
@@ -135,6 +144,7 @@ impl<'a> Sockets<'a> {
     ) -> io::Result<Option<UnixListener>>
     where
         R::File: SystemFile,
+        ensures { IfOk result (λ bound. IsSome bound ↔ IsSome self.now.readers) }
     {
         let Some(path) = self.readers else {
             return Ok(None);
@@ -184,7 +194,9 @@ fn listen(
     readers: Option<UnixListener>,
     orders: UnixListener,
     rights: Rights,
-) -> io::Result<Listening> {
+) -> io::Result<Listening>
+    ensures { IfOk result (λ listening. map rights_of listening.entrances.items ≡ rights_at readers rights) }
+{
     let mut entrances = Vec::with_capacity(alloc, 2)?;
     if let Some(readers) = readers {
         entrances.push_reserved(Entrance::new(readers, Rights::Read)?);

@@ -48,9 +48,10 @@ where
         → (result ≡ status_of fault) ⊎ (result ≡ Status.Device) }
     ensures unwritten { (fault : CommandError) → sectors_asked request.entry.sectors.now ≡ Err fault
         → Keeps (W.contents output.old) (W.contents output.new) }
-    // The status is that of the result. On success the lines of a closed log and of a store of the size asked for, which
-    // continues it, were written.
-    ensures carried { IsRotationCarriedOut request.entry.sectors.now (W.contents output.old) (W.contents output.new) result }
+    // The status is that of the result. On success the lines of a closed log and of a store of the size asked for,
+    // which continues it, were written.
+    ensures carried { IsRotationCarriedOut request.entry.sectors.now
+        (W.contents output.old) (W.contents output.new) result }
 {
     let done = perform(rt, alloc, request, output);
     let flushed = output.flush();

@@ -91,7 +91,8 @@ module _ {D : Type 0} (g : sectors.Ghosts D) {T L : Type 0} (M : CallModel T) (N
 
   -- A request was carried out with this result, and the output was then flushed. The program's status is that of the
   -- result, or that of an output that couldn't be flushed.
-  pub record IsServingCarriedOut (request : Request) (input before after : Option (List ℕ)) (status : Status) : Type 0 where
+  pub record IsServingCarriedOut (request : Request) (input before after : Option (List ℕ)) (status : Status)
+      : Type 0 where
     pub done : Result (Unit {0}) ServingError
     pub written : Option (List ℕ)
     pub words : RefusesWords (IsServingFault request) before written done

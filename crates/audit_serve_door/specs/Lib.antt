@@ -3,3 +3,4 @@ pub mod Moves
 pub mod Metered
 pub mod Orders
 pub mod Choice
+pub mod Nonblocking

@@ -13,9 +13,9 @@ pub(crate) struct Incoming {
 
 /// What an attempt to accept a connection gave.
 #[derive(Drop)]
-pub(crate) enum Accepted {
+pub(crate) enum Accepted<T> {
     /// A connection.
-    One(UnixStream),
+    One(T),
     /// None is there now.
     NoneLeft,
     /// One is there, and can't be accepted: descriptors or memory ran out.
@@ -47,7 +47,7 @@ impl Incoming {
     }
 
     /// Accepts a connection, if one is there.
-    pub(crate) fn accept(&mut self) -> Accepted {
+    pub(crate) fn accept(&mut self) -> Accepted<UnixStream> {
         if !self.may_have_some {
             return Accepted::NoneLeft;
         }
@@ -58,7 +58,7 @@ impl Incoming {
     }
 
     // A connection that was given up before it was accepted, or an interrupted call, isn't a lack.
-    fn judge(&mut self, kind: ErrorKind) -> Accepted {
+    fn judge(&mut self, kind: ErrorKind) -> Accepted<UnixStream> {
         if kind == ErrorKind::WouldBlock {
             self.may_have_some = false;
         }

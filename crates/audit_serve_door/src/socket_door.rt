@@ -1,3 +1,5 @@
+ghost use Rattle.std.specs.Prelude.{◌≡◌, map};
+ghost use Rattle.audit_serve_door.specs.Entrances.{rights_of};
 ghost use Rattle.audit_serve_ready.specs.Door.{unknown_door};
 
 use crate::choice::next_entry;
@@ -9,8 +11,6 @@ use crate::limits::{
     MAX_ACCEPTED, MAX_ORDERS, MOST_OF_A_SIDE, finishing_time, gathering_time, looking_time,
     retry_time,
 };
-use crate::metered::Metered;
-use crate::nonblocking::Nonblocking;
 use crate::places::{Candidates, Places};
 use crate::stop_orders::StopOrders;
 use crate::waiting::Waiting;
@@ -18,7 +18,7 @@ use crate::watch::Watch;
 use audit_base::SESSIONS;
 use audit_serve_passes::Rights;
 use audit_serve_ready::{Departure, Door, Newcomer, Next};
-use mio::{Events, Interest, Poll, Registry, Token};
+use mio::{Events, Poll, Registry, Token};
 use std::alloc::Global;
 use std::io::{self, ErrorKind};
 use std::net::Net;
@@ -78,7 +78,8 @@ pub struct SocketDoor<'a, C, J, W> {
 }
 
 impl<'a, C: Clock, J: Journal + Drop, W: Watch + Drop> SocketDoor<'a, C, J, W> {
-    ghost use Rattle.std.specs.Prelude.{◌≡◌, IfSome};
+    ghost use Rattle.std.specs.Prelude.{◌≡◌, map, IfOk, IfSome};
+    ghost use Rattle.audit_serve_door.specs.Entrances.{rights_of, rights_at_arrival, rights_of_door, idle_of_door};
 
     /// Makes a door with these entrances: those of clients that only read come before the others. A client that moves
     /// no byte for the time `idle` is dismissed when another one waits; without that time no client is. No reply leaves
@@ -93,7 +94,14 @@ impl<'a, C: Clock, J: Journal + Drop, W: Watch + Drop> SocketDoor<'a, C, J, W> {
         idle: Option<Duration>,
         journal: J,
         watch: W,
-    ) -> io::Result<SocketDoor<'a, C, J, W>> {
+    ) -> io::Result<SocketDoor<'a, C, J, W>>
+        ensures rights { IfOk result (λ door. rights_of_door door ≡ map rights_of entrances.items) }
+        ensures idle { IfOk result (λ door. idle_of_door door ≡ idle) }
+    {
+        let mut entrances = entrances;
+        let mut orders = orders;
+        let poll = Poll::new(net)?;
+        register_all(poll.registry(), &mut orders, &mut entrances)?;
         let now = Instant::now(clock)?;
         let Ok(events) = Events::with_capacity(alloc, MAX_EVENTS) else {
             return Err(io::Error::from(ErrorKind::OutOfMemory));
@@ -103,11 +111,11 @@ impl<'a, C: Clock, J: Journal + Drop, W: Watch + Drop> SocketDoor<'a, C, J, W> {
         } else {
             SESSIONS
         };
-        let mut door = SocketDoor {
+        Ok(SocketDoor {
             clock,
             journal,
             watch,
-            poll: Poll::new(net)?,
+            poll,
             events,
             entrances,
             orders,
@@ -125,19 +133,7 @@ impl<'a, C: Clock, J: Journal + Drop, W: Watch + Drop> SocketDoor<'a, C, J, W> {
             until: None,
             has_failed: false,
             is_replaced: false,
-        };
-        door.register()?;
-        Ok(door)
-    }
-
-    fn register(&mut self) -> io::Result<()> {
-        let registry = self.poll.registry();
-        self.orders.incoming.register(registry, Token(STOP))?;
-        for (number, entrance) in self.entrances.iter_mut().enumerate() {
-            let token = Token(FIRST_ENTRANCE.wrapping_add(number));
-            entrance.incoming.register(registry, token)?;
-        }
-        Ok(())
+        })
     }
 
     /// Whether serving ended because the system's readiness or clock failed, without an order.
@@ -216,13 +212,8 @@ impl<'a, C: Clock, J: Journal + Drop, W: Watch + Drop> SocketDoor<'a, C, J, W> {
     fn accept_one(&mut self, place: usize) -> Option<Arrival> {
         for _ in 0..2 {
             let entrance = self.entrances.get_mut(place)?;
-            match entrance.incoming.accept() {
-                Accepted::One(stream) => {
-                    return Some(Arrival {
-                        stream,
-                        rights: entrance.rights,
-                    });
-                }
+            match entrance.accept() {
+                Accepted::One(arrival) => return Some(arrival),
                 Accepted::NoneLeft => return None,
                 Accepted::Failed if self.drop_silent() => {}
                 Accepted::Failed => break,
@@ -243,9 +234,7 @@ impl<'a, C: Clock, J: Journal + Drop, W: Watch + Drop> SocketDoor<'a, C, J, W> {
 
     fn admit(&mut self, number: usize, mut arrival: Arrival) {
         let registry = self.poll.registry();
-        let is_watched = registry
-            .register(&mut arrival.stream, Token(number), Interest::READABLE)
-            .is_ok();
+        let is_watched = arrival.register(registry, Token(number)).is_ok();
         if !is_watched || !self.waiting.admit(number, arrival) {
             self.journal.note(Departure::Memory);
         }
@@ -258,24 +247,17 @@ impl<'a, C: Clock, J: Journal + Drop, W: Watch + Drop> SocketDoor<'a, C, J, W> {
         number: usize,
         mut arrival: Arrival,
     ) -> Option<Newcomer<Client>>
-        ensures { IfSome result (λ newcomer. newcomer.rights ≡ arrival.rights) }
+        ensures { IfSome result (λ newcomer. newcomer.rights ≡ rights_at_arrival arrival) }
     {
-        let both = Interest::READABLE | Interest::WRITABLE;
         let registry = self.poll.registry();
-        if registry
-            .reregister(&mut arrival.stream, Token(number), both)
-            .is_err()
-        {
+        if arrival.reregister(registry, Token(number)).is_err() {
             self.waiting.forget(number);
             self.journal.note(Departure::Memory);
             return None;
         }
-        let only_reads = arrival.rights == Rights::Read;
+        let only_reads = arrival.rights() == Rights::Read;
         self.places.take(place, number, only_reads, self.now);
-        Some(Newcomer {
-            stream: Metered::new(Nonblocking::new(arrival.stream)),
-            rights: arrival.rights,
-        })
+        Some(arrival.into_newcomer())
     }
 
     // How long a pause may last: without end while nothing is to be tried again and nobody is to be dismissed.
@@ -377,6 +359,22 @@ impl<'a, C: Clock, J: Journal + Drop, W: Watch + Drop> SocketDoor<'a, C, J, W> {
             Next::Stop
         }
     }
+}
+
+// Has the system report on the sockets of a door.
+fn register_all(
+    registry: &Registry,
+    orders: &mut StopOrders,
+    entrances: &mut [Entrance],
+) -> io::Result<()>
+    ensures { map rights_of entrances.new ≡ map rights_of entrances.old }
+{
+    orders.incoming.register(registry, Token(STOP))?;
+    for number in 0..entrances.len() {
+        let token = Token(FIRST_ENTRANCE.wrapping_add(number));
+        entrances[number].register(registry, token)?;
+    }
+    Ok(())
 }
 
 /// Nothing is known of its calls: who comes, and when, is the system's.

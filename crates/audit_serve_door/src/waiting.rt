@@ -38,7 +38,7 @@ impl Waiting {
         let Some(arrival) = self.silent.remove(&number) else {
             return true;
         };
-        if arrival.rights == Rights::Read {
+        if arrival.rights() == Rights::Read {
             self.readers.insert(number, arrival).is_ok()
         } else {
             self.others.insert(number, arrival).is_ok()

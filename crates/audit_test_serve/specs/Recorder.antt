@@ -1,5 +1,5 @@
 -- For the tests: a core whose sessions end only by `end`.
-use Rattle.std.specs.Prelude.{◌≡◌, ℕ, ◌+◌, Bool, true, false, ◌||◌, if◌then◌else◌, List, [], ◌∷◌, ◌++◌, length}
+use Rattle.std.specs.Prelude.{◌≡◌, ℕ, suc, ◌+◌, Bool, true, false, ◌||◌, if◌then◌else◌, List, [], ◌∷◌, ◌++◌, length}
 use Rattle.std.specs.Prelude.{slice_index_or, slice_set}
 use Rattle.std.proofs.Common.{refl, sym, ap, ◌∙◌, arith}
 use Rattle.std.proofs.lemmas.Bool.{ne_eqb, false≢true}
@@ -22,6 +22,17 @@ recorded_output core k = slice_index_or core.outputs k []
 
 abbrev pub was_fed : RecorderData → ℕ → Bool
 was_fed core k = slice_index_or core.fed k false
+
+-- how many sessions were fed since the last flush
+abbrev pub count_fed : List Bool → ℕ
+count_fed [] = 0
+count_fed (true ∷ fed) = 1 + count_fed fed
+count_fed (false ∷ fed) = count_fed fed
+
+pub none_fed : (fed : List Bool) → ((k : ℕ) → slice_index_or fed k false ≡ false) → count_fed fed ≡ 0
+none_fed [] none = refl
+none_fed (true ∷ fed) none = absurd (false≢true (sym (none 0)))
+none_fed (false ∷ fed) none = none_fed fed (λ k. none (suc k))
 
 -- no session was fed since the last flush
 abbrev pub IsRecorderIdle : RecorderData → Type 0
@@ -78,6 +89,8 @@ recorder_model = record {
   output = recorded_output;
   Idle = IsRecorderIdle;
   owed = recorded_owed;
+  waiting = λ core. count_fed core.fed;
+  none_waits = λ core idle. none_fed core.fed idle;
   requests = λ core k bytes. length bytes;
   longest = 1;
   refusal = 0;

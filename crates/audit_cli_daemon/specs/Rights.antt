@@ -1,0 +1,30 @@
+-- What the clients of a daemon may ask for, by the socket that they come by.
+use Rattle.std.specs.Prelude.{◌≡◌, ◌<◌, ◌*◌, ℕ, Bool, true, false, Option, Some, None, List, [], ◌∷◌}
+use Rattle.std.specs.Duration.{as_nanos}
+use Rattle.std.specs.declared.time.Duration.{Duration}
+use Rattle.audit_serve_passes.specs.declared.rights.Rights.{Rights}
+use Rattle.audit_serve_passes.specs.declared.rights.Rights.TheVariants as rights
+use Rattle.audit_serve_door.specs.Entrances.{rights_of_door, idle_of_door}
+use Rattle.audit_serve_door.specs.declared.socket_door.SocketDoor.{SocketDoor}
+use Rattle.audit_cli_daemon.specs.declared.gauge.GaugedDoor.{GaugedDoor}
+
+-- if there is a socket for readers, its clients only read; those of the other have these rights
+abbrev pub rights_at : {A : Type 0} → Option A → Rights → List Rights
+rights_at None others = others ∷ []
+rights_at (Some readers) others = rights.Read ∷ others ∷ []
+
+-- what the others may ask for: whether they may close the log is asked
+abbrev pub rights_of_others : Bool → Rights
+rights_of_others true = rights.Close
+rights_of_others false = rights.Append
+
+-- this many seconds, or none for ever
+abbrev pub IsIdleTime : ℕ → Option Duration → Type 0
+IsIdleTime seconds None = seconds ≡ 0
+IsIdleTime seconds (Some time) = (0 < seconds) × (as_nanos time ≡ seconds * 1_000_000_000)
+
+-- a door with sockets for clients of these rights, which dismisses clients that are idle for so long
+pub record IsDoorFor {C J W F M : Type 0} (allowed : List Rights) (seconds : ℕ)
+    (door : GaugedDoor (SocketDoor C J W) F M) : Type 0 where
+  pub rights_are : rights_of_door door.door ≡ allowed
+  pub idle : IsIdleTime seconds (idle_of_door door.door)
