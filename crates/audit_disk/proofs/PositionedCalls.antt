@@ -6,7 +6,7 @@ use Rattle.audit_disk_model.specs.View.{View}
 use Rattle.audit_disk_model.specs.Calls.{CountsFailure}
 use Rattle.audit_disk.specs.File.{FileView, sectors_of, FileContinues, OnlyFileReads, IsFileRead, IsRowRead, IsRowWrite, IsFileSync}
 use Rattle.audit_disk.specs.OsFile.{AnswersAlike}
-use Rattle.audit_disk.specs.Positioned.{PositionedView, counted_file, uncounted, ShowsFront, IsPositionedRead, IsPositionedWrite, IsPositionedSync}
+use Rattle.audit_disk.specs.Positioned.{FailsAsCalled, PositionedView, counted_file, uncounted, ShowsFront, IsPositionedRead, IsPositionedWrite, IsPositionedSync}
 use Rattle.audit_base.specs.declared.limits.TheConstants.{SECTOR_SIZE}
 
 alike_counts : {E D : Type 0} (failures failures' : ℕ) (outcome : Result (Unit {0}) E) (result : Result (Unit {0}) D) → AnswersAlike outcome result → CountsFailure failures failures' outcome
@@ -109,16 +109,26 @@ module _ {E D : Type 0} {old new : PositionedView} {failures failures' : ℕ} (o
   pub sync_counted : IsPositionedSync old new outcome → IsFileSync (counted_file old failures) (counted_file new failures') result
   sync_counted sync = sync_recounted failures failures' outcome result alike (alike_counts failures failures' outcome result alike counts) (sync.counted failures failures' counts)
 
+-- a failure was counted for an error
+counted_cause : {E D : Type 0} (old new : FileView) (outcome : Result (Unit {0}) E) (result : Result (Unit {0}) D) → AnswersAlike outcome result → CountsFailure old.failures new.failures outcome → FailsAsCalled (uncounted old) (uncounted new) result
+counted_cause old new (Ok done) (Ok done') alike counts = record { fails = tt; still = λ was. omega (arith, was, counts) }
+counted_cause old new (Err fault) (Err fault') alike counts = record { fails = omega (arith, counts); still = λ was. omega (arith, was, counts) }
+counted_cause old new (Ok done) (Err fault) alike counts = absurd (false≢true alike)
+counted_cause old new (Err fault) (Ok done) alike counts = absurd (false≢true alike)
+
 -- calls of a file that counts, stated without its count
 module _ {E D : Type 0} {old new : FileView} (outcome : Result (Unit {0}) E) (result : Result (Unit {0}) D) (alike : AnswersAlike outcome result) where
+  fails_as_counted : CountsFailure old.failures new.failures outcome → FailsAsCalled (uncounted old) (uncounted new) result
+  fails_as_counted counts = counted_cause old new outcome result alike counts
+
   pub row_uncounted : {offset count : ℕ} {sectors : Image} → IsRowRead old new offset count sectors outcome → IsPositionedRead (uncounted old) (uncounted new) offset count sectors result
-  row_uncounted is = record { counted = λ failures failures' counts. row_recounted failures failures' outcome result alike counts is }
+  row_uncounted is = record { counted = λ failures failures' counts. row_recounted failures failures' outcome result alike counts is; cause = fails_as_counted is.failures }
 
   pub write_uncounted : {offset : ℕ} {row : List Sector} → IsRowWrite old new offset row outcome → IsPositionedWrite (uncounted old) (uncounted new) offset row result
-  write_uncounted is = record { counted = λ failures failures' counts. write_recounted failures failures' outcome result alike counts is }
+  write_uncounted is = record { counted = λ failures failures' counts. write_recounted failures failures' outcome result alike counts is; cause = fails_as_counted is.failures }
 
   pub sync_uncounted : IsFileSync old new outcome → IsPositionedSync (uncounted old) (uncounted new) result
-  sync_uncounted is = record { counted = λ failures failures' counts. sync_recounted failures failures' outcome result alike counts is }
+  sync_uncounted is = record { counted = λ failures failures' counts. sync_recounted failures failures' outcome result alike counts is; cause = fails_as_counted is.failures }
 
 -- a row of one sector is that sector
 pub row_of_one : {E : Type 0} {old new : FileView} {offset : ℕ} {into : Sector} (result : Result (Unit {0}) E) → IsRowRead old new offset 1 (into ∷ []) result → IsFileRead old new offset into result

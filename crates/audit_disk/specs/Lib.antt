@@ -23,6 +23,7 @@ pub mod Reading
 pub mod SectorSource
 -- Views of devices and files, with their laws.
 pub mod FileView
+pub mod Folder
 pub mod HeldLaws
 pub mod KeptRow
 pub mod MemFile

@@ -1,5 +1,5 @@
 -- A file with calls at offsets, without a count of failed calls.
-use Rattle.std.specs.Prelude.{◌≡◌, ℕ, ◌*◌, ◌≤◌, List, [], length, Result, IfOk}
+use Rattle.std.specs.Prelude.{◌≡◌, ℕ, ◌*◌, ◌≤◌, List, [], length, Result, IfOk, OnErr}
 use Rattle.std.specs.Coded.{Unit-prop}
 use Rattle.audit_disk_model.specs.Image.{Sector, Image}
 use Rattle.audit_disk_model.specs.View.{View}
@@ -13,6 +13,8 @@ pub record PositionedView : Type 1 where
   pub moment : ℕ
   pub left_at : ℕ → List ℕ → Type 0
   pub gave : ℕ → Sector → Type 0
+  -- a call of it has failed
+  pub failed : Type 0
   pub honest : Type 0
   pub given_once : (offset : ℕ) (bytes : Sector) → IsProp (gave offset bytes)
   pub bytes_left : honest → left_at moment bytes
@@ -39,6 +41,7 @@ uncounted file = record {
   moment = file.moment;
   left_at = file.left_at;
   gave = file.gave;
+  failed = 1 ≤ file.failures;
   honest = file.honest;
   given_once = file.given_once;
   bytes_left = file.bytes_left;
@@ -52,28 +55,37 @@ unknown_positioned = record {
   moment = 0;
   left_at = λ moment file. ⊥;
   gave = λ offset bytes. Unit {0};
+  failed = Unit {0};
   honest = ⊥;
   given_once = λ offset bytes. Unit-prop;
   bytes_left = λ honest. absurd honest;
   same_length = λ honest. absurd honest;
 }
 
+-- An error is that of a failed call, which stays known.
+pub record FailsAsCalled {E : Type 0} (old new : PositionedView) (result : Result (Unit {0}) E) : Type 0 where
+  pub fails : OnErr result new.failed
+  pub still : old.failed → new.failed
+
 -- A read of `count` consecutive sectors, whatever count of failed calls is kept beside the file.
 pub record IsPositionedRead {E : Type 0} (old new : PositionedView) (offset count : ℕ) (sectors : Image)
     (result : Result (Unit {0}) E) : Type 0 where
   pub counted : (failures failures' : ℕ) → CountsFailure failures failures' result
       → IsRowRead (counted_file old failures) (counted_file new failures') offset count sectors result
+  pub cause : FailsAsCalled old new result
 
 -- A write of consecutive sectors, whatever count is kept.
 pub record IsPositionedWrite {E : Type 0} (old new : PositionedView) (offset : ℕ) (row : List Sector)
     (result : Result (Unit {0}) E) : Type 0 where
   pub counted : (failures failures' : ℕ) → CountsFailure failures failures' result
       → IsRowWrite (counted_file old failures) (counted_file new failures') offset row result
+  pub cause : FailsAsCalled old new result
 
 -- A sync, whatever count is kept.
 pub record IsPositionedSync {E : Type 0} (old new : PositionedView) (result : Result (Unit {0}) E) : Type 0 where
   pub counted : (failures failures' : ℕ) → CountsFailure failures failures' result
       → IsFileSync (counted_file old failures) (counted_file new failures') result
+  pub cause : FailsAsCalled old new result
 
 -- Nothing changed, and the number is the length in bytes.
 pub record IsMeasured {E : Type 0} (old new : PositionedView) (result : Result ℕ E) : Type 0 where

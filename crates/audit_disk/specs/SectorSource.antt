@@ -1,5 +1,5 @@
 -- Sectors that are only read.
-use Rattle.std.specs.Prelude.{◌≡◌, ℕ, ◌^◌, ◌<◌, OnOk}
+use Rattle.std.specs.Prelude.{◌≡◌, ℕ, ◌^◌, ◌<◌, ◌≤◌, OnOk}
 use Rattle.audit_disk_model.specs.Image.{Sector, Image, IsWhole, sector_at}
 use Rattle.audit_disk_model.specs.View.{View}
 use Rattle.audit_disk_model.specs.Calls.{Outcome}
@@ -10,6 +10,8 @@ pub record SourceView : Type 1 where
   pub size : ℕ
   -- what a successful read returns, sector by sector
   pub content : Image
+  -- a read of it has failed
+  pub failed : Type 0
   -- the source behaves as described here
   pub honest : Type 0
   pub size_fits : size < 2 ^ 64
@@ -25,12 +27,14 @@ pub record IsSameSource (old new : SourceView) : Type 0 where
   pub honest : old.honest → new.honest
   pub was_honest : new.honest → old.honest
   pub content : old.honest → new.content ≡ old.content
+  pub failed : old.failed → new.failed
 
 -- a device as a source
 abbrev pub source_of : View → SourceView
 source_of view = record {
   size = view.size;
   content = view.content;
+  failed = 1 ≤ view.failures;
   honest = view.honest;
   size_fits = view.size_fits;
   whole = λ honest. view.whole honest view.clock view.content (view.content_left honest);

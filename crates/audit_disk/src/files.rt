@@ -10,6 +10,7 @@ ghost use Rattle.audit_disk.specs.FileDisk.{IsFreshFile, file_disk_view};
 ghost use Rattle.audit_disk.specs.FileFacts.{IsOpenedAs, IsFrontOfOpened, IsWholeOpened, IsMadeDevice, KeepsFacts};
 ghost use Rattle.audit_disk.specs.FileFacts.{IsLaidOut};
 ghost use Rattle.audit_disk.specs.FileFaults.{IsLockingFault};
+ghost use Rattle.audit_disk.specs.Folder.{folder_of};
 ghost use Rattle.audit_disk.specs.MemDisk.{IsFresh};
 ghost use Rattle.audit_disk.specs.declared.guards.Hold.TheVariants.{Alone, Shared};
 ghost use Rattle.audit_disk.specs.Positioned.{ShowsFront, IsUncalled};
@@ -45,7 +46,7 @@ impl<F: SystemFile> FileDisk<OsFile<F>> {
         ensures fresh { IfOk result IsFreshFile }
         ensures made { IfOk result (λ disk. IsMadeDevice F.facts F.positioned
             path.now OWNER_ONLY sectors (file_disk_view disk)) }
-        ensures named { OnOk result ((folder : List ℕ) × R.synced rt.now folder) }
+        ensures named { OnOk result (R.synced rt.now (folder_of path.now)) }
         ensures length { IsErrOf result FileFault.Length ↔ (2 ^ 64 ≤ SECTOR_SIZE * sectors) }
     {
         FileDisk::create_with_mode(rt, alloc, path, sectors, OWNER_ONLY)
@@ -64,7 +65,7 @@ impl<F: SystemFile> FileDisk<OsFile<F>> {
         ensures fresh { IfOk result IsFreshFile }
         ensures made { IfOk result (λ disk. IsMadeDevice F.facts F.positioned
             path.now mode sectors (file_disk_view disk)) }
-        ensures named { OnOk result ((folder : List ℕ) × R.synced rt.now folder) }
+        ensures named { OnOk result (R.synced rt.now (folder_of path.now)) }
         ensures length { IsErrOf result FileFault.Length ↔ (2 ^ 64 ≤ SECTOR_SIZE * sectors) }
     {
         let Some(length) = sectors.checked_mul(SECTOR_SIZE as u64) else {
@@ -285,7 +286,7 @@ fn take_and_lay_out<R: SystemFiles<File = F>, F: SystemFile>(
     ensures laid_out { OnOk result ((F.facts file.new).laid_out length) }
     ensures kept { OnOk result (KeepsFacts (F.facts file.old) (F.facts file.new)) }
     ensures bytes { OnOk result (IsLaidOut (F.positioned file.old) (F.positioned file.new) length result) }
-    ensures named { OnOk result ((folder : List ℕ) × R.synced rt.now folder) }
+    ensures named { OnOk result (R.synced rt.now (folder_of path.now)) }
     ensures fault { IfErr result (λ fault. (fault ≡ FileFault.Io) ⊎ (fault ≡ FileFault.InUse)) }
 {
     file.try_lock()?;
@@ -301,11 +302,17 @@ fn take_and_lay_out<R: SystemFiles<File = F>, F: SystemFile>(
 fn sync_name<R: SystemFiles>(rt: &R, path: &str) -> io::Result<()>
 where
     R::File: SystemFile,
-    ensures { OnOk result ((folder : List ℕ) × R.synced rt.now folder) }
+    ensures { OnOk result (R.synced rt.now (folder_of path.now)) }
 {
-    let folder = match Path::new(path).parent() {
+    rt.sync_folder(folder_of(path))
+}
+
+/// Returns the folder that has the name of what is at a path.
+fn folder_of(path: &str) -> &str
+    ensures { result.now ≡ folder_of path.now }
+{
+    match Path::new(path).parent() {
         Some(folder) if !folder.as_str().is_empty() => folder.as_str(),
         _ => ".",
-    };
-    rt.sync_folder(folder)
+    }
 }

@@ -71,7 +71,7 @@ impl Sectors for MemDisk {
 }
 
 impl SectorSource for MemDisk {
-    ghost use Rattle.std.specs.Prelude.{IsOk};
+    ghost use Rattle.std.specs.Prelude.{IsOk, OnErr};
     ghost use Rattle.audit_disk.specs.MemDisk.{disk_view};
     ghost use Rattle.audit_disk.specs.SectorSource.{source_of, IsSourceRead, IsSameSource};
 
@@ -86,6 +86,7 @@ impl SectorSource for MemDisk {
         requires { at < (disk_view self.old).size }
         ensures read { IsSourceRead (source_of (disk_view self.old)) at into.new result }
         ensures same { IsSameSource (source_of (disk_view self.old)) (source_of (disk_view self.new)) }
+        ensures fails { OnErr result (source_of (disk_view self.new)).failed }
         ensures succeeds { IsOk result }
     {
         let block = &self.content[at as usize];

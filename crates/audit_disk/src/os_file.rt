@@ -1,7 +1,6 @@
 ghost use Rattle.std.specs.Prelude.{◌≡◌};
 ghost use Rattle.audit_disk_model.specs.Calls.{CountsFailure};
 ghost use Rattle.audit_disk.specs.OsFile.{AnswersAlike};
-ghost use Rattle.audit_disk.specs.Positioned.{counted_file};
 
 use crate::counting::counted;
 use crate::guards::Guards;
@@ -48,30 +47,59 @@ impl<F: SystemFile> OsFile<F> {
     }
 }
 
+// Each error is that of a failed call of the file below.
 impl<F: PositionedFile> SectorFile for OsFile<F> {
-    ghost file = { λ it. counted_file (F.positioned it.file) it.failures };
+    ghost use Rattle.std.specs.Prelude.{OnErr, length};
+    ghost use Rattle.audit_disk.specs.File.{IsSectorOffset, IsRowOffset};
+    ghost use Rattle.audit_disk.specs.File.{IsFileRead, IsRowRead, IsFileWrite, IsRowWrite, IsFileSync};
+    ghost use Rattle.audit_disk.specs.OsFile.{os_file_view, file_below};
 
-    fn read_at(&mut self, offset: u64, into: &mut [u8; SECTOR_SIZE]) -> Result<(), DeviceFault> {
+    ghost file = { os_file_view F.positioned };
+
+    fn read_at(&mut self, offset: u64, into: &mut [u8; SECTOR_SIZE]) -> Result<(), DeviceFault>
+        requires { IsSectorOffset (os_file_view F.positioned self.old) offset }
+        ensures read { IsFileRead (os_file_view F.positioned self.old) (os_file_view F.positioned self.new)
+            offset into.new result }
+        ensures cause { OnErr result (F.positioned (file_below self.new)).failed }
+    {
         let outcome = self.file.read_exact_at(slice::from_mut(into), offset);
         counted_call(outcome, &mut self.failures)
     }
 
-    fn read_row(&mut self, offset: u64, into: &mut [[u8; SECTOR_SIZE]]) -> Result<(), DeviceFault> {
+    fn read_row(&mut self, offset: u64, into: &mut [[u8; SECTOR_SIZE]]) -> Result<(), DeviceFault>
+        requires { IsRowOffset (os_file_view F.positioned self.old) offset (length into.old) }
+        ensures read { IsRowRead (os_file_view F.positioned self.old) (os_file_view F.positioned self.new)
+            offset (length into.old) into.new result }
+        ensures cause { OnErr result (F.positioned (file_below self.new)).failed }
+    {
         let outcome = self.file.read_exact_at(into, offset);
         counted_call(outcome, &mut self.failures)
     }
 
-    fn write_at(&mut self, offset: u64, bytes: &[u8; SECTOR_SIZE]) -> Result<(), DeviceFault> {
+    fn write_at(&mut self, offset: u64, bytes: &[u8; SECTOR_SIZE]) -> Result<(), DeviceFault>
+        requires { IsSectorOffset (os_file_view F.positioned self.old) offset }
+        ensures write { IsFileWrite (os_file_view F.positioned self.old) (os_file_view F.positioned self.new)
+            offset bytes.now result }
+        ensures cause { OnErr result (F.positioned (file_below self.new)).failed }
+    {
         let outcome = self.file.write_all_at(slice::from_ref(bytes), offset);
         counted_call(outcome, &mut self.failures)
     }
 
-    fn write_row(&mut self, offset: u64, row: &[[u8; SECTOR_SIZE]]) -> Result<(), DeviceFault> {
+    fn write_row(&mut self, offset: u64, row: &[[u8; SECTOR_SIZE]]) -> Result<(), DeviceFault>
+        requires { IsRowOffset (os_file_view F.positioned self.old) offset (length row.now) }
+        ensures write { IsRowWrite (os_file_view F.positioned self.old) (os_file_view F.positioned self.new)
+            offset row.now result }
+        ensures cause { OnErr result (F.positioned (file_below self.new)).failed }
+    {
         let outcome = self.file.write_all_at(row, offset);
         counted_call(outcome, &mut self.failures)
     }
 
-    fn sync(&mut self) -> Result<(), DeviceFault> {
+    fn sync(&mut self) -> Result<(), DeviceFault>
+        ensures sync { IsFileSync (os_file_view F.positioned self.old) (os_file_view F.positioned self.new) result }
+        ensures cause { OnErr result (F.positioned (file_below self.new)).failed }
+    {
         let outcome = self.file.sync_data();
         counted_call(outcome, &mut self.failures)
     }

@@ -1,4 +1,4 @@
-ghost use Rattle.std.specs.Prelude.{◌≡◌, ◌<◌, ◌≤◌};
+ghost use Rattle.std.specs.Prelude.{◌≡◌, ◌<◌, ◌≤◌, OnErr};
 ghost use Rattle.audit_disk_model.specs.Calls.{CountsFailure};
 ghost use Rattle.audit_disk.specs.ReadOnly.{IsReadThrough};
 ghost use Rattle.audit_disk.specs.SectorSource.{IsSameSource};
@@ -51,7 +51,7 @@ impl<'a, S: SectorSource> ReadOnly<'a, S> {
 }
 
 impl<S: SectorSource> Sectors for ReadOnly<'_, S> {
-    ghost use Rattle.std.specs.Prelude.{◌+◌, ◌≤◌, IsOk};
+    ghost use Rattle.std.specs.Prelude.{◌+◌, ◌≤◌, IsOk, OnErr};
     ghost use Rattle.audit_disk_model.specs.View.{last_count};
     ghost use Rattle.audit_disk_model.specs.Calls.{IsRead, IsWrite, IsSync};
     ghost use Rattle.audit_disk.specs.ReadOnly.{overlay_view};
@@ -73,6 +73,7 @@ impl<S: SectorSource> Sectors for ReadOnly<'_, S> {
         requires { at < (read_only_view S.source self.old).size }
         ensures read { IsRead (read_only_view S.source self.old) (read_only_view S.source self.new) at into.new result }
         ensures spare { spare_calls self.new ≡ spare_calls self.old }
+        ensures cause { OnErr result (S.source (source_under self.new)).failed }
     {
         read_through(self.source, &mut self.log, at, into)
     }
@@ -113,6 +114,7 @@ fn read_through<S: SectorSource>(
     ensures calls { log.new.calls ≡ log.old.calls }
     ensures clock { log.new.clock ≡ log.old.clock }
     ensures more { log.old.failures ≤ log.new.failures }
+    ensures cause { OnErr result (S.source source.new).failed }
 {
     if let Some(block) = last_written(&log.calls, at as usize) {
         let bytes = block.bytes;

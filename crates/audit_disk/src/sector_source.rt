@@ -1,4 +1,4 @@
-ghost use Rattle.std.specs.Prelude.{◌≡◌, ◌<◌};
+ghost use Rattle.std.specs.Prelude.{◌≡◌, ◌<◌, OnErr};
 ghost use Rattle.audit_disk.specs.SectorSource.{SourceView, IsSourceRead, IsSameSource};
 
 use crate::{DeviceFault, SECTOR_SIZE};
@@ -16,5 +16,6 @@ pub trait SectorSource {
     fn read_sector(&mut self, at: u64, into: &mut [u8; SECTOR_SIZE]) -> Result<(), DeviceFault>
         requires { at < (source self.old).size }
         ensures read { IsSourceRead (source self.old) at into.new result }
-        ensures same { IsSameSource (source self.old) (source self.new) };
+        ensures same { IsSameSource (source self.old) (source self.new) }
+        ensures fails { OnErr result (source self.new).failed };
 }

@@ -73,7 +73,7 @@ impl SectorSource for Unreadable {
     ghost use Rattle.audit_disk.specs.SectorSource.{source_of};
     ghost use Rattle.audit_store.specs.Dishonest.{dishonest};
 
-    ghost source = { λ it. source_of (dishonest (disk_view it.disk)) };
+    ghost source = { λ it. record (source_of (dishonest (disk_view it.disk))) { failed = Unit {0} } };
 
     fn sectors(&self) -> u64 {
         self.disk.sectors()

@@ -9,8 +9,8 @@ read_exact_at-outcome-requires g c = record {
   fits = omega (arith, c.requires.multiple, c.ranges.offset.fits, c.from_mut.ensures.len);
 }
 
-pub returns : goal.returns
-returns g c =
+pub returns-clause-read : goal.returns-clause-read
+returns-clause-read g c =
     let old = g.F.PositionedFile.positioned c.args.self.now.file in
     let new = g.F.PositionedFile.positioned c.read_exact_at-outcome.new.self in
     row_of_one c.counted_call.result

@@ -14,8 +14,8 @@ write_all_at-outcome-requires g c = record {
   fits = omega (arith, c.requires.multiple, c.ranges.offset.fits, c.from_ref.ensures.len);
 }
 
-pub returns : goal.returns
-returns g c =
+pub returns-clause-write : goal.returns-clause-write
+returns-clause-write g c =
     let old = g.F.PositionedFile.positioned c.args.self.now.file in
     let new = g.F.PositionedFile.positioned c.write_all_at-outcome.new.self in
     write_of_one c.counted_call.result
