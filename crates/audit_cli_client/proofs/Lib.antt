@@ -1,2 +1,3 @@
 mod AddedLines
 pub mod StateLines
+pub mod AskedQuestions

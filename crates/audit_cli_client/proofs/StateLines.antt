@@ -14,7 +14,7 @@ use Rattle.audit_text.proofs.FirstLine.{first_of_lines}
 use Rattle.audit_cli_offline.specs.CommitmentWord.{commitment_in_word}
 use Rattle.audit_cli_client.specs.declared.fault.RemoteError.{RemoteError}
 use Rattle.audit_cli_client.specs.declared.state_lines.Tail.{Tail}
-use Rattle.audit_cli_client.specs.State.{AreLinesOf, ReadsLast, ReadsTail, HoldsLines, HoldsState, IsCutOff, IsStored, lacks_feed, line_after, commitment_word, onto_kept, kept_in_lines, kept_in}
+use Rattle.audit_cli_client.specs.State.{AreLinesOf, ReadsLast, ReadsTail, HoldsLines, HoldsState, IsCutOffAfter, IsStored, lacks_feed, line_after, commitment_word, onto_kept, kept_in_lines, kept_in}
 use Rattle.audit_cli_client.proofs.AddedLines.{no_lines, after_whole, line_added, word_read}
 
 -- whole lines of these commitments were read, and the rest remains
@@ -168,7 +168,7 @@ lines_kept (line ∷ lines) (one ∷ kept) are =
     let later : AreLinesOf lines kept = cc in
     ap (λ (o : Option Commitment). onto_kept o (kept_in_lines lines)) first ∙ ap (λ (l : List Commitment). one ∷ l) (lines_kept lines kept later)
 
-none_torn : (front rest : List ℕ) → IsCutOff front rest → kept_in (front ++ rest) ≡ kept_in front
+none_torn : (front rest : List ℕ) → IsCutOffAfter front rest → kept_in (front ++ rest) ≡ kept_in front
 none_torn front rest (inl none) = ap (λ (l : List ℕ). kept_in (front ++ l)) none ∙ ap kept_in (append-nil front)
 none_torn front rest (inr torn) =
     kept_after front rest torn.0 ∙ ap (λ (l : List (List ℕ)). kept_in front ++ kept_in_lines l) torn.1

@@ -93,7 +93,8 @@ IsNoTask text long window timeout =
 
 -- one of the words that are checked before the socket is opened is wrong
 abbrev pub HasRefusedWord : Request → Type 0
-HasRefusedWord (Ask socket question timeout) = IsNoSocketPath socket.now 0 ⊎ AreNoSeconds timeout
+HasRefusedWord (Ask socket words timeout) =
+    IsNoSocketPath socket.now 0 ⊎ ((question_in words.0.now words.1 words.2 words.3 ≡ None) ⊎ AreNoSeconds timeout)
 HasRefusedWord (Send socket text long window timeout) =
     IsNoSocketPath socket.now 0 ⊎ IsNoTask text long window timeout
 HasRefusedWord (Watch socket state every timeout is_quiet) =

@@ -45,12 +45,12 @@ remote_status StateInUse = ends.Device
 remote_status (NotAcknowledged lines first) = ends.Device
 
 -- A later try may succeed: the server isn't there or doesn't answer, or another witness looks.
-abbrev pub is_passing : RemoteError → Bool
-is_passing (NoConnection kind) = true
-is_passing StateInUse = true
-is_passing (Server client.Ended) = true
-is_passing (Server client.TimedOut) = true
-is_passing _ = false
+abbrev pub is_passing_fault : RemoteError → Bool
+is_passing_fault (NoConnection kind) = true
+is_passing_fault StateInUse = true
+is_passing_fault (Server client.Ended) = true
+is_passing_fault (Server client.TimedOut) = true
+is_passing_fault _ = false
 
 -- there is no connection, for any cause
 abbrev pub IsNoConnection : RemoteError → Type 0

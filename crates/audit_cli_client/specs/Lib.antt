@@ -4,3 +4,5 @@ pub mod Sent
 pub mod State
 pub mod Alarm
 pub mod Arguments
+pub mod Asked
+pub mod Requests

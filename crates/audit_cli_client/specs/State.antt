@@ -50,8 +50,8 @@ ReadsLast before line tail =
     × (commitment_in_word line ≡ None))
 
 -- nothing, or what is left of a line that was cut off, after whole lines
-abbrev pub IsCutOff : List ℕ → List ℕ → Type 0
-IsCutOff front torn = (torn ≡ []) ⊎ ((lacks_feed front ≡ false) × (lines_of torn ≡ torn ∷ []) × IsTorn torn
+abbrev pub IsCutOffAfter : List ℕ → List ℕ → Type 0
+IsCutOffAfter front torn = (torn ≡ []) ⊎ ((lacks_feed front ≡ false) × (lines_of torn ≡ torn ∷ []) × IsTorn torn
     × (commitment_in_word torn ≡ None))
 
 -- A text is the lines of these commitments, and then what is left of a line that was cut off, if one was. It is known
@@ -63,7 +63,7 @@ pub record HoldsLines (text : List ℕ) (kept : List Commitment) (torn : ℕ) (l
   pub lines : AreLinesOf (lines_of front) kept
   pub torn_is : torn ≡ length rest
   pub lacks_is : lacks ≡ lacks_feed front
-  pub cut : IsCutOff front rest
+  pub cut : IsCutOffAfter front rest
 
 abbrev pub ReadsTail : List ℕ → Tail → Type 0
 ReadsTail text tail = HoldsLines text tail.kept.items tail.torn tail.lacks_feed

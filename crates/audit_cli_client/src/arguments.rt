@@ -1,5 +1,5 @@
 //! Arguments that are checked here, not by the command line's parser.
-ghost use Rattle.std.specs.Prelude.{◌≡◌, IfErr};
+ghost use Rattle.std.specs.Prelude.{◌≡◌, Err, None, IfErr};
 ghost use Rattle.audit_cli_client.specs.Arguments.{judged_number, seconds_asked, window_asked};
 ghost use Rattle.audit_cli_client.specs.Arguments.{question_in, judged_question};
 ghost use Rattle.audit_text.specs.Number.{number_in_text};
@@ -42,6 +42,8 @@ pub type QuestionWords<'a> = (&'a str, Option<&'a str>, Option<&'a str>, Option<
 /// `BadArgument`. The numbers themselves are judged by the server.
 pub fn question_asked<'a>(words: QuestionWords<'a>) -> Result<Question<'a>, CommandError>
     ensures asked { result ≡ judged_question (question_in words.entry.0.now words.entry.1 words.entry.2 words.entry.3) }
+    ensures wrong { question_in words.entry.0.now words.entry.1 words.entry.2 words.entry.3 ≡ None
+        → result ≡ Err CommandError.BadArgument }
     ensures fault { IfErr result (λ fault. fault ≡ CommandError.BadArgument) }
 {
     match question_in(words) {

@@ -1,4 +1,16 @@
 //! Questions to a server, whose answers are written to files.
+ghost use Rattle.std.specs.Prelude.{◌≡◌, ◌⊎◌, ℕ, List, Option, Ok, Err, IsOk, IfOk, IfErr, OnOk};
+ghost use Rattle.std.specs.Io.KnownBytes.{Appends};
+ghost use Rattle.audit_text.specs.NumberedLine.{numbered_line};
+ghost use Rattle.audit_proof.specs.declared.commitment.Commitment.{Commitment};
+ghost use Rattle.audit_client.specs.declared.fault.ClientError.{ClientError};
+ghost use Rattle.audit_client.specs.declared.putting.AskError.{AskError};
+ghost use Rattle.audit_client.specs.Failing.{FailsPutting, FailsPuttingOne, FailsExport, IsUnasked};
+ghost use Rattle.audit_client.specs.Putting.{AreGivenEntries};
+ghost use Rattle.audit_cli_client.specs.declared.fault.RemoteError.{RemoteError};
+ghost use Rattle.audit_cli_client.specs.Asked.{AsksOnly, PrintsAnswer, IsGivenEvidence, FailsEvidence};
+ghost use Rattle.audit_cli_client.specs.Faults.{of_asking};
+
 use crate::arguments::{Evidence, Question};
 use crate::connection::{connect, socket_identity};
 use crate::fault::RemoteError;
@@ -44,7 +56,8 @@ pub fn ask_socket<F: Files + Dial + Clock, W: Write>(
     asked
 }
 
-fn answer<F: Files, A: Write, B: Read, W: Write>(
+/// Asks a question over a connection, puts its answer, and prints its line. Nothing else is asked, whatever happens.
+pub fn answer<F: Files, A: Write, B: Read, W: Write>(
     rt: &F,
     alloc: Global,
     socket: FileIdentity,
@@ -52,7 +65,12 @@ fn answer<F: Files, A: Write, B: Read, W: Write>(
     from: &mut B,
     question: Question<'_>,
     output: &mut W,
-) -> Result<(), RemoteError> {
+) -> Result<(), RemoteError>
+    ensures asked { AsksOnly (A.contents to.old) (A.contents to.new) (B.remaining from.old) (B.remaining from.new)
+        question.entry result }
+    ensures printed { OnOk result (PrintsAnswer (A.contents to.old) (A.contents to.new) (B.remaining from.old)
+        (B.remaining from.new) (W.contents output.old) (W.contents output.new) question.entry) }
+{
     match question {
         Question::Commitment => {
             let newest = newest_commitment(alloc, to, from);
@@ -80,7 +98,11 @@ fn print_commitment<W: Write>(
     word: &[u8],
     given: Result<Commitment, ClientError>,
     output: &mut W,
-) -> Result<(), RemoteError> {
+) -> Result<(), RemoteError>
+    ensures printed { OnOk result ((shown : Commitment) × (given ≡ Ok shown) × Appends (W.contents output.old)
+        (W.contents output.new) (numbered_line word.now shown.count shown.root)) }
+    ensures fault { (error : ClientError) → given ≡ Err error → result ≡ Err (RemoteError.Server error) }
+{
     let commitment = given?;
     let mut line = Vec::new(alloc);
     put_line(&mut line, word, commitment.count, &commitment.root)?;
@@ -94,13 +116,35 @@ fn put_evidence<A: Write, B: Read, O: Out>(
     from: &mut B,
     evidence: Evidence,
     file: &mut O,
-) -> Result<u64, AskError<O::Error>> {
+) -> Result<u64, AskError<O::Error>>
+    ensures given { OnOk result ((bytes : List ℕ) × IsGivenEvidence (A.contents to.old) (A.contents to.new)
+        (B.remaining from.old) (B.remaining from.new) evidence bytes) }
+    ensures fault { IfErr result (FailsPuttingOne (IsGivenEvidence (A.contents to.old) (A.contents to.new)
+        (B.remaining from.old) (B.remaining from.new) evidence) (FailsEvidence (A.contents to.old)
+        (A.contents to.new) (B.remaining from.old) (B.remaining from.new) evidence)) }
+{
     match evidence {
         Evidence::Entry(index) => put_entry(alloc, to, from, index, file),
-        Evidence::Proof(ProofRequest::Member { index, count }) => {
-            put_member(alloc, to, from, index, count, file)
-        }
-        Evidence::Proof(ProofRequest::Increment { older, newer }) => {
+        Evidence::Proof(proof) => put_proof(alloc, to, from, proof, file),
+    }
+}
+
+fn put_proof<A: Write, B: Read, O: Out>(
+    alloc: Global,
+    to: &mut A,
+    from: &mut B,
+    proof: ProofRequest,
+    file: &mut O,
+) -> Result<u64, AskError<O::Error>>
+    ensures given { OnOk result ((bytes : List ℕ) × IsGivenEvidence (A.contents to.old) (A.contents to.new)
+        (B.remaining from.old) (B.remaining from.new) (Evidence.Proof proof) bytes) }
+    ensures fault { IfErr result (FailsPuttingOne (IsGivenEvidence (A.contents to.old) (A.contents to.new)
+        (B.remaining from.old) (B.remaining from.new) (Evidence.Proof proof)) (FailsEvidence (A.contents to.old)
+        (A.contents to.new) (B.remaining from.old) (B.remaining from.new) (Evidence.Proof proof))) }
+{
+    match proof {
+        ProofRequest::Member { index, count } => put_member(alloc, to, from, index, count, file),
+        ProofRequest::Increment { older, newer } => {
             put_increment(alloc, to, from, older, newer, file)
         }
     }
@@ -113,7 +157,10 @@ fn print_evidence<F: Files, W: Write>(
     put: Result<u64, AskError<RemoteError>>,
     file: &OutFile<'_, F>,
     output: &mut W,
-) -> Result<(), RemoteError> {
+) -> Result<(), RemoteError>
+    ensures put { OnOk result (IsOk put) }
+    ensures fault { (given : AskError RemoteError) → put ≡ Err given → result ≡ Err (of_asking given) }
+{
     let size = put?;
     if let Some(bytes) = file.held() {
         write_whole(output, bytes)?;
@@ -137,7 +184,15 @@ fn export_to<F: Files, A: Write, B: Read>(
     to: &mut A,
     from: &mut B,
     out: &str,
-) -> Result<Export, AskError<RemoteError>> {
+) -> Result<Export, AskError<RemoteError>>
+    ensures given { OnOk result ((bytes : List ℕ) × AreGivenEntries (A.contents to.old) (A.contents to.new)
+        (B.remaining from.old) (B.remaining from.new) bytes) }
+    ensures fault { IfErr result (FailsPutting ⊥ (IsUnasked (A.contents to.old) (A.contents to.new)
+        (B.remaining from.old) (B.remaining from.new) ⊎ ((bytes : List ℕ) × AreGivenEntries (A.contents to.old)
+        (A.contents to.new) (B.remaining from.old) (B.remaining from.new) bytes)) (λ error. (old new : Option (List ℕ))
+        × FailsExport (A.contents to.old) (A.contents to.new) (B.remaining from.old) (B.remaining from.new)
+        old new error)) }
+{
     if is_standard_output(out) || !can_be_replaced(rt, out) {
         return Err(AskError::Out(RemoteError::Command(CommandError::BadArgument)));
     }
@@ -150,7 +205,10 @@ fn print_export<W: Write>(
     alloc: Global,
     put: Result<Export, AskError<RemoteError>>,
     output: &mut W,
-) -> Result<(), RemoteError> {
+) -> Result<(), RemoteError>
+    ensures put { OnOk result (IsOk put) }
+    ensures fault { (given : AskError RemoteError) → put ≡ Err given → result ≡ Err (of_asking given) }
+{
     let export = put?;
     Ok(write_exported(alloc, export.count, export.size, output)?)
 }

@@ -1,6 +1,6 @@
 ghost use Rattle.std.specs.Prelude.{◌≡◌, option_map};
 ghost use Rattle.audit_cli_client.specs.Faults.{no_memory, remote_status, status_of_server, of_sending, judgment_of};
-ghost use Rattle.audit_cli_client.specs.Faults.{judgment_in, is_passing};
+ghost use Rattle.audit_cli_client.specs.Faults.{judgment_in, is_passing_fault};
 
 use crate::contradiction::Contradiction;
 use audit_cli_base::{CommandError, Status, report};
@@ -92,7 +92,7 @@ impl RemoteError {
 
     /// Whether a later try may succeed: the server isn't there, or doesn't answer, or another witness looks.
     pub fn is_passing(self) -> bool
-        ensures { result ≡ is_passing self }
+        ensures { result ≡ is_passing_fault self }
     {
         matches!(
             self,

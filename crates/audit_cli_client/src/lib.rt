@@ -21,6 +21,8 @@ mod state_lock;
 mod state_text;
 mod watching;
 
+pub use arguments::{Evidence, Question};
+pub use asking::answer;
 pub use contradiction::Contradiction;
 pub use fault::RemoteError;
 pub use request::{Request, run};

@@ -7,6 +7,7 @@ ghost use Rattle.audit_cli_client.specs.declared.fault.RemoteError.{RemoteError}
 ghost use Rattle.audit_cli_client.specs.Faults.{IsNoJudgment, judgment_of};
 ghost use Rattle.audit_cli_client.specs.Arguments.{AreNoSeconds, IsNoWindow, HasRefusedWord, HasNumbersOf};
 ghost use Rattle.audit_cli_client.specs.Arguments.{HasTaskNumbers, IsNoTask};
+ghost use Rattle.audit_cli_client.specs.Requests.{IsClientRun, status_of_done};
 ghost use Rattle.audit_cli_client.specs.Arguments.{IsPause, seconds_or_default, window_or_default};
 
 use crate::alarm::print_contradiction;
@@ -82,20 +83,28 @@ pub fn run<F: Files + Dial + Clock, R: Read, W: Write, M: Write>(
 ) -> Status
 where
     F::File: SystemFile,
-    // A wrong number ends the program before anything is written. An output that can't be flushed is another fault.
+    ensures carried { IsClientRun request.entry (W.contents output.old) (W.contents output.new) result }
+    // A wrong word ends the program before anything is written. An output that can't be flushed is another fault.
     ensures words { HasRefusedWord request.entry → (result ≡ Status.Usage) ⊎ (result ≡ Status.Device) }
     ensures unwritten { HasRefusedWord request.entry → Keeps (W.contents output.old) (W.contents output.new) }
 {
     let done = perform(rt, alloc, request, input, output, messages);
     let judged = print_judgment(done, output);
     let flushed = output.flush();
-    let status = match judged {
-        Ok(status) => status,
-        Err(fault) => fault.report(messages),
-    };
+    let status = report_fault(judged, messages);
     let status = report_flush(status, flushed, messages);
     report_alarm(alloc, request, done, messages);
     status
+}
+
+// Prints the fault of a command, if it has one, and returns its status.
+fn report_fault<M: Write>(ended: Result<Status, RemoteError>, messages: &mut M) -> Status
+    ensures { result ≡ status_of_done ended }
+{
+    match ended {
+        Ok(status) => status,
+        Err(fault) => fault.report(messages),
+    }
 }
 
 // Prints what contradicts a witness, after the word on the output.

@@ -132,12 +132,12 @@ keeps_all {o0 = o0} {o1 = o1} {before = before} o2 h kept = record {
 }
 
 -- the answer after them failed
-pub stopped : {r0 r1 o0 o1 : Option (List ℕ)} {before n refused count : ℕ} (r2 o2 : Option (List ℕ)) → PrintsAll r0 r1 o0 o1 before n n refused → (error : SendError) → FailsAnswer r1 o1 o2 (before + n + 1) error → n < count
+pub stopped : {r0 r1 o0 o1 : Option (List ℕ)} {before n refused count : ℕ} (r2 o2 : Option (List ℕ)) → PrintsAll r0 r1 o0 o1 before n n refused → (error : SendError) → FailsAnswer r1 r2 o1 o2 (before + n + 1) error → n < count
     → TakesAnswers r0 r2 o0 o2 before count (record { count = n; refused = refused; error = Some error })
 stopped r2 o2 h (Input error) k below = absurd k
-stopped {count = count} r2 o2 h (Client error) k below =
+stopped {r1 = r1} {count = count} r2 o2 h (Client error) k below =
     let few : length (h.answers ++ []) ≤ count = omega (arith, below, h.counted, ap length (append-nil h.answers)) in
-    record { prints = prints_all (Some (Client error)) (keeps_all o2 h k); few = few; all = λ none. absurd (none-some (Client error) (sym none)) }
+    record { prints = prints_all (Some (Client error)) (keeps_all o2 h k.0); few = few; all = λ none. absurd (none-some (Client error) (sym none)); fails = (r1, h.answers, h.counted, h.read, k.1) }
 stopped {r0 = r0} {r1 = r1} {o0 = o0} {o1 = o1} {before = before} {n = n} r2 o2 h Output k below =
     let answer = k.answer in
     let place : before + n + 1 ≡ suc (before + length h.answers) = omega (arith, h.counted) in
@@ -157,13 +157,14 @@ stopped {r0 = r0} {r1 = r1} {o0 = o0} {o1 = o1} {before = before} {n = n} r2 o2 
       };
       few = omega (arith, below, h.counted, length-append h.answers (answer ∷ []));
       all = λ none. absurd (none-some Output (sym none));
+      fails = tt;
     }
 
 -- all were read and printed
 pub finished : {r0 r1 o0 o1 : Option (List ℕ)} {before count refused : ℕ} → PrintsAll r0 r1 o0 o1 before count count refused → TakesAnswers r0 r1 o0 o1 before count (record { count = count; refused = refused; error = None })
 finished {count = count} h =
     let few : length (h.answers ++ []) ≤ count = omega (arith, h.counted, ap length (append-nil h.answers)) in
-    record { prints = prints_all None h; few = few; all = λ _. h }
+    record { prints = prints_all None h; few = few; all = λ _. h; fails = tt }
 
 -- ---- the answers of several rounds
 

@@ -7,17 +7,17 @@ use Rattle.audit_client.specs.declared.exporting.Export.{Export}
 use Rattle.audit_client.specs.declared.fault.ClientError.{ClientError}
 use Rattle.audit_client.specs.declared.putting.AskError.{AskError}
 use Rattle.audit_client.specs.declared.putting.AskError.TheVariants as asking
-use Rattle.audit_client.specs.Failing.{FailsPutting}
+use Rattle.audit_client.specs.Failing.{FailsPuttingOne}
 use Rattle.audit_client.specs.Exporting.{GivesExport, WritesExport}
 use Rattle.audit_client.specs.Putting.{IsFile, PutsOnly, AreGivenEntries}
 
 -- the bytes of an answer couldn't be written, or the file not be put
 pub fails_to_put : {E : Type 0} (done : Result ℕ (AskError E)) (bytes : List ℕ) (IsAnswer : List ℕ → Type 0) (Fails : ClientError → Type 0)
-    → IfErr done (FailsPutting (λ answer. answer ≡ bytes) (λ error. ⊥)) → IsAnswer bytes → IfErr done (FailsPutting IsAnswer Fails)
+    → IfErr done (FailsPuttingOne (λ answer. answer ≡ bytes) (λ error. ⊥)) → IsAnswer bytes → IfErr done (FailsPuttingOne IsAnswer Fails)
 fails_to_put (Ok size) bytes IsAnswer Fails h answer = tt
 fails_to_put (Err (asking.Client error)) bytes IsAnswer Fails (inl none) answer = absurd none
-fails_to_put (Err (asking.Client error)) bytes IsAnswer Fails (inr torn) answer = inr (torn.0, bytes, answer)
-fails_to_put (Err (asking.Out error)) bytes IsAnswer Fails h answer = tt
+fails_to_put (Err (asking.Client error)) bytes IsAnswer Fails (inr torn) answer = inr (torn.0, (bytes, answer))
+fails_to_put (Err (asking.Out error)) bytes IsAnswer Fails h answer = (bytes, answer)
 
 from_empty : (new : Option (List ℕ)) (bytes : List ℕ) → Appends (Some []) new bytes → IsFile (Some new) bytes
 from_empty None bytes h = absurd h

@@ -1,5 +1,6 @@
 -- Rounds of sending, one after another.
-use Rattle.std.specs.Prelude.{◌⊎◌, Bool, true, false, Result, Ok, Err, IsOk, OnOk, OnErr}
+use Rattle.std.specs.Prelude.{◌⊎◌, ◌<◌, ◌^◌, Bool, true, false, Result, Ok, Err, IsOk, OnOk, OnErr, IfErr, IfSome}
+use Rattle.std.specs.Result.{is_ok}
 use Rattle.std.specs.Io.KnownBytes.{Appends}
 use Rattle.std.proofs.Common.{◌≡◌, ℕ, ◌+◌, ◌≤◌, Option, Some, None, List, [], ◌++◌, length, length-append, append-nil, sym, ap, subst, refl, inl, inr, ◌∙◌, arith}
 use Rattle.std.proofs.lemmas.Option.{none-some}
@@ -13,8 +14,10 @@ use Rattle.audit_client.specs.declared.send_error.SendError.TheVariants.{Input, 
 use Rattle.audit_client.specs.declared.sending.SendEnd.{SendEnd}
 use Rattle.audit_client.specs.declared.taking.Taken.{Taken}
 use Rattle.audit_client.specs.declared.answering.Answers.{Answers}
-use Rattle.audit_client.specs.Sending.{event_frames, PrintsAll, TakesRound, TakesAnswers, Sends, SendsOn, SendsAll, end_after, first_error}
-use Rattle.audit_client.proofs.Conversations.{appends_none, appends_more}
+use Rattle.audit_client.specs.Sending.{event_frames, PrintsAll, TakesEvents, IsTakingFault, TakesRound, TakesAnswers, LacksAnswer, IsNoLineAnswer, EndsFor, Sends, SendsOn, SendsAll, end_after, first_error}
+use Rattle.audit_client.specs.Failing.{IsLost}
+use Rattle.audit_text.specs.declared.fault.LinesError.TheVariants.{InputTooLong}
+use Rattle.audit_client.proofs.Conversations.{appends_none, appends_more, replies_after}
 use Rattle.audit_client.proofs.TakenLines.{event_frames-append, takes_none, takes_more, takes_first, takes_first_more, takes_all_more}
 use Rattle.audit_client.proofs.PrintedAnswers.{refusals_few, part_whole, part_after, prints_none, prints_all, prints_further, prints_all_further, prints_error}
 
@@ -62,13 +65,23 @@ few_answers {count = count} {answers = answers} h =
     (answered, refused)
 
 -- the answers that were read are those to all lines that were sent, or those that were due before the last lines
-pub read_within : (count due taken : ℕ) (more : Bool) → ((count ≡ due + taken) ⊎ ((count ≡ due) × (more ≡ true))) → count ≤ due + taken
-read_within count due taken more (inl h) = omega (arith, h)
-read_within count due taken more (inr h) = omega (arith, h.0)
+pub read_within : (count due taken window : ℕ) (more written : Bool) → ((count ≡ due + taken) ⊎ ((count ≡ due) × (more ≡ true) × (written ≡ true) × (taken < window))) → count ≤ due + taken
+read_within count due taken window more written (inl h) = omega (arith, h)
+read_within count due taken window more written (inr h) = omega (arith, h.0)
 
-pub read_all : (count due taken : ℕ) (more : Bool) → ((count ≡ due + taken) ⊎ ((count ≡ due) × (more ≡ true))) → more ≡ false → count ≡ due + taken
-read_all count due taken more (inl h) over = h
-read_all count due taken more (inr h) over = absurd (true≢false (sym h.1 ∙ over))
+-- fewer lines than the window are then unanswered
+pub read_near : (count due taken window : ℕ) (more written : Bool) → ((count ≡ due + taken) ⊎ ((count ≡ due) × (more ≡ true) × (written ≡ true) × (taken < window))) → 0 < window → due + taken < count + window
+read_near count due taken window more written (inl h) some = omega (arith, h)
+read_near count due taken window more written (inr h) some = omega (arith, h.0, h.3)
+
+pub read_all : (count due taken window : ℕ) (more written : Bool) → ((count ≡ due + taken) ⊎ ((count ≡ due) × (more ≡ true) × (written ≡ true) × (taken < window))) → more ≡ false → count ≡ due + taken
+read_all count due taken window more written (inl h) over = h
+read_all count due taken window more written (inr h) over = absurd (true≢false (sym h.1 ∙ over))
+
+-- the same if the requests weren't written
+pub read_unwritten : (count due taken window : ℕ) (more written : Bool) → ((count ≡ due + taken) ⊎ ((count ≡ due) × (more ≡ true) × (written ≡ true) × (taken < window))) → written ≡ false → count ≡ due + taken
+read_unwritten count due taken window more written (inl h) un = h
+read_unwritten count due taken window more written (inr h) un = absurd (true≢false (sym h.2 ∙ un))
 
 pub round_sends : {form : LineForm} {i0 i1 i2 w0 w1 w2 r0 r1 r2 o0 o1 o2 : Option (List ℕ)} {end : SendEnd} {frames : List ℕ} {taken : Taken} {answers : Answers} {count : ℕ} (sent : Result (Unit {0}) ClientError) → SendsOn form i0 i1 w0 w1 r0 r1 o0 o1 end
     → TakesRound form i1 i2 end.sent frames taken → OnOk sent (Appends w1 w2 frames) → OnErr sent (WritesInPart w1 w2 frames) → TakesAnswers r1 r2 o1 o2 end.answered count answers → end.answered + count ≤ end.sent + taken.count
@@ -135,6 +148,39 @@ round_all {form = form} {i0 = i0} {i1 = i1} {w2 = w2} {end = end} {taken = taken
       sent = all_sent w2 sent answers.error on takes whole none;
       prints = all_printed answers on (answered.all right.1) (length (on.events ++ takes.events)) all;
     }
+
+-- why it ended after this round
+pub round_ends : {form : LineForm} {i0 i1 i2 w0 w1 r0 r1 o0 o1 : Option (List ℕ)} {end : SendEnd} {frames : List ℕ} {taken : Taken} (r2 : Option (List ℕ)) (count : ℕ) (answers : Answers) (sent : Result (Unit {0}) ClientError) (a : Option SendError) (t : Option LinesError)
+    → (on : SendsOn form i0 i1 w0 w1 r0 r1 o0 o1 end) (takes : TakesRound form i1 i2 end.sent frames taken) → IfErr sent IsLost → IfSome a (LacksAnswer r1 r2 end.answered answers.count)
+    → IfSome t (λ cause. (taken.more ≡ false) × (rest : Option (List ℕ)) × TakesEvents form i1 rest takes.events × IsTakingFault form rest (end.sent + taken.count + 1) cause)
+    → (a ≡ None → answers.count ≡ count) → (IsOk sent → taken.more ≡ false → end.answered + count ≡ end.sent + taken.count) → ((is_ok sent ≡ false) → end.answered + count ≡ end.sent + taken.count)
+    → EndsFor form i0 r0 r2 (end.sent + taken.count) (end.answered + answers.count) (first_error sent a t)
+round_ends r2 count answers sent (Some (Input error)) t on takes lost lacks stops read over broken = absurd lacks
+round_ends {r0 = r0} {r1 = r1} {end = end} r2 count answers sent (Some (Client error)) t on takes lost lacks stops read over broken =
+    let place : end.answered + answers.count + 1 ≡ 0 + (end.answered + answers.count) + 1 = omega arith in
+    inr (
+      lacks.0,
+      on.prints.answers ++ lacks.1,
+      omega (arith, on.prints.counted, lacks.2, length-append on.prints.answers lacks.1),
+      replies_after r0 r1 lacks.0 on.prints.answers lacks.1 on.prints.read lacks.3,
+      subst (λ (n : ℕ). IsNoLineAnswer lacks.0 r2 n error) place lacks.4,
+    )
+round_ends r2 count answers sent (Some Output) t on takes lost lacks stops read over broken = tt
+round_ends r2 count answers (Err error) None t on takes lost lacks stops read over broken = inl (lost, omega (arith, read refl, broken refl))
+round_ends r2 count answers (Ok done) None None on takes lost lacks stops read over broken = tt
+round_ends {form = form} {i0 = i0} {i1 = i1} {end = end} {taken = taken} r2 count answers (Ok done) None (Some cause) on takes lost lacks stops read over broken = (
+  inr (omega (arith, read refl, over refl stops.0)),
+  on.events ++ takes.events,
+  stops.1,
+  omega (arith, on.sent_is, takes.counted, length-append on.events takes.events),
+  takes_more form i0 i1 stops.1 on.events takes.events on.taken stops.2,
+  stops.3,
+)
+
+-- so many rounds took no fewer lines
+pub ends_at_limit : {form : LineForm} {i0 i1 w0 w1 r0 r1 o0 o1 : Option (List ℕ)} {end : SendEnd} → SendsOn form i0 i1 w0 w1 r0 r1 o0 o1 end → 2 ^ 64 ≤ end.sent + 1
+    → EndsFor form i0 r0 r1 end.sent end.answered (Some (Input InputTooLong))
+ends_at_limit {i1 = i1} on far = (inl refl, on.events, i1, sym on.sent_is, on.taken, far)
 
 -- no other round is begun
 pub on_stopped : {form : LineForm} {i0 i1 w0 w1 r0 r1 o0 o1 : Option (List ℕ)} {end : SendEnd} (error : SendError) → SendsOn form i0 i1 w0 w1 r0 r1 o0 o1 end → Sends form 0 i0 w0 w1 r0 o0 o1 (record { sent = end.sent; answered = end.answered; refused = end.refused; error = Some error })

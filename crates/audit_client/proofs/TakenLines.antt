@@ -18,7 +18,7 @@ use Rattle.audit_serve_sockets.specs.Input.{ReadsLine}
 use Rattle.audit_serve_sockets.specs.declared.limits.TheConstants.{MAX_DIGITS}
 use Rattle.audit_wire.specs.declared.request.Request.{Request}
 use Rattle.audit_wire.specs.Stream.{request_frame}
-use Rattle.audit_client.specs.Sending.{event_request, event_requests, event_frames, TakesEvents, TakesFirst, TakesAll, TakesNext, TakesRound, IsBadFirst}
+use Rattle.audit_client.specs.Sending.{event_request, event_requests, event_frames, TakesEvents, TakesFirst, TakesAll, TakesNext, TakesRound, IsBadFirst, IsTakingFault}
 
 -- ---- requests
 
@@ -140,6 +140,7 @@ round_more {form = form} {old = old} {new = new} h = record {
   on = λ _. h.taken;
   all = λ not_more. absurd (true≢false not_more);
   framed = h.framed;
+  stops = tt;
 }
 
 pub round_end : {form : LineForm} {old mid new : Option (List ℕ)} {before count : ℕ} {frames next : List ℕ} → IsTaken form old mid before count frames → TakesNext form mid new (before + count) frames next false
@@ -151,15 +152,17 @@ round_end {form = form} {old = old} {mid = mid} h k = record {
   on = λ more. absurd (false≢true more);
   all = λ _ _. takes_to_end form old mid h.events h.taken k.0;
   framed = k.1 ∙ h.framed;
+  stops = tt;
 }
 
-pub round_fault : {form : LineForm} {old mid : Option (List ℕ)} (new : Option (List ℕ)) {before count : ℕ} {frames next : List ℕ} (error : LinesError) → IsTaken form old mid before count frames → next ≡ frames
+pub round_fault : {form : LineForm} {old mid : Option (List ℕ)} (new : Option (List ℕ)) {before count : ℕ} {frames next : List ℕ} (error : LinesError) → IsTaken form old mid before count frames → next ≡ frames → IsTakingFault form mid (before + count + 1) error
     → TakesRound form old new before next (record { count = count; more = false; error = Some error })
-round_fault {form = form} {old = old} {mid = mid} new error h same = record {
+round_fault {form = form} {old = old} {mid = mid} new error h same fault = record {
   events = h.events;
   counted = h.counted;
   first = takes_first form old mid h.events h.taken;
   on = λ more. absurd (false≢true more);
   all = λ _ none. absurd (none-some error (sym none));
   framed = same ∙ h.framed;
+  stops = (refl, mid, h.taken, fault);
 }

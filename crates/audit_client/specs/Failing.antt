@@ -1,7 +1,7 @@
 -- When each error of a question comes, by what was written and read.
 use Rattle.std.specs.Prelude.{◌≡◌, ◌⊎◌, ◌<◌, ◌≤◌, ℕ, Option, Some, None, List, [], ◌∷◌, ◌++◌, map, length, IfSome}
 use Rattle.std.specs.List.{flat_map, concat}
-use Rattle.std.specs.Io.KnownBytes.{Appends, Consumes}
+use Rattle.std.specs.Io.KnownBytes.{Appends, Consumes, Keeps}
 use Rattle.sha2.specs.Sha256.{sha256}
 use Rattle.audit_base.specs.declared.limits.TheConstants.{MAX_COUNT}
 use Rattle.audit_tree.specs.Subtree.{leaf_hash_of, root_of}
@@ -295,11 +295,19 @@ FailsExport written_old written_new read_old read_new old new error =
 
 -- ---- answers that are put
 
--- The answer failed in this way; or it was had, and couldn't be written; or the file couldn't be begun or put.
-abbrev pub FailsPutting : {E : Type 0} → (List ℕ → Type 0) → (ClientError → Type 0) → AskError E → Type 0
-FailsPutting IsAnswer Fails (asking.Client error) =
-    Fails error ⊎ ((error ≡ client.Output) × (bytes : List ℕ) × IsAnswer bytes)
-FailsPutting IsAnswer Fails (asking.Out error) = Unit {0}
+-- nothing was written or read
+abbrev pub IsUnasked : Option (List ℕ) → Option (List ℕ) → Option (List ℕ) → Option (List ℕ) → Type 0
+IsUnasked written_old written_new read_old read_new = Keeps written_old written_new × Keeps read_old read_new
+
+-- The answer failed in this way, or couldn't be written when this was so; or the file couldn't be begun or put then.
+abbrev pub FailsPutting : {E : Type 0} → Type 0 → Type 0 → (ClientError → Type 0) → AskError E → Type 0
+FailsPutting IsUnwritten IsUnput Fails (asking.Client error) = Fails error ⊎ ((error ≡ client.Output) × IsUnwritten)
+FailsPutting IsUnwritten IsUnput Fails (asking.Out error) = IsUnput
+
+-- the same where it is so once the answer was had
+abbrev pub FailsPuttingOne : {E : Type 0} → (List ℕ → Type 0) → (ClientError → Type 0) → AskError E → Type 0
+FailsPuttingOne IsAnswer Fails error =
+    FailsPutting ((bytes : List ℕ) × IsAnswer bytes) ((bytes : List ℕ) × IsAnswer bytes) Fails error
 
 -- ---- witnesses
 

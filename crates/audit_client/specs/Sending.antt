@@ -29,7 +29,10 @@ use Rattle.audit_client.specs.declared.send_error.SendError.TheVariants.{Input, 
 use Rattle.audit_client.specs.declared.sending.SendEnd.{SendEnd}
 use Rattle.audit_client.specs.declared.taking.Taken.{Taken}
 use Rattle.audit_client.specs.declared.answering.Answers.{Answers}
+use Rattle.audit_client.specs.declared.fault.ClientError.TheVariants as client
+use Rattle.audit_client.specs.Asking.{not_due}
 use Rattle.audit_client.specs.Conversation.{ReadsReply, ReadsReplies}
+use Rattle.audit_client.specs.Failing.{IsLost, FailsToRead}
 
 -- ---- requests
 
@@ -142,6 +145,7 @@ IsBadFirst form cause input = (line : List ℕ) × (later : List (List ℕ)) × 
 -- why the next line, of this number, wasn't taken
 abbrev pub IsTakingFault : LineForm → Option (List ℕ) → ℕ → LinesError → Type 0
 IsTakingFault form old number (lines.Line at cause) = (at ≡ number) × IfSome old (IsBadFirst form cause)
+IsTakingFault form old number lines.InputTooLong = 2 ^ 64 ≤ number
 IsTakingFault form old number lines.Write = ⊥
 IsTakingFault form old number _ = Unit {0}
 
@@ -161,8 +165,28 @@ pub record TakesRound (form : LineForm) (old new : Option (List ℕ)) (before : 
   pub on : taken.more ≡ true → TakesEvents form old new events
   pub all : taken.more ≡ false → taken.error ≡ None → TakesAll form old events
   pub framed : frames ≡ event_frames before events
+  pub stops : IfSome taken.error (λ cause. (taken.more ≡ false) × (rest : Option (List ℕ))
+      × TakesEvents form old rest events × IsTakingFault form rest (before + taken.count + 1) cause)
 
 -- ---- one answer, and those of a round
+
+-- This reply isn't an answer to this line, and this is the error for that; or it is, and memory was refused.
+abbrev pub IsUnprinted : ℕ → Reply → ClientError → Type 0
+IsUnprinted line given error = ((error ≡ client.Memory) × AnswersLine line given)
+    ⊎ ((error ≡ not_due (line_tag line) given) × (AnswersLine line given → ⊥))
+
+-- no reply was read, or another than one to this line; or it was, and memory was refused to print it
+abbrev pub IsNoLineAnswer : Option (List ℕ) → Option (List ℕ) → ℕ → ClientError → Type 0
+IsNoLineAnswer read_old read_new line error = FailsToRead read_old read_new error
+    ⊎ ((given : Reply) × ReadsReply read_old read_new given × IsUnprinted line given error)
+
+-- Answers to lines were read, as many as these, and then none to the next line.
+abbrev pub LacksAnswer : Option (List ℕ) → Option (List ℕ) → ℕ → ℕ → SendError → Type 0
+LacksAnswer read_old read_new before count (Input error) = ⊥
+LacksAnswer read_old read_new before count (Client error) = (mid : Option (List ℕ)) × (answers : List Reply)
+    × (length answers ≡ count) × ReadsReplies read_old mid answers
+    × IsNoLineAnswer mid read_new (before + count + 1) error
+LacksAnswer read_old read_new before count Output = Unit {0}
 
 -- an answer to a line was read, and its line printed
 pub record TakesAnswer (read_old read_new old new : Option (List ℕ)) (line : ℕ) (refuses : Bool) : Type 0 where
@@ -180,11 +204,13 @@ pub record TearsAnswer (read_old old new : Option (List ℕ)) (line : ℕ) : Typ
   pub due : AnswersLine line answer
   pub part : WritesInPart old new (answer_line line answer)
 
--- nothing was printed, unless it was the output that failed
-abbrev pub FailsAnswer : Option (List ℕ) → Option (List ℕ) → Option (List ℕ) → ℕ → SendError → Type 0
-FailsAnswer read_old old new line (Input error) = ⊥
-FailsAnswer read_old old new line (Client error) = Keeps old new
-FailsAnswer read_old old new line Output = TearsAnswer read_old old new line
+-- No answer was read and nothing printed; or it was the output that failed.
+abbrev pub FailsAnswer : Option (List ℕ) → Option (List ℕ) → Option (List ℕ) → Option (List ℕ) → ℕ → SendError
+    → Type 0
+FailsAnswer read_old read_new old new line (Input error) = ⊥
+FailsAnswer read_old read_new old new line (Client error) =
+    Keeps old new × IsNoLineAnswer read_old read_new line error
+FailsAnswer read_old read_new old new line Output = TearsAnswer read_old old new line
 
 -- What was read and printed, whatever happened: the answers whose lines were printed, and at most one more, if the
 -- output failed in its line. They are the first replies that were read, and each answers its own line.
@@ -215,6 +241,7 @@ pub record TakesAnswers (read_old read_new old new : Option (List ℕ)) (before 
   pub prints : Prints read_old old new before taken.count taken.refused taken.error
   pub few : length (prints.answers ++ prints.torn) ≤ count
   pub all : taken.error ≡ None → PrintsAll read_old read_new old new before count taken.count taken.refused
+  pub fails : IfSome taken.error (LacksAnswer read_old read_new before taken.count)
 
 -- ---- what was sent
 
@@ -249,11 +276,24 @@ pub record SendsAll (form : LineForm) (before : ℕ)
   pub sent : Appends written_old written_new (event_frames before events)
   pub prints : PrintsAll read_old read_new old new before (length events) end.answered end.refused
 
+-- Why sending ended before the input did, when so many lines were sent and answered: the next line, which is no event
+-- or has no number; or the connection was lost, but all lines were answered; or the next answer didn't come. If it was
+-- the output, that is said with what was printed.
+abbrev pub EndsFor : LineForm → Option (List ℕ) → Option (List ℕ) → Option (List ℕ) → ℕ → ℕ → Option SendError → Type 0
+EndsFor form input read_old read_new sent answered None = Unit {0}
+EndsFor form input read_old read_new sent answered (Some (Input cause)) =
+    ((cause ≡ lines.InputTooLong) ⊎ (answered ≡ sent)) × (events : List EventData) × (rest : Option (List ℕ))
+    × (length events ≡ sent) × TakesEvents form input rest events × IsTakingFault form rest (sent + 1) cause
+EndsFor form input read_old read_new sent answered (Some (Client error)) =
+    (IsLost error × (answered ≡ sent)) ⊎ LacksAnswer read_old read_new 0 answered (Client error)
+EndsFor form input read_old read_new sent answered (Some Output) = Unit {0}
+
 -- At most `window` lines are sent ahead of their answers, and each refusal is an answer.
 pub record IsWithin (window : ℕ) (end : SendEnd) : Type 0 where
   pub refused : end.refused ≤ end.answered
   pub answered : end.answered ≤ end.sent
   pub ahead : end.sent ≤ end.answered + window
+  pub room : 0 < window → end.sent < end.answered + window
 
 -- the end after further lines were taken and further answers printed
 abbrev pub end_after : SendEnd → Taken → Answers → Option SendError → SendEnd

@@ -3,7 +3,7 @@ ghost use Rattle.std.specs.Prelude.{◌≡◌, ◌+◌, ◌<◌, ◌≤◌, if�
 ghost use Rattle.std.specs.Io.KnownBytes.{Appends};
 ghost use Rattle.audit_text.specs.Writing.{WritesInPart};
 ghost use Rattle.audit_client.specs.Sending.{is_refusal, is_of_event, answer_line, refusal_line};
-ghost use Rattle.audit_client.specs.Sending.{AnswersLine};
+ghost use Rattle.audit_client.specs.Sending.{AnswersLine, IsUnprinted};
 ghost use Rattle.audit_client.specs.Sending.{TakesAnswer, FailsAnswer, TakesAnswers};
 
 use crate::asking::not_due;
@@ -81,8 +81,8 @@ fn take_answer<R: Read, O: Write>(
 ) -> Result<bool, SendError>
     ensures taken { IfOk result (TakesAnswer (R.remaining from.old) (R.remaining from.new) (O.contents output.old)
         (O.contents output.new) number) }
-    ensures failed { IfErr result (FailsAnswer (R.remaining from.old) (O.contents output.old)
-        (O.contents output.new) number) }
+    ensures failed { IfErr result (FailsAnswer (R.remaining from.old) (R.remaining from.new)
+        (O.contents output.old) (O.contents output.new) number) }
 {
     let given = match next_reply(alloc, from, body) {
         Ok(given) => given,
@@ -116,6 +116,7 @@ fn put_answer(line: &mut Vec<u8>, number: u64, given: &Reply) -> Result<bool, Cl
     ensures due { OnOk result (AnswersLine number given.now) }
     ensures put { OnOk result (line.new.items ≡ answer_line number given.now) }
     ensures refuses { IfOk result (λ refuses. refuses ≡ is_refusal given.now) }
+    ensures fault { IfErr result (IsUnprinted number given.now) }
 {
     match given {
         Reply::Acknowledgement {

@@ -2,6 +2,7 @@
 ghost use Rattle.std.specs.Prelude.{◌≡◌, ◌⊎◌, ℕ, List, [], length, Option, Some, None, Err, IfOk, IfErr, OnOk, OnErr};
 ghost use Rattle.audit_client.specs.declared.fault.ClientError.{ClientError};
 ghost use Rattle.audit_client.specs.Failing.{FailsEntry, FailsMember, FailsIncrement, FailsExport, FailsPutting};
+ghost use Rattle.audit_client.specs.Failing.{FailsPuttingOne, IsUnasked};
 ghost use Rattle.audit_client.specs.Putting.{IsFile, PutsOnly, IsGivenEntry, IsGivenMember, IsGivenIncrement};
 ghost use Rattle.audit_client.specs.Putting.{AreGivenEntries};
 ghost use Rattle.audit_client.specs.Exporting.{GivesExport};
@@ -65,7 +66,7 @@ pub fn put_entry<W: Write, R: Read, O: Out>(
         × IsGivenEntry (W.contents to.old) (W.contents to.new) (R.remaining from.old) (R.remaining from.new)
         index bytes) }
     // Why it failed, and that nothing is put unless it was the file.
-    ensures fault { IfErr result (FailsPutting (IsGivenEntry (W.contents to.old) (W.contents to.new)
+    ensures fault { IfErr result (FailsPuttingOne (IsGivenEntry (W.contents to.old) (W.contents to.new)
         (R.remaining from.old) (R.remaining from.new) index) (FailsEntry (W.contents to.old) (W.contents to.new)
         (R.remaining from.old) (R.remaining from.new) index)) }
     ensures untouched { (error : ClientError) → result ≡ Err (AskError.Client error) → O.file out.new ≡ O.file out.old }
@@ -91,7 +92,7 @@ pub fn put_member<W: Write, R: Read, O: Out>(
     ensures done { IfOk result (λ size. (bytes : List ℕ) × (size ≡ length bytes) × IsFile (O.file out.new) bytes
         × IsGivenMember (W.contents to.old) (W.contents to.new) (R.remaining from.old) (R.remaining from.new)
         index count bytes) }
-    ensures fault { IfErr result (FailsPutting (IsGivenMember (W.contents to.old) (W.contents to.new)
+    ensures fault { IfErr result (FailsPuttingOne (IsGivenMember (W.contents to.old) (W.contents to.new)
         (R.remaining from.old) (R.remaining from.new) index count) (FailsMember (W.contents to.old) (W.contents to.new)
         (R.remaining from.old) (R.remaining from.new) index count)) }
     ensures untouched { (error : ClientError) → result ≡ Err (AskError.Client error) → O.file out.new ≡ O.file out.old }
@@ -117,7 +118,7 @@ pub fn put_increment<W: Write, R: Read, O: Out>(
     ensures done { IfOk result (λ size. (bytes : List ℕ) × (size ≡ length bytes) × IsFile (O.file out.new) bytes
         × IsGivenIncrement (W.contents to.old) (W.contents to.new) (R.remaining from.old) (R.remaining from.new)
         older newer bytes) }
-    ensures fault { IfErr result (FailsPutting (IsGivenIncrement (W.contents to.old) (W.contents to.new)
+    ensures fault { IfErr result (FailsPuttingOne (IsGivenIncrement (W.contents to.old) (W.contents to.new)
         (R.remaining from.old) (R.remaining from.new) older newer) (FailsIncrement (W.contents to.old) (W.contents to.new)
         (R.remaining from.old) (R.remaining from.new) older newer)) }
     ensures untouched { (error : ClientError) → result ≡ Err (AskError.Client error) → O.file out.new ≡ O.file out.old }
@@ -132,7 +133,7 @@ fn put_bytes<O: Out>(bytes: &[u8], out: &mut O) -> Result<u64, AskError<O::Error
     ensures only { (O.file out.new ≡ O.file out.old) ⊎ IsFile (O.file out.new) bytes.now }
     ensures done { OnOk result (IsFile (O.file out.new) bytes.now) }
     ensures size { IfOk result (λ size. size ≡ length bytes.now) }
-    ensures fault { IfErr result (FailsPutting (λ answer. answer ≡ bytes.now) (λ error. ⊥)) }
+    ensures fault { IfErr result (FailsPuttingOne (λ answer. answer ≡ bytes.now) (λ error. ⊥)) }
     ensures untouched { (error : ClientError) → result ≡ Err (AskError.Client error) → O.file out.new ≡ O.file out.old }
 {
     let mut draft = match out.draft() {
@@ -161,7 +162,9 @@ pub fn put_export<W: Write, R: Read, O: Out>(
     ensures done { IfOk result (λ export. (entries : List (List ℕ)) × (export.count ≡ length entries)
         × (export.size ≡ length (concat entries)) × IsFile (O.file out.new) (concat entries)
         × GivesExport (W.contents to.old) (W.contents to.new) (R.remaining from.old) (R.remaining from.new) entries) }
-    ensures fault { IfErr result (FailsPutting (λ answer. ⊥) (λ error. (begun left : O.Draft)
+    ensures fault { IfErr result (FailsPutting ⊥ (IsUnasked (W.contents to.old) (W.contents to.new)
+        (R.remaining from.old) (R.remaining from.new) ⊎ ((bytes : List ℕ) × AreGivenEntries (W.contents to.old)
+        (W.contents to.new) (R.remaining from.old) (R.remaining from.new) bytes)) (λ error. (begun left : O.Draft)
         × FailsExport (W.contents to.old) (W.contents to.new) (R.remaining from.old) (R.remaining from.new)
         (O.Draft.contents begun) (O.Draft.contents left) error)) }
     ensures untouched { (error : ClientError) → result ≡ Err (AskError.Client error) → O.file out.new ≡ O.file out.old }

@@ -1,7 +1,8 @@
 //! Sending events, each in a line of an input, and printing what the server answers.
 ghost use Rattle.std.specs.Prelude.{◌≡◌, ◌⊎◌, ◌+◌, ◌<◌, ◌≤◌, ℕ, List, Option, Some, None, true, false};
 ghost use Rattle.std.specs.Io.Buffered.{reader_remaining};
-ghost use Rattle.audit_client.specs.Sending.{Sends, SendsOn, SendsAll, IsWithin, end_after, first_error};
+ghost use Rattle.audit_client.specs.Sending.{Sends, SendsOn, SendsAll, EndsFor, IsWithin, end_after};
+ghost use Rattle.audit_client.specs.Sending.{first_error};
 
 use crate::answering::{Answers, take_answers};
 use crate::conversation::send_bytes;
@@ -44,6 +45,11 @@ pub fn send_events<I: Read, W: Write, R: Read, O: Write>(
     // What was written, read and printed, whatever happened.
     ensures sends { Sends form 0 (reader_remaining I.remaining input.old) (W.contents to.old) (W.contents to.new)
         (R.remaining from.old) (O.contents output.old) (O.contents output.new) result }
+    // At most `window` lines are sent ahead of the answers that were read, whatever the next answer is.
+    ensures ahead { result.sent ≤ result.answered + window }
+    // It ends only for a cause: the next line has no event or no number, or the next answer didn't come.
+    ensures cause { 0 < window → EndsFor form (reader_remaining I.remaining input.old) (R.remaining from.old)
+        (R.remaining from.new) result.sent result.answered result.error }
     // Without an error all lines were sent and answered.
     ensures all { result.error ≡ None → SendsAll form 0 (reader_remaining I.remaining input.old)
         (W.contents to.old) (W.contents to.new) (R.remaining from.old) (R.remaining from.new) (O.contents output.old)
@@ -121,6 +127,11 @@ fn send_round<I: Read, W: Write, R: Read, O: Write>(
 ) -> Round
     requires within { IsWithin window end.now }
     ensures within { result.more ≡ true → IsWithin window result.end }
+    ensures ahead { result.end.sent ≤ result.end.answered + window }
+    ensures more { 0 < window → result.more ≡ true → end.now.sent < result.end.sent }
+    ensures cause { (i w r o : Option (List ℕ)) → SendsOn form i (reader_remaining I.remaining input.old)
+        w (W.contents to.old) r (R.remaining from.old) o (O.contents output.old) end.now
+        → EndsFor form i r (R.remaining from.new) result.end.sent result.end.answered result.end.error }
     // After rounds that sent lines and answered the first of them, from any input, connection and output on.
     ensures sends { (i w r o : Option (List ℕ)) → SendsOn form i (reader_remaining I.remaining input.old)
         w (W.contents to.old) r (R.remaining from.old) o (O.contents output.old) end.now
@@ -197,7 +208,8 @@ fn answers_to_read<I: Read>(
     written: bool,
 ) -> u64
     requires { due + taken.now.count ≤ window }
-    ensures { (result ≡ due + taken.now.count) ⊎ ((result ≡ due) × (taken.now.more ≡ true)) }
+    ensures { (result ≡ due + taken.now.count)
+        ⊎ ((result ≡ due) × (taken.now.more ≡ true) × (written ≡ true) × (taken.now.count < window)) }
 {
     if written && taken.more && taken.count < window && has_line(input) {
         due

@@ -41,6 +41,7 @@ pub(crate) fn take_lines<I: Read>(
     frames: &mut Vec<u8>,
 ) -> Taken
     ensures few { result.count ≤ window }
+    ensures some { 0 < window → result.more ≡ true → 0 < result.count }
     ensures fits { before + result.count ≤ u64.MAX }
     ensures taken { TakesRound form (reader_remaining I.remaining input.old)
         (reader_remaining I.remaining input.new) before frames.new.items result }

@@ -1,3 +1,4 @@
+use Rattle.std.proofs.Common.{◌<◌, ◌≤◌}
 use Rattle.std.specs.Io.Buffered.{reader_remaining}
 use Rattle.audit_client.specs.Sending.{SendsOn, IsWithin}
 use Rattle.audit_client.proofs.sending.send_events.Given as goal
@@ -7,4 +8,5 @@ invariant-loop g l = record {
   on : SendsOn l.form (reader_remaining g.I.Read.remaining l.fn.input) (reader_remaining g.I.Read.remaining l.input) (g.W.Write.contents l.fn.to) (g.W.Write.contents l.to) (g.R.Read.remaining l.fn.from) (g.R.Read.remaining l.from)
       (g.O.Write.contents l.fn.output) (g.O.Write.contents l.output) l.end;
   within : IsWithin l.window l.end;
+  further : 0 < l.window → l.counter ≤ l.end.sent;
 }

@@ -15,7 +15,7 @@ returns-in-Ok-false-clause-taken g c =
     c.in-Ok-false.ensures.taken)
 
 pub returns-in-Err-clause-taken : goal.returns-in-Err-clause-taken
-returns-in-Err-clause-taken g c = round_fault (reader_remaining g.I.Read.remaining c.take_line.new.input) c.in-Err.error c.loop-count.invariant.taken c.in-Err.ensures.kept
+returns-in-Err-clause-taken g c = round_fault (reader_remaining g.I.Read.remaining c.take_line.new.input) c.in-Err.error c.loop-count.invariant.taken c.in-Err.ensures.kept c.in-Err.ensures.fault
 
 pub loop-count-preserved : goal.loop-count-preserved
 loop-count-preserved g c =
