@@ -4,5 +4,6 @@ pub mod Sent
 pub mod State
 pub mod Alarm
 pub mod Arguments
+pub mod Looking
 pub mod Asked
 pub mod Requests

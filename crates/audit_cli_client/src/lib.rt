@@ -28,3 +28,4 @@ pub use fault::RemoteError;
 pub use request::{Request, run};
 pub use state_file::StateFile;
 pub use state_text::StateText;
+pub use watching::{Post, follow_look};

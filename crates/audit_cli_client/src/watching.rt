@@ -1,4 +1,10 @@
 //! A witness of a log, which keeps what it sees in a file.
+ghost use Rattle.std.specs.Prelude.{◌≡◌, ◌++◌, false, codes, IfErr, OnOk};
+ghost use Rattle.std.specs.Io.KnownBytes.{Appends};
+ghost use Rattle.audit_cli_client.specs.Faults.{is_passing_fault};
+ghost use Rattle.audit_cli_client.specs.Looking.{sight_line, change_line, FollowsLook};
+ghost use Rattle.audit_cli_client.specs.State.{commitment_word};
+
 use crate::alarm::{date_of_now, push_date};
 use crate::alarm_file::keep_alarm;
 use crate::connection::{connect, socket_identity};
@@ -48,7 +54,8 @@ where
 }
 
 /// Looks again and again, pausing for `every` seconds after each look, and prints what has changed. A server that
-/// isn't there, or doesn't answer, is reported once until something else is seen, and so is its return.
+/// isn't there, or doesn't answer, is reported once until something else is seen, and so is its return. What isn't such
+/// a fault ends it: a judgment of the log, and an output that can't be written.
 pub fn watch_for_ever<F: Files + Dial + Clock, W: Write, M: Write>(
     rt: &F,
     alloc: Global,
@@ -59,6 +66,7 @@ pub fn watch_for_ever<F: Files + Dial + Clock, W: Write, M: Write>(
 ) -> Result<(), RemoteError>
 where
     F::File: SystemFile,
+    ensures { IfErr result (λ fault. is_passing_fault fault ≡ false) }
 {
     let mut reported = None;
     for _ in 0..u64::MAX {
@@ -79,11 +87,30 @@ fn look_again<F: Files + Dial + Clock, W: Write, M: Write>(
 ) -> Result<Option<RemoteError>, RemoteError>
 where
     F::File: SystemFile,
+    ensures { IfErr result (λ fault. is_passing_fault fault ≡ false) }
 {
-    match look(rt, alloc, post) {
+    let looked = look(rt, alloc, post);
+    follow_look(rt, alloc, post, reported, looked, output, messages)
+}
+
+/// Prints what a look saw, or reports why it failed, unless that was reported. Returns what was reported, if the next
+/// look is to follow: of a server that isn't there or doesn't answer, or a file that another witness looks by.
+pub fn follow_look<C: Clock, W: Write, M: Write>(
+    clock: &C,
+    alloc: Global,
+    post: Post<'_>,
+    reported: Option<RemoteError>,
+    looked: Result<Sight, RemoteError>,
+    output: &mut W,
+    messages: &mut M,
+) -> Result<Option<RemoteError>, RemoteError>
+    ensures follows { FollowsLook post.entry.is_quiet looked (W.contents output.old) (W.contents output.new) result }
+    ensures ends { IfErr result (λ fault. is_passing_fault fault ≡ false) }
+{
+    match looked {
         Ok(sight) => {
             if let Some(RemoteError::NoConnection(_) | RemoteError::Server(_)) = reported {
-                let _ = print_moment(rt, alloc, post.socket, "answers again", messages);
+                let _ = print_moment(clock, alloc, post.socket, "answers again", messages);
             }
             print_change(alloc, sight, post.is_quiet, output)?;
             Ok(None)
@@ -91,7 +118,7 @@ where
         Err(fault) if fault.is_passing() => {
             if reported != Some(fault) {
                 fault.report(messages);
-                let _ = print_passing(rt, alloc, post, fault, messages);
+                let _ = print_passing(clock, alloc, post, fault, messages);
             }
             Ok(Some(fault))
         }
@@ -105,7 +132,11 @@ fn print_change<W: Write>(
     sight: Sight,
     is_quiet: bool,
     output: &mut W,
-) -> Result<(), RemoteError> {
+) -> Result<(), RemoteError>
+    ensures printed { OnOk result (Appends (W.contents output.old) (W.contents output.new)
+        (change_line is_quiet sight)) }
+    ensures fault { IfErr result (λ fault. is_passing_fault fault ≡ false) }
+{
     if let Sight::Same(_) = sight {
         return Ok(());
     }
@@ -201,12 +232,25 @@ fn print_sight<W: Write>(
     sight: Sight,
     is_quiet: bool,
     output: &mut W,
-) -> Result<(), RemoteError> {
+) -> Result<(), RemoteError>
+    ensures printed { OnOk result (Appends (W.contents output.old) (W.contents output.new)
+        (sight_line is_quiet sight)) }
+    ensures fault { IfErr result (λ fault. is_passing_fault fault ≡ false) }
+{
     match sight {
         Sight::Began(seen) => print_seen(alloc, b"began ", &seen, output),
-        Sight::Same(_) | Sight::Grew(_) if is_quiet => Ok(()),
-        Sight::Same(_) => Ok(write_whole(output, b"same\n")?),
-        Sight::Grew(seen) => print_seen(alloc, b"grew ", &seen, output),
+        Sight::Same(_) => {
+            if is_quiet {
+                return Ok(());
+            }
+            Ok(write_whole(output, b"same\n")?)
+        }
+        Sight::Grew(seen) => {
+            if is_quiet {
+                return Ok(());
+            }
+            print_seen(alloc, b"grew ", &seen, output)
+        }
     }
 }
 
@@ -215,7 +259,11 @@ fn print_seen<W: Write>(
     word: &[u8],
     seen: &Commitment,
     output: &mut W,
-) -> Result<(), RemoteError> {
+) -> Result<(), RemoteError>
+    ensures printed { OnOk result (Appends (W.contents output.old) (W.contents output.new)
+        (word.now ++ commitment_word seen.now ++ codes "\n")) }
+    ensures fault { IfErr result (λ fault. is_passing_fault fault ≡ false) }
+{
     let mut line = Vec::from_slice(alloc, word)?;
     push_commitment_line(&mut line, seen)?;
     Ok(write_whole(output, &line)?)
