@@ -33,7 +33,7 @@ module _ {S : Type 0} (N : CallModel S) where
   pub offers_none : (slots : List (SlotData S)) → OffersBelow 0 slots slots
   offers_none slots = record { writes = writes_none N slots; offered = λ k below. absurd (omega (arith, below)) }
 
-  pub offers_more : (k : ℕ) (before between : List (SlotData S)) (at after : SlotData S) → k < length between → OffersBelow k before between → IsPushed N [] (get_or between k at) after → OffersBelow (k + 1) before (set between k after)
+  pub offers_more : {moved : Bool} (k : ℕ) (before between : List (SlotData S)) (at after : SlotData S) → k < length between → OffersBelow k before between → IsPushed N moved [] (get_or between k at) after → OffersBelow (k + 1) before (set between k after)
   unfolding writes_then place_writes
   offers_more k before between at after within first pushed = record {
     writes = writes_then N before between (set between k after) first.writes (place_writes N k between (get_or between k at) after within (in_any between k vacant at within) pushed);

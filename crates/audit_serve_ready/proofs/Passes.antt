@@ -1,5 +1,5 @@
 -- Passes one after another.
-use Rattle.std.proofs.Common.{◌≡◌, ℕ, ◌<◌, List, [], ◌∷◌, ◌++◌, length, set, get_or, refl, sym, ap, subst, ◌∙◌, arith, inl, inr}
+use Rattle.std.proofs.Common.{◌≡◌, ℕ, ◌<◌, Bool, List, [], ◌∷◌, ◌++◌, length, set, get_or, refl, sym, ap, subst, ◌∙◌, arith, inl, inr}
 use Rattle.std.proofs.lemmas.Bool.{cases_eq}
 use Rattle.std.proofs.lemmas.List.{length-set, get_or-set_same, get_or-set_other}
 use Rattle.audit_serve_passes.specs.Steps.{StepData, AreAbout, IsPartOf, a_flush}
@@ -127,7 +127,7 @@ module _ {S : Type 0} (N : CallModel S) where
         );
   }
 
-  unfoldable pub place_writes : (k : ℕ) (slots : List (SlotData S)) (slot after : SlotData S) → k < length slots → slot_at k slots ≡ slot → IsPushed N [] slot after → WritesOn N slots (set slots k after)
+  unfoldable pub place_writes : {moved : Bool} (k : ℕ) (slots : List (SlotData S)) (slot after : SlotData S) → k < length slots → slot_at k slots ≡ slot → IsPushed N moved [] slot after → WritesOn N slots (set slots k after)
   place_writes k slots slot after within is pushed = record {
     count = length-set slots k after;
     calls = calls_for k pushed.calls;

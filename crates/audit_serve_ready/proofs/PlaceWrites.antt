@@ -2,17 +2,17 @@
 use Rattle.std.proofs.Common.{◌≡◌, ◌⊎◌, inl, inr, ◌∙◌, ℕ, ◌+◌, ◌<◌, Bool, true, false, ◌||◌, List, [], ◌∷◌, ◌++◌, length, set, get_or, refl, sym, ap, subst, arith, true≢false}
 use Rattle.std.proofs.lemmas.Bool.{cases_eq}
 use Rattle.std.proofs.lemmas.List.{append-nil, length-set, get_or-set_same, get_or-set_other}
-use Rattle.audit_serve_passes.specs.Streams.{StreamCall, CallModel, calls_for, has_failed_write}
+use Rattle.audit_serve_passes.specs.Streams.{StreamCall, CallModel, calls_for, bytes_sent, has_failed_write}
 use Rattle.audit_serve_passes.specs.Core.{CoreModel, no_bytes, bytes_for}
-use Rattle.audit_serve_passes.specs.CallLaws.{failed-append}
+use Rattle.audit_serve_passes.specs.CallLaws.{failed-append, bytes_sent-append}
 use Rattle.audit_serve_passes.proofs.Calls.{calls_here, calls_there, or_left, or_right}
-use Rattle.audit_serve_passes.proofs.Transitions.{no_calls, bytes_here, bytes_there, in_any}
+use Rattle.audit_serve_passes.proofs.Transitions.{none_of_both, no_calls, bytes_here, bytes_there, in_any}
 use Rattle.audit_serve_ready.specs.Slot.{SlotData, vacant, unread_of, kept_of, is_shut, is_mute, has_kept, has_read, has_write, IsPushed}
 use Rattle.audit_serve_ready.specs.Places.{slot_at, IsServedAt, IsReadyPass, WritesPlaces}
 use Rattle.audit_serve_ready.proofs.Accounts.{served_elsewhere}
 use Rattle.audit_serve_ready.proofs.Passes.{pass_then}
 use Rattle.audit_serve_ready.proofs.Offers.{wrote_first, wrote_later}
-use Rattle.audit_serve_ready.proofs.TurnByTurn.{read-append}
+use Rattle.audit_serve_ready.proofs.TurnByTurn.{read-append, neither_of}
 
 no_back : (front rest : List ℕ) → front ++ rest ≡ [] → rest ≡ []
 no_back [] rest none = none
@@ -26,14 +26,14 @@ no_reads_more : (calls later : List StreamCall) → has_read calls ≡ false →
 no_reads_more calls later first second = read-append calls later ∙ or_none (has_read calls) (has_read later) first second
 
 module _ {C S : Type 0} (M : CoreModel C) (N : CallModel S) where
-  pushed_at : (k : ℕ) (sent : List ℕ) (before after : SlotData S) (pushed : IsPushed N sent before after) → IsServedAt N k [] [] sent pushed.calls before after
+  pushed_at : {moved : Bool} (k : ℕ) (sent : List ℕ) (before after : SlotData S) (pushed : IsPushed N moved sent before after) → IsServedAt N k [] [] sent pushed.calls before after
   pushed_at k sent before after pushed = record {
     read = ap (λ (bytes : List ℕ). unread_of before ++ bytes) pushed.quiet ∙ append-nil (unread_of before) ∙ sym pushed.unread ∙ sym (append-nil (unread_of after));
     ends = inl refl;
     accounted = pushed.accounted;
   }
 
-  push_pass : (k : ℕ) (sent : List ℕ) (old new : C) (slots : List (SlotData S)) (after : SlotData S) → k < length slots → M.DidSteps old new [] (bytes_for k sent) → (pushed : IsPushed N sent (slot_at k slots) after)
+  push_pass : {moved : Bool} (k : ℕ) (sent : List ℕ) (old new : C) (slots : List (SlotData S)) (after : SlotData S) → k < length slots → M.DidSteps old new [] (bytes_for k sent) → (pushed : IsPushed N moved sent (slot_at k slots) after)
       → IsReadyPass N (M.DidSteps old new) no_bytes [] (bytes_for k sent) (calls_for k pushed.calls) slots (set slots k after)
   push_pass k sent old new slots after within did pushed = record {
     count = length-set slots k after;
@@ -51,20 +51,21 @@ module _ {C S : Type 0} (M : CoreModel C) (N : CallModel S) where
     ];
   }
 
-  pub writes_start : (core : C) (slots : List (SlotData S)) → WritesPlaces N (M.DidSteps core core) 0 no_bytes no_calls slots slots
+  pub writes_start : (core : C) (slots : List (SlotData S)) → WritesPlaces N (M.DidSteps core core) false 0 no_bytes no_calls slots slots
   writes_start core slots = record {
     pass = record { count = refl; did = M.nothing_done core; others = λ k above. refl; at = λ k within. served_elsewhere N k [] (slot_at k slots) tt };
     offered = λ k below. absurd (omega (arith, below));
     no_reads = λ k. refl;
+    idle = λ still k. refl;
     unread = λ k. refl;
     dropped = λ k heard mute. absurd (true≢false (sym mute ∙ heard));
     closed = λ k live shut. absurd (true≢false (sym shut ∙ live));
     others = λ k above. refl;
   }
 
-  pub writes_more : (k : ℕ) (old mid new : C) (taken : ℕ → List ℕ) (calls : ℕ → List StreamCall) (sent : List ℕ) (before between : List (SlotData S)) (at after : SlotData S) → k < length between → WritesPlaces N (M.DidSteps old mid) k taken calls before between
-      → M.DidSteps mid new [] (bytes_for k sent) → IsPushed N sent (get_or between k at) after → (taken : ℕ → List ℕ) × (calls : ℕ → List StreamCall) × WritesPlaces N (M.DidSteps old new) (k + 1) taken calls before (set between k after)
-  writes_more k old mid new taken calls sent before between at after within first did pushing = (
+  pub writes_more : (was moved : Bool) (k : ℕ) (old mid new : C) (taken : ℕ → List ℕ) (calls : ℕ → List StreamCall) (sent : List ℕ) (before between : List (SlotData S)) (at after : SlotData S) → k < length between → WritesPlaces N (M.DidSteps old mid) was k taken calls before between
+      → M.DidSteps mid new [] (bytes_for k sent) → IsPushed N moved sent (get_or between k at) after → (taken : ℕ → List ℕ) × (calls : ℕ → List StreamCall) × WritesPlaces N (M.DidSteps old new) (was || moved) (k + 1) taken calls before (set between k after)
+  writes_more was moved k old mid new taken calls sent before between at after within first did pushing = (
     λ j. taken j ++ bytes_for k sent j,
     λ j. calls j ++ calls_for k pushed.calls j,
     record {
@@ -77,6 +78,9 @@ module _ {C S : Type 0} (M : CoreModel C) (N : CallModel S) where
         | inr apart ↦ λ kept. wrote_first (calls j) (calls_for k pushed.calls j) (first.offered j (omega (arith, below, apart)) (sym (ap has_kept (get_or-set_other between k j after vacant apart)) ∙ kept))
       ];
       no_reads = λ j. no_reads_more (calls j) (calls_for k pushed.calls j) (first.no_reads j) (none_read j);
+      idle = λ still j.
+          let both = neither_of was moved still in
+          bytes_sent-append (calls j) (calls_for k pushed.calls j) ∙ none_of_both (bytes_sent (calls j)) (bytes_sent (calls_for k pushed.calls j)) (first.idle both.0 j) (none_sent both.1 j);
       unread = λ j. elim (cases_eq j k) [
         | inl same ↦ ap unread_of (now_is j same) ∙ pushed.unread ∙ ap unread_of (was_is j same)
         | inr apart ↦ ap unread_of (get_or-set_other between k j after vacant apart) ∙ first.unread j
@@ -101,8 +105,8 @@ module _ {C S : Type 0} (M : CoreModel C) (N : CallModel S) where
     },
   )
     where
-      pushed : IsPushed N sent (slot_at k between) after
-      pushed = subst (λ (slot : SlotData S). IsPushed N sent slot after) (sym (in_any between k vacant at within)) pushing
+      pushed : IsPushed N moved sent (slot_at k between) after
+      pushed = subst (λ (slot : SlotData S). IsPushed N moved sent slot after) (sym (in_any between k vacant at within)) pushing
 
       now_is : (j : ℕ) → j ≡ k → slot_at j (set between k after) ≡ after
       now_is j same = ap (λ (i : ℕ). slot_at i (set between k after)) same ∙ get_or-set_same between k after vacant within
@@ -114,6 +118,12 @@ module _ {C S : Type 0} (M : CoreModel C) (N : CallModel S) where
       none_read j = elim (cases_eq j k) [
         | inl same ↦ ap (λ (i : ℕ). has_read (calls_for k pushed.calls i)) same ∙ ap has_read (calls_here k pushed.calls) ∙ pushed.no_reads
         | inr apart ↦ ap has_read (calls_there k j pushed.calls apart)
+      ]
+
+      none_sent : moved ≡ false → (j : ℕ) → bytes_sent (calls_for k pushed.calls j) ≡ []
+      none_sent still j = elim (cases_eq j k) [
+        | inl same ↦ ap (λ (i : ℕ). bytes_sent (calls_for k pushed.calls i)) same ∙ ap bytes_sent (calls_here k pushed.calls) ∙ pushed.idle still
+        | inr apart ↦ ap bytes_sent (calls_there k j pushed.calls apart)
       ]
 
       dropped_here : (j : ℕ) → j ≡ k → (has_failed_write pushed.calls ≡ true) ⊎ (is_shut after ≡ true) → (has_failed_write (calls j ++ calls_for k pushed.calls j) ≡ true) ⊎ (is_shut (slot_at j (set between k after)) ≡ true)

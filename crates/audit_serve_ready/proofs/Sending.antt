@@ -1,12 +1,16 @@
 -- What is sent to a client: kept and written.
-use Rattle.std.proofs.lemmas.Bool.{cases_Bool}
-use Rattle.std.proofs.Common.{◌≡◌, ◌≢◌, inl, inr, ℕ, true, false, not, ◌&&◌, Option, Some, None, List, [], ◌∷◌, ◌++◌, take, drop, refl, sym, ap, subst, ◌∙◌, append_assoc, true≢false}
+use Rattle.std.proofs.lemmas.Bool.{cases_Bool, ltb-false}
+use Rattle.std.proofs.Common.{◌≡◌, ◌≢◌, inl, inr, ℕ, Bool, true, false, not, ◌&&◌, Option, Some, None, List, [], ◌∷◌, ◌++◌, take, drop, ltb, arith, refl, sym, ap, subst, ◌∙◌, append_assoc, true≢false}
 use Rattle.std.proofs.lemmas.List.{append-nil, take-append-drop}
 use Rattle.audit_serve_passes.specs.Streams.{a_write, a_failed_write, CallModel}
 use Rattle.audit_serve_ready.specs.declared.reception.Reception.{Reception}
 use Rattle.audit_serve_ready.specs.declared.reception.Reception.TheVariants as reception
 use Rattle.audit_serve_ready.specs.Slot.{SlotData, vacant, serving, unheard, closing, closed, has_bytes, has_kept, slot_data, is_mute, is_shut, is_no_client, unread_of, kept_of, HasCalled, IsAccounted, IsPushed}
 use Rattle.audit_serve_ready.proofs.Accounts.{accounted_none, accounted_then}
+
+-- nothing was taken
+pub no_count : (count : ℕ) → ltb 0 count ≡ false → count ≡ 0
+no_count count none = omega (arith, ltb-false 0 count none)
 
 -- a client for which something is kept takes replies
 pub kept_heard : {S : Type 0} (slot : SlotData S) → has_kept slot ≡ true → is_mute slot ≡ false
@@ -42,13 +46,14 @@ kept_data (Some client) reception.Shut unread kept = refl
 
 module _ {S : Type 0} (N : CallModel S) where
   -- kept, then pushed
-  pub sent_then : (sent : List ℕ) (old kept pushed : SlotData S) → IsAccounted N sent [] old kept → unread_of kept ≡ unread_of old → (is_mute old ≡ false → is_mute kept ≡ true → is_shut kept ≡ true)
-      → (is_shut old ≡ false → is_shut kept ≡ true → (kept_of old ≢ []) × (sent ≢ [])) → IsPushed N [] kept pushed → IsPushed N sent old pushed
-  sent_then sent old kept pushed first same drops shuts push = record {
+  pub sent_then : (moved : Bool) (sent : List ℕ) (old kept pushed : SlotData S) → IsAccounted N sent [] old kept → unread_of kept ≡ unread_of old → (is_mute old ≡ false → is_mute kept ≡ true → is_shut kept ≡ true)
+      → (is_shut old ≡ false → is_shut kept ≡ true → (kept_of old ≢ []) × (sent ≢ [])) → IsPushed N moved [] kept pushed → IsPushed N moved sent old pushed
+  sent_then moved sent old kept pushed first same drops shuts push = record {
     calls = push.calls;
     offered = push.offered;
     quiet = push.quiet;
     no_reads = push.no_reads;
+    idle = push.idle;
     unread = push.unread ∙ same;
     accounted =
         subst (λ (bytes : List ℕ). IsAccounted N bytes push.calls old pushed) (append-nil sent)
@@ -102,16 +107,17 @@ module _ {S : Type 0} (N : CallModel S) where
   }
   closed_accounted (closing client unread) = accounted_none N (closing client unread)
 
-  pub push_none : (slot : SlotData S) → has_kept slot ≡ false → IsPushed N [] slot slot
-  push_none slot none = record { calls = []; offered = λ kept. absurd (true≢false (sym kept ∙ none)); quiet = refl; no_reads = refl; unread = refl; accounted = accounted_none N slot; dropped = λ heard mute. absurd (true≢false (sym mute ∙ heard)); closed = λ live shut. absurd (true≢false (sym shut ∙ live)) }
+  pub push_none : (slot : SlotData S) → has_kept slot ≡ false → IsPushed N false [] slot slot
+  push_none slot none = record { calls = []; offered = λ kept. absurd (true≢false (sym kept ∙ none)); quiet = refl; no_reads = refl; idle = λ still. refl; unread = refl; accounted = accounted_none N slot; dropped = λ heard mute. absurd (true≢false (sym mute ∙ heard)); closed = λ live shut. absurd (true≢false (sym shut ∙ live)) }
 
   -- a write took this number of the bytes that are kept
-  pub push_some : (client after : S) (unread kept rest : List ℕ) (count : ℕ) → N.DidCalls client after (a_write (take count kept) ∷ []) → kept ≡ take count kept ++ rest → IsPushed N [] (serving client unread kept) (serving after unread rest)
-  push_some client after unread kept rest count did split = record {
+  pub push_some : (moved : Bool) (client after : S) (unread kept rest : List ℕ) (count : ℕ) → N.DidCalls client after (a_write (take count kept) ∷ []) → kept ≡ take count kept ++ rest → (moved ≡ false → count ≡ 0) → IsPushed N moved [] (serving client unread kept) (serving after unread rest)
+  push_some moved client after unread kept rest count did split none = record {
     calls = a_write (take count kept) ∷ [];
     offered = λ still. refl;
     quiet = refl;
     no_reads = refl;
+    idle = λ still. append-nil (take count kept) ∙ ap (λ (n : ℕ). take n kept) (none still);
     unread = refl;
     dropped = λ heard mute. absurd (true≢false (sym mute));
     closed = λ live shut. absurd (true≢false (sym shut));
@@ -128,12 +134,13 @@ module _ {S : Type 0} (N : CallModel S) where
   }
 
   -- a write of them failed
-  pub push_failed : (client after : S) (unread kept : List ℕ) → N.DidCalls client after (a_failed_write kept ∷ []) → IsPushed N [] (serving client unread kept) (unheard after unread)
+  pub push_failed : (client after : S) (unread kept : List ℕ) → N.DidCalls client after (a_failed_write kept ∷ []) → IsPushed N true [] (serving client unread kept) (unheard after unread)
   push_failed client after unread kept did = record {
     calls = a_failed_write kept ∷ [];
     offered = λ still. refl;
     quiet = refl;
     no_reads = refl;
+    idle = λ still. absurd (true≢false still);
     unread = refl;
     dropped = λ heard mute. inl refl;
     closed = λ live shut. absurd (true≢false (sym shut));
@@ -149,16 +156,16 @@ module _ {S : Type 0} (N : CallModel S) where
     };
   }
 
-  pub push_ok : (before after : Option S) (how : Reception) (unread kept : List ℕ) (count : ℕ) → is_mute (slot_data before unread kept how) ≡ false → (is_no_client before ≡ false → HasCalled N before after (a_write (take count kept) ∷ []))
-      → IsPushed N [] (slot_data before unread kept how) (slot_data after unread (drop count kept) how)
-  push_ok None after how unread kept count live did = absurd (true≢false live)
-  push_ok (Some client) after reception.Drops unread kept count live did = absurd (true≢false live)
-  push_ok (Some client) after reception.Shut unread kept count live did = absurd (true≢false live)
-  push_ok (Some client) None reception.Takes unread kept count live did = absurd (did refl)
-  push_ok (Some client) (Some after) reception.Takes unread kept count live did = push_some client after unread kept (drop count kept) count (did refl) (sym (take-append-drop count kept))
+  pub push_ok : (moved : Bool) (before after : Option S) (how : Reception) (unread kept : List ℕ) (count : ℕ) → is_mute (slot_data before unread kept how) ≡ false → (is_no_client before ≡ false → HasCalled N before after (a_write (take count kept) ∷ []))
+      → (moved ≡ false → count ≡ 0) → IsPushed N moved [] (slot_data before unread kept how) (slot_data after unread (drop count kept) how)
+  push_ok moved None after how unread kept count live did none = absurd (true≢false live)
+  push_ok moved (Some client) after reception.Drops unread kept count live did none = absurd (true≢false live)
+  push_ok moved (Some client) after reception.Shut unread kept count live did none = absurd (true≢false live)
+  push_ok moved (Some client) None reception.Takes unread kept count live did none = absurd (did refl)
+  push_ok moved (Some client) (Some after) reception.Takes unread kept count live did none = push_some moved client after unread kept (drop count kept) count (did refl) (sym (take-append-drop count kept)) none
 
   pub push_err : (before after : Option S) (how : Reception) (unread kept rest : List ℕ) → is_mute (slot_data before unread kept how) ≡ false → (is_no_client before ≡ false → HasCalled N before after (a_failed_write kept ∷ []))
-      → IsPushed N [] (slot_data before unread kept how) (slot_data after unread rest reception.Drops)
+      → IsPushed N true [] (slot_data before unread kept how) (slot_data after unread rest reception.Drops)
   push_err None after how unread kept rest live did = absurd (true≢false live)
   push_err (Some client) after reception.Drops unread kept rest live did = absurd (true≢false live)
   push_err (Some client) after reception.Shut unread kept rest live did = absurd (true≢false live)

@@ -12,7 +12,7 @@ use Rattle.audit_serve_passes.proofs.StreamSteps.{about_elsewhere}
 use Rattle.audit_serve_passes.proofs.Transitions.{none_of_both}
 use Rattle.audit_serve_ready.specs.Slot.{SlotData, vacant, unread_of, is_read, has_read, is_shut, IsSamePlace}
 use Rattle.audit_serve_ready.specs.Places.{slot_at, has_last_read, IsServedAt, IsReadyPass, ServesPlaces}
-use Rattle.audit_serve_ready.specs.Reading.{IsTurn, is_about, steps_about, mark, IsTurnTaken, IsAttended, HasTurn, IsTurnOfLive, TakesTurns, ReadsPlaces}
+use Rattle.audit_serve_ready.specs.Reading.{IsWait, IsTurn, is_about, steps_about, mark, IsTurnTaken, IsAttended, HasTurn, IsTurnOfLive, TakesTurns, ReadsPlaces}
 use Rattle.audit_serve_ready.proofs.Accounts.{either_of, last-append, served_elsewhere}
 use Rattle.audit_serve_ready.proofs.Passes.{pass_then}
 use Rattle.audit_serve_ready.proofs.Bounds.{mark_set, unmarked, ended_still}
@@ -39,6 +39,22 @@ all_append P (step ∷ steps) later first second = (first.0, all_append P steps 
 pub all_map : (P Q : StepData → Type 0) (steps : List StepData) → ((step : StepData) → P step → Q step) → AllByRecursion P steps → AllByRecursion Q steps
 all_map P Q [] by all = tt
 all_map P Q (step ∷ steps) by all = (by step all.0, all_map P Q steps by all.1)
+
+pub neither_of : (x y : Bool) → (x || y) ≡ false → (x ≡ false) × (y ≡ false)
+neither_of true y still = absurd (true≢false still)
+neither_of false y still = (refl, still)
+
+pub then_still : (moved found more : Bool) → ((moved || (found || more)) || false) ≡ false → ((moved || found) || more) ≡ false
+then_still true found more still = absurd (true≢false still)
+then_still false true more still = absurd (true≢false still)
+then_still false false true still = absurd (true≢false still)
+then_still false false false still = refl
+
+pub last_still : (moved found more now : Bool) → now ≡ (moved || (found || more)) → now ≡ false → ((moved || found) || more) ≡ false
+last_still moved found more now is still = then_still moved found more (ap (λ (b : Bool). b || false) (sym is ∙ still))
+
+pub all_still : (moved found now : Bool) → now ≡ moved → found ≡ false → now ≡ false → (moved || found) ≡ false
+all_still moved found now is none still = ap (λ (b : Bool). b || found) (sym is ∙ still) ∙ none
 
 -- one step is about one session
 turn_about : (k : ℕ) (step : StepData) → IsTurn k step → IsAbout k step
@@ -79,13 +95,14 @@ module _ {C S : Type 0} (M : CoreModel C) (N : CallModel S) where
   seen_later k calls later new before between same unread (inr (inl some)) = inr (inl (λ none. some (unread ∙ none)))
   seen_later k calls later new before between same unread (inr (inr asked)) = inr (inr (read-append calls later ∙ or_right (has_read calls) (has_read later) asked))
 
-  pub turns_none : {Meant : ℕ → Type 0} (marks : List Bool) (core : C) (slots : List (SlotData S)) → ((k : ℕ) → k < length slots → get_or marks k true ≡ false → M.ended core [] k ≡ false → Meant k → ⊥) → TakesTurns M N Meant marks marks core core slots slots
+  pub turns_none : {Meant : ℕ → Type 0} (marks : List Bool) (core : C) (slots : List (SlotData S)) → ((k : ℕ) → k < length slots → get_or marks k true ≡ false → M.ended core [] k ≡ false → Meant k → ⊥) → TakesTurns M N false Meant marks marks core core slots slots
   turns_none marks core slots none = record {
     steps = [];
     calls = λ k. [];
     pass = record { count = refl; did = M.nothing_done core; others = λ k above. refl; at = λ k within. served_elsewhere N k [] (slot_at k slots) tt };
     turns = tt;
     once = λ k. omega arith;
+    waits = λ still. tt;
     marks = λ k had. had;
     seen = λ k within unmarked live meant. elim meant [
       | inl is ↦ absurd (none k within unmarked live is)
@@ -97,9 +114,9 @@ module _ {C S : Type 0} (M : CoreModel C) (N : CallModel S) where
     alone = λ k unmarked. (refl, refl);
   }
 
-  pub turns_then : {First Next Both : ℕ → Type 0} (had mid now : List Bool) (old between new : C) (before middle after : List (SlotData S)) → TakesTurns M N First had mid old between before middle → TakesTurns M N Next mid now between new middle after
-      → ((k : ℕ) → k < length before → Both k → First k ⊎ Next k) → TakesTurns M N Both had now old new before after
-  turns_then {First} {Next} {Both} had mid now old between new before middle after first second either = record {
+  pub turns_then : {First Next Both : ℕ → Type 0} (was moved : Bool) (had mid now : List Bool) (old between new : C) (before middle after : List (SlotData S)) → TakesTurns M N was First had mid old between before middle → TakesTurns M N moved Next mid now between new middle after
+      → ((k : ℕ) → k < length before → Both k → First k ⊎ Next k) → TakesTurns M N (was || moved) Both had now old new before after
+  turns_then {First} {Next} {Both} was moved had mid now old between new before middle after first second either = record {
     steps = first.steps ++ second.steps;
     calls = λ k. first.calls k ++ second.calls k;
     pass = pass_then N {First = M.DidSteps old between} {Next = M.DidSteps between new} {Both = M.DidSteps old new} no_bytes first.steps second.steps no_bytes no_bytes first.calls second.calls before middle after first.pass second.pass
@@ -108,6 +125,7 @@ module _ {C S : Type 0} (M : CoreModel C) (N : CallModel S) where
         (all_map (IsTurnOfLive M N (length middle) between) (IsTurnOfLive M N (length before) old) second.steps
         (λ step is. (is.0, omega (arith, is.1, first.pass.count), was_live is.0 is.2, is.3)) second.turns);
     once = λ k. omega (arith, about-append k first.steps second.steps, first.once k, second.once k);
+    waits = λ still. all_append IsWait first.steps second.steps (first.waits (neither_of was moved still).0) (second.waits (neither_of was moved still).1);
     marks = λ k marked. second.marks k (first.marks k marked);
     seen = λ k within unmarked live meant. elim (cases_Bool (get_or mid k true)) [
       | inl marked ↦ seen_first k (first.calls k) (second.calls k) between new (slot_at k before) (stays k) (first.seen k within unmarked live (inr marked))
@@ -213,14 +231,15 @@ module _ {C S : Type 0} (M : CoreModel C) (N : CallModel S) where
   unmarked_is k had true unmarked = absurd (true≢false (sym (mark_set k had true (λ e. true≢false e)) ∙ unmarked))
   unmarked_is k had false unmarked = refl
 
-  pub one_turn : (k : ℕ) (had : List Bool) (is : Bool) (old new : C) (slots : List (SlotData S)) (after : SlotData S) → k < length slots → get_or had k true ≡ false → M.ended old [] k ≡ false → HasTurn M N k is old new (slot_at k slots) after
-      → TakesTurns M N (λ j. j ≡ k) had (set had k is) old new slots (set slots k after)
-  one_turn k had is old new slots after within due live turn = record {
+  pub one_turn : (moved : Bool) (k : ℕ) (had : List Bool) (is : Bool) (old new : C) (slots : List (SlotData S)) (after : SlotData S) → k < length slots → get_or had k true ≡ false → M.ended old [] k ≡ false → HasTurn M N moved k is old new (slot_at k slots) after
+      → TakesTurns M N moved (λ j. j ≡ k) had (set had k is) old new slots (set slots k after)
+  one_turn moved k had is old new slots after within due live turn = record {
     steps = turn.steps;
     calls = calls_for k turn.calls;
     pass = turn_pass k turn.steps turn.calls old new slots after within turn.did (about_all k is turn.steps turn.taken) turn.served;
     turns = turn_of_live k (length slots) is old turn.steps within live turn.taken;
     once = once_more k had is turn.steps due turn.taken;
+    waits = turn.waits;
     marks = λ other marked. get_or-set_other had k other is true (λ same. true≢false (sym marked ∙ ap (λ (j : ℕ). get_or had j true) same ∙ due)) ∙ marked;
     seen = λ other inside unmarked alive meant. elim (cases_eq other k) [
       | inl same ↦ subst (λ (j : ℕ). IsAttended M N j (calls_for k turn.calls j) new (slot_at j slots)) (sym same) (subst (λ (calls : List StreamCall). IsAttended M N k calls new (slot_at k slots)) (sym (calls_here k turn.calls)) turn.seen)
@@ -257,13 +276,14 @@ module _ {C S : Type 0} (M : CoreModel C) (N : CallModel S) where
       nothing_done false steps did none idle = M.ended_by_steps old new steps [] no_bytes k did ∙ ap (λ (all : List StepData). M.ended old (all ++ []) k) none
 
   -- what others are meant
-  pub turns_mean : {Meant Other : ℕ → Type 0} (had now : List Bool) (old new : C) (before after : List (SlotData S)) → ((k : ℕ) → k < length before → Other k → Meant k) → TakesTurns M N Meant had now old new before after → TakesTurns M N Other had now old new before after
-  turns_mean {Meant} {Other} had now old new before after by done = record {
+  pub turns_mean : {Meant Other : ℕ → Type 0} (moved : Bool) (had now : List Bool) (old new : C) (before after : List (SlotData S)) → ((k : ℕ) → k < length before → Other k → Meant k) → TakesTurns M N moved Meant had now old new before after → TakesTurns M N moved Other had now old new before after
+  turns_mean {Meant} {Other} moved had now old new before after by done = record {
     steps = done.steps;
     calls = done.calls;
     pass = done.pass;
     turns = done.turns;
     once = done.once;
+    waits = done.waits;
     marks = done.marks;
     seen = λ k within unmarked live meant. done.seen k within unmarked live (to k within meant);
     last = done.last;
@@ -277,16 +297,17 @@ module _ {C S : Type 0} (M : CoreModel C) (N : CallModel S) where
       to k within (inr marked) = inr marked
 
   -- as what is done for the places
-  pub turns_serve : {Meant : ℕ → Type 0} (had now : List Bool) (old new : C) (before after : List (SlotData S)) → TakesTurns M N Meant had now old new before after → ServesPlaces N (M.DidSteps old new) no_bytes before after
+  pub turns_serve : {Meant : ℕ → Type 0} {moved : Bool} (had now : List Bool) (old new : C) (before after : List (SlotData S)) → TakesTurns M N moved Meant had now old new before after → ServesPlaces N (M.DidSteps old new) no_bytes before after
   turns_serve had now old new before after done = record { steps = done.steps; taken = no_bytes; calls = done.calls; pass = done.pass }
 
   -- of all sessions, of which none had had its turn
-  turns_read : {Meant : ℕ → Type 0} (now : List Bool) (old new : C) (before after : List (SlotData S)) → length before ≤ 16 → ((k : ℕ) → k < length before → Meant k) → (done : TakesTurns M N Meant (replicate 16 false) now old new before after)
-      → ReadsPlaces M N done.steps done.calls old new before after
-  turns_read now old new before after few all done = record {
+  turns_read : {Meant : ℕ → Type 0} (moved : Bool) (now : List Bool) (old new : C) (before after : List (SlotData S)) → length before ≤ 16 → ((k : ℕ) → k < length before → Meant k) → (done : TakesTurns M N moved Meant (replicate 16 false) now old new before after)
+      → ReadsPlaces M N moved done.steps done.calls old new before after
+  turns_read moved now old new before after few all done = record {
     pass = done.pass;
     turns = done.turns;
     once = λ k. omega (arith, done.once k, most_one (get_or now k true));
+    waits = done.waits;
     seen = λ k within live. done.seen k within (unmarked 16 k (omega (arith, within, few))) live (inl (all k within));
     last = done.last;
     same = done.same;
@@ -297,6 +318,23 @@ module _ {C S : Type 0} (M : CoreModel C) (N : CallModel S) where
       most_one true = omega arith
       most_one false = omega arith
 
-  pub read_all : {Meant : ℕ → Type 0} (now : List Bool) (old new : C) (before after : List (SlotData S)) → length before ≤ 16 → ((k : ℕ) → k < length before → Meant k) → TakesTurns M N Meant (replicate 16 false) now old new before after
-      → (steps : List StepData) × (calls : ℕ → List StreamCall) × ReadsPlaces M N steps calls old new before after
-  read_all {Meant} now old new before after few all done = (done.steps, done.calls, turns_read {Meant = Meant} now old new before after few all done)
+  pub read_all : {Meant : ℕ → Type 0} (moved : Bool) (now : List Bool) (old new : C) (before after : List (SlotData S)) → length before ≤ 16 → ((k : ℕ) → k < length before → Meant k) → TakesTurns M N moved Meant (replicate 16 false) now old new before after
+      → (steps : List StepData) × (calls : ℕ → List StreamCall) × ReadsPlaces M N moved steps calls old new before after
+  read_all {Meant} moved now old new before after few all done = (done.steps, done.calls, turns_read {Meant = Meant} moved now old new before after few all done)
+
+  -- if it is said of more that something moved
+  pub turns_still : {Meant : ℕ → Type 0} (moved as_ : Bool) (had now : List Bool) (old new : C) (before after : List (SlotData S)) → (as_ ≡ false → moved ≡ false) → TakesTurns M N moved Meant had now old new before after → TakesTurns M N as_ Meant had now old new before after
+  turns_still moved as_ had now old new before after less done = record {
+    steps = done.steps;
+    calls = done.calls;
+    pass = done.pass;
+    turns = done.turns;
+    once = done.once;
+    waits = λ still. done.waits (less still);
+    marks = done.marks;
+    seen = done.seen;
+    last = done.last;
+    same = done.same;
+    quiet = done.quiet;
+    alone = done.alone;
+  }

@@ -39,9 +39,9 @@ pub on_ok : {A E : Type 0} {P Q : Type 0} (result : Result A E) → (P → Q) �
 on_ok (Ok value) then_ holds = then_ holds
 on_ok (Err error) then_ holds = tt
 
-pub if_ok_both : {A E Q : Type 0} {P R : A → Type 0} (result : Result A E) → IfOk result P → OnOk result Q → ((value : A) → P value → Q → R value) → IfOk result R
-if_ok_both (Ok value) one other by = by value one other
-if_ok_both (Err error) one other by = tt
+pub if_ok_all : {A E : Type 0} {P Q R : A → Type 0} (result : Result A E) → IfOk result P → IfOk result Q → ((value : A) → P value → Q value → R value) → IfOk result R
+if_ok_all (Ok value) one other by = by value one other
+if_ok_all (Err error) one other by = tt
 
 pub on_err : {A E : Type 0} {P Q : Type 0} (result : Result A E) → (P → Q) → OnErr result P → OnErr result Q
 on_err (Ok value) then_ holds = tt
@@ -134,11 +134,12 @@ module _ {C S : Type 0} (M : CoreModel C) (N : CallModel S) where
         accounted = unread_accounted N (drop taken bytes) slot;
       }
 
-  pub is_fed : (k : ℕ) (taken : ℕ) (old new : C) (slot : SlotData S) → is_shut slot ≡ false → length (unread_of slot) ≤ MAX_PIECE → M.DidSteps old new (a_piece k (take taken (unread_of slot)) ∷ []) no_bytes
-      → IsFedPiece M N k old new slot (with_unread (drop taken (unread_of slot)) slot)
-  is_fed k taken old new slot live most did = record {
+  pub is_fed : (moved : Bool) (k : ℕ) (taken : ℕ) (old new : C) (slot : SlotData S) → is_shut slot ≡ false → length (unread_of slot) ≤ MAX_PIECE → M.DidSteps old new (a_piece k (take taken (unread_of slot)) ∷ []) no_bytes
+      → (moved ≡ false → taken ≡ 0) → IsFedPiece M N moved k old new slot (with_unread (drop taken (unread_of slot)) slot)
+  is_fed moved k taken old new slot live most did none = record {
     piece = take taken (unread_of slot);
     most = omega (arith, most, length-take taken (unread_of slot));
+    held = λ still. ap (λ (n : ℕ). take n (unread_of slot)) (none still);
     did = did;
     served = fed_at k taken slot live;
     same = same_unread (drop taken (unread_of slot)) slot;
@@ -147,12 +148,13 @@ module _ {C S : Type 0} (M : CoreModel C) (N : CallModel S) where
   -- ---- the turns of a session
 
   -- whose place is shut,
-  pub shut_turn : (k : ℕ) (old new : C) (slot : SlotData S) → is_shut slot ≡ true → M.DidSteps old new (an_end k ∷ []) no_bytes → M.ended new [] k ≡ true → HasTurn M N k true old new slot slot
+  pub shut_turn : (k : ℕ) (old new : C) (slot : SlotData S) → is_shut slot ≡ true → M.DidSteps old new (an_end k ∷ []) no_bytes → M.ended new [] k ≡ true → HasTurn M N true k true old new slot slot
   shut_turn k old new slot shut did over = record {
     steps = an_end k ∷ [];
     calls = [];
     did = did;
     taken = (an_end k, refl, inl refl);
+    waits = λ still. absurd (true≢false still);
     served = record { read = refl; ends = inr shut; accounted = accounted_none N slot };
     seen = inl (shut, over);
     last = λ last. over;
@@ -162,12 +164,13 @@ module _ {C S : Type 0} (M : CoreModel C) (N : CallModel S) where
   }
 
   -- of whose client nothing was there,
-  pub vain_turn : (k : ℕ) (core : C) (before after : SlotData S) (calls : List StreamCall) → HasLooked N before after calls → has_last_read calls ≡ false → unread_of after ≡ [] → HasTurn M N k false core core before after
+  pub vain_turn : (k : ℕ) (core : C) (before after : SlotData S) (calls : List StreamCall) → HasLooked N before after calls → has_last_read calls ≡ false → unread_of after ≡ [] → HasTurn M N false k false core core before after
   vain_turn k core before after calls look going none = record {
     steps = [];
     calls = calls;
     did = M.nothing_done core;
     taken = refl;
+    waits = λ still. tt;
     served = record { read = looked before after calls look; ends = inl refl; accounted = look.accounted };
     seen = inr look.asked;
     last = λ last. absurd (true≢false (sym last ∙ going));
@@ -178,12 +181,13 @@ module _ {C S : Type 0} (M : CoreModel C) (N : CallModel S) where
 
   -- whose client's stream is over,
   pub over_turn : (k : ℕ) (old new : C) (before after : SlotData S) (calls : List StreamCall) → HasLooked N before after calls → has_last_read calls ≡ true → M.DidSteps old new (an_end k ∷ []) no_bytes → M.ended new [] k ≡ true
-      → HasTurn M N k true old new before after
+      → HasTurn M N true k true old new before after
   over_turn k old new before after calls look last did over = record {
     steps = an_end k ∷ [];
     calls = calls;
     did = did;
     taken = (an_end k, refl, inl refl);
+    waits = λ still. absurd (true≢false still);
     served = record { read = looked before after calls look; ends = inr (ap (λ (x : Bool). x || is_shut after) last); accounted = look.accounted };
     seen = inr look.asked;
     last = λ last. over;
@@ -193,13 +197,14 @@ module _ {C S : Type 0} (M : CoreModel C) (N : CallModel S) where
   }
 
   -- and of whose client bytes are unread
-  pub fed_turn : (k : ℕ) (had : Bool) (old new : C) (before between after : SlotData S) (calls : List StreamCall) → had ≡ true → HasLooked N before between calls → has_last_read calls ≡ false → IsFedPiece M N k old new between after → HasTurn M N k had old new before after
-  fed_turn k false old new before between after calls is look going fed = absurd (true≢false (sym is))
-  fed_turn k true old new before between after calls is look going fed = record {
+  pub fed_turn : (moved : Bool) (k : ℕ) (had : Bool) (old new : C) (before between after : SlotData S) (calls : List StreamCall) → had ≡ true → HasLooked N before between calls → has_last_read calls ≡ false → IsFedPiece M N moved k old new between after → HasTurn M N moved k had old new before after
+  fed_turn moved k false old new before between after calls is look going fed = absurd (true≢false (sym is))
+  fed_turn moved k true old new before between after calls is look going fed = record {
     steps = a_piece k fed.piece ∷ [];
     calls = calls;
     did = fed.did;
     taken = (a_piece k fed.piece, refl, piece_turn k fed.piece fed.most);
+    waits = λ still. ((k, ap (a_piece k) (fed.held still)), tt);
     served = subst (λ (all : List StreamCall). IsServedAt N k (a_piece k fed.piece ∷ []) [] [] all before after) (append-nil calls)
         (served_then N k [] (a_piece k fed.piece ∷ []) [] [] [] calls [] before between after (record { read = looked before between calls look; ends = inl refl; accounted = look.accounted }) fed.served);
     seen = inr look.asked;

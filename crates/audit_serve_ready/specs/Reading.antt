@@ -49,6 +49,15 @@ is_had turn.Idle = false
 is_had turn.Held = true
 is_had turn.Moved = true
 
+abbrev pub has_moved : Turn → Bool
+has_moved turn.Idle = false
+has_moved turn.Held = false
+has_moved turn.Moved = true
+
+-- bytes of a session have to wait
+abbrev pub IsWait : StepData → Type 0
+IsWait step = (k : ℕ) × (step ≡ a_piece k [])
+
 -- one step, which is a turn, or none
 abbrev pub IsTurnTaken : ℕ → Bool → List StepData → Type 0
 IsTurnTaken k true steps = (step : StepData) × (steps ≡ step ∷ []) × IsTurn k step
@@ -59,20 +68,22 @@ module _ {C S : Type 0} (M : CoreModel C) (N : CallModel S) where
   abbrev pub IsAttended : ℕ → List StreamCall → C → SlotData S → Type 0
   IsAttended k calls new before = ((is_shut before ≡ true) × (M.ended new [] k ≡ true)) ⊎ IsAskedForBytes calls before
 
-  -- a session was fed the first of what is unread
-  pub record IsFedPiece (k : ℕ) (old new : C) (before after : SlotData S) : Type 0 where
+  -- A session was fed the first of what is unread, or had to wait.
+  pub record IsFedPiece (moved : Bool) (k : ℕ) (old new : C) (before after : SlotData S) : Type 0 where
     pub piece : List ℕ
     pub most : length piece ≤ MAX_PIECE
+    pub held : moved ≡ false → piece ≡ []
     pub did : M.DidSteps old new (a_piece k piece ∷ []) no_bytes
     pub served : IsServedAt N k (a_piece k piece ∷ []) [] [] [] before after
     pub same : IsSamePlace before after
 
   -- the turn of a session
-  pub record HasTurn (k : ℕ) (had : Bool) (old new : C) (before after : SlotData S) : Type 0 where
+  pub record HasTurn (moved : Bool) (k : ℕ) (had : Bool) (old new : C) (before after : SlotData S) : Type 0 where
     pub steps : List StepData
     pub calls : List StreamCall
     pub did : M.DidSteps old new steps no_bytes
     pub taken : IsTurnTaken k had steps
+    pub waits : moved ≡ false → AllByRecursion IsWait steps
     pub served : IsServedAt N k steps [] [] calls before after
     pub seen : IsAttended k calls new before
     pub last : has_last_read calls ≡ true → M.ended new [] k ≡ true
@@ -86,13 +97,14 @@ module _ {C S : Type 0} (M : CoreModel C) (N : CallModel S) where
 
   -- Some sessions had their turns, each at most one: those that are marked now and weren't before. Whoever else is
   -- meant was asked for bytes in vain.
-  pub record TakesTurns (Meant : ℕ → Type 0) (had now : List Bool) (old new : C)
+  pub record TakesTurns (moved : Bool) (Meant : ℕ → Type 0) (had now : List Bool) (old new : C)
       (before after : List (SlotData S)) : Type 0 where
     pub steps : List StepData
     pub calls : ℕ → List StreamCall
     pub pass : IsReadyPass N (M.DidSteps old new) no_bytes steps no_bytes calls before after
     pub turns : AllByRecursion (IsTurnOfLive (length before) old) steps
     pub once : (k : ℕ) → steps_about k steps + mark had k ≤ mark now k
+    pub waits : moved ≡ false → AllByRecursion IsWait steps
     pub marks : (k : ℕ) → slice_index_or had k true ≡ true → slice_index_or now k true ≡ true
     pub seen : (k : ℕ) → k < length before → slice_index_or had k true ≡ false → M.ended old [] k ≡ false
         → (Meant k ⊎ (slice_index_or now k true ≡ true)) → IsAttended k (calls k) new (slot_at k before)
@@ -103,12 +115,14 @@ module _ {C S : Type 0} (M : CoreModel C) (N : CallModel S) where
         → (M.ended new [] k ≡ M.ended old [] k) × (unread_of (slot_at k after) ≡ unread_of (slot_at k before))
 
   -- What reading does in a pass: each live session has at most one turn, and it has one or is asked for bytes in vain.
-  -- Whoever's stream is over then is ended, and so is whoever's place is shut. Nothing is written.
-  pub record ReadsPlaces (steps : List StepData) (calls : ℕ → List StreamCall) (old new : C)
+  -- Whoever's stream is over then is ended, and so is whoever's place is shut. Nothing is written. Unless something
+  -- moved, each of these turns was a wait.
+  pub record ReadsPlaces (moved : Bool) (steps : List StepData) (calls : ℕ → List StreamCall) (old new : C)
       (before after : List (SlotData S)) : Type 0 where
     pub pass : IsReadyPass N (M.DidSteps old new) no_bytes steps no_bytes calls before after
     pub turns : AllByRecursion (IsTurnOfLive (length before) old) steps
     pub once : (k : ℕ) → steps_about k steps ≤ 1
+    pub waits : moved ≡ false → AllByRecursion IsWait steps
     pub seen : (k : ℕ) → k < length before → M.ended old [] k ≡ false → IsAttended k (calls k) new (slot_at k before)
     pub last : (k : ℕ) → k < length before → has_last_read (calls k) ≡ true → M.ended new [] k ≡ true
     pub same : (k : ℕ) → IsSamePlace (slot_at k before) (slot_at k after)

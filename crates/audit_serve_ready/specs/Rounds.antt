@@ -12,7 +12,8 @@ use Rattle.audit_serve_ready.specs.declared.next.Next.{Next}
 use Rattle.audit_serve_ready.specs.declared.next.Next.TheVariants as next
 use Rattle.audit_serve_ready.specs.Door.{DoorCall, a_judging, an_asking, a_release, a_parting, an_offer, a_pause}
 use Rattle.audit_serve_ready.specs.Door.{DoorModel, joined_below}
-use Rattle.audit_serve_ready.specs.Slot.{SlotData, client_of, has_client, has_kept, is_shut, closed, IsAskedForBytes, IsOffered}
+use Rattle.audit_serve_ready.specs.Slot.{SlotData, client_of, has_client, has_kept, is_shut, closed}
+use Rattle.audit_serve_ready.specs.Slot.{IsAskedForBytes, IsOffered}
 use Rattle.audit_serve_ready.specs.Places.{slot_at, has_last_read, OffersKept, WritesPlaces}
 use Rattle.audit_serve_ready.specs.Backlog.{TakesTurn}
 use Rattle.audit_serve_ready.specs.Reading.{ReadsPlaces}
@@ -129,11 +130,11 @@ module _ {C D S : Type 0} (M : CoreModel C) (N : CallModel S) (E : DoorModel D S
     pub at : (k : ℕ) → k < count → At k old (slot_at k before) (told k) (changes k)
 
   -- What waits for the sessions was taken, kept and offered to their clients; or nothing was.
-  abbrev pub IsWriting : Bool → C → C → (ℕ → List ℕ) → (ℕ → List StreamCall) → List (SlotData S) → List (SlotData S)
-      → Type 0
-  IsWriting true old new taken calls before after =
-      WritesPlaces N (M.DidSteps old new) (length before) taken calls before after
-  IsWriting false old new taken calls before after = (new ≡ old) × (after ≡ before)
+  abbrev pub IsWriting : Bool → Bool → C → C → (ℕ → List ℕ) → (ℕ → List StreamCall) → List (SlotData S)
+      → List (SlotData S) → Type 0
+  IsWriting true moved old new taken calls before after =
+      WritesPlaces N (M.DidSteps old new) moved (length before) taken calls before after
+  IsWriting false moved old new taken calls before after = (new ≡ old) × (after ≡ before)
       × ((k : ℕ) → (taken k ≡ []) × (calls k ≡ []))
 
   -- A pass: the door judged the clients, what they sent was read, the core flushed, and replies left if the door let
@@ -149,21 +150,23 @@ module _ {C D S : Type 0} (M : CoreModel C) (N : CallModel S) (E : DoorModel D S
     pub reads : ℕ → List StreamCall
     pub mid : C
     pub between : List (SlotData S)
-    pub reading : ReadsPlaces M N turns reads old mid judged between
+    pub was_read : Bool
+    pub reading : ReadsPlaces M N was_read turns reads old mid judged between
     pub flushed : C
     pub flush : M.DidSteps mid flushed (a_flush ∷ []) no_bytes
     pub released : E.DidCalls gathered now (a_release leaves ∷ [])
     pub taken : ℕ → List ℕ
     pub writes : ℕ → List StreamCall
-    pub writing : IsWriting leaves flushed new taken writes between after
+    pub was_written : Bool
+    pub writing : IsWriting leaves was_written flushed new taken writes between after
     -- all of it together
     pub pass : IsClientPass M N backlog first (turns ++ a_flush ∷ []) taken (λ k. reads k ++ writes k) old new
         before after
 
   -- What a pass does for a session that is live, and for its client: its place is shut, and it was ended; or the client
   -- was asked for bytes, unless some were unread. It was ended if its stream is over. What it and all others had asked
-  -- by then was answered, and what is kept for the client after the pass was offered to it. If it had the first turn, it
-  -- took a request, if one was waiting.
+  -- by then was answered, and what is kept for the client after the pass was offered to it. If it had the first turn,
+  -- it took a request, if one was waiting.
   pub record IsHeard (k first : ℕ) (judged : SlotData S) (reads writes : List StreamCall) (old new : C)
       (before after : SlotData S) : Type 0 where
     pub asked : ((is_shut judged ≡ true) × (M.ended new [] k ≡ true)) ⊎ IsAskedForBytes reads judged
@@ -184,12 +187,19 @@ module _ {C D S : Type 0} (M : CoreModel C) (N : CallModel S) (E : DoorModel D S
     pub none_done : (k : ℕ) → k < length left → is_done M k mid (slot_at k left) ≡ false
     pub comes : ChangesPlaces (IsLetIn M) (length left) (next_first first) parted now mid new left after
 
-  -- a round: the same, and then a pause with this answer
+  -- nothing moved: no byte was taken or written, no session was ended, and nobody went or came
+  abbrev pub IsStill : {first : ℕ} {was now : D} {old new : C} {before after : List (SlotData S)}
+      → ServesPlacesOnce first was now old new before after → Type 0
+  IsStill {after = after} serves = (serves.pass.was_read ≡ false) × (serves.pass.was_written ≡ false)
+      × (serves.left ≡ serves.present) × (after ≡ serves.left)
+
+  -- a round: the same, and then a pause with this answer, which may wait only if nothing moved
   pub record IsRound (answer : Next) (first : ℕ) (was now : D) (old new : C) (before after : List (SlotData S))
       : Type 0 where
     pub unpaused : D
     pub serves : ServesPlacesOnce first was unpaused old new before after
     pub moved : Bool
+    pub idle : moved ≡ false → IsStill serves
     pub paused : E.DidCalls unpaused now (a_pause moved answer ∷ [])
 
   -- this many rounds, after each of which the door said to go on

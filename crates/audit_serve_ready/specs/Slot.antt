@@ -148,12 +148,13 @@ module _ {S : Type 0} (N : CallModel S) where
     pub fails : has_failed_write calls ≡ true → is_mute after ≡ true
     pub shut : is_shut before ≡ true → is_shut after ≡ true
 
-  -- the same; nothing was read, and what is still kept was offered
-  pub record IsPushed (sent : List ℕ) (before after : SlotData S) : Type 0 where
+  -- the same; nothing was read, and what is still kept was offered; unless something moved, no byte was written
+  pub record IsPushed (moved : Bool) (sent : List ℕ) (before after : SlotData S) : Type 0 where
     pub calls : List StreamCall
     pub offered : IsOffered calls after
     pub quiet : bytes_read calls ≡ []
     pub no_reads : has_read calls ≡ false
+    pub idle : moved ≡ false → bytes_sent calls ≡ []
     pub unread : unread_of after ≡ unread_of before
     pub accounted : IsAccounted sent calls before after
     -- replies are dropped after a write that failed, or in a place that is shut; and that is for want of memory, which

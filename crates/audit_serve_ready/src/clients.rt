@@ -48,6 +48,7 @@ pub(crate) fn let_go<C: SessionCore, D: Door>(
     requires empty { AreEmpty C.model (length slots.old) core.now }
     ensures went { (backlog first : ℕ) → ChangesPlaces C.model D.Stream.calls D.calls backlog (IsLetGo C.model)
         (length slots.old) first door.old door.new core.now core.now slots.old slots.new }
+    ensures still { result ≡ false → slots.new ≡ slots.old }
     ensures none_done { (k : ℕ) → k < length slots.new → is_done C.model k core.now (slot_at k slots.new) ≡ false }
     ensures within { (backlog : ℕ) → AreWithinBacklog C.model backlog core.now slots.old
         → AreWithinBacklog C.model backlog core.now slots.new }
@@ -87,6 +88,7 @@ fn let_in_at<C: SessionCore, D: Door>(
         × D.calls.DidCalls door.old door.new told × IsOfferAnswered place told changes
         × ((backlog first : ℕ) → AreChanges C.model D.Stream.calls backlog first changes core.old core.new
         slots.old slots.new) }
+    ensures still { result ≡ false → slots.new ≡ slots.old }
     ensures alone { (other : ℕ) → (other ≡ place → ⊥)
         → (C.model.ended core.new [] other ≡ C.model.ended core.old [] other)
         × (slot_at other slots.new ≡ slot_at other slots.old) }
@@ -117,6 +119,7 @@ pub(crate) fn let_in<C: SessionCore, D: Door>(
     requires empty { AreEmpty C.model (length slots.old) core.old }
     ensures came { (backlog first : ℕ) → ChangesPlaces C.model D.Stream.calls D.calls backlog (IsLetIn C.model)
         (length slots.old) first door.old door.new core.old core.new slots.old slots.new }
+    ensures still { result ≡ false → slots.new ≡ slots.old }
     ensures idle { C.model.Idle core.new }
     ensures outputs { (other : ℕ) → C.model.output core.new other ≡ C.model.output core.old other }
     ensures within { (backlog : ℕ) → AreWithinBacklog C.model backlog core.old slots.old

@@ -1,5 +1,6 @@
 //! Reading what clients send while others are read, so that one commit has it.
-ghost use Rattle.std.specs.Prelude.{◌≡◌, ◌<◌, ◌≤◌, ℕ, List, true, false, length, slice_index_or, IfErr, OnOk, OnErr};
+ghost use Rattle.std.specs.Prelude.{◌≡◌, ◌<◌, ◌≤◌, ℕ, List, true, false, length, slice_index_or};
+ghost use Rattle.std.specs.Prelude.{IfOk, IfErr, OnOk, OnErr};
 ghost use Rattle.audit_base.specs.declared.limits.TheConstants.{SESSIONS};
 ghost use Rattle.audit_serve_passes.specs.Steps.{StepData};
 ghost use Rattle.audit_serve_passes.specs.Streams.{StreamCall};
@@ -54,7 +55,7 @@ fn first_turn<C: SessionCore, S: ReadyStream + Drop>(
     ensures stopped { OnErr result (StopsAtPlaces S.calls (C.model.DidStepsInPart core.old core.new)
         slots.old slots.new) }
     ensures refused { IfErr result (C.refuses core.old core.new) }
-    ensures done { OnOk result (TakesTurns C.model S.calls (λ k. k ≡ first) had_turn.old had_turn.new
+    ensures done { IfOk result (λ moved. TakesTurns C.model S.calls moved (λ k. k ≡ first) had_turn.old had_turn.new
         core.old core.new slots.old slots.new) }
     ensures within { OwesOnlyAfterTurns C.model (length slots.old) had_turn.old core.old
         → AreWithinBacklog C.model backlog core.old slots.old
@@ -90,8 +91,8 @@ pub(crate) fn gather<C: SessionCore, D: Door>(
     ensures stopped { OnErr result (StopsAtPlaces D.Stream.calls (C.model.DidStepsInPart core.old core.new)
         slots.old slots.new) }
     ensures refused { IfErr result (C.refuses core.old core.new) }
-    ensures done { OnOk result ((steps : List StepData) × (calls : ℕ → List StreamCall)
-        × ReadsPlaces C.model D.Stream.calls steps calls core.old core.new slots.old slots.new) }
+    ensures done { IfOk result (λ moved. (steps : List StepData) × (calls : ℕ → List StreamCall)
+        × ReadsPlaces C.model D.Stream.calls moved steps calls core.old core.new slots.old slots.new) }
     ensures within { OwesNothing C.model (length slots.old) core.old
         → AreWithinBacklog C.model backlog core.old slots.old
         → OnOk result (AreWithinBacklog C.model backlog core.new slots.new) }

@@ -34,8 +34,8 @@ pub fn each_session_has_its_turn<S: ReadyStream>()
         → SESSIONS * n ≤ passes_in changes → n ≤ own_turns k first changes }
 {}
 
-/// Rounds of serving are passes, comings and goings, of which the first pass has session 0 first: as many passes as there
-/// are rounds. So the laws above hold of them.
+/// Rounds of serving are passes, comings and goings, of which the first pass has session 0 first: as many passes as
+/// there are rounds. So the laws above hold of them.
 pub fn rounds_are_changes<C: SessionCore, D: Door>()
     ensures { (backlog rounds : ℕ) (was now : D) (old new : C) (before after : List (SlotData D.Stream))
         → AreRounds C.model D.Stream.calls D.calls backlog rounds was now old new before after
@@ -43,9 +43,9 @@ pub fn rounds_are_changes<C: SessionCore, D: Door>()
         × AreChanges C.model D.Stream.calls backlog 0 changes old new before after }
 {}
 
-/// Each session that is live is heard in each pass whose replies leave, whatever the clients of the others do: its client
-/// is asked for bytes, unless some are unread or the door dismissed it; whatever is taken in the pass is answered in it,
-/// so that each append is committed or refused; and what is kept for the client is offered to it.
+/// Each session that is live is heard in each pass whose replies leave, whatever the clients of the others do: its
+/// client is asked for bytes, unless some are unread or the door dismissed it; whatever is taken in the pass is
+/// answered in it, so that each append is committed or refused; and what is kept for the client is offered to it.
 pub fn each_pass_hears_each_client<C: SessionCore, D: Door>()
     ensures { (backlog first k : ℕ) (was now : D) (old new : C) (before after : List (SlotData D.Stream))
         (pass : ServesPass C.model D.Stream.calls D.calls backlog true first was now old new before after)

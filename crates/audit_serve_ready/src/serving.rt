@@ -6,7 +6,7 @@ ghost use Rattle.audit_serve_ready.specs.declared.next.Next.TheVariants as next;
 ghost use Rattle.audit_serve_ready.specs.Slot.{has_kept};
 ghost use Rattle.audit_serve_ready.specs.Places.{slot_at, WritesOn, OffersKept};
 ghost use Rattle.audit_serve_ready.specs.Clients.{next_first, ServesClients, StopsServing};
-ghost use Rattle.audit_serve_ready.specs.Rounds.{IsWritten, ServesPass, ServesPlacesOnce, IsRound};
+ghost use Rattle.audit_serve_ready.specs.Rounds.{IsWritten, ServesPass, ServesPlacesOnce, IsStill, IsRound};
 ghost use Rattle.audit_serve_ready.specs.Rounds.{ServesUntilStopped};
 
 use crate::clients::{let_go, let_in};
@@ -133,8 +133,9 @@ fn serve_pass<C: SessionCore, D: Door>(
         → AreWithinBacklog C.model backlog core.old slots.old
         → OnOk result (AreWithinBacklog C.model backlog core.new slots.new) }
     ensures owes { IfOk result (λ pass. pass ≢ Pass.Withheld → OwesNothing C.model (length slots.old) core.new) }
-    ensures once { IfOk result (λ pass. pass ≢ Pass.Withheld → ServesPlacesOnce C.model D.Stream.calls D.calls backlog
-        first door.old door.new core.old core.new slots.old slots.new) }
+    ensures once { IfOk result (λ pass. pass ≢ Pass.Withheld → (once : ServesPlacesOnce C.model D.Stream.calls D.calls
+        backlog first door.old door.new core.old core.new slots.old slots.new)
+        × (pass ≡ Pass.Idle → IsStill C.model D.Stream.calls D.calls backlog once)) }
     ensures withheld { IfOk result (λ pass. pass ≡ Pass.Withheld → ServesPass C.model D.Stream.calls D.calls backlog
         false first door.old door.new core.old core.new slots.old slots.new) }
 {

@@ -256,7 +256,7 @@ impl<S: ReadyStream + Drop> Slot<S> {
     /// are dropped from then on. If memory is refused, the place is shut. Returns whether the client took bytes or
     /// failed.
     pub(crate) fn send(&mut self, bytes: Vec<u8>) -> bool
-        ensures { IsPushed S.calls bytes.items self.old self.new }
+        ensures { IsPushed S.calls result bytes.items self.old self.new }
     {
         self.keep(bytes);
         self.push()
@@ -279,7 +279,7 @@ impl<S: ReadyStream + Drop> Slot<S> {
 
     /// Writes what is kept, as far as the client takes it now. Returns whether the client took bytes or failed.
     pub(crate) fn push(&mut self) -> bool
-        ensures { IsPushed S.calls [] self.old self.new }
+        ensures { IsPushed S.calls result [] self.old self.new }
     {
         if !self.has_kept() {
             return false;

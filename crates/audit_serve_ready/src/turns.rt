@@ -9,7 +9,7 @@ ghost use Rattle.audit_serve_ready.specs.declared.turns.Turn.{Turn};
 ghost use Rattle.audit_serve_ready.specs.Backlog.{OwesNothing, OwesOnlyAfterTurns, AreWithinBacklog, IsTurnWithin};
 ghost use Rattle.audit_serve_ready.specs.Backlog.{MayAsk, HasTakenRequest, KeepsTurns, TakesTurn};
 ghost use Rattle.audit_serve_ready.specs.Places.{slot_at, StopsAtPlace, StopsAtPlaces, WritesPlaces};
-ghost use Rattle.audit_serve_ready.specs.Reading.{is_had, turn_number, HasTurn, IsFedPiece, TakesTurns};
+ghost use Rattle.audit_serve_ready.specs.Reading.{is_had, has_moved, turn_number, HasTurn, IsFedPiece, TakesTurns};
 ghost use Rattle.audit_serve_ready.specs.Door.{DoorCall};
 ghost use Rattle.audit_serve_ready.specs.Rounds.{IsJudgedByDoor, JudgesClients, ServesPass};
 ghost use Rattle.audit_serve_ready.specs.Slot.{client_of, closed, is_shut, is_mute, kept_of, unread_of, IsPushed};
@@ -45,7 +45,7 @@ pub(crate) enum Turn {
 
 impl Turn {
     ghost use Rattle.std.specs.Prelude.{◌≡◌};
-    ghost use Rattle.audit_serve_ready.specs.Reading.{is_had};
+    ghost use Rattle.audit_serve_ready.specs.Reading.{is_had, has_moved};
 
     /// Whether the session has had its turn, since something was there.
     fn is_had(self) -> bool
@@ -54,6 +54,16 @@ impl Turn {
         match self {
             Turn::Idle => false,
             Turn::Held | Turn::Moved => true,
+        }
+    }
+
+    /// Whether bytes were taken, or the session was ended.
+    fn has_moved(self) -> bool
+        ensures { result ≡ has_moved self }
+    {
+        match self {
+            Turn::Idle | Turn::Held => false,
+            Turn::Moved => true,
         }
     }
 }
@@ -71,8 +81,8 @@ fn read_turn<C: SessionCore, S: ReadyStream + Drop>(
     ensures stopped { OnErr result (StopsAtPlace S.calls (C.model.DidStepsInPart core.old core.new) session
         slot.old slot.new) }
     ensures refused { IfErr result (C.refuses core.old core.new) }
-    ensures done { IfOk result (λ turn. HasTurn C.model S.calls session (is_had turn) core.old core.new
-        slot.old slot.new) }
+    ensures done { IfOk result (λ turn. HasTurn C.model S.calls (has_moved turn) session (is_had turn)
+        core.old core.new slot.old slot.new) }
     ensures within { OnOk result (IsTurnWithin C.model backlog session core.old core.new slot.old slot.new) }
     ensures idle { IfOk result (λ turn. is_had turn ≡ false → (core.new ≡ core.old) × (unread_of slot.old ≡ [])) }
     ensures asked { questions.old.is_whole ≡ true → MayAsk C.model backlog session core.old slot.old
@@ -105,7 +115,8 @@ fn feed_turn<C: SessionCore, S: ReadyStream + Drop>(
     ensures stopped { OnErr result (StopsAtPlace S.calls (C.model.DidStepsInPart core.old core.new) session
         slot.old slot.new) }
     ensures refused { IfErr result (C.refuses core.old core.new) }
-    ensures done { OnOk result (IsFedPiece C.model S.calls session core.old core.new slot.old slot.new) }
+    ensures done { IfOk result (λ turn. IsFedPiece C.model S.calls (has_moved turn) session core.old core.new
+        slot.old slot.new) }
     ensures within { OnOk result (IsTurnWithin C.model backlog session core.old core.new slot.old slot.new) }
     ensures taken { IfOk result (λ turn. is_had turn ≡ true) }
     ensures asked { questions.old.is_whole ≡ true → MayAsk C.model backlog session core.old slot.old
@@ -165,7 +176,7 @@ pub(crate) fn turn_of<C: SessionCore, S: ReadyStream + Drop>(
     ensures stopped { OnErr result (StopsAtPlaces S.calls (C.model.DidStepsInPart core.old core.new)
         slots.old slots.new) }
     ensures refused { IfErr result (C.refuses core.old core.new) }
-    ensures done { OnOk result (TakesTurns C.model S.calls (λ k. k ≡ session) had_turn.old had_turn.new
+    ensures done { IfOk result (λ moved. TakesTurns C.model S.calls moved (λ k. k ≡ session) had_turn.old had_turn.new
         core.old core.new slots.old slots.new) }
     ensures within { OwesOnlyAfterTurns C.model (length slots.old) had_turn.old core.old
         → AreWithinBacklog C.model backlog core.old slots.old
@@ -183,7 +194,7 @@ pub(crate) fn turn_of<C: SessionCore, S: ReadyStream + Drop>(
     }
     let turn = read_turn(core, session, &mut slots[session], backlog, questions)?;
     had_turn[session] = turn.is_had();
-    Ok(turn == Turn::Moved)
+    Ok(turn.has_moved())
 }
 
 /// Gives each live session its turn that has not had it, from turn number `from` on; turn number 0 is that of session
@@ -201,8 +212,9 @@ pub(crate) fn read_turns<C: SessionCore, S: ReadyStream + Drop>(
     ensures stopped { OnErr result (StopsAtPlaces S.calls (C.model.DidStepsInPart core.old core.new)
         slots.old slots.new) }
     ensures refused { IfErr result (C.refuses core.old core.new) }
-    ensures done { OnOk result (TakesTurns C.model S.calls (λ k. from ≤ turn_number first (length slots.old) k)
-        had_turn.old had_turn.new core.old core.new slots.old slots.new) }
+    ensures done { IfOk result (λ moved. TakesTurns C.model S.calls moved
+        (λ k. from ≤ turn_number first (length slots.old) k) had_turn.old had_turn.new core.old core.new
+        slots.old slots.new) }
     ensures within { OwesOnlyAfterTurns C.model (length slots.old) had_turn.old core.old
         → AreWithinBacklog C.model backlog core.old slots.old
         → OnOk result (OwesOnlyAfterTurns C.model (length slots.old) had_turn.new core.new
@@ -228,7 +240,7 @@ fn write_turn<C: SessionCore, S: ReadyStream + Drop>(
 ) -> bool
     requires { session < SESSIONS }
     ensures done { (sent : List ℕ) × C.model.DidSteps core.old core.new [] (bytes_for session sent)
-        × IsPushed S.calls sent slot.old slot.new }
+        × IsPushed S.calls result sent slot.old slot.new }
     ensures empty { C.model.output core.new session ≡ [] }
     ensures others { (other : ℕ) → (other ≡ session → ⊥)
         → C.model.output core.new other ≡ C.model.output core.old other }
@@ -248,7 +260,7 @@ pub(crate) fn write_turns<C: SessionCore, S: ReadyStream + Drop>(
 ) -> bool
     requires { length slots.old ≤ SESSIONS }
     ensures done { (taken : ℕ → List ℕ) × (calls : ℕ → List StreamCall) × WritesPlaces S.calls
-        (C.model.DidSteps core.old core.new) (length slots.old) taken calls slots.old slots.new }
+        (C.model.DidSteps core.old core.new) result (length slots.old) taken calls slots.old slots.new }
     ensures empty { AreEmpty C.model (length slots.old) core.new }
     ensures idle { C.model.Idle core.old → C.model.Idle core.new }
     ensures within { (backlog : ℕ) → C.model.Idle core.old → AreWithinBacklog C.model backlog core.old slots.old
@@ -313,8 +325,9 @@ pub(crate) fn serve_present<C: SessionCore, D: Door>(
         → OnOk result (AreWithinBacklog C.model backlog core.new slots.new) }
     ensures turn { first < length slots.old
         → OnOk result (TakesTurn C.model backlog first core.old (slot_at first slots.old) (slot_at first slots.new)) }
-    ensures pass { IfOk result (λ pass. pass ≢ Pass.Withheld → ServesPass C.model D.Stream.calls D.calls backlog true
-        first door.old door.new core.old core.new slots.old slots.new) }
+    ensures pass { IfOk result (λ pass. pass ≢ Pass.Withheld → (served : ServesPass C.model D.Stream.calls D.calls
+        backlog true first door.old door.new core.old core.new slots.old slots.new)
+        × (pass ≡ Pass.Idle → (served.was_read ≡ false) × (served.was_written ≡ false))) }
     ensures withheld { IfOk result (λ pass. pass ≡ Pass.Withheld → ServesPass C.model D.Stream.calls D.calls backlog
         false first door.old door.new core.old core.new slots.old slots.new) }
 {

@@ -1,4 +1,4 @@
-use Rattle.std.proofs.Common.{ℕ}
+use Rattle.std.proofs.Common.{◌≡◌, ℕ, false}
 use Rattle.audit_serve_ready.specs.Backlog.{AreWithinBacklog}
 use Rattle.audit_serve_ready.proofs.Goings.{Leaving}
 use Rattle.audit_serve_ready.proofs.clients.let_go.Given as goal
@@ -7,4 +7,5 @@ abbrev pub invariant-loop-place : goal.invariant-loop-place
 invariant-loop-place g l =
     let M = g.C.SessionCore.model in
     Leaving M g.D.Stream.ReadyStream.calls g.D.Door.calls l.fn.core l.place l.fn.door l.door l.fn.slots l.slots
+    × (l.moved ≡ false → l.slots ≡ l.fn.slots)
     × ((backlog : ℕ) → AreWithinBacklog M backlog l.fn.core l.fn.slots → AreWithinBacklog M backlog l.fn.core l.slots)

@@ -4,12 +4,13 @@ use Rattle.audit_serve_ready.specs.Slot.{vacant}
 use Rattle.audit_serve_ready.specs.Places.{slot_at}
 use Rattle.audit_serve_ready.specs.Rounds.{is_free, IsLetIn, ChangesPlaces}
 use Rattle.audit_serve_ready.specs.Backlog.{AreWithinBacklog}
+use Rattle.audit_serve_ready.proofs.TurnByTurn.{neither_of}
 use Rattle.audit_serve_ready.proofs.Comings.{Coming, free_ended, free_vacant, coming_none, coming_taken, coming_offered}
 use Rattle.audit_serve_ready.proofs.clients.let_in.Goals as goal
 use Rattle.audit_serve_ready.proofs.clients.let_in.Goals.{then-is_free, else-is_free}
 
 pub loop-place-init : goal.loop-place-init
-loop-place-init g c = (coming_none g.C.SessionCore.model g.D.Stream.ReadyStream.calls g.D.Door.calls c.args.core.now c.args.door.now c.args.slots.now, c.requires.idle, c.requires.empty, (λ k. refl), λ backlog within. within)
+loop-place-init g c = (coming_none g.C.SessionCore.model g.D.Stream.ReadyStream.calls g.D.Door.calls c.args.core.now c.args.door.now c.args.slots.now, (λ still. refl), c.requires.idle, c.requires.empty, (λ k. refl), λ backlog within. within)
 
 pub let_in_at-moved-requires-clause-ended : goal.let_in_at-moved-requires-clause-ended
 let_in_at-moved-requires-clause-ended g c =
@@ -42,10 +43,11 @@ loop-place-preserved g c =
                 (subst (λ core. Coming M N E (l.place + 1) was w.let_in_at-moved.new.door old core begun c.if-is_free.slots) (sym w.core-is)
                 (subst (λ slots. Coming M N E (l.place + 1) was w.let_in_at-moved.new.door old w.let_in_at-moved.new.core begun slots) (sym w.slots-is)
                 (coming_offered M N E l.place was l.door w.let_in_at-moved.new.door old l.core w.let_in_at-moved.new.core begun l.slots w.let_in_at-moved.new.slots came.0 came.1 l.invariant.0 free came.2 came.3 came.4 w.let_in_at-moved.ensures.alone))),
+            (λ still. w.slots-is ∙ w.let_in_at-moved.ensures.still (neither_of l.moved w.let_in_at-moved.result (sym w.moved-is ∙ still)).1 ∙ l.invariant.1 (neither_of l.moved w.let_in_at-moved.result (sym w.moved-is ∙ still)).0),
             subst (λ core. M.Idle core) (sym w.core-is) w.let_in_at-moved.ensures.idle,
-            (λ k below. ap (λ core. M.output core k) w.core-is ∙ w.let_in_at-moved.ensures.outputs k ∙ l.invariant.2 k below),
-            (λ k. ap (λ core. M.output core k) w.core-is ∙ w.let_in_at-moved.ensures.outputs k ∙ l.invariant.3 k),
-            (λ backlog inside. subst (λ core. AreWithinBacklog M backlog core c.if-is_free.slots) (sym w.core-is) (subst (λ slots. AreWithinBacklog M backlog w.let_in_at-moved.new.core slots) (sym w.slots-is) (w.let_in_at-moved.ensures.within backlog (l.invariant.4 backlog inside)))),
+            (λ k below. ap (λ core. M.output core k) w.core-is ∙ w.let_in_at-moved.ensures.outputs k ∙ l.invariant.3 k below),
+            (λ k. ap (λ core. M.output core k) w.core-is ∙ w.let_in_at-moved.ensures.outputs k ∙ l.invariant.4 k),
+            (λ backlog inside. subst (λ core. AreWithinBacklog M backlog core c.if-is_free.slots) (sym w.core-is) (subst (λ slots. AreWithinBacklog M backlog w.let_in_at-moved.new.core slots) (sym w.slots-is) (w.let_in_at-moved.ensures.within backlog (l.invariant.5 backlog inside)))),
           )
       | else-is_free w ↦
           let taken = ap (is_free M l.place l.core) same ∙ sym c.is_free.ensures ∙ w.if-is_free.false in (
@@ -53,10 +55,11 @@ loop-place-preserved g c =
                 (subst (λ core. Coming M N E (l.place + 1) was l.door old core begun c.if-is_free.slots) (sym w.core-is)
                 (subst (λ slots. Coming M N E (l.place + 1) was l.door old l.core begun slots) (sym w.slots-is)
                 (coming_taken M N E l.place was l.door old l.core begun l.slots l.invariant.0 taken))),
-            subst (λ core. M.Idle core) (sym w.core-is) l.invariant.1,
-            (λ k below. ap (λ core. M.output core k) w.core-is ∙ l.invariant.2 k below),
-            (λ k. ap (λ core. M.output core k) w.core-is ∙ l.invariant.3 k),
-            (λ backlog inside. subst (λ core. AreWithinBacklog M backlog core c.if-is_free.slots) (sym w.core-is) (subst (λ slots. AreWithinBacklog M backlog l.core slots) (sym w.slots-is) (l.invariant.4 backlog inside))),
+            (λ still. w.slots-is ∙ l.invariant.1 (sym w.moved-is ∙ still)),
+            subst (λ core. M.Idle core) (sym w.core-is) l.invariant.2,
+            (λ k below. ap (λ core. M.output core k) w.core-is ∙ l.invariant.3 k below),
+            (λ k. ap (λ core. M.output core k) w.core-is ∙ l.invariant.4 k),
+            (λ backlog inside. subst (λ core. AreWithinBacklog M backlog core c.if-is_free.slots) (sym w.core-is) (subst (λ slots. AreWithinBacklog M backlog l.core slots) (sym w.slots-is) (l.invariant.5 backlog inside))),
           )
     ]
 

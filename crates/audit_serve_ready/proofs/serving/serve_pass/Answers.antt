@@ -4,6 +4,7 @@ use Rattle.audit_serve_ready.specs.Clients.{next_first}
 use Rattle.audit_serve_ready.specs.Rounds.{IsLetGo, IsLetIn}
 use Rattle.audit_serve_ready.specs.contracts.turns.Pass.{the_type}
 use Rattle.audit_serve_ready.proofs.Changes.{clients_then}
+use Rattle.audit_serve_ready.proofs.TurnByTurn.{neither_of}
 use Rattle.audit_serve_ready.proofs.Stages.{pass_serves}
 use Rattle.audit_serve_ready.proofs.PlaceByPlace.{gone_turns, come_turns, changed_serves}
 use Rattle.audit_serve_ready.specs.declared.turns.Pass.TheVariants.{Withheld}
@@ -24,7 +25,7 @@ returns-clause-served g c =
     let first = c.args.first in
     let next = next_first first in
     clients_then M N backlog first next next core mid c.let_in-come.new.core begun left c.let_in-come.new.slots
-    (clients_then M N backlog first next next core mid mid begun turned left (pass_serves M N E backlog true first c.args.door.now c.serve_present.new.door core mid begun turned (c.in_ok-pass.ensures.pass (search rules)))
+    (clients_then M N backlog first next next core mid mid begun turned left (pass_serves M N E backlog true first c.args.door.now c.serve_present.new.door core mid begun turned (c.in_ok-pass.ensures.pass (search rules)).0)
     (changed_serves M N E backlog (IsLetGo M) (gone_turns M) (length turned) next c.serve_present.new.door c.let_go-gone.new.door mid mid turned left (c.let_go-gone.ensures.went backlog next)))
     (changed_serves M N E backlog (IsLetIn M) (come_turns M) (length left) next c.let_go-gone.new.door c.let_in-come.new.door mid c.let_in-come.new.core left c.let_in-come.new.slots (c.let_in-come.ensures.came backlog next))
 
@@ -32,17 +33,26 @@ pub returns-clause-once : goal.returns-clause-once
 returns-clause-once g c = λ apart.
     let backlog = c.args.backlog in
     let next = next_first c.args.first in
-    record {
-      mid = c.serve_present.new.core;
-      present = c.serve_present.new.slots;
-      left = c.let_go-gone.new.slots;
-      passed = c.serve_present.new.door;
-      parted = c.let_go-gone.new.door;
-      pass = c.in_ok-pass.ensures.pass (search rules);
-      goes = c.let_go-gone.ensures.went backlog next;
-      none_done = c.let_go-gone.ensures.none_done;
-      comes = c.let_in-come.ensures.came backlog next;
-    }
+    let passed = c.in_ok-pass.ensures.pass (search rules) in (
+      record {
+        mid = c.serve_present.new.core;
+        present = c.serve_present.new.slots;
+        left = c.let_go-gone.new.slots;
+        passed = c.serve_present.new.door;
+        parted = c.let_go-gone.new.door;
+        pass = passed.0;
+        goes = c.let_go-gone.ensures.went backlog next;
+        none_done = c.let_go-gone.ensures.none_done;
+        comes = c.let_in-come.ensures.came backlog next;
+      },
+      (λ idle. elim c.if-gone-come.branch [
+        | then-gone-come w ↦ absurd (cc (w.result-is, idle))
+        | else-gone-come w ↦
+            let neither = neither_of c.let_go-gone.result c.let_in-come.result (search rules) in
+            let still = passed.1 (sym w.result-is ∙ idle) in
+            (still.0, still.1, c.let_go-gone.ensures.still neither.0, c.let_in-come.ensures.still neither.1)
+      ]),
+    )
 
 pub returns-then-eq-clause-served : goal.returns-then-eq-clause-served
 returns-then-eq-clause-served g c =

@@ -1,9 +1,9 @@
-use Rattle.std.proofs.Common.{◌≡◌, ◌<◌, ◌≤◌, ℕ, List, ◌∷◌, [], length, take, drop, sym, subst}
+use Rattle.std.proofs.Common.{◌≡◌, ◌<◌, ◌≤◌, ℕ, List, ◌∷◌, [], length, take, drop, sym, ap, subst, ◌∙◌, arith, true≢false}
 use Rattle.audit_serve_passes.specs.declared.limits.TheConstants.{MAX_PIECE}
 use Rattle.audit_serve_passes.specs.Steps.{a_piece}
 use Rattle.audit_serve_passes.specs.Core.{GoesBy, no_bytes}
 use Rattle.audit_serve_ready.specs.Slot.{unread_of}
-use Rattle.audit_serve_ready.specs.Reading.{IsFedPiece}
+use Rattle.audit_serve_ready.specs.Reading.{has_moved, IsFedPiece}
 use Rattle.audit_serve_ready.specs.Places.{StopsAtPlace}
 use Rattle.audit_serve_ready.proofs.Visits.{is_fed, fed_stopped}
 use Rattle.audit_serve_passes.specs.Owing.{IsBeyondAllowance}
@@ -11,6 +11,7 @@ use Rattle.audit_serve_ready.specs.Backlog.{IsTurnWithin, HasTakenRequest}
 use Rattle.audit_serve_ready.proofs.Asking.{took}
 use Rattle.audit_serve_ready.proofs.Bounds.{turn_taken, unread_length}
 use Rattle.audit_serve_ready.proofs.turns.feed_turn.Goals as goal
+use Rattle.audit_serve_ready.proofs.turns.feed_turn.Goals.{then-taken-gt0, else-taken-gt0}
 
 pub advance-requires-clause-within : goal.advance-requires-clause-within
 advance-requires-clause-within g c =
@@ -27,9 +28,14 @@ returns-after-taken-gt0-clause-done g c =
     let taken = c.in-Ok.taken in
     let k = c.args.session in
     let bytes : c.unread.result.now ≡ unread_of slot = c.unread.ensures.bytes c.requires.live in
-    subst (λ after. IsFedPiece M N k old new slot after) (sym c.advance.ensures)
-    (is_fed M N k taken old new slot c.requires.live (subst (λ (all : List ℕ). length all ≤ MAX_PIECE) bytes c.unread.ensures.most)
-    (subst (λ (all : List ℕ). M.DidSteps old new (a_piece k (take taken all) ∷ []) no_bytes) bytes c.in-Ok.ensures.did))
+    let moved = has_moved c.if-taken-gt0.result in
+    subst (λ after. IsFedPiece M N moved k old new slot after) (sym c.advance.ensures)
+    (is_fed M N moved k taken old new slot c.requires.live (subst (λ (all : List ℕ). length all ≤ MAX_PIECE) bytes c.unread.ensures.most)
+    (subst (λ (all : List ℕ). M.DidSteps old new (a_piece k (take taken all) ∷ []) no_bytes) bytes c.in-Ok.ensures.did)
+    (λ still. elim c.if-taken-gt0.branch [
+      | then-taken-gt0 w ↦ absurd (true≢false (sym (ap has_moved w.result-is) ∙ still))
+      | else-taken-gt0 w ↦ omega (arith, w.if-taken-gt0.false)
+    ]))
 
 pub returns-in-Err-clause-stopped : goal.returns-in-Err-clause-stopped
 returns-in-Err-clause-stopped g c =

@@ -3,10 +3,10 @@ use Rattle.audit_serve_passes.specs.Steps.{an_end}
 use Rattle.audit_serve_passes.specs.Core.{no_bytes}
 use Rattle.audit_serve_passes.proofs.Turns.{if_err}
 use Rattle.audit_serve_ready.specs.Slot.{is_shut, unread_of}
-use Rattle.audit_serve_ready.specs.Reading.{IsFound, is_had}
+use Rattle.audit_serve_ready.specs.Reading.{IsFound, is_had, has_moved}
 use Rattle.audit_serve_ready.specs.Backlog.{MayAsk, HasTakenRequest}
 use Rattle.audit_serve_ready.proofs.Asking.{never_shut, none_waits}
-use Rattle.audit_serve_ready.proofs.Visits.{shut_turn, shut_stopped, vain_turn, over_turn, over_stopped, fed_turn, look_stops, if_ok_both, on_ok, on_err}
+use Rattle.audit_serve_ready.proofs.Visits.{shut_turn, shut_stopped, vain_turn, over_turn, over_stopped, fed_turn, look_stops, if_ok_all, on_ok, on_err}
 use Rattle.audit_serve_ready.proofs.Bounds.{turn_idle, turn_ended, turn_then, looked_length}
 use Rattle.audit_serve_ready.proofs.turns.read_turn.Goals as goal
 
@@ -51,8 +51,8 @@ returns-in-Bytes-clause-done g c =
     let M = g.C.SessionCore.model in
     let N = g.S.ReadyStream.calls in
     let going = subst (λ found. IsFound found c.look.ensures.looked.0 c.look.new.self) c.in-Bytes.is c.look.ensures.looked.2 in
-    if_ok_both c.feed_turn.result c.feed_turn.ensures.taken c.feed_turn.ensures.done
-    (λ turn had fed. fed_turn M N c.args.session (is_had turn) c.args.core.now c.feed_turn.new.core c.args.slot.now c.look.new.self c.feed_turn.new.slot c.look.ensures.looked.0 had c.look.ensures.looked.1 going fed)
+    if_ok_all c.feed_turn.result c.feed_turn.ensures.taken c.feed_turn.ensures.done
+    (λ turn had fed. fed_turn M N (has_moved turn) c.args.session (is_had turn) c.args.core.now c.feed_turn.new.core c.args.slot.now c.look.new.self c.feed_turn.new.slot c.look.ensures.looked.0 had c.look.ensures.looked.1 going fed)
 
 pub returns-then-is_shut-clause-within : goal.returns-then-is_shut-clause-within
 returns-then-is_shut-clause-within g c =

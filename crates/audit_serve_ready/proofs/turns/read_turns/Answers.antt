@@ -39,7 +39,7 @@ loop-number-preserved g c =
     let all = length c.args.slots.now in
     let session = c.session_of_turn-session.result in
     let below : session < all = c.session_of_turn-session.ensures.there in (
-      turns_then M N c.args.had_turn.now l.had_turn c.turn_of.new.had_turn c.args.core.now l.core c.turn_of.new.core c.args.slots.now l.slots c.turn_of.new.slots l.invariant.0 c.in_ok-taken.ensures.done
+      turns_then M N l.found c.in_ok-taken.taken c.args.had_turn.now l.had_turn c.turn_of.new.had_turn c.args.core.now l.core c.turn_of.new.core c.args.slots.now l.slots c.turn_of.new.slots l.invariant.0 c.in_ok-taken.ensures.done
           (λ k within meant. either_turn c.args.first all c.args.from l.number session k below within c.session_of_turn-session.ensures.number meant),
       (λ unowed inside.
           let were = l.invariant.1 unowed inside in
@@ -51,5 +51,5 @@ loop-number-preserved g c =
 pub returns-clause-done : goal.returns-clause-done
 returns-clause-done g c =
     let l = c.loop-number in
-    turns_mean g.C.SessionCore.model g.S.ReadyStream.calls c.args.had_turn.now l.had_turn c.args.core.now l.core c.args.slots.now l.slots
+    turns_mean g.C.SessionCore.model g.S.ReadyStream.calls l.found c.args.had_turn.now l.had_turn c.args.core.now l.core c.args.slots.now l.slots
     (λ k within least. (least, omega (arith, number_below c.args.first (length c.args.slots.now) k within, c.loop-number-test.false))) l.invariant.0

@@ -4,6 +4,7 @@ use Rattle.audit_serve_passes.specs.Core.{no_bytes}
 use Rattle.audit_serve_passes.proofs.Turns.{if_err}
 use Rattle.audit_serve_ready.proofs.Passes.{serves_more, stops_more, flush_stopped_at}
 use Rattle.audit_serve_ready.proofs.Changes.{if_err_is}
+use Rattle.audit_serve_ready.proofs.TurnByTurn.{neither_of}
 use Rattle.audit_serve_ready.proofs.Stages.{judged_serves, reads_serve, written_pass, withheld_pass}
 use Rattle.audit_serve_ready.proofs.Bounds.{owes_in, within_flushed, written_after, takes_turn}
 use Rattle.audit_serve_ready.specs.Places.{slot_at}
@@ -55,12 +56,18 @@ returns-then-not-lets_reply-clause-turn g c =
     (λ mute. (c.in_ok-was_read.ensures.done.2.pass.at k there).accounted.mute mute) refl (c.in_ok-was_read.ensures.asked there)
 
 pub returns-clause-pass : goal.returns-clause-pass
+unfolding written_pass
 returns-clause-pass g c = λ apart.
     let read = c.in_ok-was_read.ensures.done in
-    let written = c.write_turns-was_written.ensures.done in
-    written_pass g.C.SessionCore.model g.D.Stream.ReadyStream.calls g.D.Door.calls c.args.backlog c.args.first c.args.door.now c.dismiss.new.door c.gather.new.door c.lets_reply.new.self c.args.core.now c.gather.new.core c.flush.new.self c.write_turns-was_written.new.core
-    c.args.slots.now c.dismiss.new.slots c.gather.new.slots c.write_turns-was_written.new.slots read.0 read.1 written.0 written.1 c.dismiss.ensures.judges c.in_ok-was_read.ensures.askings read.2 c.in_ok-flush.ensures.did c.if-not-lets_reply.ensures written.2
-    (c.write_turns-was_written.ensures.idle c.in_ok-flush.ensures.idle) (returns-clause-turn g c)
+    let written = c.write_turns-was_written.ensures.done in (
+      written_pass g.C.SessionCore.model g.D.Stream.ReadyStream.calls g.D.Door.calls c.args.backlog c.in_ok-was_read.was_read c.write_turns-was_written.result c.args.first c.args.door.now c.dismiss.new.door c.gather.new.door c.lets_reply.new.self c.args.core.now c.gather.new.core c.flush.new.self c.write_turns-was_written.new.core
+          c.args.slots.now c.dismiss.new.slots c.gather.new.slots c.write_turns-was_written.new.slots read.0 read.1 written.0 written.1 c.dismiss.ensures.judges c.in_ok-was_read.ensures.askings read.2 c.in_ok-flush.ensures.did c.if-not-lets_reply.ensures written.2
+          (c.write_turns-was_written.ensures.idle c.in_ok-flush.ensures.idle) (returns-clause-turn g c),
+      λ idle. elim c.if-was_read-was_written.branch [
+        | then-was_read-was_written w ↦ absurd (cc (w.result-is, idle))
+        | else-was_read-was_written w ↦ neither_of c.in_ok-was_read.was_read c.write_turns-was_written.result (search rules)
+      ],
+    )
 
 pub returns-clause-withheld : goal.returns-clause-withheld
 returns-clause-withheld g c = λ is. elim c.if-was_read-was_written.branch [
@@ -74,7 +81,7 @@ returns-then-not-lets_reply-clause-pass g c = λ apart. absurd (apart refl)
 pub returns-then-not-lets_reply-clause-withheld : goal.returns-then-not-lets_reply-clause-withheld
 returns-then-not-lets_reply-clause-withheld g c = λ is.
     let read = c.in_ok-was_read.ensures.done in
-    withheld_pass g.C.SessionCore.model g.D.Stream.ReadyStream.calls g.D.Door.calls c.args.backlog c.args.first c.args.door.now c.dismiss.new.door c.gather.new.door c.lets_reply.new.self c.args.core.now c.gather.new.core c.flush.new.self c.args.slots.now c.dismiss.new.slots c.gather.new.slots
+    withheld_pass g.C.SessionCore.model g.D.Stream.ReadyStream.calls g.D.Door.calls c.args.backlog c.in_ok-was_read.was_read c.args.first c.args.door.now c.dismiss.new.door c.gather.new.door c.lets_reply.new.self c.args.core.now c.gather.new.core c.flush.new.self c.args.slots.now c.dismiss.new.slots c.gather.new.slots
     read.0 read.1 c.dismiss.ensures.judges c.in_ok-was_read.ensures.askings read.2 c.in_ok-flush.ensures.did c.if-not-lets_reply.ensures c.in_ok-flush.ensures.idle (returns-then-not-lets_reply-clause-turn g c)
 
 pub returns-clause-within : goal.returns-clause-within

@@ -1,11 +1,11 @@
-use Rattle.std.proofs.Common.{◌∙◌, true, [], length, get_or, refl, sym, ap, subst}
+use Rattle.std.proofs.Common.{◌≡◌, ◌∙◌, true, [], length, set, get_or, refl, sym, ap, subst}
 use Rattle.audit_serve_passes.proofs.Transitions.{in_any}
 use Rattle.audit_serve_passes.proofs.Turns.{if_err}
 use Rattle.audit_serve_ready.specs.Slot.{vacant}
 use Rattle.audit_serve_ready.specs.Backlog.{MayAsk}
 use Rattle.audit_serve_ready.proofs.Passes.{nothing_served, stops_place_then}
 use Rattle.audit_serve_ready.proofs.TurnByTurn.{turns_none, one_turn}
-use Rattle.audit_serve_ready.specs.Reading.{is_had, HasTurn}
+use Rattle.audit_serve_ready.specs.Reading.{is_had, has_moved, HasTurn, TakesTurns}
 use Rattle.audit_serve_ready.specs.Places.{slot_at}
 use Rattle.audit_serve_ready.proofs.Bounds.{marked, at_any, within_set, keeps_set, mark_set, asked_there}
 use Rattle.audit_serve_ready.proofs.turns.turn_of.Goals as goal
@@ -41,9 +41,10 @@ returns-clause-done g c =
     let slots = c.args.slots.now in
     let k = c.args.session in
     let turn = c.in_ok-turn.ensures.done in
-    one_turn M N k c.args.had_turn.now c.is_had.result core c.read_turn.new.core slots c.read_turn.new.slot c.requires.there (c.if-not-is_due.ensures.turn refl) (c.if-not-is_due.ensures.live refl)
-    (subst (λ had. HasTurn M N k had core c.read_turn.new.core (slot_at k slots) c.read_turn.new.slot) (sym c.is_had.ensures)
-    (subst (λ slot. HasTurn M N k (is_had c.in_ok-turn.turn) core c.read_turn.new.core slot c.read_turn.new.slot) (sym (in_any slots k vacant c.index-slots-session.result c.requires.there)) turn))
+    subst (λ moved. TakesTurns M N moved (λ j. j ≡ k) c.args.had_turn.now (set c.args.had_turn.now k c.is_had.result) core c.read_turn.new.core slots (set slots k c.read_turn.new.slot)) (sym c.has_moved.ensures)
+    (one_turn M N (has_moved c.in_ok-turn.turn) k c.args.had_turn.now c.is_had.result core c.read_turn.new.core slots c.read_turn.new.slot c.requires.there (c.if-not-is_due.ensures.turn refl) (c.if-not-is_due.ensures.live refl)
+    (subst (λ had. HasTurn M N (has_moved c.in_ok-turn.turn) k had core c.read_turn.new.core (slot_at k slots) c.read_turn.new.slot) (sym c.is_had.ensures)
+    (subst (λ slot. HasTurn M N (has_moved c.in_ok-turn.turn) k (is_had c.in_ok-turn.turn) core c.read_turn.new.core slot c.read_turn.new.slot) (sym (in_any slots k vacant c.index-slots-session.result c.requires.there)) turn)))
 
 pub returns-clause-within : goal.returns-clause-within
 returns-clause-within g c = λ unowed inside.

@@ -25,7 +25,7 @@ loop-session-preserved g c =
     let new = c.write_turn-moved.new.core in
     let done = c.write_turn-moved.ensures.done in
     let within : l.session < length l.slots = search rules in (
-      writes_more M g.S.ReadyStream.calls l.session c.args.core.now l.core new l.invariant.0.0 l.invariant.0.1 done.0 c.args.slots.now l.slots c.index-slots-session.result c.write_turn-moved.new.slot within l.invariant.0.2 done.1 done.2,
+      writes_more M g.S.ReadyStream.calls l.moved c.write_turn-moved.result l.session c.args.core.now l.core new l.invariant.0.0 l.invariant.0.1 done.0 c.args.slots.now l.slots c.index-slots-session.result c.write_turn-moved.new.slot within l.invariant.0.2 done.1 done.2,
       (λ other below. elim (cases_eq other l.session) [
         | inl same ↦ ap (M.output new) same ∙ c.write_turn-moved.ensures.empty
         | inr apart ↦ c.write_turn-moved.ensures.others other apart ∙ l.invariant.1 other (omega (arith, below, apart))
@@ -44,4 +44,4 @@ pub returns-clause-done : goal.returns-clause-done
 returns-clause-done g c =
     let l = c.loop-session in
     let all : l.session ≡ length c.args.slots.now = search rules in
-    subst (λ count. (taken : ℕ → List ℕ) × (calls : ℕ → List StreamCall) × WritesPlaces g.S.ReadyStream.calls (g.C.SessionCore.model.DidSteps c.args.core.now l.core) count taken calls c.args.slots.now l.slots) all l.invariant.0
+    subst (λ count. (taken : ℕ → List ℕ) × (calls : ℕ → List StreamCall) × WritesPlaces g.S.ReadyStream.calls (g.C.SessionCore.model.DidSteps c.args.core.now l.core) l.moved count taken calls c.args.slots.now l.slots) all l.invariant.0
