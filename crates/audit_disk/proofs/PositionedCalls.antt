@@ -5,7 +5,7 @@ use Rattle.audit_disk_model.specs.Image.{Sector, Image}
 use Rattle.audit_disk_model.specs.View.{View}
 use Rattle.audit_disk_model.specs.Calls.{CountsFailure}
 use Rattle.audit_disk.specs.File.{FileView, sectors_of, FileContinues, OnlyFileReads, IsFileRead, IsRowRead, IsRowWrite, IsFileSync}
-use Rattle.audit_disk.specs.OsFile.{AnswersAlike}
+use Rattle.audit_disk.specs.Positioned.{AnswersAlike}
 use Rattle.audit_disk.specs.Positioned.{FailsAsCalled, PositionedView, counted_file, uncounted, ShowsFront, IsPositionedRead, IsPositionedWrite, IsPositionedSync}
 use Rattle.audit_base.specs.declared.limits.TheConstants.{SECTOR_SIZE}
 

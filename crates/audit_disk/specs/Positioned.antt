@@ -1,6 +1,7 @@
 -- A file with calls at offsets, without a count of failed calls.
-use Rattle.std.specs.Prelude.{◌≡◌, ℕ, ◌*◌, ◌≤◌, List, [], length, Result, IfOk, OnErr}
+use Rattle.std.specs.Prelude.{◌≡◌, ℕ, ◌*◌, ◌≤◌, List, [], length, Result, MatchResult, IsOk, IsErr, IfOk, OnErr}
 use Rattle.std.specs.Coded.{Unit-prop}
+use Rattle.std.proofs.Props.{props}
 use Rattle.audit_disk_model.specs.Image.{Sector, Image}
 use Rattle.audit_disk_model.specs.View.{View}
 use Rattle.audit_disk_model.specs.Calls.{CountsFailure}
@@ -17,6 +18,7 @@ pub record PositionedView : Type 1 where
   pub failed : Type 0
   pub honest : Type 0
   pub given_once : (offset : ℕ) (bytes : Sector) → IsProp (gave offset bytes)
+  pub failed_once : IsProp failed
   pub bytes_left : honest → left_at moment bytes
   pub same_length : honest → (at : ℕ) (file : List ℕ) → left_at at file → length file ≡ length bytes
 
@@ -44,6 +46,7 @@ uncounted file = record {
   failed = 1 ≤ file.failures;
   honest = file.honest;
   given_once = file.given_once;
+  failed_once = Prim.hlevel props;
   bytes_left = file.bytes_left;
   same_length = file.same_length;
 }
@@ -58,9 +61,14 @@ unknown_positioned = record {
   failed = Unit {0};
   honest = ⊥;
   given_once = λ offset bytes. Unit-prop;
+  failed_once = Unit-prop;
   bytes_left = λ honest. absurd honest;
   same_length = λ honest. absurd honest;
 }
+
+-- both are Ok, or both are errors
+abbrev pub AnswersAlike : {E D : Type 0} → Result (Unit {0}) E → Result (Unit {0}) D → Type 0
+AnswersAlike one other = MatchResult one (λ _. IsOk other) (λ _. IsErr other)
 
 -- An error is that of a failed call, which stays known.
 pub record FailsAsCalled {E : Type 0} (old new : PositionedView) (result : Result (Unit {0}) E) : Type 0 where

@@ -1,6 +1,6 @@
-ghost use Rattle.std.specs.Prelude.{◌≡◌};
+ghost use Rattle.std.specs.Prelude.{◌≡◌, ◌≤◌};
 ghost use Rattle.audit_disk_model.specs.Calls.{CountsFailure};
-ghost use Rattle.audit_disk.specs.OsFile.{AnswersAlike};
+ghost use Rattle.audit_disk.specs.Positioned.{AnswersAlike};
 
 use crate::counting::counted;
 use crate::guards::Guards;
@@ -9,11 +9,12 @@ use std::{io, slice};
 
 /// An open file whose failed calls are counted. It is honest if the file below is.
 #[derive(Drop)]
-pub struct OsFile<F> {
+pub struct OsFile<F: PositionedFile> {
     file: F,
     failures: u64,
     // The locks that are held as long as the file is open, besides its own.
     guards: Option<Guards<F>>,
+    ghost counted: { 1 ≤ failures → (F.positioned file).failed } by { Prim.hlevel ((F.positioned file).failed_once) },
 }
 
 impl<F: PositionedFile> OsFile<F> {
@@ -54,12 +55,11 @@ impl<F: PositionedFile> SectorFile for OsFile<F> {
     ghost use Rattle.audit_disk.specs.File.{IsFileRead, IsRowRead, IsFileWrite, IsRowWrite, IsFileSync};
     ghost use Rattle.audit_disk.specs.OsFile.{os_file_view, file_below};
 
-    ghost file = { os_file_view F.positioned };
+    ghost file = { os_file_view };
 
     fn read_at(&mut self, offset: u64, into: &mut [u8; SECTOR_SIZE]) -> Result<(), DeviceFault>
-        requires { IsSectorOffset (os_file_view F.positioned self.old) offset }
-        ensures read { IsFileRead (os_file_view F.positioned self.old) (os_file_view F.positioned self.new)
-            offset into.new result }
+        requires { IsSectorOffset (os_file_view self.old) offset }
+        ensures read { IsFileRead (os_file_view self.old) (os_file_view self.new) offset into.new result }
         ensures cause { OnErr result (F.positioned (file_below self.new)).failed }
     {
         let outcome = self.file.read_exact_at(slice::from_mut(into), offset);
@@ -67,8 +67,8 @@ impl<F: PositionedFile> SectorFile for OsFile<F> {
     }
 
     fn read_row(&mut self, offset: u64, into: &mut [[u8; SECTOR_SIZE]]) -> Result<(), DeviceFault>
-        requires { IsRowOffset (os_file_view F.positioned self.old) offset (length into.old) }
-        ensures read { IsRowRead (os_file_view F.positioned self.old) (os_file_view F.positioned self.new)
+        requires { IsRowOffset (os_file_view self.old) offset (length into.old) }
+        ensures read { IsRowRead (os_file_view self.old) (os_file_view self.new)
             offset (length into.old) into.new result }
         ensures cause { OnErr result (F.positioned (file_below self.new)).failed }
     {
@@ -77,9 +77,8 @@ impl<F: PositionedFile> SectorFile for OsFile<F> {
     }
 
     fn write_at(&mut self, offset: u64, bytes: &[u8; SECTOR_SIZE]) -> Result<(), DeviceFault>
-        requires { IsSectorOffset (os_file_view F.positioned self.old) offset }
-        ensures write { IsFileWrite (os_file_view F.positioned self.old) (os_file_view F.positioned self.new)
-            offset bytes.now result }
+        requires { IsSectorOffset (os_file_view self.old) offset }
+        ensures write { IsFileWrite (os_file_view self.old) (os_file_view self.new) offset bytes.now result }
         ensures cause { OnErr result (F.positioned (file_below self.new)).failed }
     {
         let outcome = self.file.write_all_at(slice::from_ref(bytes), offset);
@@ -87,9 +86,8 @@ impl<F: PositionedFile> SectorFile for OsFile<F> {
     }
 
     fn write_row(&mut self, offset: u64, row: &[[u8; SECTOR_SIZE]]) -> Result<(), DeviceFault>
-        requires { IsRowOffset (os_file_view F.positioned self.old) offset (length row.now) }
-        ensures write { IsRowWrite (os_file_view F.positioned self.old) (os_file_view F.positioned self.new)
-            offset row.now result }
+        requires { IsRowOffset (os_file_view self.old) offset (length row.now) }
+        ensures write { IsRowWrite (os_file_view self.old) (os_file_view self.new) offset row.now result }
         ensures cause { OnErr result (F.positioned (file_below self.new)).failed }
     {
         let outcome = self.file.write_all_at(row, offset);
@@ -97,7 +95,7 @@ impl<F: PositionedFile> SectorFile for OsFile<F> {
     }
 
     fn sync(&mut self) -> Result<(), DeviceFault>
-        ensures sync { IsFileSync (os_file_view F.positioned self.old) (os_file_view F.positioned self.new) result }
+        ensures sync { IsFileSync (os_file_view self.old) (os_file_view self.new) result }
         ensures cause { OnErr result (F.positioned (file_below self.new)).failed }
     {
         let outcome = self.file.sync_data();

@@ -1,6 +1,6 @@
 //! A file in memory as a `PositionedFile`, which shows that honest ones exist.
 ghost use Rattle.audit_disk.specs.MemFileView.{mem_file_view};
-ghost use Rattle.audit_disk.specs.OsFile.{AnswersAlike};
+ghost use Rattle.audit_disk.specs.Positioned.{AnswersAlike};
 ghost use Rattle.audit_disk.specs.Positioned.{uncounted};
 
 use crate::{DeviceFault, MemFile, PositionedFile, SECTOR_SIZE, SectorFile, Sectors};
