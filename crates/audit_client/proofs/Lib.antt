@@ -9,4 +9,5 @@ pub mod Failures
 pub mod PutFiles
 pub mod FailedExports
 pub mod LongLines
+pub mod ReadWhole
 mod OneEntry
