@@ -1,11 +1,9 @@
 -- Changes one after another.
-use Rattle.std.proofs.Common.{◌≡◌, ◌∙◌, ℕ, ◌<◌, List, [], ◌∷◌, ◌++◌, length, Result, Ok, Err, IfErr, refl, sym, ap, subst}
+use Rattle.std.proofs.Common.{◌≡◌, ◌∙◌, ℕ, List, [], ◌∷◌, ◌++◌, Result, Ok, Err, IfErr, refl, sym, ap, subst}
 use Rattle.audit_serve_passes.specs.Streams.{CallModel}
-use Rattle.audit_serve_passes.specs.Core.{CoreModel, no_bytes}
+use Rattle.audit_serve_passes.specs.Core.{CoreModel}
 use Rattle.audit_serve_ready.specs.Slot.{SlotData}
-use Rattle.audit_serve_ready.specs.Places.{slot_at, ServesPlaces, StopsAtPlaces}
-use Rattle.audit_serve_ready.specs.Backlog.{TakesTurn}
-use Rattle.audit_serve_ready.specs.Clients.{ClientChange, a_pass, next_first, first_after, first_after_all, IsChange, AreChanges, ServesClients, StopsServing}
+use Rattle.audit_serve_ready.specs.Clients.{ClientChange, first_after, first_after_all, IsChange, AreChanges, ServesClients, StopsServing}
 
 pub first_after-append : {S : Type 0} (first : ℕ) (changes later : List (ClientChange S)) → first_after_all first (changes ++ later) ≡ first_after_all (first_after_all first changes) later
 first_after-append first [] later = refl
@@ -20,9 +18,6 @@ module _ {C S : Type 0} (M : CoreModel C) (N : CallModel S) (backlog : ℕ) wher
   changes_then first old mid new before between after (change ∷ changes) later are next =
       (are.0, are.1, are.2, changes_then (first_after first change) are.0 mid new are.1 between after changes later are.3 next)
 
-  pub clients_none : (first : ℕ) (core : C) (slots : List (SlotData S)) → ServesClients M N backlog first first core core slots slots
-  clients_none first core slots = record { changes = []; are = (refl, refl); turns = refl }
-
   pub clients_then : (first then_ last : ℕ) (old mid new : C) (before between after : List (SlotData S)) → ServesClients M N backlog first then_ old mid before between → ServesClients M N backlog then_ last mid new between after
       → ServesClients M N backlog first last old new before after
   clients_then first then_ last old mid new before between after serves next = record {
@@ -33,13 +28,6 @@ module _ {C S : Type 0} (M : CoreModel C) (N : CallModel S) (backlog : ℕ) wher
 
   pub one_change : (first : ℕ) (old new : C) (before after : List (SlotData S)) (change : ClientChange S) → IsChange M N backlog first change old new before after → ServesClients M N backlog first (first_after first change) old new before after
   one_change first old new before after change is = record { changes = change ∷ []; are = (new, after, is, (refl, refl)); turns = refl }
-
-  pub one_pass : (first : ℕ) (old new : C) (before after : List (SlotData S)) → ServesPlaces N (M.DidSteps old new) no_bytes before after → M.Idle new
-      → (first < length before → TakesTurn M backlog first old (slot_at first before) (slot_at first after)) → ServesClients M N backlog first (next_first first) old new before after
-  one_pass first old new before after serves idle turn = one_change first old new before after (a_pass serves.steps serves.taken serves.calls) (record { served = serves.pass; answered = idle; turn = turn })
-
-  pub stops_first : {Refuses : C → C → Type 0} (first : ℕ) (old new : C) (before after : List (SlotData S)) → Refuses old new → StopsAtPlaces N (M.DidStepsInPart old new) before after → StopsServing M N backlog Refuses first old new before after
-  stops_first first old new before after refused last = record { mid = old; between = before; changes = []; are = (refl, refl); refused = refused; last = last }
 
   pub stops_later : {Refuses : C → C → Type 0} (first then_ : ℕ) (old mid new : C) (before between after : List (SlotData S)) → ServesClients M N backlog first then_ old mid before between → StopsServing M N backlog Refuses then_ mid new between after
       → StopsServing M N backlog Refuses first old new before after

@@ -1,5 +1,5 @@
 -- Passes one after another.
-use Rattle.std.proofs.Common.{◌≡◌, ℕ, ◌<◌, Bool, List, [], ◌∷◌, ◌++◌, length, set, get_or, refl, sym, ap, subst, ◌∙◌, arith, inl, inr}
+use Rattle.std.proofs.Common.{◌≡◌, ℕ, ◌<◌, Bool, List, [], ◌++◌, length, set, get_or, refl, sym, ap, subst, ◌∙◌, arith, inl, inr}
 use Rattle.std.proofs.lemmas.Bool.{cases_eq}
 use Rattle.std.proofs.lemmas.List.{length-set, get_or-set_same, get_or-set_other}
 use Rattle.audit_serve_passes.specs.Steps.{StepData, AreAbout, IsPartOf, a_flush}
@@ -106,9 +106,6 @@ module _ {S : Type 0} (N : CallModel S) where
   pub nothing_served : {Did : CoreDid} (slots : List (SlotData S)) → Did [] no_bytes → ServesPlaces N Did no_bytes slots slots
   nothing_served {Did = Did} slots did = steps_alone {Did = Did} [] no_bytes slots (λ k. served_elsewhere N k [] (slot_at k slots) tt) (λ k. refl) did
 
-  pub flush_served : {Did : CoreDid} (slots : List (SlotData S)) → Did (a_flush ∷ []) no_bytes → ServesPlaces N Did no_bytes slots slots
-  flush_served {Did = Did} slots did = steps_alone {Did = Did} (a_flush ∷ []) no_bytes slots (λ k. served_elsewhere N k (a_flush ∷ []) (slot_at k slots) ((λ about. about), tt)) (λ k. refl) did
-
   -- ---- writing alone
 
   unfoldable pub writes_none : (slots : List (SlotData S)) → WritesOn N slots slots
@@ -158,12 +155,6 @@ module _ {C S : Type 0} (M : CoreModel C) (N : CallModel S) where
       → StopsAtPlaces N (M.DidStepsInPart old new) before after
   stops_more old mid new before between after first second =
       stops_then N {First = M.DidSteps old mid} {Next = M.DidStepsInPart mid new} {Both = M.DidStepsInPart old new} before between after first second (λ steps later taken more. M.then_in_part old mid new steps later taken more)
-
-  pub serves_place_then : (k : ℕ) (old mid new : C) (before between : List (SlotData S)) (at after : SlotData S) → k < length between
-      → ServesPlaces N (M.DidSteps old mid) no_bytes before between → ServesPlace N (M.DidSteps mid new) k [] (get_or between k at) after → ServesPlaces N (M.DidSteps old new) no_bytes before (set between k after)
-  serves_place_then k old mid new before between at after within first place =
-      serves_more old mid new before between (set between k after) first
-      (none_lost N {Did = M.DidSteps mid new} k between (set between k after) (place_goes N {Did = M.DidSteps mid new} k [] between (get_or between k at) after within (in_any between k vacant at within) place))
 
   pub stops_place_then : (k : ℕ) (old mid new : C) (before between : List (SlotData S)) (at after : SlotData S) → k < length between
       → ServesPlaces N (M.DidSteps old mid) no_bytes before between → StopsAtPlace N (M.DidStepsInPart mid new) k (get_or between k at) after → StopsAtPlaces N (M.DidStepsInPart old new) before (set between k after)

@@ -1,11 +1,11 @@
 -- What is sent to a client: kept and written.
 use Rattle.std.proofs.lemmas.Bool.{cases_Bool, ltb-false}
-use Rattle.std.proofs.Common.{◌≡◌, ◌≢◌, inl, inr, ℕ, Bool, true, false, not, ◌&&◌, Option, Some, None, List, [], ◌∷◌, ◌++◌, take, drop, ltb, arith, refl, sym, ap, subst, ◌∙◌, append_assoc, true≢false}
+use Rattle.std.proofs.Common.{◌≡◌, ◌≢◌, inl, inr, ℕ, Bool, true, false, Option, Some, None, List, [], ◌∷◌, ◌++◌, take, drop, ltb, arith, refl, sym, ap, subst, ◌∙◌, append_assoc, true≢false}
 use Rattle.std.proofs.lemmas.List.{append-nil, take-append-drop}
 use Rattle.audit_serve_passes.specs.Streams.{a_write, a_failed_write, CallModel}
 use Rattle.audit_serve_ready.specs.declared.reception.Reception.{Reception}
 use Rattle.audit_serve_ready.specs.declared.reception.Reception.TheVariants as reception
-use Rattle.audit_serve_ready.specs.Slot.{SlotData, vacant, serving, unheard, closing, closed, has_bytes, has_kept, slot_data, is_mute, is_shut, is_no_client, unread_of, kept_of, HasCalled, IsAccounted, IsPushed}
+use Rattle.audit_serve_ready.specs.Slot.{SlotData, vacant, serving, unheard, closing, closed, has_kept, slot_data, is_mute, is_shut, is_no_client, unread_of, kept_of, HasCalled, IsAccounted, IsPushed}
 use Rattle.audit_serve_ready.proofs.Accounts.{accounted_none, accounted_then}
 
 -- nothing was taken
@@ -37,12 +37,6 @@ closes None how unread kept rest = refl
 closes (Some client) reception.Takes unread kept rest = refl
 closes (Some client) reception.Drops unread kept rest = refl
 closes (Some client) reception.Shut unread kept rest = refl
-
-pub kept_data : {S : Type 0} (client : Option S) (how : Reception) (unread kept : List ℕ) → has_kept (slot_data client unread kept how) ≡ (not (is_mute (slot_data client unread kept how)) && has_bytes kept)
-kept_data None how unread kept = refl
-kept_data (Some client) reception.Takes unread kept = refl
-kept_data (Some client) reception.Drops unread kept = refl
-kept_data (Some client) reception.Shut unread kept = refl
 
 module _ {S : Type 0} (N : CallModel S) where
   -- kept, then pushed

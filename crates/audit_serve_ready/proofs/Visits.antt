@@ -8,7 +8,7 @@ use Rattle.audit_serve_passes.specs.Streams.{StreamCall, CallModel, bytes_read}
 use Rattle.audit_serve_passes.specs.Core.{CoreModel, GoesBy, no_bytes, bytes_for}
 use Rattle.audit_serve_passes.proofs.Transitions.{no_bytes_for}
 use Rattle.audit_serve_passes.proofs.Turns.{end_brings_nothing}
-use Rattle.audit_serve_ready.specs.Slot.{SlotData, vacant, serving, unheard, closing, unread_of, with_unread, is_shut, IsSamePlace, HasLooked, IsAccounted}
+use Rattle.audit_serve_ready.specs.Slot.{SlotData, vacant, serving, unheard, closing, unread_of, with_unread, is_shut, IsSamePlace, HasLooked}
 use Rattle.audit_serve_ready.specs.Places.{has_last_read, CoreDid, IsServedAt, ServesPlace, StopsAtPlace}
 use Rattle.audit_serve_ready.specs.Reading.{IsTurn, IsFedPiece, HasTurn}
 use Rattle.audit_serve_ready.proofs.Accounts.{accounted_none, unread_put, unread_accounted, served_then}
@@ -71,16 +71,6 @@ module _ {C S : Type 0} (M : CoreModel C) (N : CallModel S) where
   }
 
   -- ---- a look
-
-  pub idle_done : (k : ℕ) (core : C) (before after : SlotData S) → unread_of after ≡ unread_of before → IsAccounted N [] [] before after → ServesPlace N (M.DidSteps core core) k [] before after
-  idle_done k core before after unread accounted = record {
-    steps = [];
-    sent = [];
-    calls = [];
-    did = taking_none k core core [] (M.nothing_done core);
-    about = tt;
-    served = record { read = ap (λ (bytes : List ℕ). bytes ++ []) (sym unread); ends = inl refl; accounted = accounted };
-  }
 
   looked : (before after : SlotData S) (calls : List StreamCall) → HasLooked N before after calls → unread_of before ++ bytes_read calls ≡ unread_of after ++ []
   looked before after calls look = look.read ∙ sym (append-nil (unread_of after))
@@ -249,16 +239,3 @@ module _ {C S : Type 0} (M : CoreModel C) (N : CallModel S) where
           };
         };
       }
-
-  -- ---- what was taken
-
-  pub sent_done : (k : ℕ) (sent : List ℕ) (calls : List StreamCall) (old new : C) (before after : SlotData S) → bytes_read calls ≡ [] → unread_of after ≡ unread_of before → IsAccounted N sent calls before after → M.DidSteps old new [] (bytes_for k sent)
-      → ServesPlace N (M.DidSteps old new) k [] before after
-  sent_done k sent calls old new before after quiet unread accounted did = record {
-    steps = [];
-    sent = sent;
-    calls = calls;
-    did = did;
-    about = tt;
-    served = record { read = ap (λ (bytes : List ℕ). unread_of before ++ bytes) quiet ∙ ap (λ (bytes : List ℕ). bytes ++ []) (sym unread); ends = inl refl; accounted = accounted };
-  }
