@@ -205,9 +205,9 @@ module _ {C D S : Type 0} (M : CoreModel C) (N : CallModel S) (E : DoorModel D S
   -- this many rounds, after each of which the door said to go on
   abbrev pub AreRounds : ℕ → D → D → C → C → List (SlotData S) → List (SlotData S) → Type 0
   AreRounds zero was now old new before after = (now ≡ was) × (new ≡ old) × (after ≡ before)
-  AreRounds (suc rounds) was now old new before after = (then_ : D) × (mid : C) × (between : List (SlotData S))
-      × AreRounds rounds was then_ old mid before between
-      × IsRound next.Again (first_after_rounds rounds) then_ now mid new between after
+  AreRounds (suc rounds) was now old new before after = (door : D) × (core : C) × (places : List (SlotData S))
+      × AreRounds rounds was door old core before places
+      × IsRound next.Again (first_after_rounds rounds) door now core new places after
 
   -- Serving ended: by a round after which the door said to stop, or a pass whose replies it didn't let leave. A loop
   -- ends after so many rounds.
@@ -220,8 +220,8 @@ module _ {C D S : Type 0} (M : CoreModel C) (N : CallModel S) (E : DoorModel D S
   -- Clients were served in rounds until the door said to stop, or let no replies leave.
   pub record ServesUntilStopped (was now : D) (old new : C) (before after : List (SlotData S)) : Type 0 where
     pub rounds : ℕ
-    pub then_ : D
-    pub mid : C
-    pub between : List (SlotData S)
-    pub are : AreRounds rounds was then_ old mid before between
-    pub ends : EndsServing rounds then_ now mid new between after
+    pub door : D
+    pub core : C
+    pub places : List (SlotData S)
+    pub are : AreRounds rounds was door old core before places
+    pub ends : EndsServing rounds door now core new places after

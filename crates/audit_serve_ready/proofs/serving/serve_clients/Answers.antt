@@ -36,9 +36,9 @@ returns-then-not-goes_on-clause-rounds g c =
     let l = c.loop-round in
     record {
       rounds = l.round;
-      then_ = l.door;
-      mid = l.core;
-      between = l.slots;
+      door = l.door;
+      core = l.core;
+      places = l.slots;
       are = l.invariant.3;
       ends = ends_after g.C.SessionCore.model g.D.Stream.ReadyStream.calls g.D.Door.calls c.args.backlog l.round l.first l.door c.serve_round.new.door l.core c.serve_round.new.core l.slots c.serve_round.new.slots l.invariant.2
           (c.in_ok-goes_on.ensures.over c.if-not-goes_on.true);
@@ -64,9 +64,9 @@ returns-clause-rounds g c =
     let all : l.round ≡ 18446744073709551615 = omega (arith, l.auto.round-end, c.loop-round-test.false) in
     record {
       rounds = l.round;
-      then_ = l.door;
-      mid = l.core;
-      between = l.slots;
+      door = l.door;
+      core = l.core;
+      places = l.slots;
       are = l.invariant.3;
       ends = inr (inr (all, refl, refl, refl));
     }
