@@ -1,6 +1,7 @@
 -- What running a daemon comes to.
 use denote.Ref.{Bor}
-use Rattle.std.specs.Prelude.{OnOk, IsOk, codes, result_and}
+use Rattle.std.specs.Prelude.{OnOk, IsOk, codes}
+use Rattle.std.specs.Result.{result_and}
 use Rattle.std.specs.Io.KnownBytes.{Appends}
 use Rattle.std.proofs.Common.{◌≡◌, ◌∙◌, ℕ, Bool, true, false, Option, Result, Ok, Err, List, refl, ap, subst}
 use Rattle.std.proofs.KnownBytes.{Appends-trans}
