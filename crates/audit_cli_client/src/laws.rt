@@ -16,8 +16,8 @@ pub fn limits_are_these_numbers()
     ensures default_window { WINDOW ≡ 64 }
 {}
 
-/// The last commitment in a witness's file is the newest of those that it was seen to hold: so the next look begins from
-/// the one that this look kept.
+/// The last commitment in a witness's file is the newest of those that it was seen to hold: so the next look begins
+/// from the one that this look kept.
 pub fn the_next_look_begins_from_what_was_kept()
     ensures { (file : List ℕ) (kept : List Commitment) (end : ℕ) (lacks : Bool) → HoldsState file kept end lacks
         → last_kept (kept_in file) ≡ last_kept kept }

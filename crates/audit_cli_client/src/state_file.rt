@@ -1,5 +1,6 @@
 //! The file of a witness: a line for each commitment that it saw, the newest last.
-ghost use Rattle.std.specs.Prelude.{◌≡◌, ◌⊎◌, ◌∷◌, ◌++◌, [], ◌-◌, ◌≤◌, ℕ, List, Some, length, take, IfOk, IfSome, OnOk, OnErr};
+ghost use Rattle.std.specs.Prelude.{◌≡◌, ◌⊎◌, ◌∷◌, ◌++◌, [], ◌-◌, ℕ, List, Some, length, take};
+ghost use Rattle.std.specs.Prelude.{IfOk, IfSome, OnOk, OnErr};
 ghost use Rattle.audit_client.specs.Keeping.{last_kept};
 ghost use Rattle.audit_cli_client.specs.State.{HoldsState, IsStored, kept_in, line_after};
 

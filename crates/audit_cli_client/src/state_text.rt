@@ -1,5 +1,6 @@
 //! The bytes of a witness's file.
-ghost use Rattle.std.specs.Prelude.{◌≡◌, ◌⊎◌, ◌++◌, Option, Some, None, List, ℕ, length, take, drop, IfOk, IfSome, OnOk, OnErr};
+ghost use Rattle.std.specs.Prelude.{◌≡◌, ◌⊎◌, ◌++◌, Option, Some, None, List, ℕ, length, take, drop};
+ghost use Rattle.std.specs.Prelude.{IfOk, IfSome, OnOk, OnErr};
 
 use crate::fault::RemoteError;
 use crate::state_lock::sync_folder;
@@ -33,7 +34,8 @@ pub trait StateText: Drop {
     /// Puts bytes in place of those from a place on, and syncs them. After an error they are as before, or cut off
     /// there, or unknown.
     fn replace_from(&mut self, start: u64, bytes: &[u8]) -> io::Result<()>
-        ensures done { OnOk result (IfSome (text self.old) (λ old. text self.new ≡ Some (take start old ++ bytes.now))) }
+        ensures done { OnOk result (IfSome (text self.old)
+            (λ old. text self.new ≡ Some (take start old ++ bytes.now))) }
         ensures part { OnErr result (IfSome (text self.old) (λ old. (text self.new ≡ Some old)
             ⊎ ((text self.new ≡ Some (take start old)) ⊎ (text self.new ≡ None)))) }
         ensures unknown { text self.old ≡ None → text self.new ≡ None };

@@ -31,7 +31,8 @@ IsVouchedIn written_old written_new read_old read_new asked given older newest =
     ((older ≡ newest) × Converses written_old written_new read_old read_new asked given)
     ⊎ ((hashes : List (List ℕ)) × (older ≡ newest → ⊥)
     × Converses written_old written_new read_old read_new
-    (asked ++ request.Incremental JOIN_TAG older.count newest.count ∷ []) (given ++ reply.Incremental JOIN_TAG hashes ∷ [])
+    (asked ++ request.Incremental JOIN_TAG older.count newest.count ∷ [])
+    (given ++ reply.Incremental JOIN_TAG hashes ∷ [])
     × AcceptsIncrement sha256 older newest hashes)
 
 -- The newest commitment was asked for and given, and then this proof, which is accepted under a commitment for which

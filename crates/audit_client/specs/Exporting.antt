@@ -1,5 +1,6 @@
 -- All entries of a log, which are asked for ahead of their replies and judged together.
-use Rattle.std.specs.Prelude.{◌≡◌, ◌<◌, ◌≤◌, ℕ, zero, suc, ◌+◌, ◌-◌, Bool, true, false, Option, List, [], ◌∷◌, ◌++◌, length, map}
+use Rattle.std.specs.Prelude.{◌≡◌, ◌<◌, ◌≤◌, ℕ, zero, suc, ◌+◌, ◌-◌, Bool, true, false, Option, List, [], ◌∷◌}
+use Rattle.std.specs.Prelude.{◌++◌, length, map}
 use Rattle.std.specs.List.{flat_map, concat, filter}
 use Rattle.std.specs.Io.KnownBytes.{Appends}
 use Rattle.audit_text.specs.Writing.{WritesInPart}

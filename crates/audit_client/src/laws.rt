@@ -29,8 +29,8 @@ pub fn runs_of_a_witness_stay_joined()
         → AreJoined (kept_after start runs) }
 {}
 
-/// Less than a frame isn't one that was read whole. So once the reply with the newest commitment was read whole, none of
-/// the errors for not getting it can be given: a witness that read it judges it.
+/// Less than a frame isn't one that was read whole. So once the reply with the newest commitment was read whole, none
+/// of the errors for not getting it can be given: a witness that read it judges it.
 pub fn what_was_read_whole_is_judged()
     ensures part { (body more : List ℕ) → IsPartOfFrame (frame body ++ more) → ⊥ }
     ensures newest { (written_old written_new : Option (List ℕ)) (before after : List ℕ) (newest : Commitment)

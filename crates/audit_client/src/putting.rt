@@ -119,8 +119,8 @@ pub fn put_increment<W: Write, R: Read, O: Out>(
         × IsGivenIncrement (W.contents to.old) (W.contents to.new) (R.remaining from.old) (R.remaining from.new)
         older newer bytes) }
     ensures fault { IfErr result (FailsPuttingOne (IsGivenIncrement (W.contents to.old) (W.contents to.new)
-        (R.remaining from.old) (R.remaining from.new) older newer) (FailsIncrement (W.contents to.old) (W.contents to.new)
-        (R.remaining from.old) (R.remaining from.new) older newer)) }
+        (R.remaining from.old) (R.remaining from.new) older newer) (FailsIncrement (W.contents to.old)
+        (W.contents to.new) (R.remaining from.old) (R.remaining from.new) older newer)) }
     ensures untouched { (error : ClientError) → result ≡ Err (AskError.Client error) → O.file out.new ≡ O.file out.old }
 {
     match increment_proof(alloc, to, from, older, newer) {
