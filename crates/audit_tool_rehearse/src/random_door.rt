@@ -25,6 +25,8 @@ pub struct RandomDoor {
     came: u64,
     went: u64,
     pauses: u64,
+    // Whether nobody was found who comes, since the last pause: then nobody comes before the next one.
+    is_quiet: bool,
     // After this many pauses serving is stopped.
     until: u64,
     hasher: Sha256,
@@ -42,6 +44,7 @@ impl RandomDoor {
             came: 0,
             went: 0,
             pauses: 0,
+            is_quiet: false,
             until,
             hasher: Sha256::new(),
             gone: Vec::new(alloc),
@@ -76,7 +79,11 @@ impl Door for RandomDoor {
     type Stream = Visitor;
 
     fn next_client(&mut self, place: usize) -> Option<Newcomer<Visitor>> {
+        if self.is_quiet {
+            return None;
+        }
         if self.came >= CLIENTS || self.random.below(4) == 0 {
+            self.is_quiet = true;
             return None;
         }
         let visitor = self.new_visitor().ok()?;
@@ -114,6 +121,7 @@ impl Door for RandomDoor {
 
     fn pause(&mut self, moved: bool) -> Next {
         self.pauses = self.pauses.saturating_add(1);
+        self.is_quiet = false;
         self.note(3, usize::from(moved));
         let is_over = self.pauses >= self.until.saturating_add(LAST_PAUSES);
         if is_over || self.pauses == self.until || self.went >= CLIENTS {
