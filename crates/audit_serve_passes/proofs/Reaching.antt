@@ -269,11 +269,11 @@ module _ {C S : Type 0} (M : CoreModel C) (N : StreamModel S) where
       let second = session_reached {Shape = λ calls. IsOneVisit k} count k mid new between at after within turn in
       then_reached old mid new before between (set between k after) first second
       λ turns cut. record {
-      ends = both_ends count old mid new before between (set between k after) few first second cut.ends;
-      refused = cut_before (map an_end rest.0) (first.steps ++ second.steps)
-      (λ all each. subst (λ (sessions : List ℕ). AreVisits sessions (all ++ map an_end rest.0)) (sym rest.1) (visits_and (live_below (suc k) ended) rest.0 all (map an_end rest.0) each (ends_visit rest.0)))
-      (cut_after first.steps second.steps
-      (λ all one. (below_more k ended first.steps all (sym (ended_still M old mid first.steps first.taken k first.did (turns.below k (omega arith))) ∙ live) turns one).each) cut.refused);
+        ends = both_ends count old mid new before between (set between k after) few first second cut.ends;
+        refused = cut_before (map an_end rest.0) (first.steps ++ second.steps)
+            (λ all each. subst (λ (sessions : List ℕ). AreVisits sessions (all ++ map an_end rest.0)) (sym rest.1) (visits_and (live_below (suc k) ended) rest.0 all (map an_end rest.0) each (ends_visit rest.0)))
+            (cut_after first.steps second.steps
+            (λ all one. (below_more k ended first.steps all (sym (ended_still M old mid first.steps first.taken k first.did (turns.below k (omega arith))) ∙ live) turns one).each) cut.refused);
       }
 
   pub write_stops : (count k : ℕ) (old mid new : C) (before between : List S) (at after : S) → count ≤ length before → Transition M N old mid before between (AreTaken M k old mid) → k < length between
@@ -284,10 +284,10 @@ module _ {C S : Type 0} (M : CoreModel C) (N : StreamModel S) where
       let closed = closed_by (λ (j : ℕ). first.calls j ++ second.calls j) in
       then_reached old mid new before between (set between k after) first second
       λ taken cut. record {
-      ends = both_ends count old mid new before between (set between k after) few first second cut.ends;
-      refused = cut_after first.steps second.steps
-      (λ all end. subst (λ (rest : List StepData). AreEndsOfClosed closed (first.steps ++ rest)) (sym end.one)
-      (ends_and closed first.steps k (ends_still (closed_by first.calls) closed (closed_first first.calls second.calls) first.steps taken.ends) (closed_later first.calls second.calls k end.closed))) cut.refused;
+        ends = both_ends count old mid new before between (set between k after) few first second cut.ends;
+        refused = cut_after first.steps second.steps
+            (λ all end. subst (λ (rest : List StepData). AreEndsOfClosed closed (first.steps ++ rest)) (sym end.one)
+            (ends_and closed first.steps k (ends_still (closed_by first.calls) closed (closed_first first.calls second.calls) first.steps taken.ends) (closed_later first.calls second.calls k end.closed))) cut.refused;
       }
 
   -- ---- a flush, a pass
@@ -343,17 +343,20 @@ module _ {C S : Type 0} (M : CoreModel C) (N : StreamModel S) where
   passes_stopped count whole turns old mid new before between after few begun first some second =
       let closed = closed_by (λ (j : ℕ). first.calls j ++ second.calls j) in
       then_reached old mid new before between after first second
-      λ rounds cut. (record {
-        earlier = first.steps;
-        last = second.steps;
-        are = refl;
-        whole = whole;
-        begun = begun;
-        each = passes_still count (M.ended old) (closed_by first.calls) closed (closed_first first.calls second.calls) whole first.steps rounds;
-        live = λ none. some (live_now M old mid first.steps first.taken count first.did ∙ none);
-        pass = cut_as second.steps (λ all pass. pass_still count (M.ended old first.steps) (closed_by second.calls) closed (closed_later first.calls second.calls) all
-            (pass_then M N count old mid first.steps first.taken (closed_by second.calls) all first.did pass)) cut.refused;
-      }, both_ends count old mid new before between after few first second cut.ends)
+      λ rounds cut. (
+        record {
+          earlier = first.steps;
+          last = second.steps;
+          are = refl;
+          whole = whole;
+          begun = begun;
+          each = passes_still count (M.ended old) (closed_by first.calls) closed (closed_first first.calls second.calls) whole first.steps rounds;
+          live = λ none. some (live_now M old mid first.steps first.taken count first.did ∙ none);
+          pass = cut_as second.steps (λ all pass. pass_still count (M.ended old first.steps) (closed_by second.calls) closed (closed_later first.calls second.calls) all
+              (pass_then M N count old mid first.steps first.taken (closed_by second.calls) all first.did pass)) cut.refused;
+        },
+        both_ends count old mid new before between after few first second cut.ends,
+      )
 
   -- a step after the passes was refused
   pub after_stopped : (count turns : ℕ) (old mid new : C) (before between after : List S) → count ≤ length before → Transition M N old mid before between (λ calls. ArePasses count (M.ended old) (closed_by calls) turns)
@@ -363,18 +366,21 @@ module _ {C S : Type 0} (M : CoreModel C) (N : StreamModel S) where
       let closed = closed_by (λ (j : ℕ). first.calls j ++ second.calls j) in
       let same = live_now M old mid first.steps first.taken count first.did in
       then_reached old mid new before between after first second
-      λ rounds cut. inr ((record {
-        rounds = first.steps;
-        last = second.steps;
-        are = refl;
-        each = passes_still count (M.ended old) (closed_by first.calls) closed (closed_first first.calls second.calls) turns first.steps rounds;
-        over = elim over [ inl none ↦ inl (sym same ∙ none) | inr most ↦ inr most ];
-        ends = cut_as second.steps (λ all last. record {
-          last = last.last;
-          are = last.are ∙ ap (λ (sessions : List ℕ). map an_end sessions ++ last.last) same;
-          flush = flush_still (closed_by second.calls) closed (closed_later first.calls second.calls) last.last last.flush;
-        }) cut;
-      }, first_ends M N count old mid before between first second.calls few))
+      λ rounds cut. inr ((
+        record {
+          rounds = first.steps;
+          last = second.steps;
+          are = refl;
+          each = passes_still count (M.ended old) (closed_by first.calls) closed (closed_first first.calls second.calls) turns first.steps rounds;
+          over = elim over [ inl none ↦ inl (sym same ∙ none) | inr most ↦ inr most ];
+          ends = cut_as second.steps (λ all last. record {
+            last = last.last;
+            are = last.are ∙ ap (λ (sessions : List ℕ). map an_end sessions ++ last.last) same;
+            flush = flush_still (closed_by second.calls) closed (closed_later first.calls second.calls) last.last last.flush;
+          }) cut;
+        },
+        first_ends M N count old mid before between first second.calls few,
+      ))
 
   pub ends_stopped : (count : ℕ) (old new : C) (streams : List S) → CoreReached M old new (IsInterrupted (λ steps. steps ≡ map an_end (live_below count (M.ended old []))))
       → Reached M N old new streams streams (λ calls. IsInterrupted (IsLastFlush count (M.ended old []) (closed_by calls)))
