@@ -385,6 +385,10 @@ impl<C: Clock, J: Journal + Drop, W: Watch + Drop> Door for SocketDoor<'_, C, J,
 
     fn next_client(&mut self, place: usize) -> Option<Newcomer<Client>> {
         for _ in 0..SESSIONS {
+            // Each free place is offered in each round, and mostly nobody waits.
+            if !self.waiting.has_reader() && !self.waiting.has_other() {
+                return None;
+            }
             let number = next_entry(self.waiting.heads(), self.places.taken())?;
             let arrival = self.waiting.take(number)?;
             if let Some(newcomer) = self.seat(place, number, arrival) {
