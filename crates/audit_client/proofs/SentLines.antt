@@ -177,7 +177,7 @@ round_ends {form = form} {i0 = i0} {i1 = i1} {end = end} {taken = taken} r2 coun
   stops.3,
 )
 
--- so many rounds took no fewer lines
+-- once 2 ^ 64 - 1 lines were sent, the input is too long
 pub ends_at_limit : {form : LineForm} {i0 i1 w0 w1 r0 r1 o0 o1 : Option (List ℕ)} {end : SendEnd} → SendsOn form i0 i1 w0 w1 r0 r1 o0 o1 end → 2 ^ 64 ≤ end.sent + 1
     → EndsFor form i0 r0 r1 end.sent end.answered (Some (Input InputTooLong))
 ends_at_limit {i1 = i1} on far = (inl refl, on.events, i1, sym on.sent_is, on.taken, far)

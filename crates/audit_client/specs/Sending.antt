@@ -276,9 +276,9 @@ pub record SendsAll (form : LineForm) (before : ℕ)
   pub sent : Appends written_old written_new (event_frames before events)
   pub prints : PrintsAll read_old read_new old new before (length events) end.answered end.refused
 
--- Why sending ended before the input did, when so many lines were sent and answered: the next line, which is no event
--- or has no number; or the connection was lost, but all lines were answered; or the next answer didn't come. If it was
--- the output, that is said with what was printed.
+-- Why sending ended before the input did, after `sent` lines of which `answered` were answered. Either the next line is
+-- no event or has no number; or the connection was lost after all lines were answered; or the next answer didn't come.
+-- Nothing is said here of a fault of the output: the record of what was printed says it.
 abbrev pub EndsFor : LineForm → Option (List ℕ) → Option (List ℕ) → Option (List ℕ) → ℕ → ℕ → Option SendError → Type 0
 EndsFor form input read_old read_new sent answered None = Unit {0}
 EndsFor form input read_old read_new sent answered (Some (Input cause)) =

@@ -41,7 +41,7 @@ module _ {C S : Type 0} (M : CoreModel C) where
   come_passes k core slot told changes (inr (free, answered)) = answered_passes k told changes answered
 
 module _ {C D S : Type 0} (M : CoreModel C) (N : CallModel S) (E : DoorModel D S) (backlog : ℕ) where
-  -- these changes, of which so many are passes
+  -- changes with one pass for each round
   record AreCounted (rounds : ℕ) (old new : C) (before after : List (SlotData S)) : Type 0 where
     changes : List (ClientChange S)
     passes : passes_in changes ≡ rounds

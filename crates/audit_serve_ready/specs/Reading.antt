@@ -28,7 +28,7 @@ abbrev pub steps_about : ℕ → List StepData → ℕ
 steps_about k [] = 0
 steps_about k (step ∷ steps) = (if is_about k step then 1 else 0) + steps_about k steps
 
--- the number of a session's turn among so many, if session `first` has the first one
+-- the number of the turn of session `k`, of `count` sessions that have turns in a ring from session `first` on
 abbrev pub turn_number : ℕ → ℕ → ℕ → ℕ
 turn_number first count k =
     if nat_le (first % count) k then k - first % count else (k + count) - first % count

@@ -97,8 +97,8 @@ module _ {D S : Type 0} (N : CallModel S) (E : DoorModel D S) where
       × OffersOn times was mid before between × OffersKept N between after
       × E.DidCalls mid now (a_pause moved next.Again ∷ [])
 
-  -- Then it was offered once more, after which nothing was kept, or the door said to stop. A loop ends after so many
-  -- times.
+  -- Then it was offered once more, after which nothing was kept, or the door said to stop; or it had been offered
+  -- 2 ^ 64 - 1 times, the limit of a loop.
   abbrev pub EndsOffering : ℕ → D → D → List (SlotData S) → List (SlotData S) → Type 0
   EndsOffering times was now before after =
       (OffersKept N before after × (now ≡ was) × ((k : ℕ) → k < length before → has_kept (slot_at k after) ≡ false))
@@ -209,8 +209,8 @@ module _ {C D S : Type 0} (M : CoreModel C) (N : CallModel S) (E : DoorModel D S
       × AreRounds rounds was door old core before places
       × IsRound next.Again (first_after_rounds rounds) door now core new places after
 
-  -- Serving ended: by a round after which the door said to stop, or a pass whose replies it didn't let leave. A loop
-  -- ends after so many rounds.
+  -- Serving ended: by a round after which the door said to stop, by a pass whose replies it didn't let leave, or after
+  -- 2 ^ 64 - 1 rounds, the limit of a loop.
   abbrev pub EndsServing : ℕ → D → D → C → C → List (SlotData S) → List (SlotData S) → Type 0
   EndsServing rounds was now old new before after =
       IsRound next.Stop (first_after_rounds rounds) was now old new before after
