@@ -70,7 +70,7 @@ unknown_positioned = record {
 abbrev pub AnswersAlike : {E D : Type 0} → Result (Unit {0}) E → Result (Unit {0}) D → Type 0
 AnswersAlike one other = MatchResult one (λ _. IsOk other) (λ _. IsErr other)
 
--- An error is that of a failed call, which stays known.
+-- After an error a call is known to have failed: this one, or one before it.
 pub record FailsAsCalled {E : Type 0} (old new : PositionedView) (result : Result (Unit {0}) E) : Type 0 where
   pub fails : OnErr result new.failed
   pub still : old.failed → new.failed

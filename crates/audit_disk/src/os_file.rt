@@ -48,7 +48,7 @@ impl<F: SystemFile> OsFile<F> {
     }
 }
 
-// Each error is that of a failed call of the file below.
+// An error comes only if a call of the file below has failed.
 impl<F: PositionedFile> SectorFile for OsFile<F> {
     ghost use Rattle.std.specs.Prelude.{OnErr, length};
     ghost use Rattle.audit_disk.specs.File.{IsSectorOffset, IsRowOffset};
