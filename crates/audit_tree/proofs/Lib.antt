@@ -1,5 +1,7 @@
 pub mod Choices
 pub mod Completed
+pub mod ContinuedTrees
+pub mod CountOnes
 pub mod Depth
 pub mod Frontiers
 pub mod HashLengths

@@ -1,4 +1,5 @@
 pub mod Frontier
+pub mod Continued
 pub mod History
 pub mod PostOrder
 pub mod Paths

@@ -1,9 +1,11 @@
 //! Laws of history trees, stated over lists of leaf hashes. Each function does nothing: its contract is the law.
 
-ghost use Rattle.std.specs.Prelude.{◌≡◌, ℕ, ◌<◌, ◌≤◌, List, length, take, drop, map};
+ghost use Rattle.std.specs.Prelude.{◌≡◌, ℕ, ◌+◌, ◌<◌, ◌≤◌, List, [], ◌++◌, length, take, drop, map};
 ghost use Rattle.sha2.specs.Sha256.{sha256};
 ghost use Rattle.audit_base.specs.Hashes.{AreHashes};
 ghost use Rattle.audit_tree.specs.Subtree.{leaf_hash_of, root_of, node_at, subtree_hash, depth};
+ghost use Rattle.audit_tree.specs.Frontier.{FrontierData, IsFrontierOf, IsSized};
+ghost use Rattle.audit_tree.specs.Continued.{root_after, frontier_after, empty_frontier};
 ghost use Rattle.audit_tree.specs.Paths.{membership_path, membership_at, increment_path, increment_at};
 
 use audit_base::{HASH_LEN, MAX_COUNT};
@@ -39,4 +41,22 @@ pub fn places_and_leaves_agree()
     ensures increment { (H : List ℕ → List ℕ) (leaves : List (List ℕ)) (older newer : ℕ) → 1 ≤ older → older ≤ newer
         → newer ≤ length leaves → newer ≤ MAX_COUNT
         → increment_at H leaves older newer ≡ increment_path H (take newer leaves) older }
+{}
+
+/// A tree that continues from a frontier has the root and the frontier that it has from its first leaf on, whatever
+/// pieces its leaves come in.
+pub fn frontiers_continue()
+    // From any frontier, in two pieces as in one.
+    ensures root { (frontier : FrontierData) (leaves more : List (List ℕ))
+        → frontier.count + length (leaves ++ more) ≤ MAX_COUNT
+        → root_after (frontier_after frontier leaves) more ≡ root_after frontier (leaves ++ more) }
+    ensures frontier { (frontier : FrontierData) (leaves more : List (List ℕ))
+        → frontier_after (frontier_after frontier leaves) more ≡ frontier_after frontier (leaves ++ more) }
+    ensures none { (frontier : FrontierData) → IsSized frontier.count frontier.hashes
+        → frontier_after frontier [] ≡ frontier }
+
+    // From the frontier of some leaves.
+    ensures leaves { (frontier : FrontierData) (leaves more : List (List ℕ)) → IsFrontierOf frontier leaves
+        → root_after frontier more ≡ root_of sha256 (leaves ++ more) }
+    ensures empty { IsFrontierOf empty_frontier [] }
 {}
