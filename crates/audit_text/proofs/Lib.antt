@@ -11,3 +11,7 @@ mod CutShort
 pub mod ReadingBack
 mod SeenLetters
 pub mod TextEvents
+mod JsonTokens
+pub mod ReadNumbers
+mod NumberedLines
+mod JsonLines

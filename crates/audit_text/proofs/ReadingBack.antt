@@ -62,7 +62,7 @@ unfolding unescaped encode_with
 byte_read byte true rest is small = plain_first byte rest (no_backslash byte is)
 byte_read byte false rest is small = ap (λ b. b ∷ unescaped rest) (digits_are byte small)
 
-payload_read : (payload : List ℕ) → AreBytes payload → unescaped (flat_map escaped_byte payload) ≡ payload
+pub payload_read : (payload : List ℕ) → AreBytes payload → unescaped (flat_map escaped_byte payload) ≡ payload
 unfolding unescaped
 payload_read [] bytes = refl
 payload_read (byte ∷ payload) bytes =
@@ -70,7 +70,7 @@ payload_read (byte ∷ payload) bytes =
 
 -- ---- its line
 
-other_first : (byte : ℕ) (bytes line : List ℕ) (lines : List (List ℕ)) → (byte == line_feed) ≡ false → lines_of bytes ≡ line ∷ lines → lines_of (byte ∷ bytes) ≡ (byte ∷ line) ∷ lines
+pub other_first : (byte : ℕ) (bytes line : List ℕ) (lines : List (List ℕ)) → (byte == line_feed) ≡ false → lines_of bytes ≡ line ∷ lines → lines_of (byte ∷ bytes) ≡ (byte ∷ line) ∷ lines
 unfolding lines_of
 other_first byte bytes line lines other is =
     cond-false (byte == line_feed) ([] ∷ lines_of bytes) (onto_first byte (lines_of bytes)) other ∙ ap (onto_first byte) is
@@ -87,7 +87,7 @@ byte_line byte false bytes line lines is small rest =
     (other_first high (low ∷ bytes) (low ∷ line) lines (digit_no_feed high (byte / 16) (high_digit byte small))
     (other_first low bytes line lines (digit_no_feed low (byte % 16) (low_digit byte small)) rest)))
 
-payload_line : (payload rest : List ℕ) → AreBytes payload → lines_of (flat_map escaped_byte payload ++ line_feed ∷ rest) ≡ flat_map escaped_byte payload ∷ lines_of rest
+pub payload_line : (payload rest : List ℕ) → AreBytes payload → lines_of (flat_map escaped_byte payload ++ line_feed ∷ rest) ≡ flat_map escaped_byte payload ∷ lines_of rest
 unfolding lines_of
 payload_line [] rest bytes = refl
 payload_line (byte ∷ payload) rest bytes =
@@ -97,7 +97,7 @@ payload_line (byte ∷ payload) rest bytes =
 
 -- ---- all payloads
 
-no_lines : lines_of [] ≡ []
+pub no_lines : lines_of [] ≡ []
 unfolding lines_of
 no_lines = refl
 

@@ -12,3 +12,6 @@ pub mod CutLines
 pub mod LineEvents
 pub mod PrintedText
 pub mod ShownText
+pub mod NumberedEvent
+pub mod NumberedText
+pub mod JsonLine

@@ -1,5 +1,5 @@
 //! Laws of text. Each function does nothing: its contract is the law.
-ghost use Rattle.std.specs.Prelude.{◌≡◌, ◌≤◌, ◌<◌, ◌^◌, ◌≢◌, ℕ, List, map, length};
+ghost use Rattle.std.specs.Prelude.{◌≡◌, ◌≤◌, ◌<◌, ◌^◌, ◌≢◌, ℕ, List, Some, map, length};
 ghost use Rattle.std.specs.List.{AllByRecursion, flat_map};
 ghost use Rattle.audit_base.specs.Bytes.{AreBytes};
 ghost use Rattle.audit_base.specs.declared.limits.TheConstants.{MAX_PAYLOAD, RESERVED_KIND};
@@ -7,6 +7,9 @@ ghost use Rattle.audit_text.specs.declared.input.TheConstants.{INPUT_LIMIT};
 ghost use Rattle.audit_text.specs.declared.line_form.LineForm.TheVariants.{Text};
 ghost use Rattle.audit_text.specs.LineEvents.{AreEventsOf, text_event};
 ghost use Rattle.audit_text.specs.PrintedText.{text_line, read_back};
+ghost use Rattle.audit_text.specs.NumberedEvent.{NumberedEvent, IsNumbered};
+ghost use Rattle.audit_text.specs.NumberedText.{numbered_text, events_of_numbered};
+ghost use Rattle.audit_text.specs.JsonLine.{json_line, events_of_json};
 ghost use Rattle.audit_text.specs.CutLines.{cut_line};
 ghost use Rattle.audit_text.specs.ShownText.{IsSeen, IsPlainLetter, shown_letter};
 
@@ -19,6 +22,15 @@ pub fn limits_are_these_numbers()
 pub fn printed_payloads_are_read_back()
     ensures { (payloads : List (List ℕ)) → AllByRecursion AreBytes payloads
         → read_back (flat_map text_line payloads) ≡ payloads }
+{}
+
+/// Events that were printed with their numbers are read back from their lines, whatever bytes their payloads have: from
+/// lines of text, and from lines of JSON, each of which is an object of RFC 8259.
+pub fn printed_events_are_read_back()
+    ensures text { (events : List NumberedEvent) → AllByRecursion IsNumbered events
+        → events_of_numbered (flat_map numbered_text events) ≡ map (λ event. Some event) events }
+    ensures json { (events : List NumberedEvent) → AllByRecursion IsNumbered events
+        → events_of_json (flat_map json_line events) ≡ map (λ event. Some event) events }
 {}
 
 /// The events of a text are its lines: one event a line, with the bytes of the line as its payload.
