@@ -111,8 +111,8 @@ module _ {E D : Type 0} {old new : PositionedView} {failures failures' : ℕ} (o
 
 -- a failure was counted for an error
 counted_cause : {E D : Type 0} (old new : FileView) (outcome : Result (Unit {0}) E) (result : Result (Unit {0}) D) → AnswersAlike outcome result → CountsFailure old.failures new.failures outcome → FailsAsCalled (uncounted old) (uncounted new) result
-counted_cause old new (Ok done) (Ok done') alike counts = record { fails = tt; still = λ was. omega (arith, was, counts) }
-counted_cause old new (Err fault) (Err fault') alike counts = record { fails = omega (arith, counts); still = λ was. omega (arith, was, counts) }
+counted_cause old new (Ok done) (Ok done') alike counts = record { fails = tt; last = tt; still = λ was. omega (arith, was, counts) }
+counted_cause old new (Err fault) (Err fault') alike counts = record { fails = omega (arith, counts); last = omega (arith, counts); still = λ was. omega (arith, was, counts) }
 counted_cause old new (Ok done) (Err fault) alike counts = absurd (false≢true alike)
 counted_cause old new (Err fault) (Ok done) alike counts = absurd (false≢true alike)
 

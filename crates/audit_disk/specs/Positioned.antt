@@ -16,6 +16,8 @@ pub record PositionedView : Type 1 where
   pub gave : ℕ → Sector → Type 0
   -- a call of it has failed
   pub failed : Type 0
+  -- the last call of it failed
+  pub last_failed : Type 0
   pub honest : Type 0
   pub given_once : (offset : ℕ) (bytes : Sector) → IsProp (gave offset bytes)
   pub failed_once : IsProp failed
@@ -44,6 +46,7 @@ uncounted file = record {
   left_at = file.left_at;
   gave = file.gave;
   failed = 1 ≤ file.failures;
+  last_failed = 1 ≤ file.failures;
   honest = file.honest;
   given_once = file.given_once;
   failed_once = Prim.hlevel props;
@@ -59,6 +62,7 @@ unknown_positioned = record {
   left_at = λ moment file. ⊥;
   gave = λ offset bytes. Unit {0};
   failed = Unit {0};
+  last_failed = Unit {0};
   honest = ⊥;
   given_once = λ offset bytes. Unit-prop;
   failed_once = Unit-prop;
@@ -70,9 +74,11 @@ unknown_positioned = record {
 abbrev pub AnswersAlike : {E D : Type 0} → Result (Unit {0}) E → Result (Unit {0}) D → Type 0
 AnswersAlike one other = MatchResult one (λ _. IsOk other) (λ _. IsErr other)
 
--- After an error a call is known to have failed: this one, or one before it.
+-- After an error this call is known to have failed. That a call has failed is known from then on; that the last one
+-- did isn't after another.
 pub record FailsAsCalled {E : Type 0} (old new : PositionedView) (result : Result (Unit {0}) E) : Type 0 where
   pub fails : OnErr result new.failed
+  pub last : OnErr result new.last_failed
   pub still : old.failed → new.failed
 
 -- A read of `count` consecutive sectors, whatever count of failed calls is kept beside the file.

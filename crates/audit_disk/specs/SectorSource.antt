@@ -12,6 +12,8 @@ pub record SourceView : Type 1 where
   pub content : Image
   -- a read of it has failed
   pub failed : Type 0
+  -- the last read of it failed
+  pub last_failed : Type 0
   -- the source behaves as described here
   pub honest : Type 0
   pub size_fits : size < 2 ^ 64
@@ -35,6 +37,7 @@ source_of view = record {
   size = view.size;
   content = view.content;
   failed = 1 ≤ view.failures;
+  last_failed = 1 ≤ view.failures;
   honest = view.honest;
   size_fits = view.size_fits;
   whole = λ honest. view.whole honest view.clock view.content (view.content_left honest);

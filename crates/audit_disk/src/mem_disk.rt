@@ -87,6 +87,7 @@ impl SectorSource for MemDisk {
         ensures read { IsSourceRead (source_of (disk_view self.old)) at into.new result }
         ensures same { IsSameSource (source_of (disk_view self.old)) (source_of (disk_view self.new)) }
         ensures fails { OnErr result (source_of (disk_view self.new)).failed }
+        ensures last { OnErr result (source_of (disk_view self.new)).last_failed }
         ensures succeeds { IsOk result }
     {
         let block = &self.content[at as usize];

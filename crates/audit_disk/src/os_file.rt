@@ -48,7 +48,7 @@ impl<F: SystemFile> OsFile<F> {
     }
 }
 
-// An error comes only if a call of the file below has failed.
+// An error comes only from a call of the file below that failed, the last one.
 impl<F: PositionedFile> SectorFile for OsFile<F> {
     ghost use Rattle.std.specs.Prelude.{OnErr, length};
     ghost use Rattle.audit_disk.specs.File.{IsSectorOffset, IsRowOffset};
@@ -61,6 +61,7 @@ impl<F: PositionedFile> SectorFile for OsFile<F> {
         requires { IsSectorOffset (os_file_view self.old) offset }
         ensures read { IsFileRead (os_file_view self.old) (os_file_view self.new) offset into.new result }
         ensures cause { OnErr result (F.positioned (file_below self.new)).failed }
+        ensures last { OnErr result (F.positioned (file_below self.new)).last_failed }
     {
         let outcome = self.file.read_exact_at(slice::from_mut(into), offset);
         counted_call(outcome, &mut self.failures)
@@ -71,6 +72,7 @@ impl<F: PositionedFile> SectorFile for OsFile<F> {
         ensures read { IsRowRead (os_file_view self.old) (os_file_view self.new)
             offset (length into.old) into.new result }
         ensures cause { OnErr result (F.positioned (file_below self.new)).failed }
+        ensures last { OnErr result (F.positioned (file_below self.new)).last_failed }
     {
         let outcome = self.file.read_exact_at(into, offset);
         counted_call(outcome, &mut self.failures)
@@ -80,6 +82,7 @@ impl<F: PositionedFile> SectorFile for OsFile<F> {
         requires { IsSectorOffset (os_file_view self.old) offset }
         ensures write { IsFileWrite (os_file_view self.old) (os_file_view self.new) offset bytes.now result }
         ensures cause { OnErr result (F.positioned (file_below self.new)).failed }
+        ensures last { OnErr result (F.positioned (file_below self.new)).last_failed }
     {
         let outcome = self.file.write_all_at(slice::from_ref(bytes), offset);
         counted_call(outcome, &mut self.failures)
@@ -89,6 +92,7 @@ impl<F: PositionedFile> SectorFile for OsFile<F> {
         requires { IsRowOffset (os_file_view self.old) offset (length row.now) }
         ensures write { IsRowWrite (os_file_view self.old) (os_file_view self.new) offset row.now result }
         ensures cause { OnErr result (F.positioned (file_below self.new)).failed }
+        ensures last { OnErr result (F.positioned (file_below self.new)).last_failed }
     {
         let outcome = self.file.write_all_at(row, offset);
         counted_call(outcome, &mut self.failures)
@@ -97,6 +101,7 @@ impl<F: PositionedFile> SectorFile for OsFile<F> {
     fn sync(&mut self) -> Result<(), DeviceFault>
         ensures sync { IsFileSync (os_file_view self.old) (os_file_view self.new) result }
         ensures cause { OnErr result (F.positioned (file_below self.new)).failed }
+        ensures last { OnErr result (F.positioned (file_below self.new)).last_failed }
     {
         let outcome = self.file.sync_data();
         counted_call(outcome, &mut self.failures)

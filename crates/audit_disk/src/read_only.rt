@@ -68,12 +68,13 @@ impl<S: SectorSource> Sectors for ReadOnly<'_, S> {
         self.log.clock
     }
 
-    /// It fails only if a read of the source fails.
+    /// It fails only if its read of the source does.
     fn read(&mut self, at: u64, into: &mut [u8; SECTOR_SIZE]) -> Result<(), DeviceFault>
         requires { at < (read_only_view S.source self.old).size }
         ensures read { IsRead (read_only_view S.source self.old) (read_only_view S.source self.new) at into.new result }
         ensures spare { spare_calls self.new ≡ spare_calls self.old }
         ensures cause { OnErr result (S.source (source_under self.new)).failed }
+        ensures last { OnErr result (S.source (source_under self.new)).last_failed }
     {
         read_through(self.source, &mut self.log, at, into)
     }
@@ -115,6 +116,7 @@ fn read_through<S: SectorSource>(
     ensures clock { log.new.clock ≡ log.old.clock }
     ensures more { log.old.failures ≤ log.new.failures }
     ensures cause { OnErr result (S.source source.new).failed }
+    ensures last { OnErr result (S.source source.new).last_failed }
 {
     if let Some(block) = last_written(&log.calls, at as usize) {
         let bytes = block.bytes;

@@ -17,5 +17,6 @@ pub trait SectorSource {
         requires { at < (source self.old).size }
         ensures read { IsSourceRead (source self.old) at into.new result }
         ensures same { IsSameSource (source self.old) (source self.new) }
-        ensures fails { OnErr result (source self.new).failed };
+        ensures fails { OnErr result (source self.new).failed }
+        ensures last { OnErr result (source self.new).last_failed };
 }

@@ -73,7 +73,7 @@ impl SectorSource for Unreadable {
     ghost use Rattle.audit_disk.specs.SectorSource.{source_of};
     ghost use Rattle.audit_store.specs.Dishonest.{dishonest};
 
-    ghost source = { λ it. record (source_of (dishonest (disk_view it.disk))) { failed = Unit {0} } };
+    ghost source = { λ it. record (source_of (dishonest (disk_view it.disk))) { failed = Unit {0}; last_failed = Unit {0} } };
 
     fn sectors(&self) -> u64 {
         self.disk.sectors()
