@@ -1,9 +1,9 @@
 -- What running a daemon comes to.
 use denote.Ref.{Bor}
-use Rattle.std.specs.Prelude.{OnOk, IsOk, codes}
+use Rattle.std.specs.Prelude.{OnOk, IsOk, IfSome, codes}
 use Rattle.std.specs.Result.{result_and}
 use Rattle.std.specs.Io.KnownBytes.{Appends}
-use Rattle.std.proofs.Common.{◌≡◌, ◌∙◌, ℕ, Bool, true, false, Option, Result, Ok, Err, List, refl, ap, subst}
+use Rattle.std.proofs.Common.{◌≡◌, ◌∙◌, ℕ, Bool, true, false, Option, None, Result, Ok, Err, List, refl, ap, subst}
 use Rattle.std.proofs.KnownBytes.{Appends-trans}
 use Rattle.audit_disk_model.specs.declared.sectors.Sectors as sectors
 use Rattle.audit_store.specs.Store.{active_header}
@@ -12,6 +12,8 @@ use Rattle.audit_serve_passes.specs.Streams.{CallModel}
 use Rattle.audit_serve_ready.specs.Door.{DoorModel}
 use Rattle.audit_text.specs.NumberedLine.{numbered_line}
 use Rattle.audit_cli_base.specs.Arguments.{number_asked}
+use Rattle.audit_cli_base.specs.Mode.{IsMode}
+use Rattle.audit_disk.specs.declared.files.TheConstants.{OWNER_ONLY}
 use Rattle.audit_cli_base.specs.declared.fault.CommandError.{CommandError}
 use Rattle.audit_cli_daemon.specs.declared.arguments.TheConstants.{DEFAULT_IDLE, DEFAULT_RESERVE}
 use Rattle.audit_cli_daemon.specs.declared.request.Request.TheVariants.{Run}
@@ -21,7 +23,7 @@ use Rattle.audit_serve_passes.specs.declared.rights.Rights.{Rights}
 use Rattle.audit_serve_passes.specs.declared.rights.Rights.TheVariants as rights
 use Rattle.audit_serve_door.specs.declared.socket_door.SocketDoor.{SocketDoor}
 use Rattle.audit_cli_daemon.specs.declared.gauge.GaugedDoor.{GaugedDoor}
-use Rattle.audit_cli_daemon.specs.Rights.{rights_at, rights_of_others, IsDoorFor}
+use Rattle.audit_cli_daemon.specs.Rights.{rights_at, rights_of_others, modes_at, IsDoorFor}
 use Rattle.audit_cli_daemon.specs.Running.{ServesStore}
 use Rattle.audit_cli_daemon.specs.State.{ready_line, stopped_line}
 use Rattle.audit_cli_daemon.specs.Words.{backlog_asked}
@@ -57,19 +59,22 @@ others_by true others closing appending = closing refl
 others_by false others closing appending = appending refl
 
 module _ {D : Type 0} (g : sectors.Ghosts D) {S C J W F T : Type 0} (N : CallModel S) (doors : DoorModel (GaugedDoor (SocketDoor C J W) F T) S) where
-  pub performed : (settings : Settings) (readers : Option (Bor (List ℕ))) (others : Rights) (idle reserve backlog : ℕ) (opened : Store D g) (before after : Option (List ℕ)) (done : Ending) → readers ≡ settings.reader → others ≡ rights_of_others settings.may_close
-      → number_asked settings.idle DEFAULT_IDLE ≡ Ok idle → number_asked settings.reserve DEFAULT_RESERVE ≡ Ok reserve → backlog_asked settings.backlog ≡ Ok backlog
-      → OnOk done (ServesBetween N doors (IsDoorFor (rights_at readers others) idle) reserve backlog opened before after) → IsDaemonDone g N doors settings before after done
-  performed settings readers others idle reserve backlog opened before after (Err fault) readers_are others_are idle_is reserve_is backlog_is served = tt
-  performed settings readers others idle reserve backlog opened before after (Ok done) readers_are others_are idle_is reserve_is backlog_is served = record {
+  pub performed : (settings : Settings) (readers : Option (Bor (List ℕ))) (others : Rights) (idle reserve backlog mode : ℕ) (opened : Store D g) (before after : Option (List ℕ)) (done : Ending) → readers ≡ settings.reader → others ≡ rights_of_others settings.may_close
+      → number_asked settings.idle DEFAULT_IDLE ≡ Ok idle → number_asked settings.reserve DEFAULT_RESERVE ≡ Ok reserve → backlog_asked settings.backlog ≡ Ok backlog → (settings.socket_mode ≡ None → mode ≡ OWNER_ONLY) → IfSome settings.socket_mode (λ word. IsMode word.now mode)
+      → OnOk done (ServesBetween N doors (IsDoorFor (rights_at readers others) (modes_at readers mode) idle) reserve backlog opened before after) → IsDaemonDone g N doors settings before after done
+  performed settings readers others idle reserve backlog mode opened before after (Err fault) readers_are others_are idle_is reserve_is backlog_is owner mode_is served = tt
+  performed settings readers others idle reserve backlog mode opened before after (Ok done) readers_are others_are idle_is reserve_is backlog_is owner mode_is served = record {
     reserve = reserve;
     reserve_is = reserve_is;
     backlog = backlog;
     backlog_is = backlog_is;
     idle = idle;
     idle_is = idle_is;
+    mode = mode;
+    owner = owner;
+    mode_is = mode_is;
     opened = opened;
     served =
-        subst (λ (there : Option (Bor (List ℕ))). ServesBetween N doors (IsDoorFor (rights_at there (rights_of_others settings.may_close)) idle) reserve backlog opened before after) readers_are
-        (subst (λ (allowed : Rights). ServesBetween N doors (IsDoorFor (rights_at readers allowed) idle) reserve backlog opened before after) others_are served);
+        subst (λ (there : Option (Bor (List ℕ))). ServesBetween N doors (IsDoorFor (rights_at there (rights_of_others settings.may_close)) (modes_at there mode) idle) reserve backlog opened before after) readers_are
+        (subst (λ (allowed : Rights). ServesBetween N doors (IsDoorFor (rights_at readers allowed) (modes_at readers mode) idle) reserve backlog opened before after) others_are served);
   }

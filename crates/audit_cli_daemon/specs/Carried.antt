@@ -1,12 +1,14 @@
 -- What running a daemon comes to, apart from its files and its sockets.
-use Rattle.std.specs.Prelude.{◌≡◌, ◌⊎◌, ℕ, Option, Result, Ok, Err, List, ◌++◌}
+use Rattle.std.specs.Prelude.{◌≡◌, ◌⊎◌, ℕ, Option, None, Result, Ok, Err, List, ◌++◌, IfSome}
 use Rattle.std.specs.Io.KnownBytes.{Appends, Keeps}
 use Rattle.audit_disk_model.specs.declared.sectors.Sectors as sectors
+use Rattle.audit_disk.specs.declared.files.TheConstants.{OWNER_ONLY}
 use Rattle.audit_store.specs.Store.{active_header}
 use Rattle.audit_store.specs.declared.store.Store.{Store}
 use Rattle.audit_serve_passes.specs.Streams.{CallModel}
 use Rattle.audit_serve_ready.specs.Door.{DoorModel}
 use Rattle.audit_cli_base.specs.Arguments.{number_asked}
+use Rattle.audit_cli_base.specs.Mode.{IsMode}
 use Rattle.audit_cli_base.specs.Faults.{status_of_end}
 use Rattle.audit_cli_base.specs.declared.status.Status.{Status}
 use Rattle.audit_cli_base.specs.declared.status.Status.TheVariants as ends
@@ -15,7 +17,7 @@ use Rattle.audit_cli_daemon.specs.declared.arguments.TheConstants.{DEFAULT_IDLE,
 use Rattle.audit_cli_daemon.specs.declared.request.Settings.{Settings}
 use Rattle.audit_serve_door.specs.declared.socket_door.SocketDoor.{SocketDoor}
 use Rattle.audit_cli_daemon.specs.declared.gauge.GaugedDoor.{GaugedDoor}
-use Rattle.audit_cli_daemon.specs.Rights.{rights_at, rights_of_others, IsDoorFor}
+use Rattle.audit_cli_daemon.specs.Rights.{rights_at, rights_of_others, modes_at, IsDoorFor}
 use Rattle.audit_cli_daemon.specs.Running.{ServesStore}
 use Rattle.audit_cli_daemon.specs.State.{ready_line, stopped_line}
 use Rattle.audit_cli_daemon.specs.Words.{backlog_asked}
@@ -38,7 +40,7 @@ module _ {D : Type 0} {g : sectors.Ghosts D} {S E : Type 0} (N : CallModel S) (d
 module _ {D : Type 0} (g : sectors.Ghosts D) {S C J W F T : Type 0} (N : CallModel S)
     (doors : DoorModel (GaugedDoor (SocketDoor C J W) F T) S) where
   -- So were they over the store that was opened, with the reserve and the backlog that were asked for, and came in by
-  -- sockets with the rights and with the time for idle clients that were asked for.
+  -- sockets with the rights, the permissions and the time for idle clients that were asked for.
   pub record ServesClientsAsked (settings : Settings) (before after : Option (List ℕ)) : Type 0 where
     pub reserve : ℕ
     pub reserve_is : number_asked settings.reserve DEFAULT_RESERVE ≡ Ok reserve
@@ -46,10 +48,13 @@ module _ {D : Type 0} (g : sectors.Ghosts D) {S C J W F T : Type 0} (N : CallMod
     pub backlog_is : backlog_asked settings.backlog ≡ Ok backlog
     pub idle : ℕ
     pub idle_is : number_asked settings.idle DEFAULT_IDLE ≡ Ok idle
+    pub mode : ℕ
+    pub owner : settings.socket_mode ≡ None → mode ≡ OWNER_ONLY
+    pub mode_is : IfSome settings.socket_mode (λ word. IsMode word.now mode)
     pub opened : Store D g
     pub served : ServesBetween N doors
-        (IsDoorFor (rights_at settings.reader (rights_of_others settings.may_close)) idle) reserve backlog opened
-        before after
+        (IsDoorFor (rights_at settings.reader (rights_of_others settings.may_close)) (modes_at settings.reader mode)
+        idle) reserve backlog opened before after
 
   abbrev pub IsDaemonDone : Settings → Option (List ℕ) → Option (List ℕ) → Result (Unit {0}) CommandError → Type 0
   IsDaemonDone settings before after (Ok done) = ServesClientsAsked settings before after

@@ -11,9 +11,9 @@ ghost use Rattle.audit_disk.specs.declared.files.TheConstants.{OWNER_ONLY};
 ghost use Rattle.audit_cli_daemon.specs.declared.arguments.TheConstants.{DEFAULT_IDLE, DEFAULT_RESERVE};
 ghost use Rattle.audit_cli_daemon.specs.Words.{HasBadSetting, HasBadWord, backlog_asked};
 ghost use Rattle.audit_cli_daemon.specs.Carried.{ServesAtDoor, ServesBetween, IsDaemonDone, IsDaemonCarriedOut};
-ghost use Rattle.audit_cli_daemon.specs.Rights.{rights_at, IsIdleTime, IsDoorFor};
+ghost use Rattle.audit_cli_daemon.specs.Rights.{rights_at, modes_at, IsIdleTime, IsDoorFor};
 ghost use Rattle.audit_cli_daemon.specs.State.{ready_line};
-ghost use Rattle.audit_serve_door.specs.Entrances.{rights_of, rights_of_door, idle_of_door};
+ghost use Rattle.audit_serve_door.specs.Entrances.{rights_of, rights_of_door, mode_of, modes_of_door, idle_of_door};
 ghost use Rattle.audit_store.specs.Store.{active_header};
 ghost use Rattle.audit_text.specs.NumberedLine.{numbered_line};
 
@@ -277,7 +277,8 @@ where
     ensures cause { IfErr result IsNoWordFault }
     ensures served { OnOk result (ServesBetween ⟦<Client as ReadyStream>⟧.calls
         ⟦<DaemonDoor<F, F::File, Sparing<'static, M>> as Door>⟧.calls
-        (IsDoorFor (rights_at sockets.now.readers judged.rights) judged.idle) judged.reserve judged.most store
+        (IsDoorFor (rights_at sockets.now.readers judged.rights) (modes_at sockets.now.readers judged.mode)
+        judged.idle) judged.reserve judged.most store
         (W.contents output.old) (W.contents output.new)) }
 {
     let shared = RefCell::new(messages);
@@ -354,8 +355,8 @@ where
     ensures ready { OnOk result.1 (Appends (W.contents output.old) (W.contents output.new)
         (ready_line (active_header store))) }
     ensures served { OnOk result.1 (ServesAtDoor ⟦<Client as ReadyStream>⟧.calls
-        ⟦<DaemonDoor<F, F::File, M> as Door>⟧.calls (IsDoorFor (map rights_of listening.entrances.items) judged.idle)
-        judged.reserve judged.most store result.0) }
+        ⟦<DaemonDoor<F, F::File, M> as Door>⟧.calls (IsDoorFor (map rights_of listening.entrances.items)
+        (map mode_of listening.entrances.items) judged.idle) judged.reserve judged.most store result.0) }
 {
     let gauge = gauge_of(&watch, judged.reserve, messages);
     let journal = ClientJournal::new(messages, explains);
@@ -418,6 +419,7 @@ fn open_door<'a, 'b, 'c, F: Files + Net + Clock, M: Write>(
 ) -> Result<ServedDoor<'a, 'b, 'c, F, M>, CommandError>
     ensures cause { IfErr result IsNoWordFault }
     ensures rights { IfOk result (λ door. rights_of_door door ≡ map rights_of listening.entrances.items) }
+    ensures modes { IfOk result (λ door. modes_of_door door ≡ map mode_of listening.entrances.items) }
     ensures idle { IfOk result (λ door. idle_of_door door ≡ idle) }
 {
     let Listening { entrances, orders } = listening;

@@ -1,6 +1,6 @@
-ghost use Rattle.std.specs.Prelude.{◌≡◌, ◌↔◌, map, IfOk, IsSome};
-ghost use Rattle.audit_serve_door.specs.Entrances.{rights_of};
-ghost use Rattle.audit_cli_daemon.specs.Rights.{rights_at};
+ghost use Rattle.std.specs.Prelude.{◌≡◌, ◌↔◌, map, IfOk, IfSome, IsSome};
+ghost use Rattle.audit_serve_door.specs.Entrances.{rights_of, mode_of};
+ghost use Rattle.audit_cli_daemon.specs.Rights.{rights_at, modes_at};
 
 use audit_disk::{OWNER_ONLY, SystemFile};
 use audit_serve_door::{Entrance, StopOrders};
@@ -33,6 +33,13 @@ pub struct Listening {
     pub entrances: Vec<Entrance>,
     /// Where orders to stop come in.
     pub orders: StopOrders,
+}
+
+// A socket that listens, and the permission bits of its file.
+#[derive(Drop)]
+struct Bound {
+    listener: UnixListener,
+    mode: u32,
 }
 
 /// The sockets' files that were made, and their locks.
@@ -92,8 +99,10 @@ impl<'a> Sockets<'a> {
     where
         R::File: SystemFile,
         // Whoever comes by the readers' socket only reads; the others have these rights.
-        ensures { IfOk result (λ listening.
+        ensures rights { IfOk result (λ listening.
             map rights_of listening.entrances.items ≡ rights_at self.now.readers rights) }
+        ensures modes { IfOk result (λ listening.
+            map mode_of listening.entrances.items ≡ modes_at self.now.readers mode) }
     {
         let clients = self.bind_clients(rt, alloc, mode, made)?;
         let orders = self.bind_stop(rt, alloc, made)?;
@@ -107,15 +116,17 @@ impl<'a> Sockets<'a> {
         alloc: Global,
         mode: u32,
         made: &mut Made<R::File>,
-    ) -> io::Result<UnixListener>
+    ) -> io::Result<Bound>
     where
         R::File: SystemFile,
+        ensures { IfOk result (λ bound. bound.mode ≡ mode) }
     {
         let (bound, lock) = SocketFile::bind(rt, alloc, self.clients, mode)?;
         let (listener, name) = bound.into_parts();
+        let mode = name.mode();
         made.clients = Some(name);
         made.lock = Some(lock);
-        Ok(listener)
+        Ok(Bound { listener, mode })
     }
 
     // The lock of the clients' socket covers it.
@@ -141,19 +152,21 @@ impl<'a> Sockets<'a> {
         alloc: Global,
         mode: u32,
         made: &mut Made<R::File>,
-    ) -> io::Result<Option<UnixListener>>
+    ) -> io::Result<Option<Bound>>
     where
         R::File: SystemFile,
-        ensures { IfOk result (λ bound. IsSome bound ↔ IsSome self.now.readers) }
+        ensures there { IfOk result (λ bound. IsSome bound ↔ IsSome self.now.readers) }
+        ensures mode { IfOk result (λ bound. IfSome bound (λ bound. bound.mode ≡ mode)) }
     {
         let Some(path) = self.readers else {
             return Ok(None);
         };
         let (bound, lock) = SocketFile::bind(rt, alloc, path, mode)?;
         let (listener, name) = bound.into_parts();
+        let mode = name.mode();
         made.readers = Some(name);
         made.readers_lock = Some(lock);
-        Ok(Some(listener))
+        Ok(Some(Bound { listener, mode }))
     }
 
     /// Removes the sockets' files that were made, and then their locks, as far as they are still this program's. The
@@ -190,18 +203,21 @@ where
 
 fn listen(
     alloc: Global,
-    clients: UnixListener,
-    readers: Option<UnixListener>,
+    clients: Bound,
+    readers: Option<Bound>,
     orders: UnixListener,
     rights: Rights,
 ) -> io::Result<Listening>
-    ensures { IfOk result (λ listening. map rights_of listening.entrances.items ≡ rights_at readers rights) }
+    ensures rights { IfOk result (λ listening.
+        map rights_of listening.entrances.items ≡ rights_at readers rights) }
+    ensures modes { IfSome readers (λ bound. bound.mode ≡ clients.mode)
+        → IfOk result (λ listening. map mode_of listening.entrances.items ≡ modes_at readers clients.mode) }
 {
     let mut entrances = Vec::with_capacity(alloc, 2)?;
     if let Some(readers) = readers {
-        entrances.push_reserved(Entrance::new(readers, Rights::Read)?);
+        entrances.push_reserved(Entrance::new(readers.listener, Rights::Read, readers.mode)?);
     }
-    entrances.push_reserved(Entrance::new(clients, rights)?);
+    entrances.push_reserved(Entrance::new(clients.listener, rights, clients.mode)?);
     Ok(Listening {
         entrances,
         orders: StopOrders::new(alloc, orders)?,

@@ -1,13 +1,15 @@
 -- What a request to serve comes to.
 use denote.Ref.{Bor}
 use Rattle.std.specs.Prelude.{IfErr, OnOk, IsOk, IfSome}
-use Rattle.std.proofs.Common.{◌≡◌, ◌⊎◌, ◌∙◌, inl, inr, ℕ, Bool, true, false, Option, Result, Ok, Err, List, length, refl, sym, subst}
+use Rattle.std.proofs.Common.{◌≡◌, ◌⊎◌, ◌∙◌, inl, inr, ℕ, Bool, true, false, Option, None, Result, Ok, Err, List, length, refl, sym, subst}
 use Rattle.audit_disk_model.specs.declared.sectors.Sectors as sectors
 use Rattle.audit_store.specs.declared.store.Store.{Store}
 use Rattle.audit_serve_passes.specs.Streams.{CallModel}
 use Rattle.audit_serve_sockets.specs.Input.{SpellsInput}
 use Rattle.audit_serve_sockets.specs.Listening.{ListenerModel}
 use Rattle.audit_serve_sockets.specs.Looping.{IsWholeLoop}
+use Rattle.audit_cli_base.specs.Mode.{IsMode}
+use Rattle.audit_disk.specs.declared.files.TheConstants.{OWNER_ONLY}
 use Rattle.audit_cli_base.specs.declared.fault.CommandError.TheVariants.{File, Replaced}
 use Rattle.audit_cli_serve.specs.Arguments.{rounds_asked, sessions_wanted}
 use Rattle.audit_cli_serve.specs.Carried.{IsServingDone, LoopsAt, LoopsOpened, ServesAt, IsStoppedAt, ServesOpened}
@@ -51,10 +53,10 @@ module _ {D : Type 0} {g : sectors.Ghosts D} where
   loops_opened input opened (Ok done) looped = record { opened = opened; looped = looped }
 
 module _ {D : Type 0} {g : sectors.Ghosts D} {T L : Type 0} (M : CallModel T) (N : ListenerModel L T) where
-  pub serves_at : (rounds sessions : ℕ) (opened left : Store D g) (bound last : L) (Lines : List ℕ → Type 0) (result : Ending)
-      → OnOk result ((turns : List ℕ) × (length turns ≡ rounds) × ServesRounds M N sessions turns opened left bound last × Lines turns) → OnOk result ((turns : List ℕ) × (length turns ≡ rounds) × ServesAt M N sessions turns opened)
-  serves_at rounds sessions opened left bound last Lines (Err fault) served = tt
-  serves_at rounds sessions opened left bound last Lines (Ok done) (turns, count, all, lines) = (turns, count, record { left = left; bound = bound; last = last; served = all })
+  pub serves_at : (bits : L → ℕ) (mode rounds sessions : ℕ) (opened left : Store D g) (bound last : L) (Lines : List ℕ → Type 0) (result : Ending) → bits bound ≡ mode
+      → OnOk result ((turns : List ℕ) × (length turns ≡ rounds) × ServesRounds M N sessions turns opened left bound last × Lines turns) → OnOk result ((turns : List ℕ) × (length turns ≡ rounds) × ServesAt M N bits mode sessions turns opened)
+  serves_at bits mode rounds sessions opened left bound last Lines (Err fault) mode_is served = tt
+  serves_at bits mode rounds sessions opened left bound last Lines (Ok done) mode_is (turns, count, all, lines) = (turns, count, record { left = left; bound = bound; mode_is = mode_is; last = last; served = all })
 
   pub stops_at : (sessions : ℕ) (opened left : Store D g) (bound last : L) (replaced : Bool) (served watched result : Ending) → IfErr served (StopsRounds M N sessions opened left bound last)
       → (replaced ≡ true → watched ≡ Err (Command Replaced)) → (replaced ≡ false → watched ≡ served) → IfErr result (λ fault. (watched ≡ Err fault) ⊎ (fault ≡ Command File)) → IfErr result (IsStoppedAt M N sessions opened)
@@ -66,12 +68,12 @@ module _ {D : Type 0} {g : sectors.Ghosts D} {T L : Type 0} (M : CallModel T) (N
       by true gone = inr (inl (cc (sym same ∙ gone)))
       by false not = inl (record { left = left; bound = bound; last = last; stops = subst (λ (ending : Ending). IfErr ending (StopsRounds M N sessions opened left bound last)) (sym not ∙ same) stopped })
 
-  pub serves_opened : (rounds sessions : ℕ) (opened : Store D g) (result : Ending) → OnOk result ((turns : List ℕ) × (length turns ≡ rounds) × ServesAt M N sessions turns opened) → OnOk result (ServesOpened g M N sessions rounds)
-  serves_opened rounds sessions opened (Err fault) served = tt
-  serves_opened rounds sessions opened (Ok done) (turns, count, served) = record { opened = opened; turns = turns; count = count; served = served }
+  pub serves_opened : (bits : L → ℕ) (mode rounds sessions : ℕ) (opened : Store D g) (result : Ending) → OnOk result ((turns : List ℕ) × (length turns ≡ rounds) × ServesAt M N bits mode sessions turns opened) → OnOk result (ServesOpened g M N bits mode sessions rounds)
+  serves_opened bits mode rounds sessions opened (Err fault) served = tt
+  serves_opened bits mode rounds sessions opened (Ok done) (turns, count, served) = record { opened = opened; turns = turns; count = count; served = served }
 
-module _ {D : Type 0} (g : sectors.Ghosts D) {T L : Type 0} (M : CallModel T) (N : ListenerModel L T) where
-  pub performed : (input : Option (List ℕ)) (file socket rounds : Bor (List ℕ)) (sessions mode : Option (Bor (List ℕ))) (count each : ℕ) (done : Ending) → rounds_asked rounds.now ≡ Ok count → sessions_wanted sessions ≡ Ok each
-      → OnOk done (ServesOpened g M N each count) → IsServingDone g M N (Serve file socket rounds sessions mode) input done
-  performed input file socket rounds sessions mode count each (Ok done) asked wanted served = record { count = count; rounds_are = asked; each = each; sessions_are = wanted; served = served }
-  performed input file socket rounds sessions mode count each (Err fault) asked wanted served = tt
+module _ {D : Type 0} (g : sectors.Ghosts D) {T L : Type 0} (M : CallModel T) (N : ListenerModel L T) (bits : L → ℕ) where
+  pub performed : (input : Option (List ℕ)) (file socket rounds : Bor (List ℕ)) (sessions socket_mode : Option (Bor (List ℕ))) (count each mode : ℕ) (done : Ending) → rounds_asked rounds.now ≡ Ok count → sessions_wanted sessions ≡ Ok each → (socket_mode ≡ None → mode ≡ OWNER_ONLY) → IfSome socket_mode (λ word. IsMode word.now mode)
+      → OnOk done (ServesOpened g M N bits mode each count) → IsServingDone g M N bits (Serve file socket rounds sessions socket_mode) input done
+  performed input file socket rounds sessions socket_mode count each mode (Ok done) asked wanted owner mode_is served = record { count = count; rounds_are = asked; each = each; sessions_are = wanted; mode = mode; owner = owner; mode_is = mode_is; served = served }
+  performed input file socket rounds sessions socket_mode count each mode (Err fault) asked wanted owner mode_is served = tt

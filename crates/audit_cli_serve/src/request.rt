@@ -4,6 +4,7 @@ ghost use Rattle.std.specs.Io.KnownBytes.{Keeps};
 ghost use Rattle.audit_base.specs.declared.limits.TheConstants.{SESSIONS};
 ghost use Rattle.audit_cli_base.specs.Arguments.{RefusesWords};
 ghost use Rattle.audit_cli_base.specs.declared.fault.CommandError.TheVariants.{File, Replaced};
+ghost use Rattle.audit_serve_sockets.specs.Bound.{mode_of_socket};
 ghost use Rattle.audit_cli_serve.specs.Arguments.{rounds_asked, sessions_wanted};
 ghost use Rattle.audit_cli_serve.specs.Carried.{ServesAt, ServesOpened, IsStoppedAt, LoopsAt, LoopsOpened};
 ghost use Rattle.audit_cli_serve.specs.Carried.{IsServingDone};
@@ -86,7 +87,7 @@ where
     ensures unwritten { HasWrongWord request.entry → Keeps (W.contents output.old) (W.contents output.new) }
     // The status is that of the result; on success what was asked for was served.
     ensures carried { IsServingCarriedOut ⟦<FileDevice<F::File> as Sectors>⟧ ⟦<UnixStream as Duplex>⟧.calls
-        ⟦<SocketFile as Listener<UnixStream>>⟧.model request.entry (R.remaining input.old)
+        ⟦<SocketFile as Listener<UnixStream>>⟧.model mode_of_socket request.entry (R.remaining input.old)
         (W.contents output.old) (W.contents output.new) result }
 {
     let done = perform(rt, alloc, request, input, output);
@@ -112,7 +113,7 @@ where
     ensures words { RefusesWords (IsServingFault request.entry) (W.contents output.old) (W.contents output.new) result }
     ensures only { result ≡ Err (ServingError.Command CommandError.BadArgument) → HasWrongWord request.entry }
     ensures served { IsServingDone ⟦<FileDevice<F::File> as Sectors>⟧ ⟦<UnixStream as Duplex>⟧.calls
-        ⟦<SocketFile as Listener<UnixStream>>⟧.model request.entry (R.remaining input.old) result }
+        ⟦<SocketFile as Listener<UnixStream>>⟧.model mode_of_socket request.entry (R.remaining input.old) result }
 {
     match request {
         Request::Serve {
@@ -167,7 +168,8 @@ where
     requires { sessions ≤ SESSIONS }
     ensures words { IfErr result IsNoWordError }
     ensures served { OnOk result (ServesOpened ⟦<FileDevice<F::File> as Sectors>⟧
-        ⟦<UnixStream as Duplex>⟧.calls ⟦<SocketFile as Listener<UnixStream>>⟧.model sessions rounds) }
+        ⟦<UnixStream as Duplex>⟧.calls ⟦<SocketFile as Listener<UnixStream>>⟧.model
+        mode_of_socket mode sessions rounds) }
 {
     let Opened { content, identity } = open_store(rt, alloc, file)?;
     let watch = StoreWatch::new(rt, file, identity, content.sectors());
@@ -200,7 +202,8 @@ where
     ensures words { IfErr result IsNoWordError }
     // Nothing else is done to the store.
     ensures served { OnOk result ((turns : List ℕ) × (length turns ≡ rounds)
-        × ServesAt ⟦<UnixStream as Duplex>⟧.calls ⟦<SocketFile as Listener<UnixStream>>⟧.model sessions turns store) }
+        × ServesAt ⟦<UnixStream as Duplex>⟧.calls ⟦<SocketFile as Listener<UnixStream>>⟧.model
+        mode_of_socket mode sessions turns store) }
     ensures stopped { IfErr result (IsStoppedAt ⟦<UnixStream as Duplex>⟧.calls
         ⟦<SocketFile as Listener<UnixStream>>⟧.model sessions store) }
 {

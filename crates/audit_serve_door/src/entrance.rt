@@ -9,11 +9,13 @@ use mio::{Interest, Registry, Token};
 use std::io;
 use std::os::unix::net::UnixListener;
 
-/// A socket on which clients come in, and what they may ask for.
+/// A socket on which clients come in, what they may ask for, and the permission bits of its file, which say who may
+/// come.
 #[derive(Drop)]
 pub struct Entrance {
     pub(crate) incoming: Incoming,
     rights: Rights,
+    mode: u32,
 }
 
 /// A connection that came in by an entrance, and what its client may ask for. Only entrances make them.
@@ -25,21 +27,24 @@ pub(crate) struct Arrival {
 
 impl Entrance {
     ghost use Rattle.std.specs.Prelude.{◌≡◌, IfOk};
-    ghost use Rattle.audit_serve_door.specs.Entrances.{rights_of, ComesWith};
+    ghost use Rattle.audit_serve_door.specs.Entrances.{rights_of, mode_of, ComesWith};
 
-    /// Makes an entrance of a socket that listens.
-    pub fn new(listener: UnixListener, rights: Rights) -> io::Result<Entrance>
-        ensures { IfOk result (λ entrance. rights_of entrance ≡ rights) }
+    /// Makes an entrance of a socket that listens, whose file has these permission bits.
+    pub fn new(listener: UnixListener, rights: Rights, mode: u32) -> io::Result<Entrance>
+        ensures rights { IfOk result (λ entrance. rights_of entrance ≡ rights) }
+        ensures mode { IfOk result (λ entrance. mode_of entrance ≡ mode) }
     {
         Ok(Entrance {
             incoming: Incoming::new(listener)?,
             rights,
+            mode,
         })
     }
 
     /// Has the system report on the socket.
     pub(crate) fn register(&mut self, registry: &Registry, token: Token) -> io::Result<()>
-        ensures { rights_of self.new ≡ rights_of self.old }
+        ensures rights { rights_of self.new ≡ rights_of self.old }
+        ensures mode { mode_of self.new ≡ mode_of self.old }
     {
         self.incoming.register(registry, token)
     }

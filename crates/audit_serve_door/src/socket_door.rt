@@ -1,5 +1,5 @@
 ghost use Rattle.std.specs.Prelude.{◌≡◌, map};
-ghost use Rattle.audit_serve_door.specs.Entrances.{rights_of};
+ghost use Rattle.audit_serve_door.specs.Entrances.{rights_of, mode_of};
 ghost use Rattle.audit_serve_ready.specs.Door.{unknown_door};
 
 use crate::choice::next_entry;
@@ -80,6 +80,7 @@ pub struct SocketDoor<'a, C, J, W> {
 impl<'a, C: Clock, J: Journal + Drop, W: Watch + Drop> SocketDoor<'a, C, J, W> {
     ghost use Rattle.std.specs.Prelude.{◌≡◌, map, IfOk, IfSome};
     ghost use Rattle.audit_serve_door.specs.Entrances.{rights_of, rights_at_arrival, rights_of_door, idle_of_door};
+    ghost use Rattle.audit_serve_door.specs.Entrances.{mode_of, modes_of_door};
 
     /// Makes a door with these entrances: those of clients that only read come before the others. A client that moves
     /// no byte for the time `idle` is dismissed when another one waits; without that time no client is. No reply leaves
@@ -96,6 +97,7 @@ impl<'a, C: Clock, J: Journal + Drop, W: Watch + Drop> SocketDoor<'a, C, J, W> {
         watch: W,
     ) -> io::Result<SocketDoor<'a, C, J, W>>
         ensures rights { IfOk result (λ door. rights_of_door door ≡ map rights_of entrances.items) }
+        ensures modes { IfOk result (λ door. modes_of_door door ≡ map mode_of entrances.items) }
         ensures idle { IfOk result (λ door. idle_of_door door ≡ idle) }
     {
         let mut entrances = entrances;
@@ -367,7 +369,8 @@ fn register_all(
     orders: &mut StopOrders,
     entrances: &mut [Entrance],
 ) -> io::Result<()>
-    ensures { map rights_of entrances.new ≡ map rights_of entrances.old }
+    ensures rights { map rights_of entrances.new ≡ map rights_of entrances.old }
+    ensures modes { map mode_of entrances.new ≡ map mode_of entrances.old }
 {
     orders.incoming.register(registry, Token(STOP))?;
     for number in 0..entrances.len() {

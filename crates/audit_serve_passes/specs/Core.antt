@@ -1,5 +1,6 @@
 -- A core that serves sessions, as contracts see it.
 use Rattle.std.specs.Prelude.{◌≡◌, ℕ, ◌==◌, Bool, true, if◌then◌else◌, List, [], ◌∷◌, ◌++◌, length}
+use Rattle.std.specs.List.{AllByRecursion}
 use Rattle.audit_serve_passes.specs.declared.rights.Rights.{Rights}
 use Rattle.audit_serve_passes.specs.Steps.{StepData, IsAbout, IsPartOf}
 
@@ -9,6 +10,13 @@ no_bytes session = []
 
 abbrev pub bytes_for : ℕ → List ℕ → ℕ → List ℕ
 bytes_for k bytes session = if session == k then bytes else []
+
+-- what a request wants
+pub data RequestKind : Type 0 where
+  -- to append an event or to close the log
+  appending : RequestKind
+  -- an answer alone, or what is to be refused
+  asking : RequestKind
 
 pub record CoreModel (C : Type 0) : Type 1 where
   -- whether a session has ended after the core did these steps
@@ -22,10 +30,13 @@ pub record CoreModel (C : Type 0) : Type 1 where
   pub owed : C → ℕ → ℕ
   -- how many requests wait to be answered
   pub waiting : C → ℕ
-  -- how many requests of a session these bytes complete
-  pub requests : C → ℕ → List ℕ → ℕ
-  -- the longest reply to a request, and what a session is sent if the end of its stream cuts a request off
+  -- the requests of a session that these bytes complete, in order, and the longest replies to all of them
+  pub requests : C → ℕ → List ℕ → List RequestKind
+  pub replies : C → ℕ → List ℕ → ℕ
+  -- the longest reply to a request, to one that appends, and what a session is sent if the end of its stream cuts a
+  -- request off
   pub longest : ℕ
+  pub acknowledgement : ℕ
   pub refusal : ℕ
   -- from the first state to the second a session was started anew with these rights, and nothing else has changed
   pub Begins : ℕ → Rights → C → C → Type 0
@@ -48,6 +59,11 @@ pub record CoreModel (C : Type 0) : Type 1 where
   -- a session that has ended stays so
   pub ended_stays : (core : C) (steps later : List StepData) (k : ℕ) → ended core steps k ≡ true
       → ended core (steps ++ later) k ≡ true
+  -- what bytes complete depends on no other session
+  pub requests_alone : (old new : C) (steps : List StepData) (taken : ℕ → List ℕ) (k : ℕ) (bytes : List ℕ)
+      → DidSteps old new steps taken → AllByRecursion (λ step. IsAbout k step → ⊥) steps
+      → (requests new k bytes ≡ requests old k bytes) × (replies new k bytes ≡ replies old k bytes)
+  pub no_replies : (core : C) (k : ℕ) (bytes : List ℕ) → requests core k bytes ≡ [] → replies core k bytes ≡ 0
   -- a session that is started anew doesn't change whether another has ended
   pub begun_alone : (old new : C) (k other : ℕ) (rights : Rights) → Begins k rights old new → (other ≡ k → ⊥)
       → ended new [] other ≡ ended old [] other

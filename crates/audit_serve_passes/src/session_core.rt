@@ -1,4 +1,4 @@
-ghost use Rattle.std.specs.Prelude.{◌≡◌, ◌<◌, ◌≤◌, ℕ, List, [], ◌∷◌, true, length, take, IfOk, IfErr, OnOk, OnErr};
+ghost use Rattle.std.specs.Prelude.{◌≡◌, ◌+◌, ◌<◌, ◌≤◌, ℕ, List, [], ◌∷◌, true, length, take, IfOk, IfErr, OnOk, OnErr};
 ghost use Rattle.audit_base.specs.declared.limits.TheConstants.{SESSIONS};
 ghost use Rattle.audit_serve_passes.specs.Steps.{StepData, a_piece, an_end, a_flush};
 ghost use Rattle.audit_serve_passes.specs.Core.{CoreModel, GoesBy, no_bytes, bytes_for};
@@ -48,9 +48,12 @@ pub trait SessionCore {
         // The replies that it may have to send are within the session's share.
         ensures owes { OnOk result (OwesWithin model session allowance.old.session self.old self.new) }
         // It stops only before a request that isn't admitted, and only requests are taken of the allowance.
-        ensures stops { IfOk result (λ taken. taken < length piece.now → IsBeyondAllowance model allowance.new) }
-        ensures unspent { IfOk result (λ taken. model.requests self.old session (take taken piece.now) ≡ 0
+        ensures stops { IfOk result (λ taken. taken < length piece.now
+            → IsBeyondAllowance model session self.old (take taken piece.now) piece.now allowance.new) }
+        ensures unspent { IfOk result (λ taken. model.requests self.old session (take taken piece.now) ≡ []
             → allowance.new ≡ allowance.old) }
+        ensures spent { IfOk result (λ taken. allowance.old.session.left
+            ≤ allowance.new.session.left + model.replies self.old session (take taken piece.now)) }
         ensures refused { IfErr result (refuses self.old self.new) };
 
     /// Ends a session: no more of its bytes follow.

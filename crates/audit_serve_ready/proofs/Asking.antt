@@ -1,14 +1,17 @@
 -- In a turn of its own a session takes a request, or all that is unread.
-use Rattle.std.proofs.Common.{◌≡◌, ◌≢◌, ◌∙◌, inl, inr, ◌⊎◌, ℕ, ◌+◌, ◌-◌, ◌<◌, ◌≤◌, Bool, true, false, ◌||◌, ◌&&◌, leb, nat_eq, Option, Some, None, List, [], ◌∷◌, ◌++◌, length, take, drop, refl, sym, ap, arith, true≢false}
-use Rattle.std.proofs.lemmas.Bool.{eq-eqb, le-leb, eqb-false}
-use Rattle.std.proofs.lemmas.List.{take-append-drop, drop_all, length-drop, length-take}
+use Rattle.std.proofs.Common.{◌≡◌, ◌≢◌, ◌∙◌, inl, inr, ◌⊎◌, ℕ, ◌+◌, ◌-◌, ◌<◌, ◌≤◌, Bool, true, false, ◌||◌, ◌&&◌, leb, nat_eq, Option, Some, None, List, [], ◌∷◌, ◌++◌, length, take, drop, refl, sym, ap, subst, arith, true≢false}
+use Rattle.std.proofs.lemmas.Bool.{eq-eqb, le-leb, leb-false, eqb-true, eqb-false}
+use Rattle.std.proofs.lemmas.List.{append-nil, take-append-drop, drop_all, length-drop, length-take}
+use Rattle.audit_serve_passes.specs.Streams.{StreamCall, bytes_read}
+use Rattle.audit_serve_passes.specs.CallLaws.{bytes_read-append}
+use Rattle.audit_serve_passes.specs.declared.allowance.Demand.{Demand}
 use Rattle.audit_serve_passes.specs.declared.allowance.Share.{Share}
 use Rattle.audit_serve_passes.specs.declared.allowance.Allowance.{Allowance}
 use Rattle.audit_serve_passes.specs.Allowance.{has_room, has_room_to_ask, admits}
-use Rattle.audit_serve_passes.specs.Core.{CoreModel}
-use Rattle.audit_serve_passes.specs.Owing.{IsBeyondAllowance}
+use Rattle.audit_serve_passes.specs.Core.{CoreModel, RequestKind, appending, asking}
+use Rattle.audit_serve_passes.specs.Owing.{IsNextRequest, IsDemandFor, IsBeyondAllowance}
 use Rattle.audit_serve_ready.specs.Slot.{SlotData, vacant, serving, unheard, closing, unread_of, kept_of, with_unread, is_shut, is_mute}
-use Rattle.audit_serve_ready.specs.Backlog.{MayAsk, HasTakenRequest}
+use Rattle.audit_serve_ready.specs.Backlog.{MayAsk, HasTakenRequest, IsPutOff, TakesUp}
 use Rattle.audit_serve_ready.proofs.Accounts.{unread_put}
 
 -- a place that is shut isn't heard
@@ -44,6 +47,18 @@ asks : (questions : Share) (price : Option ℕ) → questions.is_whole ≡ true 
 asks questions None whole = refl
 asks questions (Some bytes) whole = whole_or questions.is_whole (leb bytes questions.left) whole
 
+-- an append that isn't admitted is one for which the session's share has no room
+no_room : (allowance : Allowance) (demand : Demand) → demand.question ≡ None → admits allowance demand ≡ false → (allowance.session.is_whole ≡ false) × (allowance.session.left < demand.reply)
+no_room allowance demand none over = by allowance.session.is_whole refl (leb demand.reply allowance.session.left) refl
+  where
+    asked : has_room_to_ask allowance.questions demand.question ≡ true
+    asked = ap (has_room_to_ask allowance.questions) none
+
+    by : (whole : Bool) → allowance.session.is_whole ≡ whole → (room : Bool) → leb demand.reply allowance.session.left ≡ room → (allowance.session.is_whole ≡ false) × (allowance.session.left < demand.reply)
+    by true whole room is = absurd (true≢false (sym (both_true (has_room allowance.session demand.reply) (has_room_to_ask allowance.questions demand.question) (whole_or allowance.session.is_whole (leb demand.reply allowance.session.left) whole) asked) ∙ over))
+    by false whole true is = absurd (true≢false (sym (both_true (has_room allowance.session demand.reply) (has_room_to_ask allowance.questions demand.question) (or_whole allowance.session.is_whole (leb demand.reply allowance.session.left) is) asked) ∙ over))
+    by false whole false is = (whole, leb-false demand.reply allowance.session.left is)
+
 module _ {C S : Type 0} (M : CoreModel C) (backlog : ℕ) where
   abbrev share_for : SlotData S → Share
   share_for slot = record { left = backlog - length (kept_of slot); is_whole = nat_eq (length (kept_of slot)) 0 }
@@ -53,13 +68,13 @@ module _ {C S : Type 0} (M : CoreModel C) (backlog : ℕ) where
   room_for slot reply (inr room) most = or_whole (nat_eq (length (kept_of slot)) 0) (leb reply (backlog - length (kept_of slot))) (le-leb reply (backlog - length (kept_of slot)) (omega (arith, room, most)))
 
   -- so nothing is held back if nothing was taken of the allowance
-  never_held : (k : ℕ) (core : C) (slot : SlotData S) (questions : Share) (left : Allowance) → MayAsk M backlog k core slot → questions.is_whole ≡ true → left ≡ record { session = share_for slot; questions = questions } → IsBeyondAllowance M left → ⊥
-  never_held k core slot questions left may whole is held =
+  never_held : (k : ℕ) (core : C) (slot : SlotData S) (fed : List ℕ) (questions : Share) (left : Allowance) → MayAsk M backlog k core slot → questions.is_whole ≡ true → left ≡ record { session = share_for slot; questions = questions } → IsBeyondAllowance M k core fed (unread_of slot) left → ⊥
+  never_held k core slot fed questions left may whole is held =
       true≢false (sym (both_true (has_room (share_for slot) held.demand.reply) (has_room_to_ask questions held.demand.question) (room_for slot held.demand.reply may.room held.most) (asks questions held.demand.question whole))
       ∙ sym (ap (λ (allowance : Allowance). admits allowance held.demand) is) ∙ held.over)
 
   pub took : (k : ℕ) (share questions : Share) (core : C) (slot : SlotData S) (taken : ℕ) (left : Allowance) → is_shut slot ≡ false → MayAsk M backlog k core slot → questions.is_whole ≡ true → share ≡ share_for slot → taken ≤ length (unread_of slot)
-      → (taken < length (unread_of slot) → IsBeyondAllowance M left) → (M.requests core k (take taken (unread_of slot)) ≡ 0 → left ≡ record { session = share; questions = questions }) → HasTakenRequest M backlog k core slot (with_unread (drop taken (unread_of slot)) slot)
+      → (taken < length (unread_of slot) → IsBeyondAllowance M k core (take taken (unread_of slot)) (unread_of slot) left) → (M.requests core k (take taken (unread_of slot)) ≡ [] → left ≡ record { session = share; questions = questions }) → HasTakenRequest M backlog k core slot (with_unread (drop taken (unread_of slot)) slot)
   took k share questions core slot taken left live may whole is within stops unspent = by (less_or taken (length (unread_of slot)))
     where
       bytes : List ℕ
@@ -71,9 +86,84 @@ module _ {C S : Type 0} (M : CoreModel C) (backlog : ℕ) where
       less_or : (m n : ℕ) → (m < n) ⊎ (n ≤ m)
       less_or m n = search (arith)
 
-      some : taken < length bytes → M.requests core k (take taken bytes) ≡ 0 → ⊥
-      some less none = never_held k core slot questions left may whole (unspent none ∙ ap (λ (own : Share). record { session = own; questions = questions }) is) (stops less)
+      some : taken < length bytes → M.requests core k (take taken bytes) ≡ [] → ⊥
+      some less none = never_held k core slot (take taken bytes) questions left may whole (unspent none ∙ ap (λ (own : Share). record { session = own; questions = questions }) is) (stops less)
 
       by : (taken < length bytes) ⊎ (length bytes ≤ taken) → HasTakenRequest M backlog k core slot (with_unread (drop taken bytes) slot)
       by (inl less) = inr (take taken bytes, sym (take-append-drop taken bytes) ∙ ap (λ (rest : List ℕ). take taken bytes ++ rest) (sym rest_is), some less)
       by (inr all) = inl (rest_is ∙ drop_all taken bytes all)
+
+  -- ---- what is put off
+
+  held_back : (k : ℕ) (core : C) (slot : SlotData S) (fed rest : List ℕ) (questions : Share) (left : Allowance) → unread_of slot ≡ fed ++ rest → IsBeyondAllowance M k core fed (unread_of slot) left
+      → (M.requests core k fed ≡ [] → left ≡ record { session = share_for slot; questions = questions }) → backlog - length (kept_of slot) ≤ left.session.left + M.replies core k fed → IsPutOff M backlog k core fed rest slot
+  held_back k core slot fed rest questions left split held unspent spent = record {
+    kind = held.kind;
+    is = subst (λ (bytes : List ℕ). IsNextRequest M k core fed bytes held.kind) split held.is;
+    full = λ is. omega (arith, spent, (full_when held.kind is held.its).1, (full_when held.kind is held.its).0);
+    first = λ is none kept. true≢false (sym (ap (λ (allowance : Allowance). allowance.session.is_whole) (unspent none) ∙ eq-eqb (length (kept_of slot)) 0 (ap length kept)) ∙ whole_when held.kind is held.its);
+  }
+    where
+      full_when : (kind : RequestKind) → kind ≡ appending → IsDemandFor M kind held.demand → (held.demand.reply ≤ M.acknowledgement) × (left.session.left < held.demand.reply)
+      full_when appending is its = (its.0, (no_room left held.demand its.1 held.over).1)
+      full_when asking is its = absurd (cc is)
+
+      whole_when : (kind : RequestKind) → kind ≡ appending → IsDemandFor M kind held.demand → left.session.is_whole ≡ false
+      whole_when appending is its = (no_room left held.demand its.1 held.over).0
+      whole_when asking is its = absurd (cc is)
+
+  pub put_off : (k : ℕ) (share questions : Share) (core : C) (slot : SlotData S) (taken : ℕ) (left : Allowance) → is_shut slot ≡ false → share ≡ share_for slot → (taken < length (unread_of slot) → IsBeyondAllowance M k core (take taken (unread_of slot)) (unread_of slot) left)
+      → (M.requests core k (take taken (unread_of slot)) ≡ [] → left ≡ record { session = share; questions = questions }) → share.left ≤ left.session.left + M.replies core k (take taken (unread_of slot))
+      → (unread_of (with_unread (drop taken (unread_of slot)) slot) ≡ []) ⊎ IsPutOff M backlog k core (take taken (unread_of slot)) (unread_of (with_unread (drop taken (unread_of slot)) slot)) slot
+  put_off k share questions core slot taken left live is stops unspent spent = by (less_or taken (length (unread_of slot)))
+    where
+      bytes : List ℕ
+      bytes = unread_of slot
+
+      rest_is : unread_of (with_unread (drop taken bytes) slot) ≡ drop taken bytes
+      rest_is = unread_put (drop taken bytes) slot live
+
+      less_or : (m n : ℕ) → (m < n) ⊎ (n ≤ m)
+      less_or m n = search (arith)
+
+      by : (taken < length bytes) ⊎ (length bytes ≤ taken) → (unread_of (with_unread (drop taken bytes) slot) ≡ []) ⊎ IsPutOff M backlog k core (take taken bytes) (unread_of (with_unread (drop taken bytes) slot)) slot
+      by (inl less) = inr (held_back k core slot (take taken bytes) (unread_of (with_unread (drop taken bytes) slot)) questions left (sym (take-append-drop taken bytes) ∙ ap (λ (rest : List ℕ). take taken bytes ++ rest) (sym rest_is)) (stops less)
+          (λ none. unspent none ∙ ap (λ (own : Share). record { session = own; questions = questions }) is) (omega (arith, spent, ap (λ (own : Share). own.left) is)))
+      by (inr all) = inl (rest_is ∙ drop_all taken bytes all)
+
+  -- the same of the place as it was before a look, and of a core in which others have had their turns
+  put_off_at : (k : ℕ) (core old : C) (fed rest : List ℕ) (between before : SlotData S) → kept_of between ≡ kept_of before → ((bytes : List ℕ) → (M.requests core k bytes ≡ M.requests old k bytes) × (M.replies core k bytes ≡ M.replies old k bytes))
+      → IsPutOff M backlog k core fed rest between → IsPutOff M backlog k old fed rest before
+  put_off_at k core old fed rest between before kept alone off = record {
+    kind = off.kind;
+    is = record { later = off.is.later; next = sym (alone (fed ++ rest)).0 ∙ off.is.next ∙ ap (λ (first : List RequestKind). first ++ off.kind ∷ off.is.later) (alone fed).0 };
+    full = λ is. omega (arith, off.full is, ap length kept, (alone fed).1);
+    first = λ is none empty. off.first is ((alone fed).0 ∙ none) (kept ∙ empty);
+  }
+
+  pub off_before : (k : ℕ) (core : C) (fed rest : List ℕ) (between before : SlotData S) → kept_of between ≡ kept_of before → (rest ≡ []) ⊎ IsPutOff M backlog k core fed rest between → (rest ≡ []) ⊎ IsPutOff M backlog k core fed rest before
+  off_before k core fed rest between before kept (inl none) = inl none
+  off_before k core fed rest between before kept (inr off) = inr (put_off_at k core core fed rest between before kept (λ bytes. (refl, refl)) off)
+
+  -- ---- of several turns
+
+  -- whoever has had a turn isn't read again
+  pub taken_stays : (k : ℕ) (calls later : List StreamCall) (core : C) (before between after : SlotData S) → bytes_read later ≡ [] → unread_of after ≡ unread_of between → TakesUp M backlog k calls core before between → TakesUp M backlog k (calls ++ later) core before after
+  taken_stays k calls later core before between after none same takes = record {
+    fed = takes.fed;
+    all = ap (λ (read : List ℕ). unread_of before ++ read) (bytes_read-append calls later ∙ ap (λ (read : List ℕ). bytes_read calls ++ read) none ∙ append-nil (bytes_read calls)) ∙ takes.all ∙ ap (λ (rest : List ℕ). takes.fed ++ rest) (sym same);
+    left = subst (λ (rest : List ℕ). (rest ≡ []) ⊎ IsPutOff M backlog k core takes.fed rest before) (sym same) takes.left;
+  }
+
+  -- and nothing was read of whoever has had none
+  pub taken_later : (k : ℕ) (calls later : List StreamCall) (core old : C) (before between after : SlotData S) → bytes_read calls ≡ [] → unread_of between ≡ unread_of before → kept_of between ≡ kept_of before
+      → ((bytes : List ℕ) → (M.requests core k bytes ≡ M.requests old k bytes) × (M.replies core k bytes ≡ M.replies old k bytes)) → TakesUp M backlog k later core between after → TakesUp M backlog k (calls ++ later) old before after
+  taken_later k calls later core old before between after none same kept alone takes = record {
+    fed = takes.fed;
+    all = ap (λ (read : List ℕ). unread_of before ++ read) (bytes_read-append calls later ∙ ap (λ (read : List ℕ). read ++ bytes_read later) none) ∙ ap (λ (first : List ℕ). first ++ bytes_read later) (sym same) ∙ takes.all;
+    left = by takes.left;
+  }
+    where
+      by : (unread_of after ≡ []) ⊎ IsPutOff M backlog k core takes.fed (unread_of after) between → (unread_of after ≡ []) ⊎ IsPutOff M backlog k old takes.fed (unread_of after) before
+      by (inl empty) = inl empty
+      by (inr off) = inr (put_off_at k core old takes.fed (unread_of after) between before kept alone off)

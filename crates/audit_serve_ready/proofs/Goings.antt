@@ -34,6 +34,22 @@ none_kept (serving client unread kept) none = no_bytes_there kept none
 none_kept (unheard client unread) none = refl
 none_kept (closing client unread) none = refl
 
+-- somebody went from a place below a number
+abbrev pub HasGone : {S : Type 0} → ℕ → List (SlotData S) → List (SlotData S) → Type 0
+HasGone count before after = (k : ℕ) × (k < count) × (has_client (slot_at k before) ≡ true) × (has_client (slot_at k after) ≡ false)
+
+pub gone_changed : {S : Type 0} (count : ℕ) (before after : List (SlotData S)) → HasGone count before after → after ≡ before → ⊥
+gone_changed count before after gone same = true≢false (sym gone.2 ∙ sym (ap (λ slots. has_client (slot_at gone.0 slots)) same) ∙ gone.3)
+
+pub gone_before : {S : Type 0} (k : ℕ) (before between : List (SlotData S)) (at : SlotData S) → HasGone k before between → HasGone (k + 1) before (set between k at)
+gone_before k before between at gone = (gone.0, omega (arith, gone.1), gone.2, ap has_client (get_or-set_other between k gone.0 at vacant (λ same. omega (arith, gone.1, same))) ∙ gone.3)
+
+pub gone_still : {S : Type 0} (k : ℕ) (before between : List (SlotData S)) → HasGone k before between → HasGone (k + 1) before between
+gone_still k before between gone = (gone.0, omega (arith, gone.1), gone.2, gone.3)
+
+pub gone_here : {S : Type 0} (k : ℕ) (before between : List (SlotData S)) (at : SlotData S) → k < length between → has_client (slot_at k before) ≡ true → at ≡ vacant → HasGone (k + 1) before (set between k at)
+gone_here k before between at within there left = (k, omega arith, there, ap has_client (get_or-set_same between k at vacant within ∙ left))
+
 module _ {C D S : Type 0} (M : CoreModel C) (N : CallModel S) (E : DoorModel D S) where
   pub done_vacant : (k : ℕ) (core : C) (slot : SlotData S) → slot ≡ vacant → is_done M k core slot ≡ false
   done_vacant k core slot is = and_false (M.ended core [] k) (has_client slot && not (has_kept slot)) (ap (λ (s : SlotData S). has_client s && not (has_kept s)) is)

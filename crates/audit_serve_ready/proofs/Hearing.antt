@@ -1,13 +1,14 @@
 -- What rounds do for each client.
-use Rattle.std.proofs.Common.{◌≡◌, ◌⊎◌, inl, inr, ◌∙◌, ℕ, zero, suc, ◌+◌, ◌<◌, Bool, true, false, not, ◌&&◌, List, [], ◌∷◌, ◌++◌, length, refl, sym, ap, subst, arith, true≢false}
+use Rattle.std.proofs.Common.{◌≡◌, ◌⊎◌, inl, inr, ◌∙◌, ℕ, zero, suc, ◌+◌, ◌<◌, ◌≤◌, Bool, true, false, not, ◌&&◌, List, [], ◌∷◌, ◌++◌, length, refl, sym, ap, subst, arith, true≢false}
+use Rattle.std.proofs.lemmas.List.{append-nil}
 use Rattle.audit_serve_passes.specs.Steps.{a_flush}
-use Rattle.audit_serve_passes.specs.Streams.{CallModel}
-use Rattle.audit_serve_passes.specs.Core.{CoreModel, no_bytes}
+use Rattle.audit_serve_passes.specs.Streams.{StreamCall, CallModel, bytes_read}
+use Rattle.audit_serve_passes.specs.Core.{CoreModel, RequestKind, appending, no_bytes}
 use Rattle.audit_serve_ready.specs.Door.{DoorCall, DoorModel, joined_below}
-use Rattle.audit_serve_ready.specs.Slot.{SlotData, has_client, has_kept, is_shut, IsAskedForBytes}
+use Rattle.audit_serve_ready.specs.Slot.{SlotData, unread_of, kept_of, has_client, has_kept, is_shut, IsAskedForBytes}
 use Rattle.audit_serve_ready.specs.Places.{slot_at}
 use Rattle.audit_serve_ready.specs.Reading.{IsAttended}
-use Rattle.audit_serve_ready.specs.Backlog.{TakesTurn}
+use Rattle.audit_serve_ready.specs.Backlog.{TakesTurn, IsPutOff, TakesUp}
 use Rattle.audit_serve_ready.specs.Clients.{ClientChange, a_pass, a_coming, a_refusal, a_going, next_first, first_after_all, AreChanges}
 use Rattle.audit_serve_ready.specs.Turns.{passes_in}
 use Rattle.audit_serve_ready.specs.Rounds.{first_after_rounds, is_done, IsLetGo, IsLetIn, IsOfferAnswered, nobody, let_in, turned_away, ServesPass, ServesPlacesOnce, IsHeard, AreRounds}
@@ -98,6 +99,15 @@ module _ {C D S : Type 0} (M : CoreModel C) (N : CallModel S) (E : DoorModel D S
   heard_in first k was now old new before after pass within live = record {
     asked = still (pass.reading.seen k (omega (arith, within, pass.judges.same)) live);
     over = λ last. stays (pass.reading.last k (omega (arith, within, pass.judges.same)) last);
+    taken = λ unshut.
+        let here : k < length pass.judged = omega (arith, within, pass.judges.same) in
+        let takes = pass.reading.left k here live unshut in
+        let same : unread_of (slot_at k after) ≡ unread_of (slot_at k pass.between) = pass.writing.unread k in
+        record {
+          fed = takes.fed;
+          all = takes.all ∙ ap (λ (rest : List ℕ). takes.fed ++ rest) (sym same);
+          left = subst (λ (rest : List ℕ). (rest ≡ []) ⊎ IsPutOff M backlog k old takes.fed rest (slot_at k pass.judged)) (sym same) takes.left;
+        };
     answered = pass.pass.answered;
     offered = pass.writing.offered k (omega (arith, within, pass.reading.pass.count, pass.judges.same));
     turn = λ same. subst (λ (j : ℕ). TakesTurn M backlog j old (slot_at j before) (slot_at j after)) same (pass.pass.turn (omega (arith, within, same)));
@@ -109,6 +119,28 @@ module _ {C D S : Type 0} (M : CoreModel C) (N : CallModel S) (E : DoorModel D S
       still : IsAttended M N k (pass.reads k) pass.mid (slot_at k pass.judged) → ((is_shut (slot_at k pass.judged) ≡ true) × (M.ended new [] k ≡ true)) ⊎ IsAskedForBytes (pass.reads k) (slot_at k pass.judged)
       still (inl (shut, ended)) = inl (shut, stays ended)
       still (inr asked) = inr asked
+
+  -- whatever is taken of bytes that begin with an append begins with it
+  pub append_taken : (k : ℕ) (calls : List StreamCall) (core : C) (before after : SlotData S) (later : List RequestKind) → TakesUp M backlog k calls core before after → M.requests core k (unread_of before ++ bytes_read calls) ≡ appending ∷ later
+      → (kept_of before ≡ []) ⊎ (length (kept_of before) + M.acknowledgement ≤ backlog) → (fed : List ℕ) × (more : List RequestKind) × (unread_of before ++ bytes_read calls ≡ fed ++ unread_of after) × (M.requests core k fed ≡ appending ∷ more)
+  append_taken k calls core before after later takes asked room = by takes.left
+    where
+      all_is : M.requests core k (takes.fed ++ unread_of after) ≡ appending ∷ later
+      all_is = sym (ap (M.requests core k) takes.all) ∙ asked
+
+      never : (off : IsPutOff M backlog k core takes.fed (unread_of after) before) → off.kind ≡ appending → M.requests core k takes.fed ≡ [] → (kept_of before ≡ []) ⊎ (length (kept_of before) + M.acknowledgement ≤ backlog) → ⊥
+      never off is none (inl empty) = off.first is none empty
+      never off is none (inr fits) = omega (arith, off.full is, fits, M.no_replies core k takes.fed none)
+
+      front : (off : IsPutOff M backlog k core takes.fed (unread_of after) before) (taken : List RequestKind) → M.requests core k takes.fed ≡ taken → taken ++ off.kind ∷ off.is.later ≡ appending ∷ later → (more : List RequestKind) × (M.requests core k takes.fed ≡ appending ∷ more)
+      front off [] none first = absurd (never off (cc first) none room)
+      front off (kind ∷ more) is first = (more, is ∙ ap (λ (one : RequestKind). one ∷ more) (cc first))
+
+      by : (unread_of after ≡ []) ⊎ IsPutOff M backlog k core takes.fed (unread_of after) before → (fed : List ℕ) × (more : List RequestKind) × (unread_of before ++ bytes_read calls ≡ fed ++ unread_of after) × (M.requests core k fed ≡ appending ∷ more)
+      by (inl none) = (takes.fed, later, takes.all, sym (ap (M.requests core k) (ap (λ (rest : List ℕ). takes.fed ++ rest) none ∙ append-nil takes.fed)) ∙ all_is)
+      by (inr off) =
+          let first = front off (M.requests core k takes.fed) refl (sym off.is.next ∙ all_is) in
+          (takes.fed, first.0, takes.all, first.1)
 
   -- ---- goings and comings
 

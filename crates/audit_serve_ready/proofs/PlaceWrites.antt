@@ -1,5 +1,5 @@
 -- What is written at one place after another.
-use Rattle.std.proofs.Common.{◌≡◌, ◌⊎◌, inl, inr, ◌∙◌, ℕ, ◌+◌, ◌<◌, Bool, true, false, ◌||◌, List, [], ◌∷◌, ◌++◌, length, set, get_or, refl, sym, ap, subst, arith, true≢false}
+use Rattle.std.proofs.Common.{◌≡◌, ◌⊎◌, ◌≢◌, inl, inr, ◌∙◌, ℕ, ◌+◌, ◌<◌, Bool, true, false, ◌||◌, List, [], ◌∷◌, ◌++◌, length, set, get_or, refl, sym, ap, subst, arith, true≢false}
 use Rattle.std.proofs.lemmas.Bool.{cases_eq}
 use Rattle.std.proofs.lemmas.List.{append-nil, length-set, get_or-set_same, get_or-set_other}
 use Rattle.audit_serve_passes.specs.Streams.{StreamCall, CallModel, calls_for, bytes_sent, has_failed_write}
@@ -9,10 +9,14 @@ use Rattle.audit_serve_passes.proofs.Calls.{calls_here, calls_there, or_left, or
 use Rattle.audit_serve_passes.proofs.Transitions.{none_of_both, no_calls, bytes_here, bytes_there, in_any}
 use Rattle.audit_serve_ready.specs.Slot.{SlotData, vacant, unread_of, kept_of, is_shut, is_mute, has_kept, has_read, has_write, IsPushed}
 use Rattle.audit_serve_ready.specs.Places.{slot_at, IsServedAt, IsReadyPass, WritesPlaces}
-use Rattle.audit_serve_ready.proofs.Accounts.{served_elsewhere}
+use Rattle.audit_serve_ready.proofs.Accounts.{either_of, served_elsewhere}
 use Rattle.audit_serve_ready.proofs.Passes.{pass_then}
 use Rattle.audit_serve_ready.proofs.Offers.{wrote_first, wrote_later}
 use Rattle.audit_serve_ready.proofs.TurnByTurn.{read-append, neither_of}
+
+no_front : (front rest : List ℕ) → front ++ rest ≡ [] → front ≡ []
+no_front [] rest none = refl
+no_front (byte ∷ front) rest none = absurd (cc none)
 
 no_back : (front rest : List ℕ) → front ++ rest ≡ [] → rest ≡ []
 no_back [] rest none = none
@@ -57,6 +61,7 @@ module _ {C S : Type 0} (M : CoreModel C) (N : CallModel S) where
     offered = λ k below. absurd (omega (arith, below));
     no_reads = λ k. refl;
     idle = λ still k. refl;
+    moves = λ moving. absurd (true≢false (sym moving));
     unread = λ k. refl;
     dropped = λ k heard mute. absurd (true≢false (sym mute ∙ heard));
     closed = λ k live shut. absurd (true≢false (sym shut ∙ live));
@@ -81,6 +86,7 @@ module _ {C S : Type 0} (M : CoreModel C) (N : CallModel S) where
       idle = λ still j.
           let both = neither_of was moved still in
           bytes_sent-append (calls j) (calls_for k pushed.calls j) ∙ none_of_both (bytes_sent (calls j)) (bytes_sent (calls_for k pushed.calls j)) (first.idle both.0 j) (none_sent both.1 j);
+      moves = λ moving. either_of was moved moving (λ is. moved_first (first.moves is)) (λ is. (k, moved_here (pushed.moves is)));
       unread = λ j. elim (cases_eq j k) [
         | inl same ↦ ap unread_of (now_is j same) ∙ pushed.unread ∙ ap unread_of (was_is j same)
         | inr apart ↦ ap unread_of (get_or-set_other between k j after vacant apart) ∙ first.unread j
@@ -125,6 +131,17 @@ module _ {C S : Type 0} (M : CoreModel C) (N : CallModel S) where
         | inl same ↦ ap (λ (i : ℕ). bytes_sent (calls_for k pushed.calls i)) same ∙ ap bytes_sent (calls_here k pushed.calls) ∙ pushed.idle still
         | inr apart ↦ ap bytes_sent (calls_there k j pushed.calls apart)
       ]
+
+      here : calls_for k pushed.calls k ≡ pushed.calls
+      here = calls_here k pushed.calls
+
+      moved_first : (j : ℕ) × ((bytes_sent (calls j) ≢ []) ⊎ (has_failed_write (calls j) ≡ true)) → (j : ℕ) × ((bytes_sent (calls j ++ calls_for k pushed.calls j) ≢ []) ⊎ (has_failed_write (calls j ++ calls_for k pushed.calls j) ≡ true))
+      moved_first (j, inl sent_some) = (j, inl (λ none. sent_some (no_front (bytes_sent (calls j)) (bytes_sent (calls_for k pushed.calls j)) (sym (bytes_sent-append (calls j) (calls_for k pushed.calls j)) ∙ none))))
+      moved_first (j, inr failed) = (j, inr (failed-append (calls j) (calls_for k pushed.calls j) ∙ or_left (has_failed_write (calls j)) (has_failed_write (calls_for k pushed.calls j)) failed))
+
+      moved_here : (bytes_sent pushed.calls ≢ []) ⊎ (has_failed_write pushed.calls ≡ true) → (bytes_sent (calls k ++ calls_for k pushed.calls k) ≢ []) ⊎ (has_failed_write (calls k ++ calls_for k pushed.calls k) ≡ true)
+      moved_here (inl sent_some) = inl (λ none. sent_some (sym (ap bytes_sent here) ∙ no_back (bytes_sent (calls k)) (bytes_sent (calls_for k pushed.calls k)) (sym (bytes_sent-append (calls k) (calls_for k pushed.calls k)) ∙ none)))
+      moved_here (inr failed) = inr (failed-append (calls k) (calls_for k pushed.calls k) ∙ or_right (has_failed_write (calls k)) (has_failed_write (calls_for k pushed.calls k)) (ap has_failed_write here ∙ failed))
 
       dropped_here : (j : ℕ) → j ≡ k → (has_failed_write pushed.calls ≡ true) ⊎ (is_shut after ≡ true) → (has_failed_write (calls j ++ calls_for k pushed.calls j) ≡ true) ⊎ (is_shut (slot_at j (set between k after)) ≡ true)
       dropped_here j same (inl failed) = inl (failed-append (calls j) (calls_for k pushed.calls j) ∙ or_right (has_failed_write (calls j)) (has_failed_write (calls_for k pushed.calls j))

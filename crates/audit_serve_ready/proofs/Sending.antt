@@ -1,7 +1,7 @@
 -- What is sent to a client: kept and written.
-use Rattle.std.proofs.lemmas.Bool.{cases_Bool, ltb-false}
-use Rattle.std.proofs.Common.{◌≡◌, ◌≢◌, inl, inr, ℕ, Bool, true, false, Option, Some, None, List, [], ◌∷◌, ◌++◌, take, drop, ltb, arith, refl, sym, ap, subst, ◌∙◌, append_assoc, true≢false}
-use Rattle.std.proofs.lemmas.List.{append-nil, take-append-drop}
+use Rattle.std.proofs.lemmas.Bool.{cases_Bool, ltb-true, ltb-false}
+use Rattle.std.proofs.Common.{◌≡◌, ◌≢◌, inl, inr, ℕ, ◌<◌, ◌≤◌, Bool, true, false, Option, Some, None, List, [], ◌∷◌, ◌++◌, length, take, drop, ltb, arith, refl, sym, ap, subst, ◌∙◌, append_assoc, true≢false}
+use Rattle.std.proofs.lemmas.List.{append-nil, take-append-drop, length-take}
 use Rattle.audit_serve_passes.specs.Streams.{a_write, a_failed_write, CallModel}
 use Rattle.audit_serve_ready.specs.declared.reception.Reception.{Reception}
 use Rattle.audit_serve_ready.specs.declared.reception.Reception.TheVariants as reception
@@ -11,6 +11,10 @@ use Rattle.audit_serve_ready.proofs.Accounts.{accounted_none, accounted_then}
 -- nothing was taken
 pub no_count : (count : ℕ) → ltb 0 count ≡ false → count ≡ 0
 no_count count none = omega (arith, ltb-false 0 count none)
+
+-- something was taken
+pub some_count : (count : ℕ) → ltb 0 count ≡ true → 0 < count
+some_count count some = ltb-true 0 count some
 
 -- a client for which something is kept takes replies
 pub kept_heard : {S : Type 0} (slot : SlotData S) → has_kept slot ≡ true → is_mute slot ≡ false
@@ -48,6 +52,7 @@ module _ {S : Type 0} (N : CallModel S) where
     quiet = push.quiet;
     no_reads = push.no_reads;
     idle = push.idle;
+    moves = push.moves;
     unread = push.unread ∙ same;
     accounted =
         subst (λ (bytes : List ℕ). IsAccounted N bytes push.calls old pushed) (append-nil sent)
@@ -102,16 +107,17 @@ module _ {S : Type 0} (N : CallModel S) where
   closed_accounted (closing client unread) = accounted_none N (closing client unread)
 
   pub push_none : (slot : SlotData S) → has_kept slot ≡ false → IsPushed N false [] slot slot
-  push_none slot none = record { calls = []; offered = λ kept. absurd (true≢false (sym kept ∙ none)); quiet = refl; no_reads = refl; idle = λ still. refl; unread = refl; accounted = accounted_none N slot; dropped = λ heard mute. absurd (true≢false (sym mute ∙ heard)); closed = λ live shut. absurd (true≢false (sym shut ∙ live)) }
+  push_none slot none = record { calls = []; offered = λ kept. absurd (true≢false (sym kept ∙ none)); quiet = refl; no_reads = refl; idle = λ still. refl; moves = λ moving. absurd (true≢false (sym moving)); unread = refl; accounted = accounted_none N slot; dropped = λ heard mute. absurd (true≢false (sym mute ∙ heard)); closed = λ live shut. absurd (true≢false (sym shut ∙ live)) }
 
   -- a write took this number of the bytes that are kept
-  pub push_some : (moved : Bool) (client after : S) (unread kept rest : List ℕ) (count : ℕ) → N.DidCalls client after (a_write (take count kept) ∷ []) → kept ≡ take count kept ++ rest → (moved ≡ false → count ≡ 0) → IsPushed N moved [] (serving client unread kept) (serving after unread rest)
-  push_some moved client after unread kept rest count did split none = record {
+  pub push_some : (moved : Bool) (client after : S) (unread kept rest : List ℕ) (count : ℕ) → N.DidCalls client after (a_write (take count kept) ∷ []) → kept ≡ take count kept ++ rest → (moved ≡ false → count ≡ 0) → (moved ≡ true → 0 < count) → count ≤ length kept → IsPushed N moved [] (serving client unread kept) (serving after unread rest)
+  push_some moved client after unread kept rest count did split none some within = record {
     calls = a_write (take count kept) ∷ [];
     offered = λ still. refl;
     quiet = refl;
     no_reads = refl;
     idle = λ still. append-nil (take count kept) ∙ ap (λ (n : ℕ). take n kept) (none still);
+    moves = λ moving. inl (λ empty. omega (arith, some moving, within, length-take count kept, ap length (sym (append-nil (take count kept)) ∙ empty)));
     unread = refl;
     dropped = λ heard mute. absurd (true≢false (sym mute));
     closed = λ live shut. absurd (true≢false (sym shut));
@@ -135,6 +141,7 @@ module _ {S : Type 0} (N : CallModel S) where
     quiet = refl;
     no_reads = refl;
     idle = λ still. absurd (true≢false still);
+    moves = λ moving. inr refl;
     unread = refl;
     dropped = λ heard mute. inl refl;
     closed = λ live shut. absurd (true≢false (sym shut));
@@ -151,12 +158,12 @@ module _ {S : Type 0} (N : CallModel S) where
   }
 
   pub push_ok : (moved : Bool) (before after : Option S) (how : Reception) (unread kept : List ℕ) (count : ℕ) → is_mute (slot_data before unread kept how) ≡ false → (is_no_client before ≡ false → HasCalled N before after (a_write (take count kept) ∷ []))
-      → (moved ≡ false → count ≡ 0) → IsPushed N moved [] (slot_data before unread kept how) (slot_data after unread (drop count kept) how)
-  push_ok moved None after how unread kept count live did none = absurd (true≢false live)
-  push_ok moved (Some client) after reception.Drops unread kept count live did none = absurd (true≢false live)
-  push_ok moved (Some client) after reception.Shut unread kept count live did none = absurd (true≢false live)
-  push_ok moved (Some client) None reception.Takes unread kept count live did none = absurd (did refl)
-  push_ok moved (Some client) (Some after) reception.Takes unread kept count live did none = push_some moved client after unread kept (drop count kept) count (did refl) (sym (take-append-drop count kept)) none
+      → (moved ≡ false → count ≡ 0) → (moved ≡ true → 0 < count) → count ≤ length kept → IsPushed N moved [] (slot_data before unread kept how) (slot_data after unread (drop count kept) how)
+  push_ok moved None after how unread kept count live did none some within = absurd (true≢false live)
+  push_ok moved (Some client) after reception.Drops unread kept count live did none some within = absurd (true≢false live)
+  push_ok moved (Some client) after reception.Shut unread kept count live did none some within = absurd (true≢false live)
+  push_ok moved (Some client) None reception.Takes unread kept count live did none some within = absurd (did refl)
+  push_ok moved (Some client) (Some after) reception.Takes unread kept count live did none some within = push_some moved client after unread kept (drop count kept) count (did refl) (sym (take-append-drop count kept)) none some within
 
   pub push_err : (before after : Option S) (how : Reception) (unread kept rest : List ℕ) → is_mute (slot_data before unread kept how) ≡ false → (is_no_client before ≡ false → HasCalled N before after (a_failed_write kept ∷ []))
       → IsPushed N true [] (slot_data before unread kept how) (slot_data after unread rest reception.Drops)

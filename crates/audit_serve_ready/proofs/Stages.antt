@@ -37,10 +37,10 @@ module _ {C D S : Type 0} (M : CoreModel C) (N : CallModel S) (E : DoorModel D S
   pub judged_serves : (was now : D) (core : C) (before after : List (SlotData S)) → JudgesClients E (length before) was now before after → ServesPlaces N (M.DidSteps core core) no_bytes before after
   judged_serves was now core before after judges = record { steps = []; taken = no_bytes; calls = no_calls; pass = judged_pass was now core before after judges }
 
-  pub reads_serve : {moved : Bool} (steps : List StepData) (calls : ℕ → List StreamCall) (old new : C) (before after : List (SlotData S)) → ReadsPlaces M N moved steps calls old new before after → ServesPlaces N (M.DidSteps old new) no_bytes before after
+  pub reads_serve : {backlog : ℕ} {moved : Bool} (steps : List StepData) (calls : ℕ → List StreamCall) (old new : C) (before after : List (SlotData S)) → ReadsPlaces M N backlog moved steps calls old new before after → ServesPlaces N (M.DidSteps old new) no_bytes before after
   reads_serve steps calls old new before after reads = record { steps = steps; taken = no_bytes; calls = calls; pass = reads.pass }
 
-  read_pass : {moved : Bool} (was now : D) (steps : List StepData) (calls : ℕ → List StreamCall) (old new : C) (before judged after : List (SlotData S)) → JudgesClients E (length before) was now before judged → ReadsPlaces M N moved steps calls old new judged after
+  read_pass : {backlog : ℕ} {moved : Bool} (was now : D) (steps : List StepData) (calls : ℕ → List StreamCall) (old new : C) (before judged after : List (SlotData S)) → JudgesClients E (length before) was now before judged → ReadsPlaces M N backlog moved steps calls old new judged after
       → IsReadyPass N (M.DidSteps old new) no_bytes steps no_bytes calls before after
   read_pass was now steps calls old new before judged after judges reads =
       pass_then N {First = M.DidSteps old old} {Next = M.DidSteps old new} {Both = M.DidSteps old new} no_bytes [] steps no_bytes no_bytes no_calls calls before judged after (judged_pass was now old before judged judges) reads.pass
@@ -53,8 +53,8 @@ module _ {C D S : Type 0} (M : CoreModel C) (N : CallModel S) (E : DoorModel D S
   idle_pass core slots = record { count = refl; did = M.nothing_done core; others = λ k above. refl; at = λ k within. served_elsewhere N k [] (slot_at k slots) tt }
 
   -- judged, read, flushed and written
-  pub whole_pass : {moved : Bool} (was now : D) (turns : List StepData) (reads : ℕ → List StreamCall) (taken : ℕ → List ℕ) (writes : ℕ → List StreamCall) (old mid flushed new : C) (before judged between after : List (SlotData S)) → JudgesClients E (length before) was now before judged
-      → ReadsPlaces M N moved turns reads old mid judged between → M.DidSteps mid flushed (a_flush ∷ []) no_bytes → IsReadyPass N (M.DidSteps flushed new) no_bytes [] taken writes between after
+  pub whole_pass : {backlog : ℕ} {moved : Bool} (was now : D) (turns : List StepData) (reads : ℕ → List StreamCall) (taken : ℕ → List ℕ) (writes : ℕ → List StreamCall) (old mid flushed new : C) (before judged between after : List (SlotData S)) → JudgesClients E (length before) was now before judged
+      → ReadsPlaces M N backlog moved turns reads old mid judged between → M.DidSteps mid flushed (a_flush ∷ []) no_bytes → IsReadyPass N (M.DidSteps flushed new) no_bytes [] taken writes between after
       → IsReadyPass N (M.DidSteps old new) no_bytes (turns ++ a_flush ∷ []) taken (λ k. reads k ++ writes k) before after
   whole_pass was now turns reads taken writes old mid flushed new before judged between after judges reading flush writing =
       pass_then N {First = M.DidSteps old mid} {Next = M.DidSteps mid new} {Both = M.DidSteps old new} no_bytes turns (a_flush ∷ []) no_bytes taken reads writes before between after (read_pass was now turns reads old mid before judged between judges reading)
@@ -63,7 +63,7 @@ module _ {C D S : Type 0} (M : CoreModel C) (N : CallModel S) (E : DoorModel D S
 
   module _ (backlog : ℕ) where
     unfoldable pub written_pass : (was_read was_written : Bool) (first : ℕ) (was heard gathered now : D) (old mid flushed new : C) (before judged between after : List (SlotData S)) (turns : List StepData) (reads : ℕ → List StreamCall) (taken : ℕ → List ℕ) (writes : ℕ → List StreamCall)
-        → JudgesClients E (length before) was heard before judged → AsksDoor E heard gathered → ReadsPlaces M N was_read turns reads old mid judged between → M.DidSteps mid flushed (a_flush ∷ []) no_bytes → E.DidCalls gathered now (a_release true ∷ [])
+        → JudgesClients E (length before) was heard before judged → AsksDoor E heard gathered → ReadsPlaces M N backlog was_read turns reads old mid judged between → M.DidSteps mid flushed (a_flush ∷ []) no_bytes → E.DidCalls gathered now (a_release true ∷ [])
         → WritesPlaces N (M.DidSteps flushed new) was_written (length between) taken writes between after → M.Idle new → (first < length before → TakesTurn M backlog first old (slot_at first before) (slot_at first after)) → ServesPass M N E backlog true first was now old new before after
     written_pass was_read was_written first was heard gathered now old mid flushed new before judged between after turns reads taken writes judges asks reading flush released writing idle turn = record {
       heard = heard;
@@ -88,7 +88,7 @@ module _ {C D S : Type 0} (M : CoreModel C) (N : CallModel S) (E : DoorModel D S
     }
 
     pub withheld_pass : (was_read : Bool) (first : ℕ) (was heard gathered now : D) (old mid flushed : C) (before judged between : List (SlotData S)) (turns : List StepData) (reads : ℕ → List StreamCall) → JudgesClients E (length before) was heard before judged → AsksDoor E heard gathered
-        → ReadsPlaces M N was_read turns reads old mid judged between → M.DidSteps mid flushed (a_flush ∷ []) no_bytes → E.DidCalls gathered now (a_release false ∷ []) → M.Idle flushed
+        → ReadsPlaces M N backlog was_read turns reads old mid judged between → M.DidSteps mid flushed (a_flush ∷ []) no_bytes → E.DidCalls gathered now (a_release false ∷ []) → M.Idle flushed
         → (first < length before → TakesTurn M backlog first old (slot_at first before) (slot_at first between)) → ServesPass M N E backlog false first was now old flushed before between
     withheld_pass was_read first was heard gathered now old mid flushed before judged between turns reads judges asks reading flush released idle turn = record {
       heard = heard;

@@ -1,5 +1,5 @@
 -- The turn of one session.
-use Rattle.std.proofs.Common.{◌≡◌, ℕ, ◌≤◌, Bool, true, false, ◌||◌, eqb, cond, Result, Ok, Err, IfOk, OnOk, OnErr, List, [], ◌∷◌, ◌++◌, length, take, drop, refl, sym, ap, subst, ◌∙◌, arith, inl, inr, true≢false}
+use Rattle.std.proofs.Common.{◌≡◌, ◌≢◌, ℕ, ◌<◌, ◌≤◌, Bool, true, false, ◌||◌, eqb, cond, Result, Ok, Err, IfOk, OnOk, OnErr, List, [], ◌∷◌, ◌++◌, length, take, drop, refl, sym, ap, subst, ◌∙◌, arith, inl, inr, ◌⊎◌, true≢false}
 use Rattle.std.proofs.lemmas.Bool.{eq-eqb, cond-true}
 use Rattle.std.proofs.lemmas.List.{append-nil, take-append-drop, length-append, length-take}
 use Rattle.audit_serve_passes.specs.declared.limits.TheConstants.{MAX_PIECE}
@@ -10,7 +10,9 @@ use Rattle.audit_serve_passes.proofs.Transitions.{no_bytes_for}
 use Rattle.audit_serve_passes.proofs.Turns.{end_brings_nothing}
 use Rattle.audit_serve_ready.specs.Slot.{SlotData, vacant, serving, unheard, closing, unread_of, with_unread, is_shut, IsSamePlace, HasLooked}
 use Rattle.audit_serve_ready.specs.Places.{has_last_read, CoreDid, IsServedAt, ServesPlace, StopsAtPlace}
-use Rattle.audit_serve_ready.specs.Reading.{IsTurn, IsFedPiece, HasTurn}
+use Rattle.audit_serve_ready.specs.Backlog.{IsPutOff}
+use Rattle.audit_serve_ready.specs.Reading.{IsWait, IsTurn, IsFedPiece, HasTurn}
+use Rattle.audit_serve_ready.proofs.Asking.{off_before}
 use Rattle.audit_serve_ready.proofs.Accounts.{accounted_none, unread_put, unread_accounted, served_then}
 
 one_piece : (k : ℕ) (piece : List ℕ) → bytes_fed k (a_piece k piece ∷ []) ≡ piece
@@ -19,6 +21,10 @@ one_piece k piece = append-nil (cond (eqb k k) piece []) ∙ cond-true (eqb k k)
 end_about : (k : ℕ) (part : List StepData) → IsPartOf (an_end k) part → AreAbout k part
 end_about k part (inl none) = subst (AreAbout k) (sym none) tt
 end_about k part (inr whole) = subst (AreAbout k) (sym whole) (refl, tt)
+
+no_back : (front rest : List ℕ) → front ++ rest ≡ [] → rest ≡ []
+no_back [] rest none = none
+no_back (byte ∷ front) rest none = absurd (cc none)
 
 pub no_front : (front rest : List ℕ) → front ++ rest ≡ [] → front ≡ []
 no_front [] rest none = refl
@@ -112,7 +118,7 @@ module _ {C S : Type 0} (M : CoreModel C) (N : CallModel S) where
 
   -- ---- a piece of what is unread
 
-  fed_at : (k : ℕ) (taken : ℕ) (slot : SlotData S) → is_shut slot ≡ false → IsServedAt N k (a_piece k (take taken (unread_of slot)) ∷ []) [] [] [] slot (with_unread (drop taken (unread_of slot)) slot)
+  pub fed_at : (k : ℕ) (taken : ℕ) (slot : SlotData S) → is_shut slot ≡ false → IsServedAt N k (a_piece k (take taken (unread_of slot)) ∷ []) [] [] [] slot (with_unread (drop taken (unread_of slot)) slot)
   fed_at k taken slot live =
       let bytes : List ℕ = unread_of slot in
       record {
@@ -123,86 +129,6 @@ module _ {C S : Type 0} (M : CoreModel C) (N : CallModel S) where
         ends = inl refl;
         accounted = unread_accounted N (drop taken bytes) slot;
       }
-
-  pub is_fed : (moved : Bool) (k : ℕ) (taken : ℕ) (old new : C) (slot : SlotData S) → is_shut slot ≡ false → length (unread_of slot) ≤ MAX_PIECE → M.DidSteps old new (a_piece k (take taken (unread_of slot)) ∷ []) no_bytes
-      → (moved ≡ false → taken ≡ 0) → IsFedPiece M N moved k old new slot (with_unread (drop taken (unread_of slot)) slot)
-  is_fed moved k taken old new slot live most did none = record {
-    piece = take taken (unread_of slot);
-    most = omega (arith, most, length-take taken (unread_of slot));
-    held = λ still. ap (λ (n : ℕ). take n (unread_of slot)) (none still);
-    did = did;
-    served = fed_at k taken slot live;
-    same = same_unread (drop taken (unread_of slot)) slot;
-  }
-
-  -- ---- the turns of a session
-
-  -- whose place is shut,
-  pub shut_turn : (k : ℕ) (old new : C) (slot : SlotData S) → is_shut slot ≡ true → M.DidSteps old new (an_end k ∷ []) no_bytes → M.ended new [] k ≡ true → HasTurn M N true k true old new slot slot
-  shut_turn k old new slot shut did over = record {
-    steps = an_end k ∷ [];
-    calls = [];
-    did = did;
-    taken = (an_end k, refl, inl refl);
-    waits = λ still. absurd (true≢false still);
-    served = record { read = refl; ends = inr shut; accounted = accounted_none N slot };
-    seen = inl (shut, over);
-    last = λ last. over;
-    same = record { kept = refl; mute = refl; shut = refl };
-    quiet = refl;
-    unread = λ idle. absurd (true≢false idle);
-  }
-
-  -- of whose client nothing was there,
-  pub vain_turn : (k : ℕ) (core : C) (before after : SlotData S) (calls : List StreamCall) → HasLooked N before after calls → has_last_read calls ≡ false → unread_of after ≡ [] → HasTurn M N false k false core core before after
-  vain_turn k core before after calls look going none = record {
-    steps = [];
-    calls = calls;
-    did = M.nothing_done core;
-    taken = refl;
-    waits = λ still. tt;
-    served = record { read = looked before after calls look; ends = inl refl; accounted = look.accounted };
-    seen = inr look.asked;
-    last = λ last. absurd (true≢false (sym last ∙ going));
-    same = look.same;
-    quiet = look.quiet;
-    unread = λ idle. none ∙ sym (no_front (unread_of before) (bytes_read calls) (look.read ∙ none));
-  }
-
-  -- whose client's stream is over,
-  pub over_turn : (k : ℕ) (old new : C) (before after : SlotData S) (calls : List StreamCall) → HasLooked N before after calls → has_last_read calls ≡ true → M.DidSteps old new (an_end k ∷ []) no_bytes → M.ended new [] k ≡ true
-      → HasTurn M N true k true old new before after
-  over_turn k old new before after calls look last did over = record {
-    steps = an_end k ∷ [];
-    calls = calls;
-    did = did;
-    taken = (an_end k, refl, inl refl);
-    waits = λ still. absurd (true≢false still);
-    served = record { read = looked before after calls look; ends = inr (ap (λ (x : Bool). x || is_shut after) last); accounted = look.accounted };
-    seen = inr look.asked;
-    last = λ last. over;
-    same = look.same;
-    quiet = look.quiet;
-    unread = λ idle. absurd (true≢false idle);
-  }
-
-  -- and of whose client bytes are unread
-  pub fed_turn : (moved : Bool) (k : ℕ) (had : Bool) (old new : C) (before between after : SlotData S) (calls : List StreamCall) → had ≡ true → HasLooked N before between calls → has_last_read calls ≡ false → IsFedPiece M N moved k old new between after → HasTurn M N moved k had old new before after
-  fed_turn moved k false old new before between after calls is look going fed = absurd (true≢false (sym is))
-  fed_turn moved k true old new before between after calls is look going fed = record {
-    steps = a_piece k fed.piece ∷ [];
-    calls = calls;
-    did = fed.did;
-    taken = (a_piece k fed.piece, refl, piece_turn k fed.piece fed.most);
-    waits = λ still. ((k, ap (a_piece k) (fed.held still)), tt);
-    served = subst (λ (all : List StreamCall). IsServedAt N k (a_piece k fed.piece ∷ []) [] [] all before after) (append-nil calls)
-        (served_then N k [] (a_piece k fed.piece ∷ []) [] [] [] calls [] before between after (record { read = looked before between calls look; ends = inl refl; accounted = look.accounted }) fed.served);
-    seen = inr look.asked;
-    last = λ last. absurd (true≢false (sym last ∙ going));
-    same = record { kept = fed.same.kept ∙ look.same.kept; mute = fed.same.mute ∙ look.same.mute; shut = fed.same.shut ∙ look.same.shut };
-    quiet = look.quiet;
-    unread = λ idle. absurd (true≢false idle);
-  }
 
   -- one that was refused, at most in part: the rest is lost
   pub fed_stopped : (k : ℕ) (old new : C) (slot : SlotData S) → is_shut slot ≡ false → length (unread_of slot) ≤ MAX_PIECE → GoesBy M (a_piece k (unread_of slot)) old new
@@ -239,3 +165,106 @@ module _ {C S : Type 0} (M : CoreModel C) (N : CallModel S) where
           };
         };
       }
+
+-- the end of a session is no wait, and only no bytes wait
+never_ends : (k : ℕ) → IsWait (an_end k) → ⊥
+never_ends k waits = cc waits.1
+
+piece_waits : (k : ℕ) (piece : List ℕ) → IsWait (a_piece k piece) → piece ≡ []
+piece_waits k piece waits = cc waits.1
+
+module _ {C S : Type 0} (M : CoreModel C) (N : CallModel S) (backlog : ℕ) where
+  pub is_fed : (moved : Bool) (k : ℕ) (taken : ℕ) (old new : C) (slot : SlotData S) → is_shut slot ≡ false → length (unread_of slot) ≤ MAX_PIECE → M.DidSteps old new (a_piece k (take taken (unread_of slot)) ∷ []) no_bytes
+      → (moved ≡ false → taken ≡ 0) → (moved ≡ true → 0 < taken) → taken ≤ length (unread_of slot)
+      → (unread_of (with_unread (drop taken (unread_of slot)) slot) ≡ []) ⊎ IsPutOff M backlog k old (take taken (unread_of slot)) (unread_of (with_unread (drop taken (unread_of slot)) slot)) slot → IsFedPiece M N backlog moved k old new slot (with_unread (drop taken (unread_of slot)) slot)
+  is_fed moved k taken old new slot live most did none some within left = record {
+    piece = take taken (unread_of slot);
+    most = omega (arith, most, length-take taken (unread_of slot));
+    held = λ still. ap (λ (n : ℕ). take n (unread_of slot)) (none still);
+    moves = λ moving empty. omega (arith, some moving, within, length-take taken (unread_of slot), ap length empty);
+    did = did;
+    served = fed_at M N k taken slot live;
+    left = left;
+    same = same_unread (drop taken (unread_of slot)) slot;
+  }
+
+  -- ---- the turns of a session
+
+  -- whose place is shut,
+  pub shut_turn : (k : ℕ) (old new : C) (slot : SlotData S) → is_shut slot ≡ true → M.DidSteps old new (an_end k ∷ []) no_bytes → M.ended new [] k ≡ true → HasTurn M N backlog true k true old new slot slot
+  shut_turn k old new slot shut did over = record {
+    steps = an_end k ∷ [];
+    calls = [];
+    did = did;
+    taken = (an_end k, refl, inl refl);
+    waits = λ still. absurd (true≢false still);
+    moves = λ moving waits. never_ends k waits.0;
+    served = record { read = refl; ends = inr shut; accounted = accounted_none N slot };
+    seen = inl (shut, over);
+    last = λ last. over;
+    same = record { kept = refl; mute = refl; shut = refl };
+    quiet = refl;
+    left = λ live. absurd (true≢false (sym shut ∙ live));
+    none = λ idle. absurd (true≢false idle);
+  }
+
+  -- of whose client nothing was there,
+  pub vain_turn : (k : ℕ) (core : C) (before after : SlotData S) (calls : List StreamCall) → HasLooked N before after calls → has_last_read calls ≡ false → unread_of after ≡ [] → HasTurn M N backlog false k false core core before after
+  vain_turn k core before after calls look going none = record {
+    steps = [];
+    calls = calls;
+    did = M.nothing_done core;
+    taken = refl;
+    waits = λ still. tt;
+    moves = λ moving waits. true≢false (sym moving);
+    served = record { read = looked M N before after calls look; ends = inl refl; accounted = look.accounted };
+    seen = inr look.asked;
+    last = λ last. absurd (true≢false (sym last ∙ going));
+    same = look.same;
+    quiet = look.quiet;
+    left = λ live. record { fed = []; all = look.read; left = inl none };
+    none = λ idle. (none ∙ sym (no_front (unread_of before) (bytes_read calls) (look.read ∙ none)), no_back (unread_of before) (bytes_read calls) (look.read ∙ none));
+  }
+
+  -- whose client's stream is over,
+  pub over_turn : (k : ℕ) (old new : C) (before after : SlotData S) (calls : List StreamCall) → HasLooked N before after calls → has_last_read calls ≡ true → unread_of after ≡ [] → M.DidSteps old new (an_end k ∷ []) no_bytes → M.ended new [] k ≡ true
+      → HasTurn M N backlog true k true old new before after
+  over_turn k old new before after calls look last none did over = record {
+    steps = an_end k ∷ [];
+    calls = calls;
+    did = did;
+    taken = (an_end k, refl, inl refl);
+    waits = λ still. absurd (true≢false still);
+    moves = λ moving waits. never_ends k waits.0;
+    served = record { read = looked M N before after calls look; ends = inr (ap (λ (x : Bool). x || is_shut after) last); accounted = look.accounted };
+    seen = inr look.asked;
+    last = λ last. over;
+    same = look.same;
+    quiet = look.quiet;
+    left = λ live. record { fed = []; all = look.read; left = inl none };
+    none = λ idle. absurd (true≢false idle);
+  }
+
+  -- and of whose client bytes are unread
+  pub fed_turn : (moved : Bool) (k : ℕ) (had : Bool) (old new : C) (before between after : SlotData S) (calls : List StreamCall) → had ≡ true → HasLooked N before between calls → has_last_read calls ≡ false → IsFedPiece M N backlog moved k old new between after → HasTurn M N backlog moved k had old new before after
+  fed_turn moved k false old new before between after calls is look going fed = absurd (true≢false (sym is))
+  fed_turn moved k true old new before between after calls is look going fed = record {
+    steps = a_piece k fed.piece ∷ [];
+    calls = calls;
+    did = fed.did;
+    taken = (a_piece k fed.piece, refl, piece_turn k fed.piece fed.most);
+    waits = λ still. ((k, ap (a_piece k) (fed.held still)), tt);
+    moves = λ moving waits. fed.moves moving (piece_waits k fed.piece waits.0);
+    served = subst (λ (all : List StreamCall). IsServedAt N k (a_piece k fed.piece ∷ []) [] [] all before after) (append-nil calls)
+        (served_then N k [] (a_piece k fed.piece ∷ []) [] [] [] calls [] before between after (record { read = looked M N before between calls look; ends = inl refl; accounted = look.accounted }) fed.served);
+    seen = inr look.asked;
+    last = λ last. absurd (true≢false (sym last ∙ going));
+    same = record { kept = fed.same.kept ∙ look.same.kept; mute = fed.same.mute ∙ look.same.mute; shut = fed.same.shut ∙ look.same.shut };
+    quiet = look.quiet;
+    left = λ live. record {
+      fed = fed.piece;
+      all = look.read ∙ sym (append-nil (unread_of between)) ∙ fed.served.read ∙ ap (λ (first : List ℕ). first ++ (unread_of after ++ [])) (one_piece k fed.piece) ∙ ap (λ (rest : List ℕ). fed.piece ++ rest) (append-nil (unread_of after));
+      left = off_before M backlog k old fed.piece (unread_of after) between before look.same.kept fed.left;
+    };
+    none = λ idle. absurd (true≢false idle);
+  }

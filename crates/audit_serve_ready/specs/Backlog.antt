@@ -1,8 +1,9 @@
 -- How many bytes are kept for a client and owed to its session.
 use Rattle.std.specs.Prelude.{◌≡◌, ◌≢◌, ◌⊎◌, ℕ, ◌+◌, ◌<◌, ◌≤◌, max, Bool, true, false, List, [], ◌++◌, length}
 use Rattle.std.specs.Prelude.{slice_index_or}
-use Rattle.audit_serve_passes.specs.Core.{CoreModel}
-use Rattle.audit_serve_passes.specs.Owing.{OwesOthersNoMore}
+use Rattle.audit_serve_passes.specs.Streams.{StreamCall, bytes_read}
+use Rattle.audit_serve_passes.specs.Core.{CoreModel, RequestKind, appending}
+use Rattle.audit_serve_passes.specs.Owing.{OwesOthersNoMore, IsNextRequest}
 use Rattle.audit_serve_ready.specs.Slot.{SlotData, kept_of, unread_of, is_mute}
 use Rattle.audit_serve_ready.specs.Places.{slot_at}
 
@@ -53,8 +54,26 @@ module _ {C S : Type 0} (M : CoreModel C) (backlog : ℕ) where
   -- the session took a request of what was unread, or all of it
   abbrev pub HasTakenRequest : ℕ → C → SlotData S → SlotData S → Type 0
   HasTakenRequest k core before after = (unread_of after ≡ [])
-      ⊎ ((fed : List ℕ) × (unread_of before ≡ fed ++ unread_of after) × (M.requests core k fed ≢ 0))
+      ⊎ ((fed : List ℕ) × (unread_of before ≡ fed ++ unread_of after) × (M.requests core k fed ≢ []))
 
   -- It does so in a turn of its own, unless its client is heard no more afterwards.
   abbrev pub TakesTurn : ℕ → C → SlotData S → SlotData S → Type 0
   TakesTurn k core before after = MayAsk k core before → is_mute after ≡ false → HasTakenRequest k core before after
+
+  -- ---- what is taken of a client's bytes
+
+  -- The bytes that a turn leaves begin with a request that has to wait: a question; or an append for whose reply the
+  -- backlog has no room beside what is kept for the client and the replies to what was taken before it in this turn.
+  -- The first request of a turn never waits for room if nothing is kept.
+  pub record IsPutOff (k : ℕ) (core : C) (fed rest : List ℕ) (slot : SlotData S) : Type 0 where
+    pub kind : RequestKind
+    pub is : IsNextRequest M k core fed (fed ++ rest) kind
+    pub full : kind ≡ appending → backlog < length (kept_of slot) + (M.replies core k fed + M.acknowledgement)
+    pub first : kind ≡ appending → M.requests core k fed ≡ [] → kept_of slot ≢ []
+
+  -- Of what was unread, and then of what was read in these calls, the session took the first bytes: all, or those up to
+  -- a request that has to wait.
+  pub record TakesUp (k : ℕ) (calls : List StreamCall) (core : C) (before after : SlotData S) : Type 0 where
+    pub fed : List ℕ
+    pub all : unread_of before ++ bytes_read calls ≡ fed ++ unread_of after
+    pub left : (unread_of after ≡ []) ⊎ IsPutOff k core fed (unread_of after) before

@@ -93,13 +93,14 @@ module _ {S : Type 0} (N : CallModel S) where
   -- What was taken of the sessions' outputs was kept and offered at the places below a number. Replies are dropped
   -- after a write that failed, or in a place that is shut; and that is for want of memory, which is asked for only if
   -- replies are to be put behind others. The other places are as they were. Unless something moved, no byte was
-  -- written.
+  -- written; if something did, some were, or a write failed.
   pub record WritesPlaces (Did : CoreDid) (moved : Bool) (count : ℕ) (taken : ℕ → List ℕ) (calls : ℕ → List StreamCall)
       (before after : List (SlotData S)) : Type 0 where
     pub pass : IsReadyPass Did (λ k. []) [] taken calls before after
     pub offered : (k : ℕ) → k < count → IsOffered (calls k) (slot_at k after)
     pub no_reads : (k : ℕ) → has_read (calls k) ≡ false
     pub idle : moved ≡ false → (k : ℕ) → bytes_sent (calls k) ≡ []
+    pub moves : moved ≡ true → (k : ℕ) × ((bytes_sent (calls k) ≢ []) ⊎ (has_failed_write (calls k) ≡ true))
     pub unread : (k : ℕ) → unread_of (slot_at k after) ≡ unread_of (slot_at k before)
     pub dropped : (k : ℕ) → is_mute (slot_at k before) ≡ false → is_mute (slot_at k after) ≡ true
         → (has_failed_write (calls k) ≡ true) ⊎ (is_shut (slot_at k after) ≡ true)

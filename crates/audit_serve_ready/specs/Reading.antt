@@ -1,11 +1,11 @@
 -- Reading in a pass: the turns of the sessions.
-use Rattle.std.specs.Prelude.{◌≡◌, ◌⊎◌, ℕ, ◌+◌, ◌-◌, ◌%◌, ◌<◌, ◌≤◌, nat_le, Bool, true, false, ◌==◌, if◌then◌else◌}
-use Rattle.std.specs.Prelude.{List, [], ◌∷◌, length, slice_index_or}
+use Rattle.std.specs.Prelude.{◌≡◌, ◌≢◌, ◌⊎◌, ℕ, ◌+◌, ◌-◌, ◌%◌, ◌<◌, ◌≤◌, nat_le, Bool, true, false, ◌==◌, if◌then◌else◌}
+use Rattle.std.specs.Prelude.{List, [], ◌∷◌, ◌++◌, length, slice_index_or}
 use Rattle.std.specs.List.{AllByRecursion}
 use Rattle.audit_serve_passes.specs.declared.limits.TheConstants.{MAX_PIECE}
 use Rattle.audit_serve_passes.specs.Steps.{StepData, a_piece, an_end, a_flush}
 use Rattle.audit_serve_passes.specs.Rounds.{IsVisit}
-use Rattle.audit_serve_passes.specs.Streams.{StreamCall, CallModel, bytes_sent}
+use Rattle.audit_serve_passes.specs.Streams.{StreamCall, CallModel, bytes_read, bytes_sent}
 use Rattle.audit_serve_passes.specs.Core.{CoreModel, no_bytes}
 use Rattle.audit_serve_ready.specs.declared.slot.Look.{Look}
 use Rattle.audit_serve_ready.specs.declared.slot.Look.TheVariants as look
@@ -13,6 +13,7 @@ use Rattle.audit_serve_ready.specs.declared.turns.Turn.{Turn}
 use Rattle.audit_serve_ready.specs.declared.turns.Turn.TheVariants as turn
 use Rattle.audit_serve_ready.specs.Slot.{SlotData, unread_of, is_shut, IsAskedForBytes, IsSamePlace}
 use Rattle.audit_serve_ready.specs.Places.{slot_at, has_last_read, IsServedAt, IsReadyPass}
+use Rattle.audit_serve_ready.specs.Backlog.{IsPutOff, TakesUp}
 
 -- A session's turn: it is visited, or its bytes have to wait, so that none is taken.
 abbrev pub IsTurn : ℕ → StepData → Type 0
@@ -63,18 +64,34 @@ abbrev pub IsTurnTaken : ℕ → Bool → List StepData → Type 0
 IsTurnTaken k true steps = (step : StepData) × (steps ≡ step ∷ []) × IsTurn k step
 IsTurnTaken k false steps = steps ≡ []
 
+module _ {C S : Type 0} (M : CoreModel C) where
+  -- A session had no turn: of its client nothing was read, and the others' turns don't matter to it.
+  pub record IsLeftOut (k : ℕ) (calls : List StreamCall) (old new : C) (before after : SlotData S) : Type 0 where
+    pub ended : M.ended new [] k ≡ M.ended old [] k
+    pub requests : (bytes : List ℕ) → (M.requests new k bytes ≡ M.requests old k bytes)
+        × (M.replies new k bytes ≡ M.replies old k bytes)
+    pub unread : unread_of after ≡ unread_of before
+    pub read : bytes_read calls ≡ []
+
 module _ {C S : Type 0} (M : CoreModel C) (N : CallModel S) where
   -- A session whose place is shut is ended; the client of another one was asked for bytes.
   abbrev pub IsAttended : ℕ → List StreamCall → C → SlotData S → Type 0
   IsAttended k calls new before = ((is_shut before ≡ true) × (M.ended new [] k ≡ true)) ⊎ IsAskedForBytes calls before
 
+  -- a step is the turn of a session below a number that is live
+  abbrev pub IsTurnOfLive : ℕ → C → StepData → Type 0
+  IsTurnOfLive count core step = (k : ℕ) × (k < count) × (M.ended core [] k ≡ false) × IsTurn k step
+
+module _ {C S : Type 0} (M : CoreModel C) (N : CallModel S) (backlog : ℕ) where
   -- A session was fed the first of what is unread, or had to wait.
   pub record IsFedPiece (moved : Bool) (k : ℕ) (old new : C) (before after : SlotData S) : Type 0 where
     pub piece : List ℕ
     pub most : length piece ≤ MAX_PIECE
     pub held : moved ≡ false → piece ≡ []
+    pub moves : moved ≡ true → piece ≢ []
     pub did : M.DidSteps old new (a_piece k piece ∷ []) no_bytes
     pub served : IsServedAt N k (a_piece k piece ∷ []) [] [] [] before after
+    pub left : (unread_of after ≡ []) ⊎ IsPutOff M backlog k old piece (unread_of after) before
     pub same : IsSamePlace before after
 
   -- the turn of a session
@@ -84,16 +101,14 @@ module _ {C S : Type 0} (M : CoreModel C) (N : CallModel S) where
     pub did : M.DidSteps old new steps no_bytes
     pub taken : IsTurnTaken k had steps
     pub waits : moved ≡ false → AllByRecursion IsWait steps
+    pub moves : moved ≡ true → AllByRecursion IsWait steps → ⊥
     pub served : IsServedAt N k steps [] [] calls before after
-    pub seen : IsAttended k calls new before
+    pub seen : IsAttended M N k calls new before
     pub last : has_last_read calls ≡ true → M.ended new [] k ≡ true
     pub same : IsSamePlace before after
     pub quiet : bytes_sent calls ≡ []
-    pub unread : had ≡ false → unread_of after ≡ unread_of before
-
-  -- a step is the turn of a session below a number that is live
-  abbrev pub IsTurnOfLive : ℕ → C → StepData → Type 0
-  IsTurnOfLive count core step = (k : ℕ) × (k < count) × (M.ended core [] k ≡ false) × IsTurn k step
+    pub left : is_shut before ≡ false → TakesUp M backlog k calls old before after
+    pub none : had ≡ false → (unread_of after ≡ unread_of before) × (bytes_read calls ≡ [])
 
   -- Some sessions had their turns, each at most one: those that are marked now and weren't before. Whoever else is
   -- meant was asked for bytes in vain.
@@ -102,28 +117,38 @@ module _ {C S : Type 0} (M : CoreModel C) (N : CallModel S) where
     pub steps : List StepData
     pub calls : ℕ → List StreamCall
     pub pass : IsReadyPass N (M.DidSteps old new) no_bytes steps no_bytes calls before after
-    pub turns : AllByRecursion (IsTurnOfLive (length before) old) steps
+    pub turns : AllByRecursion (IsTurnOfLive M N (length before) old) steps
     pub once : (k : ℕ) → steps_about k steps + mark had k ≤ mark now k
     pub waits : moved ≡ false → AllByRecursion IsWait steps
+    pub moves : moved ≡ true → AllByRecursion IsWait steps → ⊥
     pub marks : (k : ℕ) → slice_index_or had k true ≡ true → slice_index_or now k true ≡ true
     pub seen : (k : ℕ) → k < length before → slice_index_or had k true ≡ false → M.ended old [] k ≡ false
-        → (Meant k ⊎ (slice_index_or now k true ≡ true)) → IsAttended k (calls k) new (slot_at k before)
+        → (Meant k ⊎ (slice_index_or now k true ≡ true)) → IsAttended M N k (calls k) new (slot_at k before)
     pub last : (k : ℕ) → k < length before → has_last_read (calls k) ≡ true → M.ended new [] k ≡ true
     pub same : (k : ℕ) → IsSamePlace (slot_at k before) (slot_at k after)
     pub quiet : (k : ℕ) → bytes_sent (calls k) ≡ []
+    pub left : (k : ℕ) → k < length before → slice_index_or had k true ≡ false → M.ended old [] k ≡ false
+        → is_shut (slot_at k before) ≡ false → (Meant k ⊎ (slice_index_or now k true ≡ true))
+        → TakesUp M backlog k (calls k) old (slot_at k before) (slot_at k after)
     pub alone : (k : ℕ) → slice_index_or now k true ≡ false
-        → (M.ended new [] k ≡ M.ended old [] k) × (unread_of (slot_at k after) ≡ unread_of (slot_at k before))
+        → IsLeftOut M k (calls k) old new (slot_at k before) (slot_at k after)
+    pub over : (k : ℕ) → slice_index_or had k true ≡ true
+        → (bytes_read (calls k) ≡ []) × (unread_of (slot_at k after) ≡ unread_of (slot_at k before))
 
   -- What reading does in a pass: each live session has at most one turn, and it has one or is asked for bytes in vain.
-  -- Whoever's stream is over then is ended, and so is whoever's place is shut. Nothing is written. Unless something
-  -- moved, each of these turns was a wait.
+  -- Whoever's stream is over then is ended, and so is whoever's place is shut. Of the others' bytes all is taken, up to
+  -- a request that has to wait. Nothing is written. Something moved, unless each of these turns was a wait.
   pub record ReadsPlaces (moved : Bool) (steps : List StepData) (calls : ℕ → List StreamCall) (old new : C)
       (before after : List (SlotData S)) : Type 0 where
     pub pass : IsReadyPass N (M.DidSteps old new) no_bytes steps no_bytes calls before after
-    pub turns : AllByRecursion (IsTurnOfLive (length before) old) steps
+    pub turns : AllByRecursion (IsTurnOfLive M N (length before) old) steps
     pub once : (k : ℕ) → steps_about k steps ≤ 1
     pub waits : moved ≡ false → AllByRecursion IsWait steps
-    pub seen : (k : ℕ) → k < length before → M.ended old [] k ≡ false → IsAttended k (calls k) new (slot_at k before)
+    pub moves : moved ≡ true → AllByRecursion IsWait steps → ⊥
+    pub seen : (k : ℕ) → k < length before → M.ended old [] k ≡ false
+        → IsAttended M N k (calls k) new (slot_at k before)
     pub last : (k : ℕ) → k < length before → has_last_read (calls k) ≡ true → M.ended new [] k ≡ true
     pub same : (k : ℕ) → IsSamePlace (slot_at k before) (slot_at k after)
     pub quiet : (k : ℕ) → bytes_sent (calls k) ≡ []
+    pub left : (k : ℕ) → k < length before → M.ended old [] k ≡ false → is_shut (slot_at k before) ≡ false
+        → TakesUp M backlog k (calls k) old (slot_at k before) (slot_at k after)

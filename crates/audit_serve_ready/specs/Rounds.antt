@@ -1,7 +1,7 @@
 -- Rounds of serving: a pass over the clients that are there, goings, comings, and a pause; and what the door was told
 -- and said in them.
-use Rattle.std.specs.Prelude.{◌≡◌, ◌⊎◌, ℕ, zero, suc, ◌-◌, ◌^◌, ◌<◌, ◌≤◌, Bool, true, false, not, ◌&&◌, if◌then◌else◌}
-use Rattle.std.specs.Prelude.{Option, Some, None, List, [], ◌∷◌, ◌++◌, length}
+use Rattle.std.specs.Prelude.{◌≡◌, ◌≢◌, ◌⊎◌, ℕ, zero, suc, ◌-◌, ◌^◌, ◌<◌, ◌≤◌, Bool, true, false, not, ◌&&◌}
+use Rattle.std.specs.Prelude.{if◌then◌else◌, Option, Some, None, List, [], ◌∷◌, ◌++◌, length}
 use Rattle.audit_serve_passes.specs.Steps.{StepData, a_flush}
 use Rattle.audit_serve_passes.specs.Streams.{StreamCall, CallModel}
 use Rattle.audit_serve_passes.specs.Core.{CoreModel, no_bytes}
@@ -15,7 +15,7 @@ use Rattle.audit_serve_ready.specs.Door.{DoorModel, joined_below}
 use Rattle.audit_serve_ready.specs.Slot.{SlotData, client_of, has_client, has_kept, is_shut, closed}
 use Rattle.audit_serve_ready.specs.Slot.{IsAskedForBytes, IsOffered}
 use Rattle.audit_serve_ready.specs.Places.{slot_at, has_last_read, OffersKept, WritesPlaces}
-use Rattle.audit_serve_ready.specs.Backlog.{TakesTurn}
+use Rattle.audit_serve_ready.specs.Backlog.{TakesTurn, TakesUp}
 use Rattle.audit_serve_ready.specs.Reading.{ReadsPlaces}
 use Rattle.audit_serve_ready.specs.Clients.{ClientChange, a_coming, a_refusal, a_going, next_first}
 use Rattle.audit_serve_ready.specs.Clients.{IsClientPass, AreChanges}
@@ -48,6 +48,10 @@ pub data IsOfferAnswered {S : Type 0} (k : ℕ) : List (DoorCall S) → List (Cl
   let_in : (client : Newcomer S) → IsOfferAnswered k (an_offer k (Some client) ∷ []) (a_coming k client ∷ [])
   turned_away : (client : Newcomer S)
       → IsOfferAnswered k (an_offer k (Some client) ∷ a_parting k client.stream Memory ∷ []) (a_refusal k client ∷ [])
+
+-- memory was refused for the session of somebody who came
+abbrev pub HasTurnedAway : {C : Type 0} → CoreModel C → Type 0
+HasTurnedAway {C} M = (k : ℕ) × (was : C) × (now : C) × M.LacksMemory k was now
 
 module _ {C S : Type 0} (M : CoreModel C) where
   -- The client of a place is to go: its session has ended, and nothing is kept for it.
@@ -151,7 +155,7 @@ module _ {C D S : Type 0} (M : CoreModel C) (N : CallModel S) (E : DoorModel D S
     pub mid : C
     pub between : List (SlotData S)
     pub was_read : Bool
-    pub reading : ReadsPlaces M N was_read turns reads old mid judged between
+    pub reading : ReadsPlaces M N backlog was_read turns reads old mid judged between
     pub flushed : C
     pub flush : M.DidSteps mid flushed (a_flush ∷ []) no_bytes
     pub released : E.DidCalls gathered now (a_release leaves ∷ [])
@@ -164,13 +168,14 @@ module _ {C D S : Type 0} (M : CoreModel C) (N : CallModel S) (E : DoorModel D S
         before after
 
   -- What a pass does for a session that is live, and for its client: its place is shut, and it was ended; or the client
-  -- was asked for bytes, unless some were unread. It was ended if its stream is over. What it and all others had asked
-  -- by then was answered, and what is kept for the client after the pass was offered to it. If it had the first turn,
-  -- it took a request, if one was waiting.
+  -- was asked for bytes, unless some were unread. It was ended if its stream is over. It took all of its bytes, up to a
+  -- request that has to wait. What it and all others had asked by then was answered, and what is kept for the client
+  -- after the pass was offered to it. If it had the first turn, it took a request, if one was waiting.
   pub record IsHeard (k first : ℕ) (judged : SlotData S) (reads writes : List StreamCall) (old new : C)
       (before after : SlotData S) : Type 0 where
     pub asked : ((is_shut judged ≡ true) × (M.ended new [] k ≡ true)) ⊎ IsAskedForBytes reads judged
     pub over : has_last_read reads ≡ true → M.ended new [] k ≡ true
+    pub taken : is_shut judged ≡ false → TakesUp M backlog k reads old judged after
     pub answered : M.Idle new
     pub offered : IsOffered writes after
     pub turn : first ≡ k → TakesTurn M backlog k old before after
@@ -193,13 +198,22 @@ module _ {C D S : Type 0} (M : CoreModel C) (N : CallModel S) (E : DoorModel D S
   IsStill {after = after} serves = (serves.pass.was_read ≡ false) × (serves.pass.was_written ≡ false)
       × (serves.left ≡ serves.present) × (after ≡ serves.left)
 
-  -- a round: the same, and then a pause with this answer, which may wait only if nothing moved
+  -- Something moved: bytes were taken, a session was ended, bytes were written, a write failed, or somebody went, came,
+  -- or was turned away.
+  abbrev pub IsMoving : {first : ℕ} {was now : D} {old new : C} {before after : List (SlotData S)}
+      → ServesPlacesOnce first was now old new before after → Type 0
+  IsMoving {after = after} serves = ((serves.pass.was_read ≡ true) ⊎ (serves.pass.was_written ≡ true))
+      ⊎ ((serves.left ≢ serves.present) ⊎ ((after ≢ serves.left) ⊎ HasTurnedAway M))
+
+  -- A round: the same, and then a pause with this answer, which is told whether something moved, and may wait only if
+  -- nothing did.
   pub record IsRound (answer : Next) (first : ℕ) (was now : D) (old new : C) (before after : List (SlotData S))
       : Type 0 where
     pub unpaused : D
     pub serves : ServesPlacesOnce first was unpaused old new before after
     pub moved : Bool
     pub idle : moved ≡ false → IsStill serves
+    pub moves : moved ≡ true → IsMoving serves
     pub paused : E.DidCalls unpaused now (a_pause moved answer ∷ [])
 
   -- this many rounds, after each of which the door said to go on

@@ -25,6 +25,12 @@ abbrev pub slot_data : {S : Type 0} → Option S → List ℕ → List ℕ → R
 slot_data None unread kept how = vacant
 slot_data (Some client) unread kept how = slot_with how client unread kept
 
+-- for a client that takes no replies nothing is kept
+abbrev pub IsKeptFor : Reception → List ℕ → Type 0
+IsKeptFor reception.Takes kept = Unit {0}
+IsKeptFor reception.Drops kept = kept ≡ []
+IsKeptFor reception.Shut kept = kept ≡ []
+
 abbrev pub client_of : {S : Type 0} → SlotData S → Option S
 client_of vacant = None
 client_of (serving client unread kept) = Some client
@@ -148,13 +154,15 @@ module _ {S : Type 0} (N : CallModel S) where
     pub fails : has_failed_write calls ≡ true → is_mute after ≡ true
     pub shut : is_shut before ≡ true → is_shut after ≡ true
 
-  -- the same; nothing was read, and what is still kept was offered; unless something moved, no byte was written
+  -- the same; nothing was read, and what is still kept was offered; unless something moved, no byte was written; and if
+  -- something moved, bytes were written, or a write failed
   pub record IsPushed (moved : Bool) (sent : List ℕ) (before after : SlotData S) : Type 0 where
     pub calls : List StreamCall
     pub offered : IsOffered calls after
     pub quiet : bytes_read calls ≡ []
     pub no_reads : has_read calls ≡ false
     pub idle : moved ≡ false → bytes_sent calls ≡ []
+    pub moves : moved ≡ true → (bytes_sent calls ≢ []) ⊎ (has_failed_write calls ≡ true)
     pub unread : unread_of after ≡ unread_of before
     pub accounted : IsAccounted sent calls before after
     -- replies are dropped after a write that failed, or in a place that is shut; and that is for want of memory, which

@@ -1,4 +1,4 @@
-ghost use Rattle.std.specs.Prelude.{◌≡◌, ◌<◌, ◌≤◌, ℕ, List, [], ◌∷◌, true, false, length};
+ghost use Rattle.std.specs.Prelude.{◌≡◌, ◌≢◌, ◌⊎◌, ◌<◌, ◌≤◌, ℕ, List, [], ◌∷◌, true, false, length};
 ghost use Rattle.audit_base.specs.declared.limits.TheConstants.{SESSIONS};
 ghost use Rattle.audit_serve_passes.specs.Transition.{AreEmpty};
 ghost use Rattle.audit_serve_ready.specs.declared.departure.Departure.{Departure};
@@ -8,6 +8,7 @@ ghost use Rattle.audit_serve_ready.specs.Places.{slot_at};
 ghost use Rattle.audit_serve_ready.specs.Backlog.{AreWithinBacklog};
 ghost use Rattle.audit_serve_ready.specs.Clients.{ClientChange, AreChanges};
 ghost use Rattle.audit_serve_ready.specs.Rounds.{is_done, is_free, IsLetGo, IsLetIn, IsOfferAnswered, ChangesPlaces};
+ghost use Rattle.audit_serve_ready.specs.Rounds.{HasTurnedAway};
 
 use crate::departure::Departure;
 use crate::door::Door;
@@ -49,6 +50,7 @@ pub(crate) fn let_go<C: SessionCore, D: Door>(
     ensures went { (backlog first : ℕ) → ChangesPlaces C.model D.Stream.calls D.calls backlog (IsLetGo C.model)
         (length slots.old) first door.old door.new core.now core.now slots.old slots.new }
     ensures still { result ≡ false → slots.new ≡ slots.old }
+    ensures moves { result ≡ true → slots.new ≢ slots.old }
     ensures none_done { (k : ℕ) → k < length slots.new → is_done C.model k core.now (slot_at k slots.new) ≡ false }
     ensures within { (backlog : ℕ) → AreWithinBacklog C.model backlog core.now slots.old
         → AreWithinBacklog C.model backlog core.now slots.new }
@@ -89,6 +91,8 @@ fn let_in_at<C: SessionCore, D: Door>(
         × ((backlog first : ℕ) → AreChanges C.model D.Stream.calls backlog first changes core.old core.new
         slots.old slots.new) }
     ensures still { result ≡ false → slots.new ≡ slots.old }
+    ensures moves { result ≡ true → (has_client (slot_at place slots.new) ≡ true)
+        ⊎ C.model.LacksMemory place core.old core.new }
     ensures alone { (other : ℕ) → (other ≡ place → ⊥)
         → (C.model.ended core.new [] other ≡ C.model.ended core.old [] other)
         × (slot_at other slots.new ≡ slot_at other slots.old) }
@@ -120,6 +124,7 @@ pub(crate) fn let_in<C: SessionCore, D: Door>(
     ensures came { (backlog first : ℕ) → ChangesPlaces C.model D.Stream.calls D.calls backlog (IsLetIn C.model)
         (length slots.old) first door.old door.new core.old core.new slots.old slots.new }
     ensures still { result ≡ false → slots.new ≡ slots.old }
+    ensures moves { result ≡ true → (slots.new ≢ slots.old) ⊎ HasTurnedAway C.model }
     ensures idle { C.model.Idle core.new }
     ensures outputs { (other : ℕ) → C.model.output core.new other ≡ C.model.output core.old other }
     ensures within { (backlog : ℕ) → AreWithinBacklog C.model backlog core.old slots.old

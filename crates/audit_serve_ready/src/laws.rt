@@ -1,8 +1,10 @@
 //! Laws of serving, each the contract of a function that does nothing.
-ghost use Rattle.std.specs.Prelude.{◌≡◌, ℕ, ◌*◌, ◌<◌, ◌≤◌, List, [], ◌∷◌, true, false, length};
+ghost use Rattle.std.specs.Prelude.{◌≡◌, ◌⊎◌, ℕ, ◌+◌, ◌*◌, ◌<◌, ◌≤◌, List, [], ◌∷◌, ◌++◌, true, false, length};
 ghost use Rattle.audit_base.specs.declared.limits.TheConstants.{SESSIONS};
+ghost use Rattle.audit_serve_passes.specs.Streams.{bytes_read};
+ghost use Rattle.audit_serve_passes.specs.Core.{RequestKind, appending};
 ghost use Rattle.audit_serve_ready.specs.declared.newcomer.Newcomer.{Newcomer};
-ghost use Rattle.audit_serve_ready.specs.Slot.{SlotData, serving, has_client, has_kept};
+ghost use Rattle.audit_serve_ready.specs.Slot.{SlotData, serving, kept_of, unread_of, has_client, has_kept, is_shut};
 ghost use Rattle.audit_serve_ready.specs.Places.{slot_at, IsServedAt};
 ghost use Rattle.audit_serve_ready.specs.Clients.{ClientChange, a_coming, AreChanges};
 ghost use Rattle.audit_serve_ready.specs.Stays.{steps_in, taken_in, calls_in, StaysAt};
@@ -44,14 +46,34 @@ pub fn rounds_are_changes<C: SessionCore, D: Door>()
 {}
 
 /// Each session that is live is heard in each pass whose replies leave, whatever the clients of the others do: its
-/// client is asked for bytes, unless some are unread or the door dismissed it; whatever is taken in the pass is
-/// answered in it, so that each append is committed or refused; and what is kept for the client is offered to it.
+/// client is asked for bytes, unless some are unread or the door dismissed it; its session takes them all, up to a
+/// request that has to wait, which is a question, or an append for whose reply its backlog has no room; whatever is
+/// taken in the pass is answered in it, so that each append is committed or refused; and what is kept for the client is
+/// offered to it.
 pub fn each_pass_hears_each_client<C: SessionCore, D: Door>()
     ensures { (backlog first k : ℕ) (was now : D) (old new : C) (before after : List (SlotData D.Stream))
         (pass : ServesPass C.model D.Stream.calls D.calls backlog true first was now old new before after)
         → k < length before → C.model.ended old [] k ≡ false
         → IsHeard C.model D.Stream.calls D.calls backlog k first (slot_at k pass.judged) (pass.reads k) (pass.writes k)
         old new (slot_at k before) (slot_at k after) }
+{}
+
+/// An append or a close that is at the front of a client's bytes is taken in the pass in which its last byte is read,
+/// whatever the others ask, if nothing is kept for the client or its backlog has room for the reply, unless the door
+/// dismisses the client; and what is taken in a pass is committed or refused in it. An append that isn't at the front
+/// waits only behind a question that isn't taken, or for room in the client's own backlog
+/// ([`each_pass_hears_each_client`]).
+pub fn appends_in_front_are_taken<C: SessionCore, D: Door>()
+    ensures { (backlog first k : ℕ) (was now : D) (old new : C) (before after : List (SlotData D.Stream))
+        (later : List RequestKind)
+        (pass : ServesPass C.model D.Stream.calls D.calls backlog true first was now old new before after)
+        → k < length before → C.model.ended old [] k ≡ false → is_shut (slot_at k pass.judged) ≡ false
+        → C.model.requests old k (unread_of (slot_at k pass.judged) ++ bytes_read (pass.reads k)) ≡ appending ∷ later
+        → (kept_of (slot_at k pass.judged) ≡ [])
+        ⊎ (length (kept_of (slot_at k pass.judged)) + C.model.acknowledgement ≤ backlog)
+        → (fed : List ℕ) × (more : List RequestKind)
+        × (unread_of (slot_at k pass.judged) ++ bytes_read (pass.reads k) ≡ fed ++ unread_of (slot_at k after))
+        × (C.model.requests old k fed ≡ appending ∷ more) }
 {}
 
 /// Whoever is still there after the goings of a round has a session that goes on, or something is kept for it. And each

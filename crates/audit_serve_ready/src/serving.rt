@@ -6,7 +6,7 @@ ghost use Rattle.audit_serve_ready.specs.declared.next.Next.TheVariants as next;
 ghost use Rattle.audit_serve_ready.specs.Slot.{has_kept};
 ghost use Rattle.audit_serve_ready.specs.Places.{slot_at, WritesOn, OffersKept};
 ghost use Rattle.audit_serve_ready.specs.Clients.{next_first, ServesClients, StopsServing};
-ghost use Rattle.audit_serve_ready.specs.Rounds.{IsWritten, ServesPass, ServesPlacesOnce, IsStill, IsRound};
+ghost use Rattle.audit_serve_ready.specs.Rounds.{IsWritten, ServesPass, ServesPlacesOnce, IsStill, IsMoving, IsRound};
 ghost use Rattle.audit_serve_ready.specs.Rounds.{ServesUntilStopped};
 
 use crate::clients::{let_go, let_in};
@@ -135,7 +135,8 @@ fn serve_pass<C: SessionCore, D: Door>(
     ensures owes { IfOk result (λ pass. pass ≢ Pass.Withheld → OwesNothing C.model (length slots.old) core.new) }
     ensures once { IfOk result (λ pass. pass ≢ Pass.Withheld → (once : ServesPlacesOnce C.model D.Stream.calls D.calls
         backlog first door.old door.new core.old core.new slots.old slots.new)
-        × (pass ≡ Pass.Idle → IsStill C.model D.Stream.calls D.calls backlog once)) }
+        × (pass ≡ Pass.Idle → IsStill C.model D.Stream.calls D.calls backlog once)
+        × (pass ≡ Pass.Moved → IsMoving C.model D.Stream.calls D.calls backlog once)) }
     ensures withheld { IfOk result (λ pass. pass ≡ Pass.Withheld → ServesPass C.model D.Stream.calls D.calls backlog
         false first door.old door.new core.old core.new slots.old slots.new) }
 {

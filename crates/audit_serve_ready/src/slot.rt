@@ -37,11 +37,13 @@ pub(crate) enum Look {
 }
 
 impl<S> Model for Slot<S> {
-    ghost use Rattle.audit_serve_ready.specs.Slot.{SlotData, slot_data};
+    ghost use Rattle.audit_serve_ready.specs.Slot.{SlotData, slot_data, IsKeptFor};
 
     ghost Value = { SlotData S };
 
     ghost view = { λ slot. slot_data slot.client slot.unread slot.kept slot.reception };
+
+    ghost invariant = { λ slot. IsKeptFor slot.reception slot.kept };
 }
 
 /// Makes this many vacant places. The only error is that memory is refused.
@@ -184,7 +186,7 @@ impl<S: ReadyStream + Drop> Slot<S> {
     pub(crate) fn share(&self, backlog: usize) -> Share
         ensures left { length (kept_of self.now) + result.left ≤ max backlog (length (kept_of self.now)) }
         ensures whole { result.is_whole ≡ true → kept_of self.now ≡ [] }
-        ensures exact { is_mute self.now ≡ false → result ≡ record {
+        ensures exact { is_shut self.now ≡ false → result ≡ record {
           left = backlog - length (kept_of self.now);
           is_whole = nat_eq (length (kept_of self.now)) 0;
         } }

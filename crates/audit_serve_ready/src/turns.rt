@@ -81,7 +81,7 @@ fn read_turn<C: SessionCore, S: ReadyStream + Drop>(
     ensures stopped { OnErr result (StopsAtPlace S.calls (C.model.DidStepsInPart core.old core.new) session
         slot.old slot.new) }
     ensures refused { IfErr result (C.refuses core.old core.new) }
-    ensures done { IfOk result (λ turn. HasTurn C.model S.calls (has_moved turn) session (is_had turn)
+    ensures done { IfOk result (λ turn. HasTurn C.model S.calls backlog (has_moved turn) session (is_had turn)
         core.old core.new slot.old slot.new) }
     ensures within { OnOk result (IsTurnWithin C.model backlog session core.old core.new slot.old slot.new) }
     ensures idle { IfOk result (λ turn. is_had turn ≡ false → (core.new ≡ core.old) × (unread_of slot.old ≡ [])) }
@@ -115,7 +115,7 @@ fn feed_turn<C: SessionCore, S: ReadyStream + Drop>(
     ensures stopped { OnErr result (StopsAtPlace S.calls (C.model.DidStepsInPart core.old core.new) session
         slot.old slot.new) }
     ensures refused { IfErr result (C.refuses core.old core.new) }
-    ensures done { IfOk result (λ turn. IsFedPiece C.model S.calls (has_moved turn) session core.old core.new
+    ensures done { IfOk result (λ turn. IsFedPiece C.model S.calls backlog (has_moved turn) session core.old core.new
         slot.old slot.new) }
     ensures within { OnOk result (IsTurnWithin C.model backlog session core.old core.new slot.old slot.new) }
     ensures taken { IfOk result (λ turn. is_had turn ≡ true) }
@@ -176,8 +176,8 @@ pub(crate) fn turn_of<C: SessionCore, S: ReadyStream + Drop>(
     ensures stopped { OnErr result (StopsAtPlaces S.calls (C.model.DidStepsInPart core.old core.new)
         slots.old slots.new) }
     ensures refused { IfErr result (C.refuses core.old core.new) }
-    ensures done { IfOk result (λ moved. TakesTurns C.model S.calls moved (λ k. k ≡ session) had_turn.old had_turn.new
-        core.old core.new slots.old slots.new) }
+    ensures done { IfOk result (λ moved. TakesTurns C.model S.calls backlog moved (λ k. k ≡ session)
+        had_turn.old had_turn.new core.old core.new slots.old slots.new) }
     ensures within { OwesOnlyAfterTurns C.model (length slots.old) had_turn.old core.old
         → AreWithinBacklog C.model backlog core.old slots.old
         → OnOk result (OwesOnlyAfterTurns C.model (length slots.old) had_turn.new core.new
@@ -212,7 +212,7 @@ pub(crate) fn read_turns<C: SessionCore, S: ReadyStream + Drop>(
     ensures stopped { OnErr result (StopsAtPlaces S.calls (C.model.DidStepsInPart core.old core.new)
         slots.old slots.new) }
     ensures refused { IfErr result (C.refuses core.old core.new) }
-    ensures done { IfOk result (λ moved. TakesTurns C.model S.calls moved
+    ensures done { IfOk result (λ moved. TakesTurns C.model S.calls backlog moved
         (λ k. from ≤ turn_number first (length slots.old) k) had_turn.old had_turn.new core.old core.new
         slots.old slots.new) }
     ensures within { OwesOnlyAfterTurns C.model (length slots.old) had_turn.old core.old
@@ -327,7 +327,8 @@ pub(crate) fn serve_present<C: SessionCore, D: Door>(
         → OnOk result (TakesTurn C.model backlog first core.old (slot_at first slots.old) (slot_at first slots.new)) }
     ensures pass { IfOk result (λ pass. pass ≢ Pass.Withheld → (served : ServesPass C.model D.Stream.calls D.calls
         backlog true first door.old door.new core.old core.new slots.old slots.new)
-        × (pass ≡ Pass.Idle → (served.was_read ≡ false) × (served.was_written ≡ false))) }
+        × (pass ≡ Pass.Idle → (served.was_read ≡ false) × (served.was_written ≡ false))
+        × (pass ≡ Pass.Moved → (served.was_read ≡ true) ⊎ (served.was_written ≡ true))) }
     ensures withheld { IfOk result (λ pass. pass ≡ Pass.Withheld → ServesPass C.model D.Stream.calls D.calls backlog
         false first door.old door.new core.old core.new slots.old slots.new) }
 {

@@ -5,3 +5,4 @@ pub mod LoopFaults
 pub mod Looping
 pub mod RoundLine
 pub mod Listening
+pub mod Bound

@@ -1,3 +1,6 @@
+ghost use Rattle.std.specs.Prelude.{◌≡◌, IfOk};
+ghost use Rattle.audit_serve_sockets.specs.Bound.{mode_of_name, mode_of_socket};
+
 use crate::owner_only::OwnerOnly;
 use crate::socket_lock::{SocketLock, Taking, own_user, remove_own};
 use audit_disk::{FileIdentity, OWNER_ONLY, SystemFile};
@@ -15,13 +18,24 @@ pub struct SocketFile {
     name: SocketName,
 }
 
-/// The file of a socket that this program made.
+/// The file of a socket that this program made, with the permission bits that it was given.
 #[derive(Clone, Copy)]
 pub struct SocketName {
     identity: FileIdentity,
+    mode: u32,
 }
 
 impl SocketName {
+    ghost use Rattle.std.specs.Prelude.{◌≡◌};
+    ghost use Rattle.audit_serve_sockets.specs.Bound.{mode_of_name};
+
+    /// The permission bits that the socket's file was given.
+    pub fn mode(&self) -> u32
+        ensures { result ≡ mode_of_name self.now }
+    {
+        self.mode
+    }
+
     /// Removes the socket's file, if its path still names it. Another file there is kept.
     pub fn remove<R: Files>(self, rt: &R, path: &str) -> io::Result<()> {
         remove_own(rt, path, self.identity)
@@ -29,6 +43,9 @@ impl SocketName {
 }
 
 impl SocketFile {
+    ghost use Rattle.std.specs.Prelude.{◌≡◌, IfOk};
+    ghost use Rattle.audit_serve_sockets.specs.Bound.{mode_of_name, mode_of_socket};
+
     /// Makes the socket's file, and takes the lock beside it (`SOCKET.lock`) until its end. Only its owner has access
     /// when it is created; then `mode` is set if it differs. A socket of this user beside a lock that nobody holds is
     /// replaced: a program that was killed leaves such files. Any other existing file is an error, and is kept.
@@ -40,6 +57,7 @@ impl SocketFile {
     ) -> io::Result<(SocketFile, SocketLock<R::File>)>
     where
         R::File: SystemFile,
+        ensures { IfOk result (λ bound. mode_of_socket bound.0 ≡ mode) }
     {
         match SocketLock::<R::File>::take(rt, alloc, path)? {
             Taking::Taken(mut lock) => match bind_under(rt, alloc, path, mode, lock.was_left()) {
@@ -66,6 +84,7 @@ impl SocketFile {
     ) -> io::Result<SocketFile>
     where
         R::File: SystemFile,
+        ensures { IfOk result (λ bound. mode_of_socket bound ≡ mode) }
     {
         let was_left = match lock {
             Some(lock) => lock.was_left(),
@@ -81,7 +100,9 @@ impl SocketFile {
     }
 
     /// The listening socket, and its file, which is left to the caller to remove.
-    pub fn into_parts(self) -> (UnixListener, SocketName) {
+    pub fn into_parts(self) -> (UnixListener, SocketName)
+        ensures { mode_of_name result.1 ≡ mode_of_socket self }
+    {
         (self.listener, self.name)
     }
 
@@ -103,7 +124,9 @@ fn bind_under<R: Files + Net>(
     path: &str,
     mode: u32,
     was_left: bool,
-) -> io::Result<SocketFile> {
+) -> io::Result<SocketFile>
+    ensures { IfOk result (λ bound. mode_of_socket bound ≡ mode) }
+{
     let bound = bind_new(rt, alloc, path, mode);
     if !is_in_use(&bound) || !was_left || !is_own_socket(rt, path).unwrap_or(false) {
         return bound;
@@ -122,6 +145,7 @@ fn bind_displaced<R: Files + Net>(
 ) -> io::Result<(SocketFile, SocketLock<R::File>)>
 where
     R::File: SystemFile,
+    ensures { IfOk result (λ bound. mode_of_socket bound.0 ≡ mode) }
 {
     let bound = bind_new(rt, alloc, path, mode)?;
     match take_anew(rt, alloc, path) {
@@ -148,12 +172,9 @@ where
 }
 
 // Makes a socket's file if no file exists at the path.
-fn bind_new<R: Files + Net>(
-    rt: &R,
-    alloc: Global,
-    path: &str,
-    mode: u32,
-) -> io::Result<SocketFile> {
+fn bind_new<R: Files + Net>(rt: &R, alloc: Global, path: &str, mode: u32) -> io::Result<SocketFile>
+    ensures { IfOk result (λ bound. mode_of_socket bound ≡ mode) }
+{
     let listener = UnixListener::bind(&OwnerOnly::new(rt, alloc), path)?;
     match named(rt, path, mode) {
         Ok(name) => Ok(SocketFile { listener, name }),
@@ -165,12 +186,14 @@ fn bind_new<R: Files + Net>(
 }
 
 // The file of a socket that was just made, with these permissions.
-fn named<R: Files>(rt: &R, path: &str, mode: u32) -> io::Result<SocketName> {
+fn named<R: Files>(rt: &R, path: &str, mode: u32) -> io::Result<SocketName>
+    ensures { IfOk result (λ name. mode_of_name name ≡ mode) }
+{
     let identity = FileIdentity::of(&fs::symlink_metadata(rt, path)?);
     if mode != OWNER_ONLY {
         fs::set_permissions(rt, path, Permissions::from_mode(mode))?;
     }
-    Ok(SocketName { identity })
+    Ok(SocketName { identity, mode })
 }
 
 // Returns whether making the socket failed because a file exists at its path.

@@ -17,3 +17,4 @@ pub mod Answering
 pub mod Living
 pub mod Rights
 pub mod Quiet
+pub mod NextRequests

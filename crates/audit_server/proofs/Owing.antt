@@ -21,7 +21,7 @@ use Rattle.audit_serve_passes.specs.declared.allowance.Demand.{Demand}
 use Rattle.audit_serve_passes.specs.declared.allowance.Share.{Share}
 use Rattle.audit_serve_passes.specs.declared.allowance.Allowance.{Allowance}
 use Rattle.audit_serve_passes.specs.Allowance.{has_room, has_room_to_ask, spent}
-use Rattle.audit_serve_passes.specs.Owing.{GrowsWithin, OwesNoMore, OwesWithin, OwesAtEnd, IsBeyondAllowance}
+use Rattle.audit_serve_passes.specs.Owing.{GrowsWithin, OwesNoMore, OwesWithin, OwesAtEnd, IsDemandFor, IsBeyondAllowance}
 use Rattle.audit_server_model.specs.Sessions.{SessionData, arrivals_by_piece, arrivals_of_rest, arrivals_by_end, heard_after}
 use Rattle.audit_server_model.specs.Heard.{Heard, last_arrival, arrivals_heard}
 use Rattle.audit_server.specs.declared.limit.Limit.{Limit}
@@ -30,15 +30,13 @@ use Rattle.audit_server.specs.declared.server_core.Core.{Core}
 use Rattle.audit_server.specs.Limit.{AreAdmitted}
 use Rattle.audit_server.specs.Running.{HaveEntered}
 use Rattle.audit_server.specs.Core.{committer_of, session_of, is_core_broken, IsSound, AllowedOutcome, EndOutcome, IsCoreUntouched}
-use Rattle.audit_server.specs.CoreModel.{core_model}
+use Rattle.audit_server.specs.CoreModel.{core_model, kind_of, longest_replies}
+use Rattle.audit_server.specs.Limit.{IsPriceOf, IsNotAdmitted}
+use Rattle.audit_server.proofs.NextRequests.{next_kind}
 
 -- ---- the replies to arrivals
 
--- the longest replies to arrivals, all of them and those for session k
-abbrev total_of : List Arrival → ℕ
-total_of [] = 0
-total_of (arrival ∷ arrivals) = longest_reply arrival + total_of arrivals
-
+-- the longest replies to arrivals that are for session k
 abbrev owed_for_all : ℕ → List Arrival → ℕ
 owed_for_all k [] = 0
 owed_for_all k (arrival ∷ arrivals) = owed_for k arrival + owed_for_all k arrivals
@@ -60,7 +58,7 @@ no_share k session bytes apart = by (eqb session k) refl
     by true is = absurd (apart (eqb-true session k is))
     by false is = refl
 
-own_most : (k : ℕ) (arrivals : List Arrival) → owed_for_all k arrivals ≤ total_of arrivals
+own_most : (k : ℕ) (arrivals : List Arrival) → owed_for_all k arrivals ≤ longest_replies arrivals
 own_most k [] = omega arith
 own_most k (arrival ∷ arrivals) = omega (arith, share-most k (comes_from arrival) (longest_reply arrival), own_most k arrivals)
 
@@ -100,10 +98,10 @@ end_from k session = by session.ended session.rest
     by false [] = tt
     by false (byte ∷ rest) = (refl, tt)
 
-end_total : (k : ℕ) (session : SessionData) → total_of (arrivals_by_end k session) ≤ REFUSAL_FRAME
+end_total : (k : ℕ) (session : SessionData) → longest_replies (arrivals_by_end k session) ≤ REFUSAL_FRAME
 end_total k session = by session.ended session.rest
   where
-    by : (ended : Bool) (rest : List ℕ) → total_of (cond ended [] (arrivals_of_rest k rest)) ≤ REFUSAL_FRAME
+    by : (ended : Bool) (rest : List ℕ) → longest_replies (cond ended [] (arrivals_of_rest k rest)) ≤ REFUSAL_FRAME
     by true rest = omega arith
     by false [] = omega arith
     by false (byte ∷ rest) = omega arith
@@ -144,7 +142,7 @@ more_within share first rest (inl whole) most within = by (less_or share.left fi
     by (inl less) = inr (whole, omega (arith, less, most, within))
     by (inr room) = inl (omega (arith, room, within))
 
-admitted_total : (arrivals : List Arrival) (old : Allowance) (left : Limit) → AreAdmitted arrivals (limit.Within old) left → TotalWithin old.session (total_of arrivals)
+admitted_total : (arrivals : List Arrival) (old : Allowance) (left : Limit) → AreAdmitted arrivals (limit.Within old) left → TotalWithin old.session (longest_replies arrivals)
 admitted_total [] old left taken = inl (omega arith)
 admitted_total (arrival ∷ arrivals) old left taken = by (admitted_total arrivals (spent taken.0 old) left taken.3)
   where
@@ -154,9 +152,16 @@ admitted_total (arrival ∷ arrivals) old left taken = by (admitted_total arriva
     room : (old.session.is_whole ≡ true) ⊎ (demand.reply ≤ old.session.left)
     room = room_or old.session demand.reply (has_room_to_ask old.questions demand.question) taken.2
 
-    by : TotalWithin (spent demand old).session (total_of arrivals) → TotalWithin old.session (longest_reply arrival + total_of arrivals)
-    by (inl within) = subst (λ (bytes : ℕ). TotalWithin old.session (bytes + total_of arrivals)) taken.1.reply (more_within old.session demand.reply (total_of arrivals) room (omega (arith, taken.1.reply, longest_arrival arrival)) within)
+    by : TotalWithin (spent demand old).session (longest_replies arrivals) → TotalWithin old.session (longest_reply arrival + longest_replies arrivals)
+    by (inl within) = subst (λ (bytes : ℕ). TotalWithin old.session (bytes + longest_replies arrivals)) taken.1.reply (more_within old.session demand.reply (longest_replies arrivals) room (omega (arith, taken.1.reply, longest_arrival arrival)) within)
     by (inr whole) = absurd (true≢false (sym whole.0))
+
+admitted_spent : (arrivals : List Arrival) (old new : Allowance) → AreAdmitted arrivals (limit.Within old) (limit.Within new) → old.session.left ≤ new.session.left + longest_replies arrivals
+admitted_spent [] old new taken = omega (arith, ap (λ (allowance : Allowance). allowance.session.left) (same_allowance taken))
+  where
+    same_allowance : limit.Within new ≡ limit.Within old → new ≡ old
+    same_allowance same = cc same
+admitted_spent (arrival ∷ arrivals) old new taken = omega (arith, taken.1.reply, admitted_spent arrivals (spent taken.0 old) new taken.3)
 
 grows : (share : Share) (old new total owed : ℕ) → new ≤ old + owed → owed ≤ total → TotalWithin share total → GrowsWithin share MAX_MEMBERSHIP_FRAME old new
 grows share old new total owed grown most (inl within) = inl (omega (arith, grown, most, within))
@@ -172,22 +177,37 @@ module _ {D : Type 0} {g : sectors.Ghosts D} where
       let arrivals = arrivals_by_piece k (take taken piece) (session_of k old) in
       let entered = end.fed.whole.run.entered in
       record {
-        own = grows allowance.session (owed_of k (committer_of old)) (owed_of k (committer_of new)) (total_of arrivals) (owed_for_all k arrivals) (entered_all k arrivals (committer_of old) (committer_of new) entered) (own_most k arrivals)
+        own = grows allowance.session (owed_of k (committer_of old)) (owed_of k (committer_of new)) (longest_replies arrivals) (owed_for_all k arrivals) (entered_all k arrivals (committer_of old) (committer_of new) entered) (own_most k arrivals)
             (admitted_total arrivals allowance (limit.Within left) end.fed.spent);
         others = λ other apart. omega (arith, entered_all other arrivals (committer_of old) (committer_of new) entered, others_none k other arrivals apart (piece_from k (take taken piece) (session_of k old)));
       }
 
-  pub within_stops : (k : ℕ) (piece : List ℕ) (taken : ℕ) (old new : Core D g) (allowance left : Allowance) → AllowedOutcome k piece old new allowance left (Ok taken) → taken < length piece → IsBeyondAllowance (core_model {D = D} {g = g}) left
+  pub within_stops : (k : ℕ) (piece : List ℕ) (taken : ℕ) (old new : Core D g) (allowance left : Allowance) → AllowedOutcome k piece old new allowance left (Ok taken) → taken < length piece → IsBeyondAllowance (core_model {D = D} {g = g}) k old (take taken piece) piece left
   within_stops k piece taken old new allowance left end less =
       let stops = end.fed.stops less in
-      record { demand = stops.over.demand; most = omega (arith, stops.over.its.reply, longest_arrival stops.arrival); over = stops.over.over }
+      let found = next_kind k piece taken (session_of k old) stops.arrival stops.next in
+      record {
+        kind = kind_of stops.arrival;
+        is = record { later = found.0; next = found.1 };
+        demand = stops.over.demand;
+        most = omega (arith, stops.over.its.reply, longest_arrival stops.arrival);
+        its = wanted stops.arrival stops.over;
+        over = stops.over.over;
+      }
+    where
+      wanted : (arrival : Arrival) (over : IsNotAdmitted arrival (limit.Within left)) → IsDemandFor (core_model {D = D} {g = g}) (kind_of arrival) over.demand
+      wanted (an_append append) over = (omega (arith, over.its.reply), over.its.price)
+      wanted (a_question question) over = omega (arith, over.its.reply, longest_arrival (a_question question))
 
-  pub within_unspent : (k : ℕ) (piece : List ℕ) (taken : ℕ) (old new : Core D g) (allowance left : Allowance) → AllowedOutcome k piece old new allowance left (Ok taken) → length (arrivals_by_piece k (take taken piece) (session_of k old)) ≡ 0 → left ≡ allowance
+  pub within_unspent : (k : ℕ) (piece : List ℕ) (taken : ℕ) (old new : Core D g) (allowance left : Allowance) → AllowedOutcome k piece old new allowance left (Ok taken) → map kind_of (arrivals_by_piece k (take taken piece) (session_of k old)) ≡ [] → left ≡ allowance
   within_unspent k piece taken old new allowance left end none = by (arrivals_by_piece k (take taken piece) (session_of k old)) none end.fed.spent
     where
-      by : (arrivals : List Arrival) → length arrivals ≡ 0 → AreAdmitted arrivals (limit.Within allowance) (limit.Within left) → left ≡ allowance
+      by : (arrivals : List Arrival) → map kind_of arrivals ≡ [] → AreAdmitted arrivals (limit.Within allowance) (limit.Within left) → left ≡ allowance
       by [] none same = cc same
-      by (arrival ∷ arrivals) none same = absurd (omega (arith, none))
+      by (arrival ∷ arrivals) none same = absurd (cc none)
+
+  pub within_spent : (k : ℕ) (piece : List ℕ) (taken : ℕ) (old new : Core D g) (allowance left : Allowance) → AllowedOutcome k piece old new allowance left (Ok taken) → allowance.session.left ≤ left.session.left + longest_replies (arrivals_by_piece k (take taken piece) (session_of k old))
+  within_spent k piece taken old new allowance left end = admitted_spent (arrivals_by_piece k (take taken piece) (session_of k old)) allowance left end.fed.spent
 
   pub end_owes : (k : ℕ) (old new : Core D g) → EndOutcome k old new (Ok tt) → OwesAtEnd core_model k old new
   end_owes k old new end =

@@ -1,12 +1,12 @@
 -- For the tests: a core whose sessions end only by `end`.
 use Rattle.std.specs.Prelude.{◌≡◌, ℕ, suc, ◌+◌, Bool, true, false, ◌||◌, if◌then◌else◌, List, [], ◌∷◌, ◌++◌, length}
-use Rattle.std.specs.Prelude.{slice_index_or, slice_set}
+use Rattle.std.specs.Prelude.{map, slice_index_or, slice_set}
 use Rattle.std.proofs.Common.{refl, sym, ap, ◌∙◌, arith}
 use Rattle.std.proofs.lemmas.Bool.{ne_eqb, false≢true}
 use Rattle.std.proofs.lemmas.List.{get_or-set_other}
 use Rattle.audit_serve_passes.specs.Steps.{StepData, a_piece, an_end, a_flush, IsAbout, is_end, has_end}
 use Rattle.audit_serve_passes.specs.declared.rights.Rights.{Rights}
-use Rattle.audit_serve_passes.specs.Core.{CoreModel}
+use Rattle.audit_serve_passes.specs.Core.{CoreModel, RequestKind, appending}
 
 -- which sessions have ended, which were fed since the last flush, and the bytes that wait for each
 pub record RecorderData : Type 0 where
@@ -83,6 +83,11 @@ pub record IsLiveAgain (k : ℕ) (allowed : Rights) (old new : RecorderData) : T
   pub fed : new.fed ≡ old.fed
   pub outputs : new.outputs ≡ old.outputs
 
+-- each byte counts as an append
+pub none_recorded : (bytes : List ℕ) → map (λ (byte : ℕ). appending) bytes ≡ [] → length bytes ≡ 0
+none_recorded [] none = refl
+none_recorded (byte ∷ bytes) none = absurd (cc none)
+
 abbrev pub recorder_model : CoreModel RecorderData
 recorder_model = record {
   ended = λ core steps k. has_ended core k || has_end k steps;
@@ -91,8 +96,12 @@ recorder_model = record {
   owed = recorded_owed;
   waiting = λ core. count_fed core.fed;
   none_waits = λ core idle. none_fed core.fed idle;
-  requests = λ core k bytes. length bytes;
+  requests = λ core k bytes. map (λ byte. appending) bytes;
+  replies = λ core k bytes. length bytes;
+  requests_alone = λ old new steps taken k bytes did others. (refl, refl);
+  no_replies = λ core k bytes. none_recorded bytes;
   longest = 1;
+  acknowledgement = 1;
   refusal = 0;
   Begins = IsLiveAgain;
   LacksMemory = λ k old new. Unit {0};

@@ -1,6 +1,6 @@
 use Rattle.std.specs.Prelude.{OnOk}
 use Rattle.std.proofs.Common.{◌∙◌, map, sym, ap, subst}
-use Rattle.audit_serve_door.specs.Entrances.{rights_of, rights_of_door, idle_of_door}
+use Rattle.audit_serve_door.specs.Entrances.{rights_of, rights_of_door, mode_of, modes_of_door, idle_of_door}
 use Rattle.audit_serve_door.specs.Metered.{metered_calls}
 use Rattle.audit_serve_door.specs.Nonblocking.{nonblocking_calls, unknown_prompt}
 use Rattle.audit_serve_ready.specs.Door.{unknown_door}
@@ -14,9 +14,10 @@ pub returns-clause-served : goal.returns-clause-served
 returns-clause-served g c =
     let N = metered_calls (nonblocking_calls unknown_prompt) in
     let doors = gauged_calls unknown_door in
-    let opens = IsDoorFor (map rights_of c.args.listening.entrances.items) c.args.judged.idle in
+    let opens = IsDoorFor (map rights_of c.args.listening.entrances.items) (map mode_of c.args.listening.entrances.items) c.args.judged.idle in
     let first : opens c.new-gauged.result = record {
       rights_are = ap rights_of_door c.new-gauged.ensures ∙ c.in-Ok.ensures.rights;
+      modes_are = ap modes_of_door c.new-gauged.ensures ∙ c.in-Ok.ensures.modes;
       idle = subst (IsIdleTime c.args.judged.idle) (sym (ap idle_of_door c.new-gauged.ensures ∙ c.in-Ok.ensures.idle)) c.time_of.ensures;
     } in
     subst (λ ending. OnOk ending (ServesAtDoor N doors opens c.args.judged.reserve c.args.judged.most c.args.store c.serve_until_stopped-store.result.0)) (sym c.and.ensures)

@@ -1,7 +1,8 @@
-use Rattle.std.proofs.Common.{sym}
+use Rattle.std.proofs.Common.{◌≡◌, ◌∙◌, sym}
+use Rattle.audit_serve_sockets.specs.Bound.{mode_of_socket}
 use Rattle.audit_cli_serve.proofs.Carried.{performed}
 use Rattle.audit_cli_serve.proofs.request.perform.Goals as goal
 
 pub returns-in_ok-mode-in-Serve-clause-served : goal.returns-in_ok-mode-in-Serve-clause-served
 returns-in_ok-mode-in-Serve-clause-served g c =
-    rw c.in-Serve.is (performed _ _ _ (g.R.Read.remaining c.args.input.now) c.in-Serve.file c.in-Serve.socket c.in-Serve.rounds c.in-Serve.sessions c.in-Serve.socket_mode c.in_ok-rounds-in-Serve.rounds c.in_ok-sessions-in-Serve.sessions c.serve_file.result (sym c.in_ok-rounds-in-Serve.ensures.asked) c.in_ok-sessions-in-Serve.ensures.asked c.serve_file.ensures.served)
+    rw c.in-Serve.is (performed _ _ _ mode_of_socket (g.R.Read.remaining c.args.input.now) c.in-Serve.file c.in-Serve.socket c.in-Serve.rounds c.in-Serve.sessions c.in-Serve.socket_mode c.in_ok-rounds-in-Serve.rounds c.in_ok-sessions-in-Serve.sessions c.in_ok-mode-in-Serve.mode c.serve_file.result (sym c.in_ok-rounds-in-Serve.ensures.asked) c.in_ok-sessions-in-Serve.ensures.asked (λ none. cc (c.in_ok-mode-in-Serve.ensures.none none)) c.in_ok-mode-in-Serve.ensures.mode c.serve_file.ensures.served)

@@ -1,16 +1,16 @@
-use Rattle.std.proofs.Common.{◌≡◌, ◌+◌, ◌<◌, length, refl, sym, subst, ◌∙◌, ap, rules}
+use Rattle.std.proofs.Common.{◌≡◌, ◌⊎◌, ◌+◌, ◌<◌, length, refl, sym, subst, ◌∙◌, ap, rules, arith, true≢false}
 use Rattle.audit_serve_passes.proofs.Transitions.{in_any}
-use Rattle.audit_serve_ready.specs.Slot.{vacant}
+use Rattle.audit_serve_ready.specs.Slot.{vacant, has_client}
 use Rattle.audit_serve_ready.specs.Places.{slot_at}
-use Rattle.audit_serve_ready.specs.Rounds.{is_free, IsLetIn, ChangesPlaces}
+use Rattle.audit_serve_ready.specs.Rounds.{is_free, IsLetIn, ChangesPlaces, HasTurnedAway}
 use Rattle.audit_serve_ready.specs.Backlog.{AreWithinBacklog}
 use Rattle.audit_serve_ready.proofs.TurnByTurn.{neither_of}
-use Rattle.audit_serve_ready.proofs.Comings.{Coming, free_ended, free_vacant, coming_none, coming_taken, coming_offered}
+use Rattle.audit_serve_ready.proofs.Comings.{Coming, HasCome, come_either, come_still, came_changed, free_ended, free_vacant, coming_none, coming_taken, coming_offered}
 use Rattle.audit_serve_ready.proofs.clients.let_in.Goals as goal
 use Rattle.audit_serve_ready.proofs.clients.let_in.Goals.{then-is_free, else-is_free}
 
 pub loop-place-init : goal.loop-place-init
-loop-place-init g c = (coming_none g.C.SessionCore.model g.D.Stream.ReadyStream.calls g.D.Door.calls c.args.core.now c.args.door.now c.args.slots.now, (λ still. refl), c.requires.idle, c.requires.empty, (λ k. refl), λ backlog within. within)
+loop-place-init g c = (coming_none g.C.SessionCore.model g.D.Stream.ReadyStream.calls g.D.Door.calls c.args.core.now c.args.door.now c.args.slots.now, (λ still. refl), c.requires.idle, c.requires.empty, (λ k. refl), (λ backlog within. within), λ moving. absurd (true≢false (sym moving)))
 
 pub let_in_at-moved-requires-clause-ended : goal.let_in_at-moved-requires-clause-ended
 let_in_at-moved-requires-clause-ended g c =
@@ -48,6 +48,8 @@ loop-place-preserved g c =
             (λ k below. ap (λ core. M.output core k) w.core-is ∙ w.let_in_at-moved.ensures.outputs k ∙ l.invariant.3 k below),
             (λ k. ap (λ core. M.output core k) w.core-is ∙ w.let_in_at-moved.ensures.outputs k ∙ l.invariant.4 k),
             (λ backlog inside. subst (λ core. AreWithinBacklog M backlog core c.if-is_free.slots) (sym w.core-is) (subst (λ slots. AreWithinBacklog M backlog w.let_in_at-moved.new.core slots) (sym w.slots-is) (w.let_in_at-moved.ensures.within backlog (l.invariant.5 backlog inside)))),
+            (λ moving. subst (λ slots. HasCome (l.place + 1) begun slots ⊎ HasTurnedAway M) (sym w.slots-is)
+                (come_either M N E l.moved w.let_in_at-moved.result l.place l.core w.let_in_at-moved.new.core begun l.slots w.let_in_at-moved.new.slots (sym w.moved-is ∙ moving) (sym (ap has_client (l.invariant.0.others l.place (omega arith))) ∙ free_vacant M N E l.place l.core _ free) (λ other apart. (w.let_in_at-moved.ensures.alone other apart).1) l.invariant.6 w.let_in_at-moved.ensures.moves)),
           )
       | else-is_free w ↦
           let taken = ap (is_free M l.place l.core) same ∙ sym c.is_free.ensures ∙ w.if-is_free.false in (
@@ -60,6 +62,7 @@ loop-place-preserved g c =
             (λ k below. ap (λ core. M.output core k) w.core-is ∙ l.invariant.3 k below),
             (λ k. ap (λ core. M.output core k) w.core-is ∙ l.invariant.4 k),
             (λ backlog inside. subst (λ core. AreWithinBacklog M backlog core c.if-is_free.slots) (sym w.core-is) (subst (λ slots. AreWithinBacklog M backlog l.core slots) (sym w.slots-is) (l.invariant.5 backlog inside))),
+            (λ moving. subst (λ slots. HasCome (l.place + 1) begun slots ⊎ HasTurnedAway M) (sym w.slots-is) (come_still l.place begun l.slots (l.invariant.6 (sym w.moved-is ∙ moving)))),
           )
     ]
 
@@ -69,3 +72,6 @@ returns-clause-came g c = λ backlog first.
     let all : l.place ≡ length c.args.slots.now = search rules in
     subst (λ count. ChangesPlaces g.C.SessionCore.model g.D.Stream.ReadyStream.calls g.D.Door.calls backlog (IsLetIn g.C.SessionCore.model) count first c.args.door.now l.door c.args.core.now l.core c.args.slots.now l.slots) all
     (l.invariant.0.came backlog first)
+
+pub returns-clause-moves : goal.returns-clause-moves
+returns-clause-moves g c = λ moving. came_changed c.loop-place.place c.args.slots.now c.loop-place.slots (c.loop-place.invariant.6 moving)

@@ -1,7 +1,8 @@
-use Rattle.std.proofs.Common.{◌≡◌, ℕ, false, length}
+use Rattle.std.proofs.Common.{◌≡◌, ◌⊎◌, ℕ, true, false, length}
 use Rattle.audit_serve_passes.specs.Transition.{AreEmpty}
 use Rattle.audit_serve_ready.specs.Backlog.{AreWithinBacklog}
-use Rattle.audit_serve_ready.proofs.Comings.{Coming}
+use Rattle.audit_serve_ready.proofs.Comings.{Coming, HasCome}
+use Rattle.audit_serve_ready.specs.Rounds.{HasTurnedAway}
 use Rattle.audit_serve_ready.proofs.clients.let_in.Given as goal
 
 abbrev pub invariant-loop-place : goal.invariant-loop-place
@@ -12,3 +13,4 @@ invariant-loop-place g l =
     × M.Idle l.core × AreEmpty M (length l.fn.slots) l.core
     × ((other : ℕ) → M.output l.core other ≡ M.output l.fn.core other)
     × ((backlog : ℕ) → AreWithinBacklog M backlog l.fn.core l.fn.slots → AreWithinBacklog M backlog l.core l.slots)
+    × (l.moved ≡ true → HasCome l.place l.fn.slots l.slots ⊎ HasTurnedAway M)

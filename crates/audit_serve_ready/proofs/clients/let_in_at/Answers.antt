@@ -1,9 +1,9 @@
-use Rattle.std.proofs.Common.{Some, None, [], ◌∷◌, ◌++◌, set, refl, rules}
+use Rattle.std.proofs.Common.{Some, None, [], ◌∷◌, ◌++◌, ◌∙◌, set, refl, ap, inl, inr, rules}
 use Rattle.audit_serve_passes.specs.Core.{no_bytes}
-use Rattle.std.proofs.lemmas.List.{get_or-set_other}
+use Rattle.std.proofs.lemmas.List.{get_or-set_same, get_or-set_other}
 use Rattle.audit_serve_ready.specs.declared.departure.Departure.TheVariants.{Memory}
 use Rattle.audit_serve_ready.specs.Door.{an_offer, a_parting}
-use Rattle.audit_serve_ready.specs.Slot.{vacant}
+use Rattle.audit_serve_ready.specs.Slot.{vacant, has_client}
 use Rattle.audit_serve_ready.specs.Clients.{a_coming, a_refusal}
 use Rattle.audit_serve_ready.specs.Rounds.{nobody, let_in, turned_away}
 use Rattle.audit_serve_ready.proofs.Bounds.{refused_within, come_within}
@@ -65,3 +65,9 @@ pub returns-clause-within : goal.returns-clause-within
 returns-clause-within g c =
     let M = g.C.SessionCore.model in λ backlog within.
     come_within M backlog c.args.place c.in-Some.newcomer.rights c.args.core.now c.reopen.new.self c.args.slots.now _ c.requires.within c.requires.idle c.reopen.ensures.idle c.requires.taken c.reopen.ensures.outputs (search rules) (search rules) within
+
+pub returns-then-is_err-clause-moves : goal.returns-then-is_err-clause-moves
+returns-then-is_err-clause-moves g c = λ moving. inr (search rules)
+
+pub returns-clause-moves : goal.returns-clause-moves
+returns-clause-moves g c = λ moving. inl (ap has_client (get_or-set_same c.args.slots.now c.args.place c.admit.new.self vacant c.requires.within ∙ c.admit.ensures))

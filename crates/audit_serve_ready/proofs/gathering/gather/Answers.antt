@@ -8,7 +8,7 @@ use Rattle.audit_serve_passes.proofs.Turns.{if_err}
 use Rattle.audit_serve_ready.specs.Places.{slot_at}
 use Rattle.audit_serve_ready.specs.Backlog.{AreWithinBacklog, HasTakenRequest}
 use Rattle.audit_serve_ready.proofs.Passes.{stops_more}
-use Rattle.audit_serve_ready.proofs.TurnByTurn.{then_still, last_still, all_still, turns_then, turns_still, turns_mean, turns_serve, read_all}
+use Rattle.audit_serve_ready.proofs.TurnByTurn.{then_still, last_still, all_still, then_moves, last_moves, all_moves, turns_then, turns_still, turns_mean, turns_serve, read_all}
 use Rattle.audit_serve_ready.proofs.TurnNumbers.{one_first, none_first, read_or_next}
 use Rattle.audit_serve_ready.proofs.PlaceByPlace.{asks_none, asks_then}
 use Rattle.audit_serve_ready.proofs.Changes.{if_err_is}
@@ -19,9 +19,9 @@ use Rattle.audit_serve_ready.proofs.gathering.gather.Goals.{then-first-slots, el
 pub loop-reading-init : goal.loop-reading-init
 loop-reading-init g c = (
   elim c.if-first-slots.branch [
-    | then-first-slots w ↦ turns_mean g.C.SessionCore.model g.D.Stream.ReadyStream.calls c.in_ok-found.found (replicate 16 false) c.first_turn.new.had_turn c.args.core.now c.first_turn.new.core c.args.slots.now c.first_turn.new.slots
+    | then-first-slots w ↦ turns_mean g.C.SessionCore.model g.D.Stream.ReadyStream.calls c.args.backlog c.in_ok-found.found (replicate 16 false) c.first_turn.new.had_turn c.args.core.now c.first_turn.new.core c.args.slots.now c.first_turn.new.slots
         (λ k within meant. one_first c.args.first (length c.args.slots.now) c.if-first-slots.from k (omega (arith, w.if-first-slots.true, c.first_turn.auto.slots)) within w.from-is meant) c.in_ok-found.ensures.done
-    | else-first-slots w ↦ turns_mean g.C.SessionCore.model g.D.Stream.ReadyStream.calls c.in_ok-found.found (replicate 16 false) c.first_turn.new.had_turn c.args.core.now c.first_turn.new.core c.args.slots.now c.first_turn.new.slots
+    | else-first-slots w ↦ turns_mean g.C.SessionCore.model g.D.Stream.ReadyStream.calls c.args.backlog c.in_ok-found.found (replicate 16 false) c.first_turn.new.had_turn c.args.core.now c.first_turn.new.core c.args.slots.now c.first_turn.new.slots
         (λ k within meant. none_first c.args.first (length c.args.slots.now) c.if-first-slots.from k w.from-is meant) c.in_ok-found.ensures.done
   ],
   (λ some. absurd (omega (arith, some))),
@@ -34,7 +34,7 @@ pub returns-in_err-more-clause-stopped : goal.returns-in_err-more-clause-stopped
 returns-in_err-more-clause-stopped g c =
     if_err c.from_residual-in_err-more.result
     (stops_more g.C.SessionCore.model g.D.Stream.ReadyStream.calls c.args.core.now c.loop-reading.core c.read_turns.new.core c.args.slots.now c.loop-reading.slots c.read_turns.new.slots
-    (turns_serve g.C.SessionCore.model g.D.Stream.ReadyStream.calls (replicate 16 false) c.loop-reading.had_turn c.args.core.now c.loop-reading.core c.args.slots.now c.loop-reading.slots c.loop-reading.invariant.0) c.in_err-more.ensures.stopped)
+    (turns_serve g.C.SessionCore.model g.D.Stream.ReadyStream.calls c.args.backlog (replicate 16 false) c.loop-reading.had_turn c.args.core.now c.loop-reading.core c.args.slots.now c.loop-reading.slots c.loop-reading.invariant.0) c.in_err-more.ensures.stopped)
 
 pub returns-in_err-more-clause-refused : goal.returns-in_err-more-clause-refused
 returns-in_err-more-clause-refused g c =
@@ -49,8 +49,8 @@ loop-reading-preserved g c =
     let l = c.loop-reading in
     let here = length l.slots in
     let all = length c.args.slots.now in (
-      turns_still M g.D.Stream.ReadyStream.calls ((l.moved || l.found) || c.in_ok-more.more) _ (replicate 16 false) c.read_turns.new.had_turn c.args.core.now c.read_turns.new.core c.args.slots.now c.read_turns.new.slots (then_still l.moved l.found c.in_ok-more.more)
-          (turns_then M g.D.Stream.ReadyStream.calls (l.moved || l.found) c.in_ok-more.more (replicate 16 false) l.had_turn c.read_turns.new.had_turn c.args.core.now l.core c.read_turns.new.core c.args.slots.now l.slots c.read_turns.new.slots l.invariant.0 c.in_ok-more.ensures.done
+      turns_still M g.D.Stream.ReadyStream.calls c.args.backlog ((l.moved || l.found) || c.in_ok-more.more) _ (replicate 16 false) c.read_turns.new.had_turn c.args.core.now c.read_turns.new.core c.args.slots.now c.read_turns.new.slots (then_still l.moved l.found c.in_ok-more.more) (then_moves l.moved l.found c.in_ok-more.more)
+          (turns_then M g.D.Stream.ReadyStream.calls c.args.backlog (l.moved || l.found) c.in_ok-more.more (replicate 16 false) l.had_turn c.read_turns.new.had_turn c.args.core.now l.core c.read_turns.new.core c.args.slots.now l.slots c.read_turns.new.slots l.invariant.0 c.in_ok-more.ensures.done
           (λ k within meant. read_or_next c.args.first all here l.from l.reading k l.invariant.0.pass.count)),
       (λ some. refl),
       asks_then g.D.Door.calls c.args.door.now l.door c.is_gathered.new.door l.invariant.2 c.is_gathered.ensures,
@@ -73,18 +73,18 @@ returns-clause-done g c =
     elim c.loop-reading-test.branch [
       | else-loop-reading-test w ↦
           let some : 1 ≤ l.reading = omega (arith, w.loop-reading-test.false) in
-          subst (λ new. (steps : List StepData) × (calls : ℕ → List StreamCall) × ReadsPlaces M N moved steps calls core new begun c.loop-reading-test.slots) (sym w.core-is)
-          (subst (λ slots. (steps : List StepData) × (calls : ℕ → List StreamCall) × ReadsPlaces M N moved steps calls core l.core begun slots) (sym w.slots-is)
-          (read_all M N moved l.had_turn core l.core begun l.slots few (λ k within. inr some)
-          (turns_still M N (l.moved || l.found) moved (replicate 16 false) l.had_turn core l.core begun l.slots (all_still l.moved l.found moved w.moved-is (l.invariant.1 some)) l.invariant.0)))
+          subst (λ new. (steps : List StepData) × (calls : ℕ → List StreamCall) × ReadsPlaces M N c.args.backlog moved steps calls core new begun c.loop-reading-test.slots) (sym w.core-is)
+          (subst (λ slots. (steps : List StepData) × (calls : ℕ → List StreamCall) × ReadsPlaces M N c.args.backlog moved steps calls core l.core begun slots) (sym w.slots-is)
+          (read_all M N c.args.backlog moved l.had_turn core l.core begun l.slots few (λ k within. inr some)
+          (turns_still M N c.args.backlog (l.moved || l.found) moved (replicate 16 false) l.had_turn core l.core begun l.slots (all_still l.moved l.found moved w.moved-is (l.invariant.1 some)) (all_moves l.moved l.found moved w.moved-is) l.invariant.0)))
       | then-loop-reading-test+in_ok-more+then-is_gathered w ↦
           let more = w.in_ok-more.more in
-          let done = turns_then M N (l.moved || l.found) more (replicate 16 false) l.had_turn w.read_turns.new.had_turn core l.core w.read_turns.new.core begun l.slots w.read_turns.new.slots l.invariant.0 w.in_ok-more.ensures.done
+          let done = turns_then M N c.args.backlog (l.moved || l.found) more (replicate 16 false) l.had_turn w.read_turns.new.had_turn core l.core w.read_turns.new.core begun l.slots w.read_turns.new.slots l.invariant.0 w.in_ok-more.ensures.done
           (λ k within meant. read_or_next c.args.first (length begun) (length l.slots) l.from l.reading k l.invariant.0.pass.count) in
-          subst (λ new. (steps : List StepData) × (calls : ℕ → List StreamCall) × ReadsPlaces M N moved steps calls core new begun c.loop-reading-test.slots) (sym w.core-is)
-          (subst (λ slots. (steps : List StepData) × (calls : ℕ → List StreamCall) × ReadsPlaces M N moved steps calls core w.read_turns.new.core begun slots) (sym w.slots-is)
-          (read_all M N {Meant = λ k. Unit {0}} moved w.read_turns.new.had_turn core w.read_turns.new.core begun w.read_turns.new.slots few (λ k within. tt)
-          (turns_still M N ((l.moved || l.found) || more) moved (replicate 16 false) w.read_turns.new.had_turn core w.read_turns.new.core begun w.read_turns.new.slots (last_still l.moved l.found more moved w.moved-is) done)))
+          subst (λ new. (steps : List StepData) × (calls : ℕ → List StreamCall) × ReadsPlaces M N c.args.backlog moved steps calls core new begun c.loop-reading-test.slots) (sym w.core-is)
+          (subst (λ slots. (steps : List StepData) × (calls : ℕ → List StreamCall) × ReadsPlaces M N c.args.backlog moved steps calls core w.read_turns.new.core begun slots) (sym w.slots-is)
+          (read_all M N c.args.backlog {Meant = λ k. Unit {0}} moved w.read_turns.new.had_turn core w.read_turns.new.core begun w.read_turns.new.slots few (λ k within. tt)
+          (turns_still M N c.args.backlog ((l.moved || l.found) || more) moved (replicate 16 false) w.read_turns.new.had_turn core w.read_turns.new.core begun w.read_turns.new.slots (last_still l.moved l.found more moved w.moved-is) (last_moves l.moved l.found more moved w.moved-is) done)))
     ]
 
 pub returns-clause-askings : goal.returns-clause-askings

@@ -1,5 +1,5 @@
 use denote.Enum.Bare.{same_true}
-use Rattle.std.proofs.Common.{◌≢◌, true, false, length, sym, ap, ◌∙◌, rules, arith}
+use Rattle.std.proofs.Common.{◌≡◌, ◌≢◌, ◌⊎◌, inl, inr, Bool, true, false, ◌||◌, length, refl, sym, ap, ◌∙◌, rules, arith}
 use Rattle.audit_serve_ready.specs.Clients.{next_first}
 use Rattle.audit_serve_ready.specs.Rounds.{IsLetGo, IsLetIn}
 use Rattle.audit_serve_ready.specs.contracts.turns.Pass.{the_type}
@@ -10,6 +10,10 @@ use Rattle.audit_serve_ready.proofs.PlaceByPlace.{gone_turns, come_turns, change
 use Rattle.audit_serve_ready.specs.declared.turns.Pass.TheVariants.{Withheld}
 use Rattle.audit_serve_ready.proofs.serving.serve_pass.Goals as goal
 use Rattle.audit_serve_ready.proofs.serving.serve_pass.Goals.{then-gone-come, else-gone-come}
+
+gone_or_come : {A B T : Type 0} (gone come : Bool) → (gone || come) ≡ true → (gone ≡ true → A) → (come ≡ true → B ⊎ T) → A ⊎ (B ⊎ T)
+gone_or_come true come is went came = inl (went refl)
+gone_or_come false come is went came = inr (came is)
 
 pub returns-clause-served : goal.returns-clause-served
 returns-clause-served g c =
@@ -51,6 +55,10 @@ returns-clause-once g c = λ apart.
             let neither = neither_of c.let_go-gone.result c.let_in-come.result (search rules) in
             let still = passed.1 (sym w.result-is ∙ idle) in
             (still.0, still.1, c.let_go-gone.ensures.still neither.0, c.let_in-come.ensures.still neither.1)
+      ]),
+      (λ moving. elim c.if-gone-come.branch [
+        | then-gone-come w ↦ inr (gone_or_come c.let_go-gone.result c.let_in-come.result (search rules) c.let_go-gone.ensures.moves c.let_in-come.ensures.moves)
+        | else-gone-come w ↦ inl (passed.2 (sym w.result-is ∙ moving))
       ]),
     )
 

@@ -18,12 +18,12 @@ returns-in_err-end-clause-stopped g c =
 pub returns-then-is_shut-clause-done : goal.returns-then-is_shut-clause-done
 returns-then-is_shut-clause-done g c =
     let shut : is_shut c.args.slot.now ≡ true = search rules in
-    shut_turn g.C.SessionCore.model g.S.ReadyStream.calls c.args.session c.args.core.now c.end.new.self c.args.slot.now shut c.in_ok-end.ensures.did c.in_ok-end.ensures.over
+    shut_turn g.C.SessionCore.model g.S.ReadyStream.calls c.args.backlog c.args.session c.args.core.now c.end.new.self c.args.slot.now shut c.in_ok-end.ensures.did c.in_ok-end.ensures.over
 
 pub returns-in-Nothing-clause-done : goal.returns-in-Nothing-clause-done
 returns-in-Nothing-clause-done g c =
     let found = subst (λ found. IsFound found c.look.ensures.looked.0 c.look.new.self) c.in-Nothing.is c.look.ensures.looked.2 in
-    vain_turn g.C.SessionCore.model g.S.ReadyStream.calls c.args.session c.args.core.now c.args.slot.now c.look.new.self c.look.ensures.looked.0 c.look.ensures.looked.1 found.0 found.1
+    vain_turn g.C.SessionCore.model g.S.ReadyStream.calls c.args.backlog c.args.session c.args.core.now c.args.slot.now c.look.new.self c.look.ensures.looked.0 c.look.ensures.looked.1 found.0 found.1
 
 pub returns-in_err-end-in-Over-clause-stopped : goal.returns-in_err-end-in-Over-clause-stopped
 returns-in_err-end-in-Over-clause-stopped g c =
@@ -34,7 +34,7 @@ returns-in_err-end-in-Over-clause-stopped g c =
 pub returns-in_ok-end-in-Over-clause-done : goal.returns-in_ok-end-in-Over-clause-done
 returns-in_ok-end-in-Over-clause-done g c =
     let found = subst (λ found. IsFound found c.look.ensures.looked.0 c.look.new.self) c.in-Over.is c.look.ensures.looked.2 in
-    over_turn g.C.SessionCore.model g.S.ReadyStream.calls c.args.session c.args.core.now c.end-in-Over.new.self c.args.slot.now c.look.new.self c.look.ensures.looked.0 c.look.ensures.looked.1 found.0 c.in_ok-end-in-Over.ensures.did c.in_ok-end-in-Over.ensures.over
+    over_turn g.C.SessionCore.model g.S.ReadyStream.calls c.args.backlog c.args.session c.args.core.now c.end-in-Over.new.self c.args.slot.now c.look.new.self c.look.ensures.looked.0 c.look.ensures.looked.1 found.0 found.1 c.in_ok-end-in-Over.ensures.did c.in_ok-end-in-Over.ensures.over
 
 pub feed_turn-requires-clause-live : goal.feed_turn-requires-clause-live
 feed_turn-requires-clause-live g c =
@@ -52,7 +52,7 @@ returns-in-Bytes-clause-done g c =
     let N = g.S.ReadyStream.calls in
     let going = subst (λ found. IsFound found c.look.ensures.looked.0 c.look.new.self) c.in-Bytes.is c.look.ensures.looked.2 in
     if_ok_all c.feed_turn.result c.feed_turn.ensures.taken c.feed_turn.ensures.done
-    (λ turn had fed. fed_turn M N (has_moved turn) c.args.session (is_had turn) c.args.core.now c.feed_turn.new.core c.args.slot.now c.look.new.self c.feed_turn.new.slot c.look.ensures.looked.0 had c.look.ensures.looked.1 going fed)
+    (λ turn had fed. fed_turn M N c.args.backlog (has_moved turn) c.args.session (is_had turn) c.args.core.now c.feed_turn.new.core c.args.slot.now c.look.new.self c.feed_turn.new.slot c.look.ensures.looked.0 had c.look.ensures.looked.1 going fed)
 
 pub returns-then-is_shut-clause-within : goal.returns-then-is_shut-clause-within
 returns-then-is_shut-clause-within g c =

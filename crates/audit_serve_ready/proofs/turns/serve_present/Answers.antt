@@ -4,7 +4,7 @@ use Rattle.audit_serve_passes.specs.Core.{no_bytes}
 use Rattle.audit_serve_passes.proofs.Turns.{if_err}
 use Rattle.audit_serve_ready.proofs.Passes.{serves_more, stops_more, flush_stopped_at}
 use Rattle.audit_serve_ready.proofs.Changes.{if_err_is}
-use Rattle.audit_serve_ready.proofs.TurnByTurn.{neither_of}
+use Rattle.audit_serve_ready.proofs.TurnByTurn.{neither_of, one_of}
 use Rattle.audit_serve_ready.proofs.Stages.{judged_serves, reads_serve, written_pass, withheld_pass}
 use Rattle.audit_serve_ready.proofs.Bounds.{owes_in, within_flushed, written_after, takes_turn}
 use Rattle.audit_serve_ready.specs.Places.{slot_at}
@@ -66,6 +66,10 @@ returns-clause-pass g c = λ apart.
       λ idle. elim c.if-was_read-was_written.branch [
         | then-was_read-was_written w ↦ absurd (cc (w.result-is, idle))
         | else-was_read-was_written w ↦ neither_of c.in_ok-was_read.was_read c.write_turns-was_written.result (search rules)
+      ],
+      λ moving. elim c.if-was_read-was_written.branch [
+        | then-was_read-was_written w ↦ one_of c.in_ok-was_read.was_read c.write_turns-was_written.result (search rules)
+        | else-was_read-was_written w ↦ absurd (cc (w.result-is, moving))
       ],
     )
 
