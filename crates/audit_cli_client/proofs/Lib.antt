@@ -1,3 +1,4 @@
 mod AddedLines
 pub mod StateLines
 pub mod AskedQuestions
+pub mod SaidMessages

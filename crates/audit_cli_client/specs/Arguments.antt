@@ -107,12 +107,13 @@ HasTaskNumbers text long window timeout task = (form_asked text ≡ Some task.fo
     × (long_asked long text ≡ Some task.long) × (window_or_default window ≡ Ok task.window)
     × (seconds_or_default timeout ≡ Ok task.seconds)
 
--- what is ordered has the question and the numbers of the words
-abbrev pub HasNumbersOf : Request → Order → Type 0
-HasNumbersOf (Ask socket words timeout) (order.Ask path asked seconds) =
-    (question_in words.0.now words.1 words.2 words.3 ≡ Some asked) × (seconds_or_default timeout ≡ Ok seconds)
-HasNumbersOf (Send socket text long window timeout) (order.Send path task) =
-    HasTaskNumbers text long window timeout task
-HasNumbersOf (Watch socket state every timeout is_quiet) (order.Watch post pause) =
-    IsPause every pause × (seconds_or_default timeout ≡ Ok post.seconds) × (post.is_quiet ≡ is_quiet)
-HasNumbersOf request other = ⊥
+-- what is ordered has the paths, the question and the numbers of the words
+abbrev pub IsOrderOf : Request → Order → Type 0
+IsOrderOf (Ask socket words timeout) (order.Ask path asked seconds) = (path ≡ socket)
+    × (question_in words.0.now words.1 words.2 words.3 ≡ Some asked) × (seconds_or_default timeout ≡ Ok seconds)
+IsOrderOf (Send socket text long window timeout) (order.Send path task) =
+    (path ≡ socket) × HasTaskNumbers text long window timeout task
+IsOrderOf (Watch socket state every timeout is_quiet) (order.Watch post pause) = (post.socket ≡ socket)
+    × (post.state ≡ state) × IsPause every pause × (seconds_or_default timeout ≡ Ok post.seconds)
+    × (post.is_quiet ≡ is_quiet)
+IsOrderOf request other = ⊥

@@ -7,3 +7,5 @@ pub mod Arguments
 pub mod Looking
 pub mod Asked
 pub mod Requests
+pub mod Messages
+pub mod ServerFacts

@@ -1,10 +1,15 @@
 -- What a witness prints, and what it does after each look.
-use Rattle.std.specs.Prelude.{◌≡◌, ℕ, Bool, true, false, Option, Some, None, Result, Ok, Err, List, [], ◌++◌, codes}
+use Rattle.std.specs.Prelude.{◌≡◌, ◌⊎◌, ℕ, Bool, true, false, Option, Some, None, IfSome, Result, Ok, Err, List}
+use Rattle.std.specs.Prelude.{[], ◌++◌, codes}
 use Rattle.std.specs.Io.KnownBytes.{Appends, Keeps}
 use Rattle.audit_client.specs.declared.watching.Sight.{Sight}
 use Rattle.audit_client.specs.declared.watching.Sight.TheVariants.{Began, Same, Grew}
+use Rattle.audit_text.specs.declared.fault.LinesError.TheVariants.{Write}
+use Rattle.audit_cli_base.specs.declared.fault.CommandError.TheVariants.{File, Lines}
 use Rattle.audit_cli_client.specs.declared.fault.RemoteError.{RemoteError}
-use Rattle.audit_cli_client.specs.Faults.{is_passing_fault}
+use Rattle.audit_cli_client.specs.declared.fault.RemoteError.TheVariants.{Command}
+use Rattle.audit_cli_client.specs.Faults.{no_memory, is_passing_fault}
+use Rattle.audit_cli_client.specs.Messages.{message_of, SaysFirst}
 use Rattle.audit_cli_client.specs.State.{commitment_word}
 
 -- the line of what was seen; a quiet witness prints only its first commitment
@@ -21,13 +26,35 @@ change_line quiet (Began seen) = sight_line quiet (Began seen)
 change_line quiet (Same seen) = []
 change_line quiet (Grew seen) = sight_line quiet (Grew seen)
 
+-- why a line wasn't printed: memory for it was refused, or the output failed
+abbrev pub FailsToPrint : Type 0 → RemoteError → Type 0
+FailsToPrint failed fault =
+    (fault ≡ no_memory) ⊎ (failed × ((fault ≡ Command (Lines Write)) ⊎ (fault ≡ Command File)))
+
+-- After a look that saw something its line is printed, or can't be; after one that failed nothing is, and that is the
+-- fault.
+abbrev pub PrintsLook : Bool → Result Sight RemoteError → Option (List ℕ) → Option (List ℕ) → Type 0
+    → Result (Unit {0}) RemoteError → Type 0
+PrintsLook quiet (Ok sight) old new failed (Ok done) = Appends old new (sight_line quiet sight)
+PrintsLook quiet (Ok sight) old new failed (Err fault) = FailsToPrint failed fault
+PrintsLook quiet (Err fault) old new failed (Ok done) = ⊥
+PrintsLook quiet (Err fault) old new failed (Err last) = (last ≡ fault) × Keeps old new
+
 -- After a look that saw something, a repeated look prints it and goes on, or ends because it couldn't. After one that
 -- failed it goes on, and has reported the fault, if that is a passing one; and ends with every other.
-abbrev pub FollowsLook : Bool → Result Sight RemoteError → Option (List ℕ) → Option (List ℕ)
+abbrev pub FollowsLook : Bool → Result Sight RemoteError → Option (List ℕ) → Option (List ℕ) → Type 0
     → Result (Option RemoteError) RemoteError → Type 0
-FollowsLook quiet (Ok sight) old new (Ok reported) = (reported ≡ None) × Appends old new (change_line quiet sight)
-FollowsLook quiet (Ok sight) old new (Err fault) = is_passing_fault fault ≡ false
-FollowsLook quiet (Err fault) old new (Ok reported) =
+FollowsLook quiet (Ok sight) old new failed (Ok reported) =
+    (reported ≡ None) × Appends old new (change_line quiet sight)
+FollowsLook quiet (Ok sight) old new failed (Err fault) = FailsToPrint failed fault
+FollowsLook quiet (Err fault) old new failed (Ok reported) =
     (is_passing_fault fault ≡ true) × (reported ≡ Some fault) × Keeps old new
-FollowsLook quiet (Err fault) old new (Err last) =
+FollowsLook quiet (Err fault) old new failed (Err last) =
     (is_passing_fault fault ≡ false) × (last ≡ fault) × Keeps old new
+
+-- A passing fault is said on the messages before all else, unless it equals the one that was reported.
+abbrev pub SaysPassing : (RemoteError → Bool) → Result Sight RemoteError → Option (List ℕ) → Option (List ℕ) → Type 0
+    → Type 0
+SaysPassing is_reported (Ok sight) old new failed = Unit {0}
+SaysPassing is_reported (Err fault) old new failed = is_passing_fault fault ≡ true → is_reported fault ≡ false
+    → IfSome (message_of fault) (SaysFirst old new failed)

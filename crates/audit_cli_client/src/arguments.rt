@@ -44,7 +44,8 @@ pub fn question_asked<'a>(words: QuestionWords<'a>) -> Result<Question<'a>, Comm
     ensures asked { result ≡ judged_question (question_in words.entry.0.now words.entry.1 words.entry.2 words.entry.3) }
     ensures wrong { question_in words.entry.0.now words.entry.1 words.entry.2 words.entry.3 ≡ None
         → result ≡ Err CommandError.BadArgument }
-    ensures fault { IfErr result (λ fault. fault ≡ CommandError.BadArgument) }
+    ensures fault { IfErr result (λ fault. (fault ≡ CommandError.BadArgument)
+        × (question_in words.entry.0.now words.entry.1 words.entry.2 words.entry.3 ≡ None)) }
 {
     match question_in(words) {
         Some(question) => Ok(question),

@@ -1,10 +1,13 @@
-ghost use Rattle.std.specs.Prelude.{◌≡◌, option_map};
+ghost use Rattle.std.specs.Prelude.{◌≡◌, option_map, IfSome, OnOk, OnErr};
+ghost use Rattle.std.specs.Io.KnownBytes.{Appends};
+ghost use Rattle.audit_text.specs.Writing.{WritesInPart};
 ghost use Rattle.audit_cli_client.specs.Faults.{no_memory, remote_status, status_of_server, of_sending, judgment_of};
 ghost use Rattle.audit_cli_client.specs.Faults.{judgment_in, is_passing_fault};
+ghost use Rattle.audit_cli_client.specs.Messages.{Says, message_of, message_of_server};
 
 use crate::contradiction::Contradiction;
 use audit_cli_base::{CommandError, Status, report};
-use audit_client::{AskError, ClientError, SendError, word_of_refusal};
+use audit_client::{AskError, ClientError, FallibleWrite, SendError, word_of_refusal};
 use audit_store::StoreError;
 use audit_text::LinesError;
 use audit_wire::Refusal;
@@ -52,31 +55,40 @@ impl RemoteError {
 
     /// Prints the error in one line, and returns the status with which the program exits. A judgment of the log isn't
     /// printed here, because it is a line of the output. It allocates nothing.
-    pub fn report<M: Write>(self, messages: &mut M) -> Status
-        ensures { result ≡ remote_status self }
+    pub fn report<M: FallibleWrite>(self, messages: &mut M) -> Status
+        ensures status { result ≡ remote_status self }
+        ensures said { IfSome (message_of self) (Says (M.contents messages.old) (M.contents messages.new)
+            (M.failed messages.new)) }
     {
-        let _ = match self {
-            RemoteError::Command(fault) => {
-                let _ = report(fault, messages);
-                Ok(())
-            }
-            RemoteError::NoConnection(_) => messages.write_all(b"audit: file fault\n"),
-            RemoteError::Server(error) => print_server_error(error, messages),
-            RemoteError::Contradicted(_) => Ok(()),
-            RemoteError::BadStateLine(line) => {
-                writeln!(messages, "audit: line {line}: bad commitment line")
-            }
-            RemoteError::StateInUse => messages.write_all(b"audit: witness file in use\n"),
-            RemoteError::NotAcknowledged { lines: 1, first } => writeln!(
-                messages,
-                "audit: 1 line from line {first} is not acknowledged"
-            ),
-            RemoteError::NotAcknowledged { lines, first } => writeln!(
-                messages,
-                "audit: {lines} lines from line {first} are not acknowledged"
-            ),
-        };
+        let _ = self.print(messages);
         self.status()
+    }
+
+    /// Prints the error in one line. After an error of that line a prefix of it was printed.
+    pub(crate) fn print<M: FallibleWrite>(self, messages: &mut M) -> Result<(), LinesError>
+        ensures said { OnOk result (IfSome (message_of self) (Appends (M.contents messages.old)
+            (M.contents messages.new))) }
+        ensures part { OnErr result (IfSome (message_of self) (WritesInPart (M.contents messages.old)
+            (M.contents messages.new))) }
+        ensures failed { OnErr result (M.failed messages.new) }
+    {
+        if let Some(words) = self.message() {
+            return messages.write_text(words.as_bytes());
+        }
+        let _ = print_number(self, messages);
+        Ok(())
+    }
+
+    // The line of the error, if it is one of the client's own and has no number.
+    fn message(self) -> Option<&'static str>
+        ensures { option_map (λ words. words.now) result ≡ message_of self }
+    {
+        match self {
+            RemoteError::NoConnection(_) => Some("audit: file fault\n"),
+            RemoteError::StateInUse => Some("audit: witness file in use\n"),
+            RemoteError::Server(error) => message_of_server(error),
+            _ => None,
+        }
     }
 
     /// The line of the output that judges the log, if the error is a judgment.
@@ -131,23 +143,46 @@ fn status_of_server(error: ClientError) -> Status
     }
 }
 
-fn print_server_error<M: Write>(error: ClientError, messages: &mut M) -> io::Result<()> {
-    let line = match error {
-        ClientError::Refused(refusal) => {
+fn message_of_server(error: ClientError) -> Option<&'static str>
+    ensures { option_map (λ words. words.now) result ≡ message_of_server error }
+{
+    match error {
+        ClientError::BadReply => Some("audit: bad reply\n"),
+        ClientError::Ended => Some("audit: connection ended\n"),
+        ClientError::TimedOut => Some("audit: no reply in time\n"),
+        ClientError::Output => Some("audit: file fault\n"),
+        _ => None,
+    }
+}
+
+// Prints the line of an error that has a number, or that other commands have too.
+fn print_number<M: Write>(fault: RemoteError, messages: &mut M) -> io::Result<()> {
+    match fault {
+        RemoteError::Command(fault) => {
+            let _ = report(fault, messages);
+            Ok(())
+        }
+        RemoteError::Server(ClientError::Refused(refusal)) => {
             let (number, name) = (refusal.code(), word_of_refusal(refusal));
-            return writeln!(messages, "audit: {number} {name}");
+            writeln!(messages, "audit: {number} {name}")
         }
-        ClientError::Memory => {
+        RemoteError::Server(ClientError::Memory) => {
             let _ = report(CommandError::Refused(StoreError::Memory), messages);
-            return Ok(());
+            Ok(())
         }
-        ClientError::BadReply => "audit: bad reply\n",
-        ClientError::Ended => "audit: connection ended\n",
-        ClientError::TimedOut => "audit: no reply in time\n",
-        ClientError::Output => "audit: file fault\n",
-        ClientError::NotAccepted | ClientError::Shorter | ClientError::OtherRoot => return Ok(()),
-    };
-    messages.write_all(line.as_bytes())
+        RemoteError::BadStateLine(line) => {
+            writeln!(messages, "audit: line {line}: bad commitment line")
+        }
+        RemoteError::NotAcknowledged { lines: 1, first } => writeln!(
+            messages,
+            "audit: 1 line from line {first} is not acknowledged"
+        ),
+        RemoteError::NotAcknowledged { lines, first } => writeln!(
+            messages,
+            "audit: {lines} lines from line {first} are not acknowledged"
+        ),
+        _ => Ok(()),
+    }
 }
 
 impl From<CommandError> for RemoteError {

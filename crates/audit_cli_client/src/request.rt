@@ -5,25 +5,22 @@ ghost use Rattle.audit_text.specs.declared.fault.LinesError.{LinesError};
 ghost use Rattle.audit_text.specs.LineEvents.{form_asked, long_asked};
 ghost use Rattle.audit_cli_client.specs.declared.fault.RemoteError.{RemoteError};
 ghost use Rattle.audit_cli_client.specs.Faults.{IsNoJudgment, judgment_of};
-ghost use Rattle.audit_cli_client.specs.Arguments.{AreNoSeconds, IsNoWindow, HasRefusedWord, HasNumbersOf};
+ghost use Rattle.audit_cli_client.specs.Arguments.{AreNoSeconds, IsNoWindow, HasRefusedWord, IsOrderOf};
 ghost use Rattle.audit_cli_client.specs.Arguments.{HasTaskNumbers, IsNoTask};
-ghost use Rattle.audit_cli_client.specs.Requests.{IsClientRun, status_of_done};
+ghost use Rattle.audit_cli_client.specs.Requests.{IsClientRun, EndsOrder, Performs, status_of_done, done_after};
 ghost use Rattle.audit_cli_client.specs.Arguments.{IsPause, seconds_or_default, window_or_default};
 
 use crate::alarm::print_contradiction;
 use crate::arguments::{Question, QuestionWords, question_asked, seconds_asked, window_asked};
-use crate::asking::ask_socket;
 use crate::fault::RemoteError;
-use crate::sending::{Task, send_to_socket};
+use crate::sending::Task;
+use crate::servers::Servers;
 use crate::watching::{Post, watch_for_ever, watch_once};
 use audit_cli_base::{CommandError, Status, report_flush, socket_path_asked};
-use audit_cli_host::Dial;
-use audit_disk::SystemFile;
-use audit_text::{LineForm, LongLines, form_asked, long_asked, write_whole};
+use audit_client::FallibleWrite;
+use audit_text::{LineForm, LongLines, form_asked, long_asked};
 use std::alloc::Global;
-use std::fs::Files;
 use std::io::{Read, Write};
-use std::time::Clock;
 
 // How many seconds a reply is waited for if the command line doesn't say.
 const TIMEOUT: u64 = 30;
@@ -73,7 +70,7 @@ pub enum Request<'a> {
 
 /// Carries out a request. Lines that begin with `audit: ` are written to `messages`, all others to `output`, which is
 /// flushed after each answer to an event and at the end. Returns the status with which the program exits.
-pub fn run<F: Files + Dial + Clock, R: Read, W: Write, M: Write>(
+pub fn run<F: Servers, R: Read, W: FallibleWrite, M: FallibleWrite>(
     rt: &F,
     alloc: Global,
     request: Request<'_>,
@@ -81,16 +78,15 @@ pub fn run<F: Files + Dial + Clock, R: Read, W: Write, M: Write>(
     output: &mut W,
     messages: &mut M,
 ) -> Status
-where
-    F::File: SystemFile,
-    ensures carried { IsClientRun request.entry (W.contents output.old) (W.contents output.new) result }
+    // What the words say was ordered, and its result is that of the call that carried it out.
+    ensures carried { IsClientRun W.contents W.failed (F.facts rt.now) request.entry output.old output.new result }
     // A wrong word ends the program before anything is written. An output that can't be flushed is another fault.
     ensures words { HasRefusedWord request.entry → (result ≡ Status.Usage) ⊎ (result ≡ Status.Device) }
     ensures unwritten { HasRefusedWord request.entry → Keeps (W.contents output.old) (W.contents output.new) }
 {
     let done = perform(rt, alloc, request, input, output, messages);
     let judged = print_judgment(done, output);
-    let flushed = output.flush();
+    let flushed = output.flush_text();
     let status = report_fault(judged, messages);
     let status = report_flush(status, flushed, messages);
     report_alarm(alloc, request, done, messages);
@@ -98,7 +94,7 @@ where
 }
 
 // Prints the fault of a command, if it has one, and returns its status.
-fn report_fault<M: Write>(ended: Result<Status, RemoteError>, messages: &mut M) -> Status
+fn report_fault<M: FallibleWrite>(ended: Result<Status, RemoteError>, messages: &mut M) -> Status
     ensures { result ≡ status_of_done ended }
 {
     match ended {
@@ -122,18 +118,18 @@ fn report_alarm<M: Write>(
 }
 
 // Prints the judgment of a log, if that is why the command failed.
-fn print_judgment<W: Write>(
+fn print_judgment<W: FallibleWrite>(
     done: Result<Status, RemoteError>,
     output: &mut W,
 ) -> Result<Status, RemoteError>
     ensures other { IsNoJudgment done → (result ≡ done) × Keeps (W.contents output.old) (W.contents output.new) }
     ensures judged { (fault : RemoteError) (words : List ℕ) → done ≡ Err fault → judgment_of fault ≡ Some words
         → ((result ≡ done) × Appends (W.contents output.old) (W.contents output.new) words)
-        ⊎ (result ≡ Err (RemoteError.Command (CommandError.Lines LinesError.Write))) }
+        ⊎ ((result ≡ Err (RemoteError.Command (CommandError.Lines LinesError.Write))) × W.failed output.new) }
 {
     if let Err(fault) = done {
         if let Some(words) = fault.judgment() {
-            write_whole(output, words.as_bytes())?;
+            output.write_text(words.as_bytes())?;
         }
     }
     done
@@ -157,7 +153,7 @@ enum Order<'a> {
 }
 
 // The words are judged before the socket is opened.
-fn perform<F: Files + Dial + Clock, R: Read, W: Write, M: Write>(
+fn perform<F: Servers, R: Read, W: FallibleWrite, M: FallibleWrite>(
     rt: &F,
     alloc: Global,
     request: Request<'_>,
@@ -165,10 +161,10 @@ fn perform<F: Files + Dial + Clock, R: Read, W: Write, M: Write>(
     output: &mut W,
     messages: &mut M,
 ) -> Result<Status, RemoteError>
-where
-    F::File: SystemFile,
     ensures words { HasRefusedWord request.entry → result ≡ Err (RemoteError.Command CommandError.BadArgument) }
     ensures unwritten { HasRefusedWord request.entry → Keeps (W.contents output.old) (W.contents output.new) }
+    ensures carried { Performs (F.facts rt.now) request.entry (W.contents output.old) (W.contents output.new)
+        (W.failed output.new) result }
 {
     match judge(request) {
         Ok(order) => carry_out(rt, alloc, order, input, output, messages),
@@ -178,7 +174,8 @@ where
 
 fn judge<'a>(request: Request<'a>) -> Result<Order<'a>, CommandError>
     ensures wrong { HasRefusedWord request.entry → result ≡ Err CommandError.BadArgument }
-    ensures numbers { IfOk result (HasNumbersOf request.entry) }
+    ensures asked { IfOk result (IsOrderOf request.entry) }
+    ensures fault { IfErr result (λ fault. (fault ≡ CommandError.BadArgument) × HasRefusedWord request.entry) }
 {
     match request {
         Request::Ask {
@@ -233,7 +230,8 @@ fn task_asked(
 ) -> Result<Task, CommandError>
     ensures wrong { IsNoTask text.entry long.entry window.entry timeout.entry → result ≡ Err CommandError.BadArgument }
     ensures asked { IfOk result (HasTaskNumbers text.entry long.entry window.entry timeout.entry) }
-    ensures fault { IfErr result (λ fault. fault ≡ CommandError.BadArgument) }
+    ensures fault { IfErr result (λ fault. (fault ≡ CommandError.BadArgument)
+        × IsNoTask text.entry long.entry window.entry timeout.entry) }
 {
     let form = form_or_fault(text)?;
     let long = long_or_fault(long, text)?;
@@ -247,7 +245,8 @@ fn task_asked(
     })
 }
 
-fn carry_out<F: Files + Dial + Clock, R: Read, W: Write, M: Write>(
+// Does what was ordered. Only sending has a status of its own.
+fn carry_out<F: Servers, R: Read, W: FallibleWrite, M: FallibleWrite>(
     rt: &F,
     alloc: Global,
     order: Order<'_>,
@@ -255,23 +254,26 @@ fn carry_out<F: Files + Dial + Clock, R: Read, W: Write, M: Write>(
     output: &mut W,
     messages: &mut M,
 ) -> Result<Status, RemoteError>
-where
-    F::File: SystemFile,
+    ensures { EndsOrder (F.facts rt.now) order.entry (W.contents output.old) (W.contents output.new)
+        (W.failed output.new) result }
 {
-    let done = match order {
+    match order {
         Order::Ask {
             socket,
             question,
             seconds,
-        } => ask_socket(rt, alloc, socket, question, seconds, output),
-        Order::Send { socket, task } => {
-            return send_to_socket(rt, alloc, socket, task, input, output, messages);
-        }
+        } => done_after(rt.ask(alloc, socket, question, seconds, output)),
+        Order::Send { socket, task } => rt.send(alloc, socket, task, input, output, messages),
         Order::Watch { post, every } => match every {
-            Some(every) => watch_for_ever(rt, alloc, post, every, output, messages),
-            None => watch_once(rt, alloc, post, output),
+            Some(every) => done_after(watch_for_ever(rt, alloc, post, every, output, messages)),
+            None => done_after(watch_once(rt, alloc, post, output)),
         },
-    };
+    }
+}
+
+fn done_after(done: Result<(), RemoteError>) -> Result<Status, RemoteError>
+    ensures { result ≡ done_after done }
+{
     match done {
         Ok(()) => Ok(Status::Done),
         Err(fault) => Err(fault),
@@ -281,7 +283,7 @@ where
 fn pause_asked(word: Option<&str>) -> Result<Option<u64>, CommandError>
     ensures asked { IfOk result (IsPause word.entry) }
     ensures wrong { AreNoSeconds word.entry → result ≡ Err CommandError.BadArgument }
-    ensures fault { IfErr result (λ fault. fault ≡ CommandError.BadArgument) }
+    ensures fault { IfErr result (λ fault. (fault ≡ CommandError.BadArgument) × AreNoSeconds word.entry) }
 {
     match word {
         Some(word) => match seconds_asked(word) {
@@ -295,7 +297,7 @@ fn pause_asked(word: Option<&str>) -> Result<Option<u64>, CommandError>
 fn form_or_fault(word: Option<&str>) -> Result<LineForm, CommandError>
     ensures asked { IfOk result (λ form. form_asked word.entry ≡ Some form) }
     ensures wrong { form_asked word.entry ≡ None → result ≡ Err CommandError.BadArgument }
-    ensures fault { IfErr result (λ fault. fault ≡ CommandError.BadArgument) }
+    ensures fault { IfErr result (λ fault. (fault ≡ CommandError.BadArgument) × (form_asked word.entry ≡ None)) }
 {
     match form_asked(word) {
         Some(form) => Ok(form),
@@ -306,7 +308,8 @@ fn form_or_fault(word: Option<&str>) -> Result<LineForm, CommandError>
 fn long_or_fault(word: Option<&str>, text: Option<&str>) -> Result<LongLines, CommandError>
     ensures asked { IfOk result (λ long. long_asked word.entry text.entry ≡ Some long) }
     ensures wrong { long_asked word.entry text.entry ≡ None → result ≡ Err CommandError.BadArgument }
-    ensures fault { IfErr result (λ fault. fault ≡ CommandError.BadArgument) }
+    ensures fault { IfErr result (λ fault. (fault ≡ CommandError.BadArgument)
+        × (long_asked word.entry text.entry ≡ None)) }
 {
     match long_asked(word, text) {
         Some(long) => Ok(long),
@@ -317,7 +320,7 @@ fn long_or_fault(word: Option<&str>, text: Option<&str>) -> Result<LongLines, Co
 fn seconds_or_default(word: Option<&str>) -> Result<u64, CommandError>
     ensures asked { result ≡ seconds_or_default word.entry }
     ensures wrong { AreNoSeconds word.entry → result ≡ Err CommandError.BadArgument }
-    ensures fault { IfErr result (λ fault. fault ≡ CommandError.BadArgument) }
+    ensures fault { IfErr result (λ fault. (fault ≡ CommandError.BadArgument) × AreNoSeconds word.entry) }
 {
     match word {
         Some(word) => seconds_asked(word),
@@ -328,7 +331,7 @@ fn seconds_or_default(word: Option<&str>) -> Result<u64, CommandError>
 fn window_or_default(word: Option<&str>) -> Result<u64, CommandError>
     ensures asked { result ≡ window_or_default word.entry }
     ensures wrong { IsNoWindow word.entry → result ≡ Err CommandError.BadArgument }
-    ensures fault { IfErr result (λ fault. fault ≡ CommandError.BadArgument) }
+    ensures fault { IfErr result (λ fault. (fault ≡ CommandError.BadArgument) × IsNoWindow word.entry) }
 {
     match word {
         Some(word) => window_asked(word),

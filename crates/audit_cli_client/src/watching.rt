@@ -1,8 +1,11 @@
 //! A witness of a log, which keeps what it sees in a file.
-ghost use Rattle.std.specs.Prelude.{◌≡◌, ◌++◌, false, codes, IfErr, OnOk};
+ghost use Rattle.std.specs.Prelude.{◌≡◌, ◌⊎◌, ◌+◌, ◌++◌, ℕ, List, false, codes, Some, Err, IfErr, IfSome, OnOk};
 ghost use Rattle.std.specs.Io.KnownBytes.{Appends};
 ghost use Rattle.audit_cli_client.specs.Faults.{is_passing_fault};
-ghost use Rattle.audit_cli_client.specs.Looking.{sight_line, change_line, FollowsLook};
+ghost use Rattle.audit_cli_client.specs.Looking.{sight_line, change_line, FollowsLook, PrintsLook, FailsToPrint};
+ghost use Rattle.audit_cli_client.specs.Looking.{SaysPassing};
+ghost use Rattle.audit_cli_client.specs.Messages.{message_of, SaysFirst};
+ghost use Rattle.audit_cli_client.specs.Requests.{LooksOnce, LooksOn};
 ghost use Rattle.audit_cli_client.specs.State.{commitment_word};
 
 use crate::alarm::{date_of_now, push_date};
@@ -11,15 +14,16 @@ use crate::connection::{connect, socket_identity};
 use crate::contradiction::fault_of_look;
 use crate::fault::RemoteError;
 use crate::line::{LineEnd, Pace};
+use crate::servers::Servers;
 use crate::state_file::StateFile;
 use crate::state_lines::push_commitment_line;
 use crate::state_lock::{Locked, lock_state, remove_made};
 use crate::state_text::StateAt;
 use audit_cli_host::Dial;
-use audit_client::{ClientError, Kept, Sight, watch_and_keep};
+use audit_client::{ClientError, FallibleWrite, Kept, Sight, watch_and_keep};
 use audit_disk::SystemFile;
 use audit_proof::Commitment;
-use audit_text::{Shown, write_whole};
+use audit_text::Shown;
 use std::alloc::Global;
 use std::fs::Files;
 use std::io::{self, BufReader, Write};
@@ -40,23 +44,38 @@ pub struct Post<'a> {
 }
 
 /// Looks once, and prints what was seen.
-pub fn watch_once<F: Files + Dial + Clock, W: Write>(
+pub fn watch_once<F: Servers, W: FallibleWrite>(
     rt: &F,
     alloc: Global,
     post: Post<'_>,
     output: &mut W,
 ) -> Result<(), RemoteError>
-where
-    F::File: SystemFile,
+    ensures { LooksOnce (F.facts rt.now) post.entry (W.contents output.old) (W.contents output.new)
+        (W.failed output.new) result }
 {
-    let sight = look(rt, alloc, post)?;
-    print_sight(alloc, sight, post.is_quiet, output)
+    let looked = rt.look(alloc, post, 0);
+    print_look(alloc, looked, post.is_quiet, output)
+}
+
+// Prints what a look saw, or passes its fault on.
+fn print_look<W: FallibleWrite>(
+    alloc: Global,
+    looked: Result<Sight, RemoteError>,
+    is_quiet: bool,
+    output: &mut W,
+) -> Result<(), RemoteError>
+    ensures { PrintsLook is_quiet looked (W.contents output.old) (W.contents output.new) (W.failed output.new) result }
+{
+    match looked {
+        Ok(sight) => print_sight(alloc, sight, is_quiet, output),
+        Err(fault) => Err(fault),
+    }
 }
 
 /// Looks again and again, pausing for `every` seconds after each look, and prints what has changed. A server that
 /// isn't there, or doesn't answer, is reported once until something else is seen, and so is its return. What isn't such
 /// a fault ends it: a judgment of the log, and an output that can't be written.
-pub fn watch_for_ever<F: Files + Dial + Clock, W: Write, M: Write>(
+pub fn watch_for_ever<F: Servers, W: FallibleWrite, M: FallibleWrite>(
     rt: &F,
     alloc: Global,
     post: Post<'_>,
@@ -64,38 +83,38 @@ pub fn watch_for_ever<F: Files + Dial + Clock, W: Write, M: Write>(
     output: &mut W,
     messages: &mut M,
 ) -> Result<(), RemoteError>
-where
-    F::File: SystemFile,
-    ensures { IfErr result (λ fault. is_passing_fault fault ≡ false) }
+    ensures { LooksOn (F.facts rt.now) post.entry (W.failed output.new) result }
 {
     let mut reported = None;
-    for _ in 0..u64::MAX {
-        reported = look_again(rt, alloc, post, reported, output, messages)?;
+    for looks in 0..u64::MAX {
+        reported = look_again(rt, alloc, post, looks, reported, output, messages)?;
         thread::sleep(rt, Duration::from_secs(every));
     }
     Ok(())
 }
 
 // Looks once more. Returns what was reported of a server that isn't there.
-fn look_again<F: Files + Dial + Clock, W: Write, M: Write>(
+fn look_again<F: Servers, W: FallibleWrite, M: FallibleWrite>(
     rt: &F,
     alloc: Global,
     post: Post<'_>,
+    looks: u64,
     reported: Option<RemoteError>,
     output: &mut W,
     messages: &mut M,
 ) -> Result<Option<RemoteError>, RemoteError>
-where
-    F::File: SystemFile,
-    ensures { IfErr result (λ fault. is_passing_fault fault ≡ false) }
+    requires { (F.facts rt.now).reached post looks }
+    ensures reached { (F.facts rt.now).reached post.entry (looks + 1) }
+    ensures last { IfErr result (λ fault. (is_passing_fault fault ≡ false)
+        × ((F.facts rt.now).looked post.entry (Err fault) ⊎ FailsToPrint (W.failed output.new) fault)) }
 {
-    let looked = look(rt, alloc, post);
+    let looked = rt.look(alloc, post, looks);
     follow_look(rt, alloc, post, reported, looked, output, messages)
 }
 
 /// Prints what a look saw, or reports why it failed, unless that was reported. Returns what was reported, if the next
 /// look is to follow: of a server that isn't there or doesn't answer, or a file that another witness looks by.
-pub fn follow_look<C: Clock, W: Write, M: Write>(
+pub fn follow_look<C: Clock, W: FallibleWrite, M: FallibleWrite>(
     clock: &C,
     alloc: Global,
     post: Post<'_>,
@@ -104,21 +123,24 @@ pub fn follow_look<C: Clock, W: Write, M: Write>(
     output: &mut W,
     messages: &mut M,
 ) -> Result<Option<RemoteError>, RemoteError>
-    ensures follows { FollowsLook post.entry.is_quiet looked (W.contents output.old) (W.contents output.new) result }
+    ensures follows { FollowsLook post.entry.is_quiet looked (W.contents output.old) (W.contents output.new)
+        (W.failed output.new) result }
     ensures ends { IfErr result (λ fault. is_passing_fault fault ≡ false) }
+    ensures said { SaysPassing (λ fault. ⟦<Option<RemoteError> as PartialEq>⟧.eq reported (Some fault)) looked
+        (M.contents messages.old) (M.contents messages.new) (M.failed messages.new) }
 {
     match looked {
         Ok(sight) => {
             if let Some(RemoteError::NoConnection(_) | RemoteError::Server(_)) = reported {
-                let _ = print_moment(clock, alloc, post.socket, "answers again", messages);
+                let line = moment_line(clock, alloc, post.socket, "answers again");
+                print_if_made(line, messages);
             }
             print_change(alloc, sight, post.is_quiet, output)?;
             Ok(None)
         }
         Err(fault) if fault.is_passing() => {
             if reported != Some(fault) {
-                fault.report(messages);
-                let _ = print_passing(clock, alloc, post, fault, messages);
+                report_passing(clock, alloc, post, fault, messages);
             }
             Ok(Some(fault))
         }
@@ -127,7 +149,7 @@ pub fn follow_look<C: Clock, W: Write, M: Write>(
 }
 
 // Prints what was seen, unless it is the same.
-fn print_change<W: Write>(
+fn print_change<W: FallibleWrite>(
     alloc: Global,
     sight: Sight,
     is_quiet: bool,
@@ -136,53 +158,76 @@ fn print_change<W: Write>(
     ensures printed { OnOk result (Appends (W.contents output.old) (W.contents output.new)
         (change_line is_quiet sight)) }
     ensures fault { IfErr result (λ fault. is_passing_fault fault ≡ false) }
+    ensures unprinted { IfErr result (FailsToPrint (W.failed output.new)) }
 {
     if let Sight::Same(_) = sight {
         return Ok(());
     }
     print_sight(alloc, sight, is_quiet, output)?;
-    Ok(output.flush()?)
+    Ok(output.flush_text()?)
 }
 
-// Prints of what a fault is, what it is, and when it came.
-fn print_passing<C: Clock, M: Write>(
+// Reports a passing fault: what it is, and then of what, why and when.
+fn report_passing<C: Clock, M: FallibleWrite>(
     clock: &C,
     alloc: Global,
     post: Post<'_>,
     fault: RemoteError,
     messages: &mut M,
-) -> io::Result<()> {
-    match fault {
-        RemoteError::NoConnection(kind) => {
-            let cause = format!(in alloc; "{kind}")?;
-            print_moment(clock, alloc, post.socket, &cause, messages)
-        }
-        RemoteError::StateInUse => { print_moment(clock, alloc, post.state, "in use", messages) }
-        RemoteError::Server(ClientError::TimedOut) => {
-            print_moment(clock, alloc, post.socket, "no reply in time", messages)
-        }
-        _ => print_moment(clock, alloc, post.socket, "connection ended", messages),
+)
+    ensures { IfSome (message_of fault) (SaysFirst (M.contents messages.old) (M.contents messages.new)
+        (M.failed messages.new)) }
+{
+    match fault.print(messages) {
+        Ok(()) => print_if_made(passing_line(clock, alloc, post, fault), messages),
+        Err(_) => (),
     }
 }
 
-// Prints a line with the name of a file, what is said of it, and the date.
-fn print_moment<C: Clock, M: Write>(
+// Prints a line, if there was memory for it.
+fn print_if_made<M: FallibleWrite>(line: io::Result<Vec<u8>>, messages: &mut M)
+    ensures { (later : List ℕ) × Appends (M.contents messages.old) (M.contents messages.new) later }
+{
+    match line {
+        Ok(line) => {
+            let _ = messages.write_text(&line);
+        }
+        Err(_) => {}
+    }
+}
+
+// The line of what a fault is of, why it came, and when.
+fn passing_line<C: Clock>(
     clock: &C,
     alloc: Global,
-    name: &str,
-    what: &str,
-    messages: &mut M,
-) -> io::Result<()> {
+    post: Post<'_>,
+    fault: RemoteError,
+) -> io::Result<Vec<u8>> {
+    match fault {
+        RemoteError::NoConnection(kind) => {
+            let cause = format!(in alloc; "{kind}")?;
+            moment_line(clock, alloc, post.socket, &cause)
+        }
+        RemoteError::StateInUse => moment_line(clock, alloc, post.state, "in use"),
+        RemoteError::Server(ClientError::TimedOut) => {
+            moment_line(clock, alloc, post.socket, "no reply in time")
+        }
+        _ => moment_line(clock, alloc, post.socket, "connection ended"),
+    }
+}
+
+// A line with the name of a file, what is said of it, and the date.
+fn moment_line<C: Clock>(clock: &C, alloc: Global, name: &str, what: &str) -> io::Result<Vec<u8>> {
     let mut line = Vec::new(alloc);
     write!(line, "audit: {}: {what}, ", Shown(name))?;
     push_date(&mut line, date_of_now(clock))?;
     line.push(b'\n')?;
-    messages.write_all(&line)
+    Ok(line)
 }
 
-// Looks by the file, which is locked meanwhile. One that was made for a look that kept nothing is removed. What
-// contradicts it is kept beside it.
-fn look<F: Files + Dial + Clock>(
+/// Looks by the file, which is locked meanwhile. One that was made for a look that kept nothing is removed. What
+/// contradicts it is kept beside it.
+pub(crate) fn look_by_file<F: Files + Dial + Clock>(
     rt: &F,
     alloc: Global,
     post: Post<'_>,
@@ -227,7 +272,7 @@ fn look_and_keep<F: Dial + Clock, K: Kept<Error = RemoteError>>(
 }
 
 // Prints the line of what was seen; a quiet witness prints only its first commitment.
-fn print_sight<W: Write>(
+fn print_sight<W: FallibleWrite>(
     alloc: Global,
     sight: Sight,
     is_quiet: bool,
@@ -236,6 +281,7 @@ fn print_sight<W: Write>(
     ensures printed { OnOk result (Appends (W.contents output.old) (W.contents output.new)
         (sight_line is_quiet sight)) }
     ensures fault { IfErr result (λ fault. is_passing_fault fault ≡ false) }
+    ensures unprinted { IfErr result (FailsToPrint (W.failed output.new)) }
 {
     match sight {
         Sight::Began(seen) => print_seen(alloc, b"began ", &seen, output),
@@ -243,7 +289,7 @@ fn print_sight<W: Write>(
             if is_quiet {
                 return Ok(());
             }
-            Ok(write_whole(output, b"same\n")?)
+            Ok(output.write_text(b"same\n")?)
         }
         Sight::Grew(seen) => {
             if is_quiet {
@@ -254,7 +300,7 @@ fn print_sight<W: Write>(
     }
 }
 
-fn print_seen<W: Write>(
+fn print_seen<W: FallibleWrite>(
     alloc: Global,
     word: &[u8],
     seen: &Commitment,
@@ -263,8 +309,9 @@ fn print_seen<W: Write>(
     ensures printed { OnOk result (Appends (W.contents output.old) (W.contents output.new)
         (word.now ++ commitment_word seen.now ++ codes "\n")) }
     ensures fault { IfErr result (λ fault. is_passing_fault fault ≡ false) }
+    ensures unprinted { IfErr result (FailsToPrint (W.failed output.new)) }
 {
     let mut line = Vec::from_slice(alloc, word)?;
     push_commitment_line(&mut line, seen)?;
-    Ok(write_whole(output, &line)?)
+    Ok(output.write_text(&line)?)
 }

@@ -14,7 +14,7 @@ use Rattle.audit_client.specs.declared.send_error.SendError.TheVariants.{Input, 
 use Rattle.audit_client.specs.declared.sending.SendEnd.{SendEnd}
 use Rattle.audit_client.specs.declared.taking.Taken.{Taken}
 use Rattle.audit_client.specs.declared.answering.Answers.{Answers}
-use Rattle.audit_client.specs.Sending.{event_frames, PrintsAll, TakesEvents, IsTakingFault, TakesRound, TakesAnswers, LacksAnswer, IsNoLineAnswer, EndsFor, Sends, SendsOn, SendsAll, end_after, first_error}
+use Rattle.audit_client.specs.Sending.{event_frames, PrintsAll, TakesEvents, IsTakingFault, TakesRound, TakesAnswers, LacksAnswer, IsNoLineAnswer, EndsFor, Sends, SendsOn, SendsAll, end_after, first_error, BreaksOnlyIf}
 use Rattle.audit_client.specs.Failing.{IsLost}
 use Rattle.audit_text.specs.declared.fault.LinesError.TheVariants.{InputTooLong}
 use Rattle.audit_client.proofs.Conversations.{appends_none, appends_more, replies_after}
@@ -33,6 +33,13 @@ output_first : (sent : Result (Unit {0}) ClientError) (answered : Option SendErr
 output_first (Ok done) answered None is = ap (λ (a : Option SendError). first_error (Ok done) a None) is
 output_first (Ok done) answered (Some error) is = ap (λ (a : Option SendError). first_error (Ok done) a (Some error)) is
 output_first (Err error) answered taken is = ap (λ (a : Option SendError). first_error (Err error) a taken) is
+
+-- an error of the output is that of the answers
+pub first_breaks : (Cause : Type 0) (sent : Result (Unit {0}) ClientError) (answered : Option SendError) (taken : Option LinesError) → BreaksOnlyIf Cause answered → BreaksOnlyIf Cause (first_error sent answered taken)
+first_breaks Cause sent (Some error) taken h = h
+first_breaks Cause (Err error) None taken h = tt
+first_breaks Cause (Ok done) None None h = tt
+first_breaks Cause (Ok done) None (Some error) h = tt
 
 wrote : (w0 w1 : Option (List ℕ)) (frames : List ℕ) (sent : Result (Unit {0}) ClientError) → OnOk sent (Appends w0 w1 frames) → OnErr sent (WritesInPart w0 w1 frames) → WritesInPart w0 w1 frames
 wrote w0 w1 frames (Ok done) h k = part_whole w0 w1 frames h

@@ -278,7 +278,7 @@ pub record SendsAll (form : LineForm) (before : ℕ)
 
 -- Why sending ended before the input did, after `sent` lines of which `answered` were answered. Either the next line is
 -- no event or has no number; or the connection was lost after all lines were answered; or the next answer didn't come.
--- Nothing is said here of a fault of the output: the record of what was printed says it.
+-- Nothing is said here of a fault of the output: `Prints` says what was printed, and `BreaksOnlyIf` that it failed.
 abbrev pub EndsFor : LineForm → Option (List ℕ) → Option (List ℕ) → Option (List ℕ) → ℕ → ℕ → Option SendError → Type 0
 EndsFor form input read_old read_new sent answered None = Unit {0}
 EndsFor form input read_old read_new sent answered (Some (Input cause)) =
@@ -287,6 +287,11 @@ EndsFor form input read_old read_new sent answered (Some (Input cause)) =
 EndsFor form input read_old read_new sent answered (Some (Client error)) =
     (IsLost error × (answered ≡ sent)) ⊎ LacksAnswer read_old read_new 0 answered (Client error)
 EndsFor form input read_old read_new sent answered (Some Output) = Unit {0}
+
+-- an error of the output has this cause
+abbrev pub BreaksOnlyIf : Type 0 → Option SendError → Type 0
+BreaksOnlyIf Cause (Some Output) = Cause
+BreaksOnlyIf Cause _ = Unit {0}
 
 -- At most `window` lines are sent ahead of their answers, and each refusal is an answer.
 pub record IsWithin (window : ℕ) (end : SendEnd) : Type 0 where

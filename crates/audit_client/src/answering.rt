@@ -1,21 +1,22 @@
 //! Printing the answers to events.
-ghost use Rattle.std.specs.Prelude.{◌≡◌, ◌+◌, ◌<◌, ◌≤◌, if◌then◌else◌, OnOk, OnErr, IfOk, IfErr};
+ghost use Rattle.std.specs.Prelude.{◌≡◌, ◌+◌, ◌<◌, ◌≤◌, if◌then◌else◌, Some, OnOk, OnErr, IfOk, IfErr};
 ghost use Rattle.std.specs.Io.KnownBytes.{Appends};
 ghost use Rattle.audit_text.specs.Writing.{WritesInPart};
 ghost use Rattle.audit_client.specs.Sending.{is_refusal, is_of_event, answer_line, refusal_line};
 ghost use Rattle.audit_client.specs.Sending.{AnswersLine, IsUnprinted};
-ghost use Rattle.audit_client.specs.Sending.{TakesAnswer, FailsAnswer, TakesAnswers};
+ghost use Rattle.audit_client.specs.Sending.{TakesAnswer, FailsAnswer, TakesAnswers, BreaksOnlyIf};
 
 use crate::asking::not_due;
 use crate::conversation::next_reply;
+use crate::fallible_write::FallibleWrite;
 use crate::fault::ClientError;
 use crate::refusal_word::word_of_refusal;
 use crate::send_error::SendError;
 use crate::taking::line_tag;
-use audit_text::{push_ack, push_number, write_whole};
+use audit_text::{push_ack, push_number};
 use audit_wire::{Refusal, Reply};
 use std::alloc::{AllocError, Global};
-use std::io::{Read, Write};
+use std::io::Read;
 
 /// The answers that were read and printed.
 #[derive(Clone, Copy)]
@@ -30,7 +31,7 @@ pub(crate) struct Answers {
 
 /// Reads the answers to as many lines, of which the first has the number `before` + 1, and prints a line for each as
 /// soon as it is read.
-pub(crate) fn take_answers<R: Read, O: Write>(
+pub(crate) fn take_answers<R: Read, O: FallibleWrite>(
     alloc: Global,
     from: &mut R,
     output: &mut O,
@@ -40,8 +41,9 @@ pub(crate) fn take_answers<R: Read, O: Write>(
     line: &mut Vec<u8>,
 ) -> Answers
     requires { before + count ≤ u64.MAX }
-    ensures { TakesAnswers (R.remaining from.old) (R.remaining from.new) (O.contents output.old)
+    ensures taken { TakesAnswers (R.remaining from.old) (R.remaining from.new) (O.contents output.old)
         (O.contents output.new) before count result }
+    ensures broken { BreaksOnlyIf (O.failed output.new) result.error }
 {
     let mut refused = 0;
     for place in 0..count {
@@ -71,7 +73,7 @@ fn refusals_after(refused: u64, refuses: bool) -> u64
 }
 
 // Reads the answer to a line and prints it. Returns whether it is a refusal.
-fn take_answer<R: Read, O: Write>(
+fn take_answer<R: Read, O: FallibleWrite>(
     alloc: Global,
     from: &mut R,
     output: &mut O,
@@ -83,6 +85,7 @@ fn take_answer<R: Read, O: Write>(
         (O.contents output.new) number) }
     ensures failed { IfErr result (FailsAnswer (R.remaining from.old) (R.remaining from.new)
         (O.contents output.old) (O.contents output.new) number) }
+    ensures broken { IfErr result (λ error. BreaksOnlyIf (O.failed output.new) (Some error)) }
 {
     let given = match next_reply(alloc, from, body) {
         Ok(given) => given,
@@ -96,15 +99,16 @@ fn take_answer<R: Read, O: Write>(
     Ok(refuses)
 }
 
-fn print_line<O: Write>(output: &mut O, line: &[u8]) -> Result<(), SendError>
+fn print_line<O: FallibleWrite>(output: &mut O, line: &[u8]) -> Result<(), SendError>
     ensures written { OnOk result (Appends (O.contents output.old) (O.contents output.new) line.now) }
     ensures part { OnErr result (WritesInPart (O.contents output.old) (O.contents output.new) line.now) }
     ensures fault { IfErr result (λ error. error ≡ SendError.Output) }
+    ensures broken { OnErr result (O.failed output.new) }
 {
-    if write_whole(output, line).is_err() {
+    if output.write_text(line).is_err() {
         return Err(SendError::Output);
     }
-    match output.flush() {
+    match output.flush_text() {
         Ok(()) => Ok(()),
         Err(_) => Err(SendError::Output),
     }

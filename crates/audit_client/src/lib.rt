@@ -6,6 +6,7 @@ mod answering;
 mod asking;
 mod conversation;
 mod exporting;
+mod fallible_write;
 mod fault;
 mod keeping;
 pub mod laws;
@@ -22,6 +23,7 @@ pub use asking::{
 };
 pub use conversation::{ask, next_reply, send_bytes};
 pub use exporting::{Export, export_entries};
+pub use fallible_write::FallibleWrite;
 pub use fault::ClientError;
 pub use keeping::{Kept, WatchError, watch_and_keep};
 pub use putting::{AskError, Out, put_entry, put_export, put_increment, put_member};

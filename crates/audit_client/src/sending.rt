@@ -2,10 +2,11 @@
 ghost use Rattle.std.specs.Prelude.{◌≡◌, ◌⊎◌, ◌+◌, ◌<◌, ◌≤◌, ℕ, List, Option, Some, None, true, false};
 ghost use Rattle.std.specs.Io.Buffered.{reader_remaining};
 ghost use Rattle.audit_client.specs.Sending.{Sends, SendsOn, SendsAll, EndsFor, IsWithin, end_after};
-ghost use Rattle.audit_client.specs.Sending.{first_error};
+ghost use Rattle.audit_client.specs.Sending.{first_error, BreaksOnlyIf};
 
 use crate::answering::{Answers, take_answers};
 use crate::conversation::send_bytes;
+use crate::fallible_write::FallibleWrite;
 use crate::fault::ClientError;
 use crate::send_error::SendError;
 use crate::taking::{Taken, has_line, take_lines};
@@ -33,7 +34,7 @@ pub struct SendEnd {
 /// read. Lines are sent as they come: those that the buffer of the input has, at most `window` of them ahead of their
 /// answers. All answers that are due are read before the next read of the input. The input has no limit, and the memory
 /// that is taken doesn't grow with it.
-pub fn send_events<I: Read, W: Write, R: Read, O: Write>(
+pub fn send_events<I: Read, W: Write, R: Read, O: FallibleWrite>(
     alloc: Global,
     form: LineForm,
     input: &mut BufReader<I>,
@@ -50,6 +51,8 @@ pub fn send_events<I: Read, W: Write, R: Read, O: Write>(
     // It ends only for a cause: the next line has no event or no number, or the next answer didn't come.
     ensures cause { 0 < window → EndsFor form (reader_remaining I.remaining input.old) (R.remaining from.old)
         (R.remaining from.new) result.sent result.answered result.error }
+    // That the output failed is said only if its last call did.
+    ensures broken { BreaksOnlyIf (O.failed output.new) result.error }
     // Without an error all lines were sent and answered.
     ensures all { result.error ≡ None → SendsAll form 0 (reader_remaining I.remaining input.old)
         (W.contents to.old) (W.contents to.new) (R.remaining from.old) (R.remaining from.new) (O.contents output.old)
@@ -114,7 +117,7 @@ struct Round {
 
 // Sends the next lines, and then reads and prints answers. If the requests couldn't be written, the answers that the
 // server gave before are still read.
-fn send_round<I: Read, W: Write, R: Read, O: Write>(
+fn send_round<I: Read, W: Write, R: Read, O: FallibleWrite>(
     alloc: Global,
     form: LineForm,
     input: &mut BufReader<I>,
@@ -132,6 +135,7 @@ fn send_round<I: Read, W: Write, R: Read, O: Write>(
     ensures cause { (i w r o : Option (List ℕ)) → SendsOn form i (reader_remaining I.remaining input.old)
         w (W.contents to.old) r (R.remaining from.old) o (O.contents output.old) end.now
         → EndsFor form i r (R.remaining from.new) result.end.sent result.end.answered result.end.error }
+    ensures broken { BreaksOnlyIf (O.failed output.new) result.end.error }
     // After rounds that sent lines and answered the first of them, from any input, connection and output on.
     ensures sends { (i w r o : Option (List ℕ)) → SendsOn form i (reader_remaining I.remaining input.old)
         w (W.contents to.old) r (R.remaining from.old) o (O.contents output.old) end.now

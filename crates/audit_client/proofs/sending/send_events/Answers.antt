@@ -37,3 +37,9 @@ returns-clause-cause g c = λ some. rw c.with_error.ensures (ends_at_limit c.loo
 
 pub returns-then-not-round-clause-cause : goal.returns-then-not-round-clause-cause
 returns-then-not-round-clause-cause g c = λ some. c.send_round-round.ensures.cause _ _ _ _ c.loop.invariant.on
+
+pub returns-then-not-round-clause-broken : goal.returns-then-not-round-clause-broken
+returns-then-not-round-clause-broken g c = c.send_round-round.ensures.broken
+
+pub returns-clause-broken : goal.returns-clause-broken
+returns-clause-broken g c = rw c.with_error.ensures tt

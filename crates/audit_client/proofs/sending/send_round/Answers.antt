@@ -2,14 +2,14 @@ use Rattle.std.proofs.Common.{◌≡◌, ◌≤◌, ◌+◌, ◌-◌, ◌∙◌,
 use Rattle.std.specs.Io.KnownBytes.{Appends}
 use Rattle.audit_text.specs.Writing.{WritesInPart}
 use Rattle.audit_client.specs.declared.sending.SendEnd.{SendEnd}
-use Rattle.audit_client.proofs.SentLines.{few_answers, first_none, read_within, read_near, read_all, read_unwritten, round_ends, round_sends, round_on, round_all}
+use Rattle.audit_client.proofs.SentLines.{few_answers, first_none, read_within, read_near, read_all, read_unwritten, round_ends, round_sends, round_on, round_all, first_breaks}
 use Rattle.audit_client.proofs.sending.send_round.Goals as goal
 
 pub end_after-requires-clause-refused : goal.end_after-requires-clause-refused
 end_after-requires-clause-refused g c =
     let end = c.args.end.now in
     let count = c.take_lines-taken.result.count in
-    let few = few_answers c.take_answers-answers.ensures in
+    let few = few_answers c.take_answers-answers.ensures.taken in
     let read = read_within c.answers_to_read-count.result (end.sent - end.answered) count c.args.window c.take_lines-taken.result.more _ c.answers_to_read-count.ensures in
     omega (arith, c.requires.within.refused, c.requires.within.answered, few.0, few.1, read, c.take_lines-taken.ensures.fits)
 
@@ -17,14 +17,14 @@ pub returns-clause-within : goal.returns-clause-within
 returns-clause-within g c = λ more.
     let end = c.args.end.now in
     let count = c.take_lines-taken.result.count in
-    let few = few_answers c.take_answers-answers.ensures in
+    let few = few_answers c.take_answers-answers.ensures.taken in
     let read = read_within c.answers_to_read-count.result (end.sent - end.answered) count c.args.window c.take_lines-taken.result.more _ c.answers_to_read-count.ensures in
     rw c.end_after.ensures (record {
       refused = omega (arith, c.requires.within.refused, few.1);
       answered = omega (arith, c.requires.within.answered, few.0, read);
       ahead = omega (arith, c.requires.within.answered, c.take_lines-taken.ensures.few, c.lines_of_round.ensures.within);
       room = λ some.
-          let printed = c.take_answers-answers.ensures.all (first_none c.send_bytes-sent.result c.take_answers-answers.result.error c.take_lines-taken.result.error (sym c.first_error-error.ensures ∙ c.goes_on.ensures.right more)).1 in
+          let printed = c.take_answers-answers.ensures.taken.all (first_none c.send_bytes-sent.result c.take_answers-answers.result.error c.take_lines-taken.result.error (sym c.first_error-error.ensures ∙ c.goes_on.ensures.right more)).1 in
           let near = read_near c.answers_to_read-count.result (end.sent - end.answered) count c.args.window c.take_lines-taken.result.more _ c.answers_to_read-count.ensures some in
           omega (arith, c.requires.within.answered, printed.answered_is, near);
     })
@@ -39,7 +39,7 @@ returns-clause-sends g c = λ i w r o on.
     let part = subst (λ (bytes : List ℕ). OnErr sent (WritesInPart w1 w2 bytes)) c.deref.ensures.value c.send_bytes-sent.ensures.part in
     let read = read_within c.answers_to_read-count.result (end.sent - end.answered) c.take_lines-taken.result.count c.args.window c.take_lines-taken.result.more _ c.answers_to_read-count.ensures in
     let within : end.answered + c.answers_to_read-count.result ≤ end.sent + c.take_lines-taken.result.count = omega (arith, c.requires.within.answered, read) in
-    rw c.end_after.ensures (rw c.first_error-error.ensures (round_sends sent on c.take_lines-taken.ensures.taken whole part c.take_answers-answers.ensures within))
+    rw c.end_after.ensures (rw c.first_error-error.ensures (round_sends sent on c.take_lines-taken.ensures.taken whole part c.take_answers-answers.ensures.taken within))
 
 pub returns-clause-on : goal.returns-clause-on
 returns-clause-on g c = λ more i w r o on.
@@ -51,7 +51,7 @@ returns-clause-on g c = λ more i w r o on.
     let read = read_within c.answers_to_read-count.result (end.sent - end.answered) c.take_lines-taken.result.count c.args.window c.take_lines-taken.result.more _ c.answers_to_read-count.ensures in
     let within : end.answered + c.answers_to_read-count.result ≤ end.sent + c.take_lines-taken.result.count = omega (arith, c.requires.within.answered, read) in
     let none = sym c.first_error-error.ensures ∙ c.goes_on.ensures.right more in
-    rw c.end_after.ensures (rw c.first_error-error.ensures (round_on sent on c.take_lines-taken.ensures.taken whole c.take_answers-answers.ensures within (c.goes_on.ensures.more more) none))
+    rw c.end_after.ensures (rw c.first_error-error.ensures (round_on sent on c.take_lines-taken.ensures.taken whole c.take_answers-answers.ensures.taken within (c.goes_on.ensures.more more) none))
 
 pub returns-clause-all : goal.returns-clause-all
 returns-clause-all g c = λ over none i w r o on.
@@ -65,7 +65,7 @@ returns-clause-all g c = λ over none i w r o on.
     let read = read_all c.answers_to_read-count.result (end.sent - end.answered) c.take_lines-taken.result.count c.args.window c.take_lines-taken.result.more _ c.answers_to_read-count.ensures last in
     let all : end.answered + c.answers_to_read-count.result ≡ end.sent + c.take_lines-taken.result.count = omega (arith, c.requires.within.answered, read) in
     rw c.end_after.ensures
-    (rw c.first_error-error.ensures (round_all sent on c.take_lines-taken.ensures.taken whole c.take_answers-answers.ensures all last (sym c.first_error-error.ensures ∙ right)))
+    (rw c.first_error-error.ensures (round_all sent on c.take_lines-taken.ensures.taken whole c.take_answers-answers.ensures.taken all last (sym c.first_error-error.ensures ∙ right)))
 
 pub returns-clause-ahead : goal.returns-clause-ahead
 returns-clause-ahead g c = rw c.end_after.ensures (omega (arith, c.requires.within.answered, c.take_lines-taken.ensures.few, c.lines_of_round.ensures.within))
@@ -80,9 +80,12 @@ pub returns-clause-cause : goal.returns-clause-cause
 returns-clause-cause g c = λ i w r o on.
     let end = c.args.end.now in
     let count = c.answers_to_read-count.result in
-    let answered = c.take_answers-answers.ensures in
+    let answered = c.take_answers-answers.ensures.taken in
     rw c.end_after.ensures (rw c.first_error-error.ensures
     (round_ends _ count c.take_answers-answers.result c.send_bytes-sent.result c.take_answers-answers.result.error c.take_lines-taken.result.error on c.take_lines-taken.ensures.taken c.send_bytes-sent.ensures.fault answered.fails c.take_lines-taken.ensures.taken.stops
     (λ none. (answered.all none).answered_is)
     (λ _ over. let all = read_all count (end.sent - end.answered) c.take_lines-taken.result.count c.args.window c.take_lines-taken.result.more _ c.answers_to_read-count.ensures over in omega (arith, c.requires.within.answered, all))
     (λ broken. let all = read_unwritten count (end.sent - end.answered) c.take_lines-taken.result.count c.args.window c.take_lines-taken.result.more _ c.answers_to_read-count.ensures (c.is_ok.ensures.value ∙ broken) in omega (arith, c.requires.within.answered, all))))
+
+pub returns-clause-broken : goal.returns-clause-broken
+returns-clause-broken g c = rw c.end_after.ensures (rw c.first_error-error.ensures (first_breaks _ c.send_bytes-sent.result c.take_answers-answers.result.error c.take_lines-taken.result.error c.take_answers-answers.ensures.broken))
