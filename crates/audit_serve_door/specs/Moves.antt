@@ -15,7 +15,7 @@ count_after count (suc bytes) = one_more count
 -- the count after a call, and after calls
 abbrev pub count_after_call : ℕ → StreamCall → ℕ
 count_after_call count (a_read (byte ∷ bytes)) = one_more count
-count_after_call count (a_write (byte ∷ bytes)) = one_more count
+count_after_call count (a_write (byte ∷ bytes) left) = one_more count
 count_after_call count _ = count
 
 abbrev pub count_after_calls : ℕ → List StreamCall → ℕ

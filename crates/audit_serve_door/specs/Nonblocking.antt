@@ -1,5 +1,5 @@
 -- A stream over a value whose reads and writes fail instead of waiting.
-use Rattle.std.specs.Prelude.{◌≡◌, ℕ, Bool, true, false, Result, Ok, Err, List, [], ◌∷◌, take, if◌then◌else◌}
+use Rattle.std.specs.Prelude.{◌≡◌, ℕ, Bool, true, false, Result, Ok, Err, List, [], ◌∷◌, take, drop, if◌then◌else◌}
 use Rattle.std.specs.IoError.{error_kind}
 use Rattle.std.specs.declared.io.Error.{Error}
 use Rattle.std.specs.declared.io.ErrorKind.{ErrorKind}
@@ -20,14 +20,14 @@ attempted_read (Ok count) buffer = a_read (take count buffer)
 attempted_read (Err error) buffer = if is_not_ready (error_kind error) then a_read_in_vain else a_failed_read
 
 abbrev pub attempted_write : Result ℕ Error → List ℕ → StreamCall
-attempted_write (Ok count) bytes = a_write (take count bytes)
-attempted_write (Err error) bytes = if is_not_ready (error_kind error) then a_write [] else a_failed_write bytes
+attempted_write (Ok count) bytes = a_write (take count bytes) (drop count bytes)
+attempted_write (Err error) bytes = if is_not_ready (error_kind error) then a_write [] bytes else a_failed_write bytes
 
 -- How contracts see such a value.
 pub record PromptModel (T : Type 0) : Type 1 where
   pub calls : CallModel T
   -- writing nothing is no call
-  pub nothing_written : (value : T) → calls.DidCalls value value (a_write [] ∷ [])
+  pub nothing_written : (value : T) → calls.DidCalls value value (a_write [] [] ∷ [])
 
 -- the calls were those of the value
 abbrev pub nonblocking_calls : {T : Type 0} → PromptModel T → CallModel (Nonblocking T)

@@ -23,7 +23,7 @@ nothing_sent closed [] is whole = refl
 nothing_sent closed (a_read bytes ∷ calls) is whole = nothing_sent closed calls is whole
 nothing_sent closed (a_read_in_vain ∷ calls) is whole = nothing_sent closed calls is whole
 nothing_sent closed (a_failed_read ∷ calls) is whole = nothing_sent closed calls is whole
-nothing_sent closed (a_write bytes ∷ calls) is whole = absurd (true≢false (sym is ∙ whole.0))
+nothing_sent closed (a_write bytes left ∷ calls) is whole = absurd (true≢false (sym is ∙ whole.0))
 nothing_sent closed (a_failed_write bytes ∷ calls) is whole = absurd (true≢false (sym is ∙ whole.0))
 
 pub whole-append : (closed : Bool) (calls later : List StreamCall) → AreWrittenWhole closed calls → AreWrittenWhole (closed || has_failed_write calls) later → AreWrittenWhole closed (calls ++ later)
@@ -31,7 +31,7 @@ whole-append closed [] later whole more = subst (λ (now : Bool). AreWrittenWhol
 whole-append closed (a_read bytes ∷ calls) later whole more = whole-append closed calls later whole more
 whole-append closed (a_read_in_vain ∷ calls) later whole more = whole-append closed calls later whole more
 whole-append closed (a_failed_read ∷ calls) later whole more = whole-append closed calls later whole more
-whole-append closed (a_write bytes ∷ calls) later whole more = (whole.0, whole-append closed calls later whole.1 more)
+whole-append closed (a_write bytes left ∷ calls) later whole more = (whole.0, whole-append closed calls later whole.1 more)
 whole-append closed (a_failed_write bytes ∷ calls) later whole more =
     (whole.0, whole-append true calls later whole.1 (subst (λ (now : Bool). AreWrittenWhole now later) (ap (λ (was : Bool). was || true) whole.0) more))
 

@@ -121,7 +121,7 @@ module _ {S : Type 0} (N : StreamModel S) where
     whole = tt;
   }
 
-  written_streamed : (k : ℕ) (bytes : List ℕ) (before after : S) → N.closed before ≡ false → N.calls.DidCalls before after (a_write bytes ∷ []) → IsStreamed N k [] [] bytes (a_write bytes ∷ []) before after
+  written_streamed : (k : ℕ) (bytes : List ℕ) (before after : S) → N.closed before ≡ false → N.calls.DidCalls before after (a_write bytes [] ∷ []) → IsStreamed N k [] [] bytes (a_write bytes [] ∷ []) before after
   written_streamed k bytes before after now did = record {
     did = did;
     read = refl;
@@ -266,7 +266,7 @@ module _ {C S : Type 0} (M : CoreModel C) (N : StreamModel S) where
   written_turn k bytes old new before after (Ok unit) ok now write did others empty waits = record {
     steps = [];
     sent = bytes;
-    calls = a_write bytes ∷ [];
+    calls = a_write bytes [] ∷ [];
     did = did;
     about = tt;
     shape = record { ends = inl refl; waiting = omega (arith, waits); empty = λ room. empty; others = λ room. others };

@@ -1,5 +1,5 @@
 -- How many bytes of replies a core owes its sessions, and how its calls change that.
-use Rattle.std.specs.Prelude.{◌≡◌, ◌⊎◌, ℕ, ◌+◌, ◌≤◌, true, false, None, List, ◌∷◌, ◌++◌}
+use Rattle.std.specs.Prelude.{◌≡◌, ◌⊎◌, ℕ, ◌+◌, ◌≤◌, true, false, None, IfSome, List, ◌∷◌, ◌++◌}
 use Rattle.audit_serve_passes.specs.declared.allowance.Demand.{Demand}
 use Rattle.audit_serve_passes.specs.declared.allowance.Share.{Share}
 use Rattle.audit_serve_passes.specs.declared.allowance.Allowance.{Allowance}
@@ -32,10 +32,11 @@ module _ {C : Type 0} (M : CoreModel C) where
     pub later : List RequestKind
     pub next : M.requests core k piece ≡ M.requests core k fed ++ kind ∷ later
 
-  -- what taking a request of a kind may queue: an append has no share in what questions may ask for
+  -- what taking a request of a kind may queue: an append has no share in what questions may ask for, and a question has
+  -- at most a longest reply
   abbrev pub IsDemandFor : RequestKind → Demand → Type 0
   IsDemandFor appending demand = (demand.reply ≤ M.acknowledgement) × (demand.question ≡ None)
-  IsDemandFor asking demand = demand.reply ≤ M.longest
+  IsDemandFor asking demand = (demand.reply ≤ M.longest) × IfSome demand.question (λ bytes. bytes ≤ M.longest)
 
   -- The next request isn't admitted by an allowance.
   pub record IsBeyondAllowance (k : ℕ) (core : C) (fed piece : List ℕ) (allowance : Allowance) : Type 0 where

@@ -11,8 +11,8 @@ pub data StreamCall : Type 0 where
   a_read_in_vain : StreamCall
   -- a read failed
   a_failed_read : StreamCall
-  -- all of these bytes were written
-  a_write : List ℕ → StreamCall
+  -- these bytes were written, of those that the call offered, and these weren't
+  a_write : List ℕ → List ℕ → StreamCall
   -- a write of these bytes failed: some of them may be written
   a_failed_write : List ℕ → StreamCall
 
@@ -22,7 +22,7 @@ read_call (Ok count) buffer = a_read (take count buffer)
 read_call (Err fault) buffer = a_failed_read
 
 abbrev pub write_call : Result (Unit {0}) StreamError → List ℕ → StreamCall
-write_call (Ok unit) bytes = a_write bytes
+write_call (Ok unit) bytes = a_write bytes []
 write_call (Err fault) bytes = a_failed_write bytes
 
 -- the bytes that a call, or a list of calls, read; a failed read returns none
@@ -39,7 +39,7 @@ abbrev pub bytes_asked : StreamCall → List ℕ
 bytes_asked (a_read bytes) = []
 bytes_asked a_read_in_vain = []
 bytes_asked a_failed_read = []
-bytes_asked (a_write bytes) = bytes
+bytes_asked (a_write bytes left) = bytes
 bytes_asked (a_failed_write bytes) = bytes
 
 abbrev pub bytes_sent : List StreamCall → List ℕ
@@ -59,7 +59,7 @@ has_failed_write (call ∷ calls) = is_failed_write call || has_failed_write cal
 abbrev pub ends_of_call : StreamCall → ℕ
 ends_of_call (a_read (byte ∷ bytes)) = 0
 ends_of_call a_read_in_vain = 0
-ends_of_call (a_write bytes) = 0
+ends_of_call (a_write bytes left) = 0
 ends_of_call _ = 1
 
 abbrev pub ends_of_calls : List StreamCall → ℕ
@@ -72,7 +72,7 @@ AreWrittenWhole closed [] = Unit {0}
 AreWrittenWhole closed (a_read bytes ∷ calls) = AreWrittenWhole closed calls
 AreWrittenWhole closed (a_read_in_vain ∷ calls) = AreWrittenWhole closed calls
 AreWrittenWhole closed (a_failed_read ∷ calls) = AreWrittenWhole closed calls
-AreWrittenWhole closed (a_write bytes ∷ calls) = (closed ≡ false) × AreWrittenWhole closed calls
+AreWrittenWhole closed (a_write bytes left ∷ calls) = (closed ≡ false) × AreWrittenWhole closed calls
 AreWrittenWhole closed (a_failed_write bytes ∷ calls) = (closed ≡ false) × AreWrittenWhole true calls
 
 -- How contracts see a value that reads and writes.

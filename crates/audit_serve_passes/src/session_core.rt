@@ -54,6 +54,9 @@ pub trait SessionCore {
             → allowance.new ≡ allowance.old) }
         ensures spent { IfOk result (λ taken. allowance.old.session.left
             ≤ allowance.new.session.left + model.replies self.old session (take taken piece.now)) }
+        ensures asked { IfOk result (λ taken. allowance.old.questions.left
+            ≤ allowance.new.questions.left + model.replies self.old session (take taken piece.now)) }
+        ensures fewer { OnOk result (allowance.new.questions.left ≤ allowance.old.questions.left) }
         ensures refused { IfErr result (refuses self.old self.new) };
 
     /// Ends a session: no more of its bytes follow.

@@ -26,7 +26,7 @@ whole_weaker x y shuts [] whole = tt
 whole_weaker x y shuts (a_read bytes ∷ calls) whole = whole_weaker x y shuts calls whole
 whole_weaker x y shuts (a_read_in_vain ∷ calls) whole = whole_weaker x y shuts calls whole
 whole_weaker x y shuts (a_failed_read ∷ calls) whole = whole_weaker x y shuts calls whole
-whole_weaker x y shuts (a_write bytes ∷ calls) whole = (still x y shuts whole.0, whole_weaker x y shuts calls whole.1)
+whole_weaker x y shuts (a_write bytes left ∷ calls) whole = (still x y shuts whole.0, whole_weaker x y shuts calls whole.1)
   where
     still : (x y : Bool) → (x ≡ true → y ≡ true) → y ≡ false → x ≡ false
     still true y shuts now = absurd (true≢false (sym (shuts refl) ∙ now))
@@ -52,16 +52,16 @@ join_shut k s m b1 bk d1 b2 ck d2 first second nb n2 nc =
 
 pub nothing_kept : {S : Type 0} (slot : SlotData S) → is_mute slot ≡ true → kept_of slot ≡ []
 nothing_kept vacant mute = refl
-nothing_kept (serving client unread kept) mute = absurd (true≢false (sym mute))
-nothing_kept (unheard client unread) mute = refl
-nothing_kept (closing client unread) mute = refl
+nothing_kept (serving client unread kept noted) mute = absurd (true≢false (sym mute))
+nothing_kept (unheard client unread noted) mute = refl
+nothing_kept (closing client unread noted) mute = refl
 
 -- a place that isn't shut has the bytes that are put there
 pub unread_put : {S : Type 0} (bytes : List ℕ) (slot : SlotData S) → is_shut slot ≡ false → unread_of (with_unread bytes slot) ≡ bytes
 unread_put bytes vacant live = absurd (true≢false live)
-unread_put bytes (serving client unread kept) live = refl
-unread_put bytes (unheard client unread) live = refl
-unread_put bytes (closing client unread) live = absurd (true≢false live)
+unread_put bytes (serving client unread kept noted) live = refl
+unread_put bytes (unheard client unread noted) live = refl
+unread_put bytes (closing client unread noted) live = absurd (true≢false live)
 
 module _ {S : Type 0} (N : CallModel S) where
   called_none : (client : Option S) → HasCalled N client client []
@@ -93,9 +93,9 @@ module _ {S : Type 0} (N : CallModel S) where
   -- what is unread is no matter of replies
   pub unread_accounted : (bytes : List ℕ) (slot : SlotData S) → IsAccounted N [] [] slot (with_unread bytes slot)
   unread_accounted bytes vacant = accounted_none vacant
-  unread_accounted bytes (serving client unread kept) = record { client = N.nothing_called client; dropped = []; written = refl; none_dropped = λ now. refl; whole = tt; mute = λ mute. mute; fails = λ failed. absurd (true≢false (sym failed)); shut = λ shut. shut }
-  unread_accounted bytes (unheard client unread) = record { client = N.nothing_called client; dropped = []; written = refl; none_dropped = λ now. refl; whole = tt; mute = λ mute. mute; fails = λ failed. absurd (true≢false (sym failed)); shut = λ shut. shut }
-  unread_accounted bytes (closing client unread) = record { client = N.nothing_called client; dropped = []; written = refl; none_dropped = λ now. refl; whole = tt; mute = λ mute. mute; fails = λ failed. absurd (true≢false (sym failed)); shut = λ shut. shut }
+  unread_accounted bytes (serving client unread kept noted) = record { client = N.nothing_called client; dropped = []; written = refl; none_dropped = λ now. refl; whole = tt; mute = λ mute. mute; fails = λ failed. absurd (true≢false (sym failed)); shut = λ shut. shut }
+  unread_accounted bytes (unheard client unread noted) = record { client = N.nothing_called client; dropped = []; written = refl; none_dropped = λ now. refl; whole = tt; mute = λ mute. mute; fails = λ failed. absurd (true≢false (sym failed)); shut = λ shut. shut }
+  unread_accounted bytes (closing client unread noted) = record { client = N.nothing_called client; dropped = []; written = refl; none_dropped = λ now. refl; whole = tt; mute = λ mute. mute; fails = λ failed. absurd (true≢false (sym failed)); shut = λ shut. shut }
 
   pub accounted_then : (sent more : List ℕ) (calls later : List StreamCall) (a b c : SlotData S) → IsAccounted N sent calls a b → IsAccounted N more later b c → IsAccounted N (sent ++ more) (calls ++ later) a c
   accounted_then sent more calls later a b c first second = record {

@@ -25,9 +25,9 @@ looked_length N calls before after look = omega (arith, accounted_length N [] ca
 -- a place with other bytes unread has the same kept
 pub unread_length : {S : Type 0} (bytes : List ℕ) (slot : SlotData S) → length (kept_of (with_unread bytes slot)) ≤ length (kept_of slot)
 unread_length bytes vacant = omega arith
-unread_length bytes (serving client unread kept) = omega arith
-unread_length bytes (unheard client unread) = omega arith
-unread_length bytes (closing client unread) = omega arith
+unread_length bytes (serving client unread kept noted) = omega arith
+unread_length bytes (unheard client unread noted) = omega arith
+unread_length bytes (closing client unread noted) = omega arith
 
 -- whoever had a turn keeps it while another has one
 pub keeps_set : {S : Type 0} (k : ℕ) (had : List Bool) (mark : Bool) (slots : List (SlotData S)) (after : SlotData S) → get_or had k true ≡ false → KeepsTurns had (set had k mark) slots (set slots k after)

@@ -1,12 +1,12 @@
 -- Whoever is done goes, from one place after another.
-use Rattle.std.proofs.Common.{◌≡◌, inl, inr, ◌∙◌, ℕ, ◌+◌, ◌<◌, ◌≤◌, Bool, true, false, not, ◌&&◌, Some, List, [], ◌∷◌, length, set, refl, sym, ap, arith, true≢false}
+use Rattle.std.proofs.Common.{◌≡◌, inl, inr, ◌∙◌, ℕ, ◌+◌, ◌<◌, ◌≤◌, Bool, true, false, not, ◌&&◌, Some, List, [], ◌∷◌, length, set, refl, sym, ap, subst, arith, true≢false}
 use Rattle.std.proofs.lemmas.Bool.{cases_eq}
 use Rattle.std.proofs.lemmas.List.{length-set, get_or-set_same, get_or-set_other}
 use Rattle.audit_serve_passes.specs.Streams.{CallModel}
 use Rattle.audit_serve_passes.specs.Core.{CoreModel}
 use Rattle.audit_serve_ready.specs.declared.departure.Departure.{Departure}
 use Rattle.audit_serve_ready.specs.Door.{DoorModel, a_parting}
-use Rattle.audit_serve_ready.specs.Slot.{SlotData, vacant, serving, unheard, closing, client_of, has_client, has_bytes, has_kept, kept_of}
+use Rattle.audit_serve_ready.specs.Slot.{SlotData, vacant, serving, unheard, closing, client_of, has_client, has_bytes, has_kept, kept_of, IsReasonFor}
 use Rattle.audit_serve_ready.specs.Places.{slot_at}
 use Rattle.audit_serve_ready.specs.Clients.{a_going}
 use Rattle.audit_serve_ready.specs.Rounds.{is_done, IsLetGo, ChangesPlaces}
@@ -30,9 +30,9 @@ no_bytes_there (byte ∷ bytes) none = absurd (true≢false none)
 
 none_kept : {S : Type 0} (slot : SlotData S) → has_kept slot ≡ false → kept_of slot ≡ []
 none_kept vacant none = refl
-none_kept (serving client unread kept) none = no_bytes_there kept none
-none_kept (unheard client unread) none = refl
-none_kept (closing client unread) none = refl
+none_kept (serving client unread kept noted) none = no_bytes_there kept none
+none_kept (unheard client unread noted) none = refl
+none_kept (closing client unread noted) none = refl
 
 -- somebody went from a place below a number
 abbrev pub HasGone : {S : Type 0} → ℕ → List (SlotData S) → List (SlotData S) → Type 0
@@ -81,9 +81,9 @@ module _ {C D S : Type 0} (M : CoreModel C) (N : CallModel S) (E : DoorModel D S
     others = λ j above. first.others j (omega (arith, above));
   }
 
-  pub leaving_goes : (k : ℕ) (core : C) (was mid now : D) (client : S) (why : Departure) (before between : List (SlotData S)) (at : SlotData S) → k < length between → Leaving core k was mid before between
+  pub leaving_goes : (k : ℕ) (core : C) (was mid now : D) (client : S) (why : Departure) (before between : List (SlotData S)) (at : SlotData S) → k < length between → Leaving core k was mid before between → IsReasonFor (slot_at k between) why
       → is_done M k core (slot_at k between) ≡ true → client_of (slot_at k between) ≡ Some client → M.output core k ≡ [] → E.DidCalls mid now (a_parting k client why ∷ []) → at ≡ vacant → Leaving core (k + 1) was now before (set between k at)
-  leaving_goes k core was mid now client why before between at within first done is taken told left =
+  leaving_goes k core was mid now client why before between at within first reason done is taken told left =
       let slot = slot_at k between in
       let ended = both_are (M.ended core [] k) (has_client slot && not (has_kept slot)) done in
       let there = both_are (has_client slot) (not (has_kept slot)) ended.1 in
@@ -104,7 +104,7 @@ module _ {C D S : Type 0} (M : CoreModel C) (N : CallModel S) (E : DoorModel D S
           },
           (refl, refl),
         )
-            (inr (client, why, sym (ap (is_done M k core) here) ∙ done, sym (ap client_of here) ∙ is, refl, refl));
+            (inr (client, why, sym (ap (is_done M k core) here) ∙ done, sym (ap client_of here) ∙ is, subst (λ (slot : SlotData S). IsReasonFor slot why) here reason, refl, refl));
         none_done = λ j below. elim (cases_eq j k) [
           | inl same ↦ done_vacant j core (slot_at j (set between k at)) (ap (λ (i : ℕ). slot_at i (set between k at)) same ∙ get_or-set_same between k at vacant within ∙ left)
           | inr apart ↦ ap (is_done M j core) (get_or-set_other between k j at vacant apart) ∙ first.none_done j (omega (arith, below, apart))

@@ -7,7 +7,7 @@ use Rattle.audit_serve_passes.specs.Core.{CoreModel, RequestKind, appending, no_
 use Rattle.audit_serve_ready.specs.Door.{DoorCall, DoorModel, joined_below}
 use Rattle.audit_serve_ready.specs.Slot.{SlotData, unread_of, kept_of, has_client, has_kept, is_shut, IsAskedForBytes}
 use Rattle.audit_serve_ready.specs.Places.{slot_at}
-use Rattle.audit_serve_ready.specs.Reading.{IsAttended}
+use Rattle.audit_serve_ready.specs.Reading.{HasAskedMost, IsAttended}
 use Rattle.audit_serve_ready.specs.Backlog.{TakesTurn, IsPutOff, TakesUp}
 use Rattle.audit_serve_ready.specs.Clients.{ClientChange, a_pass, a_coming, a_refusal, a_going, next_first, first_after_all, AreChanges}
 use Rattle.audit_serve_ready.specs.Turns.{passes_in}
@@ -35,7 +35,7 @@ answered_passes k told changes (turned_away client) = refl
 module _ {C S : Type 0} (M : CoreModel C) where
   gone_passes : (k : ℕ) (core : C) (slot : SlotData S) (told : List (DoorCall S)) (changes : List (ClientChange S)) → IsLetGo M k core slot told changes → passes_in changes ≡ 0
   gone_passes k core slot told changes (inl none) = ap passes_in none.2
-  gone_passes k core slot told changes (inr gone) = ap passes_in gone.5
+  gone_passes k core slot told changes (inr gone) = ap passes_in gone.6
 
   come_passes : (k : ℕ) (core : C) (slot : SlotData S) (told : List (DoorCall S)) (changes : List (ClientChange S)) → IsLetIn M k core slot told changes → passes_in changes ≡ 0
   come_passes k core slot told changes (inl none) = ap passes_in none.2
@@ -95,7 +95,7 @@ module _ {C D S : Type 0} (M : CoreModel C) (N : CallModel S) (E : DoorModel D S
   -- ---- one pass
 
   pub heard_in : (first k : ℕ) (was now : D) (old new : C) (before after : List (SlotData S)) (pass : ServesPass M N E backlog true first was now old new before after) → k < length before → M.ended old [] k ≡ false
-      → IsHeard M N E backlog k first (slot_at k pass.judged) (pass.reads k) (pass.writes k) old new (slot_at k before) (slot_at k after)
+      → IsHeard M N E backlog k first pass.turns (slot_at k pass.judged) (pass.reads k) (pass.writes k) old new (slot_at k before) (slot_at k after)
   heard_in first k was now old new before after pass within live = record {
     asked = still (pass.reading.seen k (omega (arith, within, pass.judges.same)) live);
     over = λ last. stays (pass.reading.last k (omega (arith, within, pass.judges.same)) last);
@@ -106,7 +106,7 @@ module _ {C D S : Type 0} (M : CoreModel C) (N : CallModel S) (E : DoorModel D S
         record {
           fed = takes.fed;
           all = takes.all ∙ ap (λ (rest : List ℕ). takes.fed ++ rest) (sym same);
-          left = subst (λ (rest : List ℕ). (rest ≡ []) ⊎ IsPutOff M backlog k old takes.fed rest (slot_at k pass.judged)) (sym same) takes.left;
+          left = subst (λ (rest : List ℕ). (rest ≡ []) ⊎ IsPutOff M backlog (HasAskedMost M old pass.turns) k old takes.fed rest (slot_at k pass.judged)) (sym same) takes.left;
         };
     answered = pass.pass.answered;
     offered = pass.writing.offered k (omega (arith, within, pass.reading.pass.count, pass.judges.same));
@@ -121,22 +121,22 @@ module _ {C D S : Type 0} (M : CoreModel C) (N : CallModel S) (E : DoorModel D S
       still (inr asked) = inr asked
 
   -- whatever is taken of bytes that begin with an append begins with it
-  pub append_taken : (k : ℕ) (calls : List StreamCall) (core : C) (before after : SlotData S) (later : List RequestKind) → TakesUp M backlog k calls core before after → M.requests core k (unread_of before ++ bytes_read calls) ≡ appending ∷ later
+  pub append_taken : {AskNoMore : Type 0} (k : ℕ) (calls : List StreamCall) (core : C) (before after : SlotData S) (later : List RequestKind) → TakesUp M backlog AskNoMore k calls core before after → M.requests core k (unread_of before ++ bytes_read calls) ≡ appending ∷ later
       → (kept_of before ≡ []) ⊎ (length (kept_of before) + M.acknowledgement ≤ backlog) → (fed : List ℕ) × (more : List RequestKind) × (unread_of before ++ bytes_read calls ≡ fed ++ unread_of after) × (M.requests core k fed ≡ appending ∷ more)
-  append_taken k calls core before after later takes asked room = by takes.left
+  append_taken {AskNoMore} k calls core before after later takes asked room = by takes.left
     where
       all_is : M.requests core k (takes.fed ++ unread_of after) ≡ appending ∷ later
       all_is = sym (ap (M.requests core k) takes.all) ∙ asked
 
-      never : (off : IsPutOff M backlog k core takes.fed (unread_of after) before) → off.kind ≡ appending → M.requests core k takes.fed ≡ [] → (kept_of before ≡ []) ⊎ (length (kept_of before) + M.acknowledgement ≤ backlog) → ⊥
-      never off is none (inl empty) = off.first is none empty
-      never off is none (inr fits) = omega (arith, off.full is, fits, M.no_replies core k takes.fed none)
+      never : (off : IsPutOff M backlog AskNoMore k core takes.fed (unread_of after) before) → off.kind ≡ appending → M.requests core k takes.fed ≡ [] → (kept_of before ≡ []) ⊎ (length (kept_of before) + M.acknowledgement ≤ backlog) → ⊥
+      never off is none (inl empty) = (off.appends is).first none empty
+      never off is none (inr fits) = omega (arith, (off.appends is).full, fits, M.no_replies core k takes.fed none)
 
-      front : (off : IsPutOff M backlog k core takes.fed (unread_of after) before) (taken : List RequestKind) → M.requests core k takes.fed ≡ taken → taken ++ off.kind ∷ off.is.later ≡ appending ∷ later → (more : List RequestKind) × (M.requests core k takes.fed ≡ appending ∷ more)
+      front : (off : IsPutOff M backlog AskNoMore k core takes.fed (unread_of after) before) (taken : List RequestKind) → M.requests core k takes.fed ≡ taken → taken ++ off.kind ∷ off.is.later ≡ appending ∷ later → (more : List RequestKind) × (M.requests core k takes.fed ≡ appending ∷ more)
       front off [] none first = absurd (never off (cc first) none room)
       front off (kind ∷ more) is first = (more, is ∙ ap (λ (one : RequestKind). one ∷ more) (cc first))
 
-      by : (unread_of after ≡ []) ⊎ IsPutOff M backlog k core takes.fed (unread_of after) before → (fed : List ℕ) × (more : List RequestKind) × (unread_of before ++ bytes_read calls ≡ fed ++ unread_of after) × (M.requests core k fed ≡ appending ∷ more)
+      by : (unread_of after ≡ []) ⊎ IsPutOff M backlog AskNoMore k core takes.fed (unread_of after) before → (fed : List ℕ) × (more : List RequestKind) × (unread_of before ++ bytes_read calls ≡ fed ++ unread_of after) × (M.requests core k fed ≡ appending ∷ more)
       by (inl none) = (takes.fed, later, takes.all, sym (ap (M.requests core k) (ap (λ (rest : List ℕ). takes.fed ++ rest) none ∙ append-nil takes.fed)) ∙ all_is)
       by (inr off) =
           let first = front off (M.requests core k takes.fed) refl (sym off.is.next ∙ all_is) in

@@ -97,7 +97,7 @@ module _ {C S : Type 0} (M : CoreModel C) where
   -- the first turn goes on in passes alone
   pub gone_turns : (k first : ℕ) (core : C) (slot : SlotData S) (told : List (DoorCall S)) (changes : List (ClientChange S)) → IsLetGo M k core slot told changes → first_after_all first changes ≡ first
   gone_turns k first core slot told changes (inl none) = ap (first_after_all first) none.2
-  gone_turns k first core slot told changes (inr gone) = ap (first_after_all first) gone.5
+  gone_turns k first core slot told changes (inr gone) = ap (first_after_all first) gone.6
 
   pub come_turns : (k first : ℕ) (core : C) (slot : SlotData S) (told : List (DoorCall S)) (changes : List (ClientChange S)) → IsLetIn M k core slot told changes → first_after_all first changes ≡ first
   come_turns k first core slot told changes (inl none) = ap (first_after_all first) none.2
@@ -113,7 +113,7 @@ module _ {C D S : Type 0} (M : CoreModel C) (N : CallModel S) (E : DoorModel D S
       ∙ ap (λ (n : ℕ). first_after_all n (changes k)) (joined_turns k first core slots told changes (λ j below. at j (omega (arith, below))))
       ∙ turns k first core (slot_at k slots) (told k) (changes k) (at k (omega arith))
 
-  pub changed_none : (first : ℕ) (door : D) (core : C) (slots : List (SlotData S)) → ChangesPlaces M N E backlog At 0 first door door core core slots slots
+  unfoldable pub changed_none : (first : ℕ) (door : D) (core : C) (slots : List (SlotData S)) → ChangesPlaces M N E backlog At 0 first door door core core slots slots
   changed_none first door core slots = record {
     told = λ k. [];
     changes = λ k. [];
@@ -122,7 +122,7 @@ module _ {C D S : Type 0} (M : CoreModel C) (N : CallModel S) (E : DoorModel D S
     at = λ k below. absurd (omega (arith, below));
   }
 
-  pub changed_more : (k first : ℕ) (was mid now : D) (old between new : C) (before middle after : List (SlotData S)) (told : List (DoorCall S)) (changes : List (ClientChange S)) → ChangesPlaces M N E backlog At k first was mid old between before middle
+  unfoldable pub changed_more : (k first : ℕ) (was mid now : D) (old between new : C) (before middle after : List (SlotData S)) (told : List (DoorCall S)) (changes : List (ClientChange S)) → ChangesPlaces M N E backlog At k first was mid old between before middle
       → E.DidCalls mid now told → AreChanges M N backlog first changes between new middle after → At k old (slot_at k before) told changes → ChangesPlaces M N E backlog At (k + 1) first was now old new before after
   changed_more k first was mid now old between new before middle after told changes done did are here = record {
     told = with_one k told done.told;

@@ -7,11 +7,12 @@ use Rattle.audit_serve_passes.specs.Core.{CoreModel, no_bytes, bytes_for}
 use Rattle.audit_serve_passes.specs.CallLaws.{failed-append, bytes_sent-append}
 use Rattle.audit_serve_passes.proofs.Calls.{calls_here, calls_there, or_left, or_right}
 use Rattle.audit_serve_passes.proofs.Transitions.{none_of_both, no_calls, bytes_here, bytes_there, in_any}
-use Rattle.audit_serve_ready.specs.Slot.{SlotData, vacant, unread_of, kept_of, is_shut, is_mute, has_kept, has_read, has_write, IsPushed}
+use Rattle.audit_serve_ready.specs.Slot.{SlotData, vacant, unread_of, kept_of, is_shut, is_mute, has_read, noted_of, noted_after_sending, IsPushed}
 use Rattle.audit_serve_ready.specs.Places.{slot_at, IsServedAt, IsReadyPass, WritesPlaces}
 use Rattle.audit_serve_ready.proofs.Accounts.{either_of, served_elsewhere}
 use Rattle.audit_serve_ready.proofs.Passes.{pass_then}
-use Rattle.audit_serve_ready.proofs.Offers.{wrote_first, wrote_later}
+use Rattle.audit_serve_ready.proofs.Offers.{offered_first, offered_later}
+use Rattle.audit_serve_ready.proofs.Sending.{noted_same}
 use Rattle.audit_serve_ready.proofs.TurnByTurn.{read-append, neither_of}
 
 no_front : (front rest : List ℕ) → front ++ rest ≡ [] → front ≡ []
@@ -28,6 +29,9 @@ or_none false y none also = also
 
 no_reads_more : (calls later : List StreamCall) → has_read calls ≡ false → has_read later ≡ false → has_read (calls ++ later) ≡ false
 no_reads_more calls later first second = read-append calls later ∙ or_none (has_read calls) (has_read later) first second
+
+abbrev IsNotedAs : {S : Type 0} → List StreamCall → SlotData S → SlotData S → Type 0
+IsNotedAs calls before after = noted_of after ≡ noted_after_sending calls before after
 
 module _ {C S : Type 0} (M : CoreModel C) (N : CallModel S) where
   pushed_at : {moved : Bool} (k : ℕ) (sent : List ℕ) (before after : SlotData S) (pushed : IsPushed N moved sent before after) → IsServedAt N k [] [] sent pushed.calls before after
@@ -65,7 +69,9 @@ module _ {C S : Type 0} (M : CoreModel C) (N : CallModel S) where
     unread = λ k. refl;
     dropped = λ k heard mute. absurd (true≢false (sym mute ∙ heard));
     closed = λ k live shut. absurd (true≢false (sym shut ∙ live));
+    noted = λ k. noted_same (slot_at k slots);
     others = λ k above. refl;
+    uncalled = λ k above. refl;
   }
 
   pub writes_more : (was moved : Bool) (k : ℕ) (old mid new : C) (taken : ℕ → List ℕ) (calls : ℕ → List StreamCall) (sent : List ℕ) (before between : List (SlotData S)) (at after : SlotData S) → k < length between → WritesPlaces N (M.DidSteps old mid) was k taken calls before between
@@ -77,10 +83,8 @@ module _ {C S : Type 0} (M : CoreModel C) (N : CallModel S) where
       pass = pass_then N {First = M.DidSteps old mid} {Next = M.DidSteps mid new} {Both = M.DidSteps old new} no_bytes [] [] taken (bytes_for k sent) calls (calls_for k pushed.calls) before between (set between k after) first.pass
           (push_pass k sent mid new between after within did pushed) (λ done then_. M.more_done old mid new [] [] taken (bytes_for k sent) done then_);
       offered = λ j below. elim (cases_eq j k) [
-        | inl same ↦ λ kept. wrote_later (calls j) (calls_for k pushed.calls j)
-            (ap (λ (i : ℕ). has_write (calls_for k pushed.calls i)) same ∙ ap has_write (calls_here k pushed.calls)
-            ∙ pushed.offered (sym (ap has_kept (now_is j same)) ∙ kept))
-        | inr apart ↦ λ kept. wrote_first (calls j) (calls_for k pushed.calls j) (first.offered j (omega (arith, below, apart)) (sym (ap has_kept (get_or-set_other between k j after vacant apart)) ∙ kept))
+        | inl same ↦ offered_later (calls j) pushed.calls (calls_for k pushed.calls j) after (slot_at j (set between k after)) (now_is j same) (ap (calls_for k pushed.calls) same ∙ calls_here k pushed.calls) pushed.offered
+        | inr apart ↦ offered_first (calls j) (calls_for k pushed.calls j) (slot_at j between) (slot_at j (set between k after)) (get_or-set_other between k j after vacant apart) (first.offered j (omega (arith, below, apart)))
       ];
       no_reads = λ j. no_reads_more (calls j) (calls_for k pushed.calls j) (first.no_reads j) (none_read j);
       idle = λ still j.
@@ -107,7 +111,13 @@ module _ {C S : Type 0} (M : CoreModel C) (N : CallModel S) where
               (λ none. why.1 (sym (append-nil (taken j)) ∙ sym (ap (λ (more : List ℕ). taken j ++ more) (bytes_there k j sent apart)) ∙ none)),
             )
       ];
+      noted = λ j. elim (cases_eq j k) [
+        | inl same ↦ noted_here j same
+        | inr apart ↦ subst (λ (now : List StreamCall). IsNotedAs now (slot_at j before) (slot_at j (set between k after))) (sym (calls_other j apart))
+            (subst (IsNotedAs (calls j) (slot_at j before)) (sym (get_or-set_other between k j after vacant apart)) (first.noted j))
+      ];
       others = λ j above. get_or-set_other between k j after vacant (λ same. omega (arith, above, same)) ∙ first.others j (omega (arith, above));
+      uncalled = λ j above. ap (λ (front : List StreamCall). front ++ calls_for k pushed.calls j) (first.uncalled j (omega (arith, above))) ∙ calls_there k j pushed.calls (λ same. omega (arith, above, same));
     },
   )
     where
@@ -119,6 +129,20 @@ module _ {C S : Type 0} (M : CoreModel C) (N : CallModel S) where
 
       was_is : (j : ℕ) → j ≡ k → slot_at k between ≡ slot_at j before
       was_is j same = first.others k (omega arith) ∙ sym (ap (λ (i : ℕ). slot_at i before) same)
+
+      calls_now : (j : ℕ) → j ≡ k → calls j ++ calls_for k pushed.calls j ≡ pushed.calls
+      calls_now j same =
+          ap (λ (i : ℕ). calls i ++ calls_for k pushed.calls i) same
+          ∙ ap (λ (front : List StreamCall). front ++ calls_for k pushed.calls k) (first.uncalled k (omega arith)) ∙ calls_here k pushed.calls
+
+      calls_other : (j : ℕ) → (j ≡ k → ⊥) → calls j ++ calls_for k pushed.calls j ≡ calls j
+      calls_other j apart = ap (λ (more : List StreamCall). calls j ++ more) (calls_there k j pushed.calls apart) ∙ append-nil (calls j)
+
+      noted_here : (j : ℕ) → j ≡ k → IsNotedAs (calls j ++ calls_for k pushed.calls j) (slot_at j before) (slot_at j (set between k after))
+      noted_here j same =
+          subst (λ (now : List StreamCall). IsNotedAs now (slot_at j before) (slot_at j (set between k after))) (sym (calls_now j same))
+          (subst (IsNotedAs pushed.calls (slot_at j before)) (sym (now_is j same))
+          (subst (λ (was : SlotData S). IsNotedAs pushed.calls was after) (was_is j same) pushed.noted))
 
       none_read : (j : ℕ) → has_read (calls_for k pushed.calls j) ≡ false
       none_read j = elim (cases_eq j k) [

@@ -5,6 +5,7 @@ use Rattle.audit_serve_passes.specs.Streams.{StreamCall, CallModel}
 use Rattle.audit_serve_passes.specs.Core.{CoreModel, no_bytes}
 use Rattle.audit_serve_passes.proofs.Transitions.{no_calls}
 use Rattle.audit_serve_ready.specs.Door.{DoorCall, DoorModel, a_release}
+use Rattle.audit_serve_ready.specs.declared.departure.Departure.TheVariants.{Dismissed}
 use Rattle.audit_serve_ready.specs.Slot.{SlotData, client_of, closed}
 use Rattle.audit_serve_ready.specs.Places.{slot_at, IsServedAt, IsReadyPass, ServesPlaces, WritesPlaces}
 use Rattle.audit_serve_ready.specs.Reading.{ReadsPlaces}
@@ -17,8 +18,8 @@ use Rattle.audit_serve_ready.proofs.Passes.{pass_then}
 use Rattle.audit_serve_ready.proofs.Changes.{one_change}
 
 module _ {S : Type 0} (N : CallModel S) where
-  closed_served : (k : ℕ) (slot : SlotData S) → IsServedAt N k [] [] [] [] slot (closed slot)
-  closed_served k slot = record { read = ap (λ (bytes : List ℕ). bytes ++ []) (sym (unread_closed slot)); ends = inl refl; accounted = closed_accounted N slot }
+  closed_served : (k : ℕ) (slot : SlotData S) → IsServedAt N k [] [] [] [] slot (closed Dismissed slot)
+  closed_served k slot = record { read = ap (λ (bytes : List ℕ). bytes ++ []) (sym (unread_closed Dismissed slot)); ends = inl refl; accounted = closed_accounted N Dismissed slot }
 
   judged_served : (k : ℕ) (client : Option S) (told : List (DoorCall S)) (slot now : SlotData S) → IsJudgedByDoor k client told slot now → IsServedAt N k [] [] [] [] slot now
   judged_served k None told slot now (none, is) = subst (IsServedAt N k [] [] [] [] slot) (sym is) (served_elsewhere N k [] slot tt)

@@ -1,5 +1,5 @@
 -- The client of one place, as long as it stays.
-use Rattle.std.proofs.Common.{◌≡◌, ℕ, ◌<◌, List, [], ◌∷◌, length, set, sym, ap, subst, ◌∙◌, arith}
+use Rattle.std.proofs.Common.{◌≡◌, ℕ, ◌<◌, None, List, [], ◌∷◌, length, set, sym, ap, subst, ◌∙◌, arith}
 use Rattle.std.proofs.lemmas.List.{length-set, get_or-set_same, get_or-set_other}
 use Rattle.audit_serve_passes.specs.Streams.{CallModel}
 use Rattle.audit_serve_passes.specs.Core.{CoreModel}
@@ -28,14 +28,14 @@ module _ {C S : Type 0} (M : CoreModel C) (N : CallModel S) (backlog : ℕ) wher
       served_then N k steps (steps_in changes) [] (taken k) (taken_in k changes) (calls k) (calls_in k changes) (slot_at k before) (slot_at k are.1) (slot_at k after) (are.2.served.at k within)
       (stayed (next_first first) k changes are.0 new are.1 after are.3 stays (omega (arith, within, are.2.served.count)))
   stayed first k (a_coming j client ∷ changes) old new before after are stays within =
-      set_elsewhere k j changes before are.1 after (serving client.stream [] []) stays.0 are.2.place within (stayed first k changes are.0 new are.1 after are.3 stays.1)
+      set_elsewhere k j changes before are.1 after (serving client.stream [] [] None) stays.0 are.2.place within (stayed first k changes are.0 new are.1 after are.3 stays.1)
   stayed first k (a_refusal j client ∷ changes) old new before after are stays within =
       subst (λ (slots : List (SlotData S)). Stayed k changes (slot_at k slots) (slot_at k after)) are.2.places (stayed first k changes are.0 new are.1 after are.3 stays (omega (arith, within, ap length are.2.places)))
   stayed first k (a_going j ∷ changes) old new before after are stays within =
       set_elsewhere k j changes before are.1 after vacant stays.0 are.2.place within (stayed first k changes are.0 new are.1 after are.3 stays.1)
 
   pub stayed_from_coming : (first k : ℕ) (client : Newcomer S) (changes : List (ClientChange S)) (old new : C) (before after : List (SlotData S)) → AreChanges M N backlog first (a_coming k client ∷ changes) old new before after → StaysAt k changes
-      → Stayed k changes (serving client.stream [] []) (slot_at k after)
+      → Stayed k changes (serving client.stream [] [] None) (slot_at k after)
   stayed_from_coming first k client changes old new before after are stays =
-      subst (λ (now : SlotData S). Stayed k changes now (slot_at k after)) (ap (slot_at k) are.2.place ∙ get_or-set_same before k (serving client.stream [] []) vacant are.2.within)
-      (stayed first k changes are.0 new are.1 after are.3 stays (omega (arith, are.2.within, ap length are.2.place, length-set before k (serving client.stream [] []))))
+      subst (λ (now : SlotData S). Stayed k changes now (slot_at k after)) (ap (slot_at k) are.2.place ∙ get_or-set_same before k (serving client.stream [] [] None) vacant are.2.within)
+      (stayed first k changes are.0 new are.1 after are.3 stays (omega (arith, are.2.within, ap length are.2.place, length-set before k (serving client.stream [] [] None))))

@@ -1,6 +1,6 @@
 -- Turns of reading, one after another.
-use Rattle.std.proofs.Common.{◌≡◌, ◌⊎◌, inl, inr, ◌∙◌, ℕ, ◌+◌, ◌<◌, ◌≤◌, Bool, true, false, ◌||◌, cond, List, [], ◌∷◌, ◌++◌, length, set, get_or, replicate, refl, sym, ap, subst, arith, true≢false}
-use Rattle.std.proofs.lemmas.Bool.{cases_Bool, cases_eq, ne_eqb}
+use Rattle.std.proofs.Common.{◌≡◌, ◌⊎◌, inl, inr, ◌∙◌, ℕ, ◌+◌, ◌<◌, ◌≤◌, Bool, true, false, ◌||◌, cond, Option, List, [], ◌∷◌, ◌++◌, length, set, get_or, replicate, refl, sym, ap, subst, arith, true≢false}
+use Rattle.std.proofs.lemmas.Bool.{cases_Bool, cases_eq, eq-eqb, ne_eqb}
 use Rattle.std.proofs.lemmas.List.{length-set, get_or-set_same, get_or-set_other}
 use Rattle.std.specs.List.{AllByRecursion}
 use Rattle.audit_serve_passes.specs.Steps.{StepData, a_piece, an_end, a_flush, IsAbout, AreAbout}
@@ -10,11 +10,13 @@ use Rattle.audit_serve_passes.specs.CallLaws.{or_of_three, bytes_read-append, by
 use Rattle.audit_serve_passes.proofs.Calls.{calls_here, calls_there, or_left, or_right}
 use Rattle.audit_serve_passes.proofs.StreamSteps.{about_elsewhere}
 use Rattle.audit_serve_passes.proofs.Transitions.{none_of_both}
-use Rattle.audit_serve_ready.specs.Slot.{SlotData, vacant, unread_of, is_read, has_read, is_shut, IsSamePlace}
+use Rattle.audit_serve_ready.specs.declared.departure.Departure.{Departure}
+use Rattle.audit_serve_ready.specs.Slot.{SlotData, vacant, unread_of, noted_of, noted_after_call, noted_after_reading, is_read, has_read, is_shut, IsSamePlace}
 use Rattle.audit_serve_ready.specs.Places.{slot_at, has_last_read, IsServedAt, IsReadyPass, ServesPlaces}
-use Rattle.audit_serve_ready.specs.Reading.{IsWait, IsTurn, is_about, steps_about, mark, IsTurnTaken, IsAttended, HasTurn, IsTurnOfLive, IsLeftOut, TakesTurns, ReadsPlaces}
+use Rattle.audit_serve_ready.specs.Reading.{IsWait, IsTurn, replies_to, IsShort, is_about, steps_about, mark, IsTurnTaken, IsAttended, HasTurn, IsTurnOfLive, IsLeftOut, TakesTurns, ReadsPlaces}
+use Rattle.audit_serve_ready.specs.declared.limits.TheConstants.{MAX_ASKED}
 use Rattle.audit_serve_ready.specs.Backlog.{TakesUp}
-use Rattle.audit_serve_ready.proofs.Asking.{taken_stays, taken_later}
+use Rattle.audit_serve_ready.proofs.Asking.{takes_longer, taken_stays, taken_later}
 use Rattle.audit_serve_ready.proofs.Accounts.{either_of, last-append, served_elsewhere}
 use Rattle.audit_serve_ready.proofs.Passes.{pass_then}
 use Rattle.audit_serve_ready.proofs.Bounds.{mark_set, unmarked, ended_still}
@@ -106,12 +108,35 @@ not_about k other a_flush apart about = refl
 none_about : (k other : ℕ) (step : StepData) → (other ≡ k → ⊥) → IsAbout k step → steps_about other (step ∷ []) ≡ 0
 none_about k other step apart about = ap one_of_one (not_about k other step apart about)
 
-module _ {S : Type 0} where
-  pub same_none : (slot : SlotData S) → IsSamePlace slot slot
-  same_none slot = record { kept = refl; mute = refl; shut = refl }
+unmarked_by : (marks : List Bool) (k : ℕ) → mark marks k ≡ 0 → get_or marks k true ≡ false
+unmarked_by marks k none = by (get_or marks k true) none
+  where
+    by : (b : Bool) → one_if b ≡ 0 → b ≡ false
+    by true h = absurd (omega (arith, h))
+    by false h = refl
 
-  pub same_then : (a b c : SlotData S) → IsSamePlace a b → IsSamePlace b c → IsSamePlace a c
-  same_then a b c first second = record { kept = second.kept ∙ first.kept; mute = second.mute ∙ first.mute; shut = second.shut ∙ first.shut }
+one_mark : (marks : List Bool) (k : ℕ) → mark marks k ≤ 1
+one_mark marks k = by (get_or marks k true)
+  where
+    by : (b : Bool) → one_if b ≤ 1
+    by true = omega arith
+    by false = omega arith
+
+noted-append : (calls later : List StreamCall) (noted : Option Departure) → noted_after_reading (calls ++ later) noted ≡ noted_after_reading later (noted_after_reading calls noted)
+noted-append [] later noted = refl
+noted-append (call ∷ calls) later noted = noted-append calls later (noted_after_call call noted)
+
+module _ {S : Type 0} where
+  same_none : (slot : SlotData S) → IsSamePlace [] slot slot
+  same_none slot = record { kept = refl; mute = refl; shut = refl; noted = refl }
+
+  same_then : (calls later : List StreamCall) (a b c : SlotData S) → IsSamePlace calls a b → IsSamePlace later b c → IsSamePlace (calls ++ later) a c
+  same_then calls later a b c first second = record {
+    kept = second.kept ∙ first.kept;
+    mute = second.mute ∙ first.mute;
+    shut = second.shut ∙ first.shut;
+    noted = second.noted ∙ ap (noted_after_reading later) first.noted ∙ sym (noted-append calls later (noted_of a));
+  }
 
 module _ {C S : Type 0} (M : CoreModel C) (N : CallModel S) where
   seen_first : (k : ℕ) (calls later : List StreamCall) (mid new : C) (before : SlotData S) → (M.ended mid [] k ≡ true → M.ended new [] k ≡ true) → IsAttended M N k calls mid before → IsAttended M N k (calls ++ later) new before
@@ -125,7 +150,7 @@ module _ {C S : Type 0} (M : CoreModel C) (N : CallModel S) where
   seen_later k calls later new before between same unread (inr (inr asked)) = inr (inr (read-append calls later ∙ or_right (has_read calls) (has_read later) asked))
 
 module _ {C S : Type 0} (M : CoreModel C) (N : CallModel S) (backlog : ℕ) where
-  pub turns_none : {Meant : ℕ → Type 0} (marks : List Bool) (core : C) (slots : List (SlotData S)) → ((k : ℕ) → k < length slots → get_or marks k true ≡ false → M.ended core [] k ≡ false → Meant k → ⊥) → TakesTurns M N backlog false Meant marks marks core core slots slots
+  pub turns_none : {Meant : ℕ → Type 0} {given : ℕ} (marks : List Bool) (core : C) (slots : List (SlotData S)) → ((k : ℕ) → k < length slots → get_or marks k true ≡ false → M.ended core [] k ≡ false → Meant k → ⊥) → TakesTurns M N backlog given given false Meant marks marks core core slots slots
   turns_none marks core slots none = record {
     steps = [];
     calls = λ k. [];
@@ -146,9 +171,24 @@ module _ {C S : Type 0} (M : CoreModel C) (N : CallModel S) (backlog : ℕ) wher
       | inl is ↦ absurd (none k within unmarked live is)
       | inr marked ↦ absurd (true≢false (sym marked ∙ unmarked))
     ];
+    share = record { fewer = omega arith; spent = omega arith };
     alone = λ k unmarked. record { ended = refl; requests = λ bytes. (refl, refl); unread = refl; read = refl };
     over = λ k had. (refl, refl);
   }
+
+  -- whoever is asked now wasn't asked before
+  replies_same : (marks : List Bool) (steps : List StepData) (old between : C) → ((k : ℕ) → steps_about k steps + mark marks k ≤ 1) → ((k : ℕ) (bytes : List ℕ) → get_or marks k true ≡ false → M.replies between k bytes ≡ M.replies old k bytes) → replies_to M between steps ≡ replies_to M old steps
+  replies_same marks [] old between once same = refl
+  replies_same marks (a_piece k piece ∷ steps) old between once same =
+      omega (arith, same k piece (unmarked_by marks k (omega (arith, once k, ap one_if (eq-eqb k k refl)))), replies_same marks steps old between (λ j. omega (arith, once j)) same)
+  replies_same marks (an_end k ∷ steps) old between once same = replies_same marks steps old between (λ j. omega (arith, once j)) same
+  replies_same marks (a_flush ∷ steps) old between once same = replies_same marks steps old between (λ j. omega (arith, once j)) same
+
+  replies-append : (core : C) (steps later : List StepData) → replies_to M core (steps ++ later) ≡ replies_to M core steps + replies_to M core later
+  replies-append core [] later = omega arith
+  replies-append core (a_piece k piece ∷ steps) later = omega (arith, replies-append core steps later)
+  replies-append core (an_end k ∷ steps) later = replies-append core steps later
+  replies-append core (a_flush ∷ steps) later = replies-append core steps later
 
   left_out_then : (k : ℕ) (calls later : List StreamCall) (old between new : C) (before middle after : SlotData S) → IsLeftOut M k calls old between before middle → IsLeftOut M k later between new middle after → IsLeftOut M k (calls ++ later) old new before after
   left_out_then k calls later old between new before middle after first second = record {
@@ -158,9 +198,9 @@ module _ {C S : Type 0} (M : CoreModel C) (N : CallModel S) (backlog : ℕ) wher
     read = bytes_read-append calls later ∙ none_of_both (bytes_read calls) (bytes_read later) first.read second.read;
   }
 
-  pub turns_then : {First Next Both : ℕ → Type 0} (was moved : Bool) (had mid now : List Bool) (old between new : C) (before middle after : List (SlotData S)) → TakesTurns M N backlog was First had mid old between before middle → TakesTurns M N backlog moved Next mid now between new middle after
-      → ((k : ℕ) → k < length before → Both k → First k ⊎ Next k) → TakesTurns M N backlog (was || moved) Both had now old new before after
-  turns_then {First} {Next} {Both} was moved had mid now old between new before middle after first second either = record {
+  pub turns_then : {First Next Both : ℕ → Type 0} {given midway remains : ℕ} (was moved : Bool) (had mid now : List Bool) (old between new : C) (before middle after : List (SlotData S)) → TakesTurns M N backlog given midway was First had mid old between before middle → TakesTurns M N backlog midway remains moved Next mid now between new middle after
+      → ((k : ℕ) → k < length before → Both k → First k ⊎ Next k) → TakesTurns M N backlog given remains (was || moved) Both had now old new before after
+  turns_then {First} {Next} {Both} {given} {midway} {remains} was moved had mid now old between new before middle after first second either = record {
     steps = first.steps ++ second.steps;
     calls = λ k. first.calls k ++ second.calls k;
     pass = pass_then N {First = M.DidSteps old between} {Next = M.DidSteps between new} {Both = M.DidSteps old new} no_bytes first.steps second.steps no_bytes no_bytes first.calls second.calls before middle after first.pass second.pass
@@ -180,20 +220,27 @@ module _ {C S : Type 0} (M : CoreModel C) (N : CallModel S) (backlog : ℕ) wher
     ];
     last = λ k within last. either_of (has_last_read (first.calls k)) (has_last_read (second.calls k)) (sym (last-append (first.calls k) (second.calls k)) ∙ last) (λ is. stays k (first.last k within is))
         (λ is. second.last k (omega (arith, within, first.pass.count)) is);
-    same = λ k. same_then (slot_at k before) (slot_at k middle) (slot_at k after) (first.same k) (second.same k);
+    same = λ k. same_then (first.calls k) (second.calls k) (slot_at k before) (slot_at k middle) (slot_at k after) (first.same k) (second.same k);
     quiet = λ k. bytes_sent-append (first.calls k) (second.calls k) ∙ none_of_both (bytes_sent (first.calls k)) (bytes_sent (second.calls k)) (first.quiet k) (second.quiet k);
     left = λ k within unmarked live unshut meant. elim (cases_Bool (get_or mid k true)) [
       | inl marked ↦
           let over = second.over k marked in
-          taken_stays M backlog k (first.calls k) (second.calls k) old (slot_at k before) (slot_at k middle) (slot_at k after) over.0 over.1 (first.left k within unmarked live unshut (inr marked))
+          taken_stays M backlog k (first.calls k) (second.calls k) old (slot_at k before) (slot_at k middle) (slot_at k after) over.0 over.1 (shorter k (first.left k within unmarked live unshut (inr marked)))
       | inr not_yet ↦ left_later k within unmarked live unshut not_yet meant
     ];
+    share = record {
+      fewer = omega (arith, first.share.fewer, second.share.fewer);
+      spent = omega (arith, first.share.spent, second.share.spent, replies-append old first.steps second.steps, replies_same mid second.steps old between (λ k. omega (arith, second.once k, one_mark now k)) (λ k bytes unmarked. ((first.alone k unmarked).requests bytes).1));
+    };
     alone = λ k unmarked. left_out_then k (first.calls k) (second.calls k) old between new (slot_at k before) (slot_at k middle) (slot_at k after) (first.alone k (before_too k unmarked)) (second.alone k unmarked);
     over = λ k marked.
         let mine = first.over k marked in
         let then_ = second.over k (first.marks k marked) in (bytes_read-append (first.calls k) (second.calls k) ∙ none_of_both (bytes_read (first.calls k)) (bytes_read (second.calls k)) mine.0 then_.0, then_.1 ∙ mine.1);
   }
     where
+      shorter : (k : ℕ) → TakesUp M backlog (IsShort M midway) k (first.calls k) old (slot_at k before) (slot_at k middle) → TakesUp M backlog (IsShort M remains) k (first.calls k) old (slot_at k before) (slot_at k middle)
+      shorter k = takes_longer M backlog k (first.calls k) old (slot_at k before) (slot_at k middle) (λ short. omega (arith, short, second.share.fewer))
+
       stays : (k : ℕ) → M.ended between [] k ≡ true → M.ended new [] k ≡ true
       stays k = ended_still M between new second.steps no_bytes k second.pass.did
 
@@ -222,13 +269,13 @@ module _ {C S : Type 0} (M : CoreModel C) (N : CallModel S) (backlog : ℕ) wher
         | inr is ↦ by_next k within live not_yet (inl is)
       ]
 
-      taken_next : (k : ℕ) → k < length before → M.ended old [] k ≡ false → is_shut (slot_at k before) ≡ false → get_or mid k true ≡ false → Next k ⊎ (get_or now k true ≡ true) → TakesUp M backlog k (first.calls k ++ second.calls k) old (slot_at k before) (slot_at k after)
+      taken_next : (k : ℕ) → k < length before → M.ended old [] k ≡ false → is_shut (slot_at k before) ≡ false → get_or mid k true ≡ false → Next k ⊎ (get_or now k true ≡ true) → TakesUp M backlog (IsShort M remains) k (first.calls k ++ second.calls k) old (slot_at k before) (slot_at k after)
       taken_next k within live unshut not_yet meant =
           let was = first.alone k not_yet in
           taken_later M backlog k (first.calls k) (second.calls k) between old (slot_at k before) (slot_at k middle) (slot_at k after) was.read was.unread (first.same k).kept was.requests
           (second.left k (omega (arith, within, first.pass.count)) not_yet (was.ended ∙ live) ((first.same k).shut ∙ unshut) meant)
 
-      left_later : (k : ℕ) → k < length before → get_or had k true ≡ false → M.ended old [] k ≡ false → is_shut (slot_at k before) ≡ false → get_or mid k true ≡ false → Both k ⊎ (get_or now k true ≡ true) → TakesUp M backlog k (first.calls k ++ second.calls k) old (slot_at k before) (slot_at k after)
+      left_later : (k : ℕ) → k < length before → get_or had k true ≡ false → M.ended old [] k ≡ false → is_shut (slot_at k before) ≡ false → get_or mid k true ≡ false → Both k ⊎ (get_or now k true ≡ true) → TakesUp M backlog (IsShort M remains) k (first.calls k ++ second.calls k) old (slot_at k before) (slot_at k after)
       left_later k within unmarked live unshut not_yet (inr marked) = taken_next k within live unshut not_yet (inr marked)
       left_later k within unmarked live unshut not_yet (inl meant) = elim (either k within meant) [
         | inr is ↦ taken_next k within live unshut not_yet (inl is)
@@ -236,7 +283,7 @@ module _ {C S : Type 0} (M : CoreModel C) (N : CallModel S) (backlog : ℕ) wher
           | inl marked ↦ taken_next k within live unshut not_yet (inr marked)
           | inr never ↦
               let out = second.alone k never in
-              taken_stays M backlog k (first.calls k) (second.calls k) old (slot_at k before) (slot_at k middle) (slot_at k after) out.read out.unread (first.left k within unmarked live unshut (inl is))
+              taken_stays M backlog k (first.calls k) (second.calls k) old (slot_at k before) (slot_at k middle) (slot_at k after) out.read out.unread (shorter k (first.left k within unmarked live unshut (inl is)))
         ]
       ]
 
@@ -302,9 +349,9 @@ module _ {C S : Type 0} (M : CoreModel C) (N : CallModel S) (backlog : ℕ) wher
   unmarked_is k had true unmarked = absurd (true≢false (sym (mark_set k had true (λ e. true≢false e)) ∙ unmarked))
   unmarked_is k had false unmarked = refl
 
-  pub one_turn : (moved : Bool) (k : ℕ) (had : List Bool) (is : Bool) (old new : C) (slots : List (SlotData S)) (after : SlotData S) → k < length slots → get_or had k true ≡ false → M.ended old [] k ≡ false → HasTurn M N backlog moved k is old new (slot_at k slots) after
-      → TakesTurns M N backlog moved (λ j. j ≡ k) had (set had k is) old new slots (set slots k after)
-  one_turn moved k had is old new slots after within due live turn = record {
+  pub one_turn : {given remains : ℕ} (moved : Bool) (k : ℕ) (had : List Bool) (is : Bool) (old new : C) (slots : List (SlotData S)) (after : SlotData S) → k < length slots → get_or had k true ≡ false → M.ended old [] k ≡ false → HasTurn M N backlog given remains moved k is old new (slot_at k slots) after
+      → TakesTurns M N backlog given remains moved (λ j. j ≡ k) had (set had k is) old new slots (set slots k after)
+  one_turn {given} {remains} moved k had is old new slots after within due live turn = record {
     steps = turn.steps;
     calls = calls_for k turn.calls;
     pass = turn_pass k turn.steps turn.calls old new slots after within turn.did (about_all k is turn.steps turn.taken) turn.served;
@@ -322,19 +369,23 @@ module _ {C S : Type 0} (M : CoreModel C) (N : CallModel S) (backlog : ℕ) wher
       | inr apart ↦ absurd (true≢false (sym last ∙ ap has_last_read (calls_there k other turn.calls apart)))
     ];
     same = λ other. elim (cases_eq other k) [
-      | inl same ↦ subst (λ (j : ℕ). IsSamePlace (slot_at j slots) (slot_at j (set slots k after))) (sym same) (subst (IsSamePlace (slot_at k slots)) (sym (get_or-set_same slots k after vacant within)) turn.same)
-      | inr apart ↦ subst (IsSamePlace (slot_at other slots)) (sym (get_or-set_other slots k other after vacant apart)) (same_none (slot_at other slots))
+      | inl same ↦ subst (λ (j : ℕ). IsSamePlace (calls_for k turn.calls j) (slot_at j slots) (slot_at j (set slots k after))) (sym same)
+          (subst (λ (calls : List StreamCall). IsSamePlace calls (slot_at k slots) (slot_at k (set slots k after))) (sym (calls_here k turn.calls))
+          (subst (IsSamePlace turn.calls (slot_at k slots)) (sym (get_or-set_same slots k after vacant within)) turn.same))
+      | inr apart ↦ subst (λ (calls : List StreamCall). IsSamePlace calls (slot_at other slots) (slot_at other (set slots k after))) (sym (calls_there k other turn.calls apart))
+          (subst (IsSamePlace [] (slot_at other slots)) (sym (get_or-set_other slots k other after vacant apart)) (same_none (slot_at other slots)))
     ];
     quiet = λ other. elim (cases_eq other k) [
       | inl same ↦ ap (λ (j : ℕ). bytes_sent (calls_for k turn.calls j)) same ∙ ap bytes_sent (calls_here k turn.calls) ∙ turn.quiet
       | inr apart ↦ ap bytes_sent (calls_there k other turn.calls apart)
     ];
     left = λ other inside unmarked alive unshut meant. elim (cases_eq other k) [
-      | inl same ↦ subst (λ (j : ℕ). TakesUp M backlog j (calls_for k turn.calls j) old (slot_at j slots) (slot_at j (set slots k after))) (sym same)
-          (subst (λ (calls : List StreamCall). TakesUp M backlog k calls old (slot_at k slots) (slot_at k (set slots k after))) (sym (calls_here k turn.calls))
-          (subst (TakesUp M backlog k turn.calls old (slot_at k slots)) (sym (get_or-set_same slots k after vacant within)) (turn.left (sym (ap (λ (j : ℕ). is_shut (slot_at j slots)) same) ∙ unshut))))
+      | inl same ↦ subst (λ (j : ℕ). TakesUp M backlog (IsShort M remains) j (calls_for k turn.calls j) old (slot_at j slots) (slot_at j (set slots k after))) (sym same)
+          (subst (λ (calls : List StreamCall). TakesUp M backlog (IsShort M remains) k calls old (slot_at k slots) (slot_at k (set slots k after))) (sym (calls_here k turn.calls))
+          (subst (TakesUp M backlog (IsShort M remains) k turn.calls old (slot_at k slots)) (sym (get_or-set_same slots k after vacant within)) (turn.left (sym (ap (λ (j : ℕ). is_shut (slot_at j slots)) same) ∙ unshut))))
       | inr apart ↦ absurd (not_meant other apart unmarked meant)
     ];
+    share = turn.share;
     alone = λ other unmarked. elim (cases_eq other k) [
       | inl same ↦
           let idle = unmarked_is k had is (sym (ap (λ (j : ℕ). get_or (set had k is) j true) same) ∙ unmarked) in
@@ -372,7 +423,7 @@ module _ {C S : Type 0} (M : CoreModel C) (N : CallModel S) (backlog : ℕ) wher
       nothing_done false steps did none idle = M.ended_by_steps old new steps [] no_bytes k did ∙ ap (λ (all : List StepData). M.ended old (all ++ []) k) none
 
   -- what others are meant
-  pub turns_mean : {Meant Other : ℕ → Type 0} (moved : Bool) (had now : List Bool) (old new : C) (before after : List (SlotData S)) → ((k : ℕ) → k < length before → Other k → Meant k) → TakesTurns M N backlog moved Meant had now old new before after → TakesTurns M N backlog moved Other had now old new before after
+  pub turns_mean : {Meant Other : ℕ → Type 0} {given remains : ℕ} (moved : Bool) (had now : List Bool) (old new : C) (before after : List (SlotData S)) → ((k : ℕ) → k < length before → Other k → Meant k) → TakesTurns M N backlog given remains moved Meant had now old new before after → TakesTurns M N backlog given remains moved Other had now old new before after
   turns_mean {Meant} {Other} moved had now old new before after by done = record {
     steps = done.steps;
     calls = done.calls;
@@ -387,6 +438,7 @@ module _ {C S : Type 0} (M : CoreModel C) (N : CallModel S) (backlog : ℕ) wher
     same = done.same;
     quiet = done.quiet;
     left = λ k within unmarked live unshut meant. done.left k within unmarked live unshut (to k within meant);
+    share = done.share;
     alone = done.alone;
     over = done.over;
   }
@@ -396,11 +448,11 @@ module _ {C S : Type 0} (M : CoreModel C) (N : CallModel S) (backlog : ℕ) wher
       to k within (inr marked) = inr marked
 
   -- as what is done for the places
-  pub turns_serve : {Meant : ℕ → Type 0} {moved : Bool} (had now : List Bool) (old new : C) (before after : List (SlotData S)) → TakesTurns M N backlog moved Meant had now old new before after → ServesPlaces N (M.DidSteps old new) no_bytes before after
+  pub turns_serve : {Meant : ℕ → Type 0} {given remains : ℕ} {moved : Bool} (had now : List Bool) (old new : C) (before after : List (SlotData S)) → TakesTurns M N backlog given remains moved Meant had now old new before after → ServesPlaces N (M.DidSteps old new) no_bytes before after
   turns_serve had now old new before after done = record { steps = done.steps; taken = no_bytes; calls = done.calls; pass = done.pass }
 
   -- of all sessions, of which none had had its turn
-  turns_read : {Meant : ℕ → Type 0} (moved : Bool) (now : List Bool) (old new : C) (before after : List (SlotData S)) → length before ≤ 16 → ((k : ℕ) → k < length before → Meant k) → (done : TakesTurns M N backlog moved Meant (replicate 16 false) now old new before after)
+  turns_read : {Meant : ℕ → Type 0} {remains : ℕ} (moved : Bool) (now : List Bool) (old new : C) (before after : List (SlotData S)) → length before ≤ 16 → ((k : ℕ) → k < length before → Meant k) → (done : TakesTurns M N backlog MAX_ASKED remains moved Meant (replicate 16 false) now old new before after)
       → ReadsPlaces M N backlog moved done.steps done.calls old new before after
   turns_read moved now old new before after few all done = record {
     pass = done.pass;
@@ -412,19 +464,20 @@ module _ {C S : Type 0} (M : CoreModel C) (N : CallModel S) (backlog : ℕ) wher
     last = done.last;
     same = done.same;
     quiet = done.quiet;
-    left = λ k within live unshut. done.left k within (unmarked 16 k (omega (arith, within, few))) live unshut (inl (all k within));
+    left = λ k within live unshut. takes_longer M backlog k (done.calls k) old (slot_at k before) (slot_at k after) (λ short. omega (arith, short, done.share.spent))
+        (done.left k within (unmarked 16 k (omega (arith, within, few))) live unshut (inl (all k within)));
   }
     where
       most_one : (b : Bool) → cond b 1 0 ≤ 1
       most_one true = omega arith
       most_one false = omega arith
 
-  pub read_all : {Meant : ℕ → Type 0} (moved : Bool) (now : List Bool) (old new : C) (before after : List (SlotData S)) → length before ≤ 16 → ((k : ℕ) → k < length before → Meant k) → TakesTurns M N backlog moved Meant (replicate 16 false) now old new before after
+  pub read_all : {Meant : ℕ → Type 0} {remains : ℕ} (moved : Bool) (now : List Bool) (old new : C) (before after : List (SlotData S)) → length before ≤ 16 → ((k : ℕ) → k < length before → Meant k) → TakesTurns M N backlog MAX_ASKED remains moved Meant (replicate 16 false) now old new before after
       → (steps : List StepData) × (calls : ℕ → List StreamCall) × ReadsPlaces M N backlog moved steps calls old new before after
   read_all {Meant} moved now old new before after few all done = (done.steps, done.calls, turns_read {Meant = Meant} moved now old new before after few all done)
 
   -- if it is said of more that something moved
-  pub turns_still : {Meant : ℕ → Type 0} (moved as_ : Bool) (had now : List Bool) (old new : C) (before after : List (SlotData S)) → (as_ ≡ false → moved ≡ false) → (as_ ≡ true → moved ≡ true) → TakesTurns M N backlog moved Meant had now old new before after → TakesTurns M N backlog as_ Meant had now old new before after
+  pub turns_still : {Meant : ℕ → Type 0} {given remains : ℕ} (moved as_ : Bool) (had now : List Bool) (old new : C) (before after : List (SlotData S)) → (as_ ≡ false → moved ≡ false) → (as_ ≡ true → moved ≡ true) → TakesTurns M N backlog given remains moved Meant had now old new before after → TakesTurns M N backlog given remains as_ Meant had now old new before after
   turns_still moved as_ had now old new before after less more done = record {
     steps = done.steps;
     calls = done.calls;
@@ -439,6 +492,7 @@ module _ {C S : Type 0} (M : CoreModel C) (N : CallModel S) (backlog : ℕ) wher
     same = done.same;
     quiet = done.quiet;
     left = done.left;
+    share = done.share;
     alone = done.alone;
     over = done.over;
   }

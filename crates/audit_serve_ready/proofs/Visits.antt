@@ -11,7 +11,7 @@ use Rattle.audit_serve_passes.proofs.Turns.{end_brings_nothing}
 use Rattle.audit_serve_ready.specs.Slot.{SlotData, vacant, serving, unheard, closing, unread_of, with_unread, is_shut, IsSamePlace, HasLooked}
 use Rattle.audit_serve_ready.specs.Places.{has_last_read, CoreDid, IsServedAt, ServesPlace, StopsAtPlace}
 use Rattle.audit_serve_ready.specs.Backlog.{IsPutOff}
-use Rattle.audit_serve_ready.specs.Reading.{IsWait, IsTurn, IsFedPiece, HasTurn}
+use Rattle.audit_serve_ready.specs.Reading.{IsWait, IsTurn, IsShort, SpendsShare, IsFedPiece, HasTurn}
 use Rattle.audit_serve_ready.proofs.Asking.{off_before}
 use Rattle.audit_serve_ready.proofs.Accounts.{accounted_none, unread_put, unread_accounted, served_then}
 
@@ -34,11 +34,11 @@ piece_turn : (k : ℕ) (piece : List ℕ) → length piece ≤ MAX_PIECE → IsT
 piece_turn k [] most = inr refl
 piece_turn k (byte ∷ piece) most = inl (refl, omega arith, most)
 
-same_unread : {S : Type 0} (bytes : List ℕ) (slot : SlotData S) → IsSamePlace slot (with_unread bytes slot)
-same_unread bytes vacant = record { kept = refl; mute = refl; shut = refl }
-same_unread bytes (serving client unread kept) = record { kept = refl; mute = refl; shut = refl }
-same_unread bytes (unheard client unread) = record { kept = refl; mute = refl; shut = refl }
-same_unread bytes (closing client unread) = record { kept = refl; mute = refl; shut = refl }
+same_unread : {S : Type 0} (bytes : List ℕ) (slot : SlotData S) → IsSamePlace [] slot (with_unread bytes slot)
+same_unread bytes vacant = record { kept = refl; mute = refl; shut = refl; noted = refl }
+same_unread bytes (serving client unread kept noted) = record { kept = refl; mute = refl; shut = refl; noted = refl }
+same_unread bytes (unheard client unread noted) = record { kept = refl; mute = refl; shut = refl; noted = refl }
+same_unread bytes (closing client unread noted) = record { kept = refl; mute = refl; shut = refl; noted = refl }
 
 -- what follows of a result follows of it in any form
 pub on_ok : {A E : Type 0} {P Q : Type 0} (result : Result A E) → (P → Q) → OnOk result P → OnOk result Q
@@ -174,10 +174,11 @@ piece_waits : (k : ℕ) (piece : List ℕ) → IsWait (a_piece k piece) → piec
 piece_waits k piece waits = cc waits.1
 
 module _ {C S : Type 0} (M : CoreModel C) (N : CallModel S) (backlog : ℕ) where
-  pub is_fed : (moved : Bool) (k : ℕ) (taken : ℕ) (old new : C) (slot : SlotData S) → is_shut slot ≡ false → length (unread_of slot) ≤ MAX_PIECE → M.DidSteps old new (a_piece k (take taken (unread_of slot)) ∷ []) no_bytes
+  pub is_fed : {given remains : ℕ} (moved : Bool) (k : ℕ) (taken : ℕ) (old new : C) (slot : SlotData S) → is_shut slot ≡ false → length (unread_of slot) ≤ MAX_PIECE → M.DidSteps old new (a_piece k (take taken (unread_of slot)) ∷ []) no_bytes
       → (moved ≡ false → taken ≡ 0) → (moved ≡ true → 0 < taken) → taken ≤ length (unread_of slot)
-      → (unread_of (with_unread (drop taken (unread_of slot)) slot) ≡ []) ⊎ IsPutOff M backlog k old (take taken (unread_of slot)) (unread_of (with_unread (drop taken (unread_of slot)) slot)) slot → IsFedPiece M N backlog moved k old new slot (with_unread (drop taken (unread_of slot)) slot)
-  is_fed moved k taken old new slot live most did none some within left = record {
+      → (unread_of (with_unread (drop taken (unread_of slot)) slot) ≡ []) ⊎ IsPutOff M backlog (IsShort M remains) k old (take taken (unread_of slot)) (unread_of (with_unread (drop taken (unread_of slot)) slot)) slot → SpendsShare M given remains old (a_piece k (take taken (unread_of slot)) ∷ [])
+      → IsFedPiece M N backlog given remains moved k old new slot (with_unread (drop taken (unread_of slot)) slot)
+  is_fed moved k taken old new slot live most did none some within left share = record {
     piece = take taken (unread_of slot);
     most = omega (arith, most, length-take taken (unread_of slot));
     held = λ still. ap (λ (n : ℕ). take n (unread_of slot)) (none still);
@@ -186,12 +187,13 @@ module _ {C S : Type 0} (M : CoreModel C) (N : CallModel S) (backlog : ℕ) wher
     served = fed_at M N k taken slot live;
     left = left;
     same = same_unread (drop taken (unread_of slot)) slot;
+    share = share;
   }
 
   -- ---- the turns of a session
 
   -- whose place is shut,
-  pub shut_turn : (k : ℕ) (old new : C) (slot : SlotData S) → is_shut slot ≡ true → M.DidSteps old new (an_end k ∷ []) no_bytes → M.ended new [] k ≡ true → HasTurn M N backlog true k true old new slot slot
+  pub shut_turn : {given : ℕ} (k : ℕ) (old new : C) (slot : SlotData S) → is_shut slot ≡ true → M.DidSteps old new (an_end k ∷ []) no_bytes → M.ended new [] k ≡ true → HasTurn M N backlog given given true k true old new slot slot
   shut_turn k old new slot shut did over = record {
     steps = an_end k ∷ [];
     calls = [];
@@ -202,14 +204,15 @@ module _ {C S : Type 0} (M : CoreModel C) (N : CallModel S) (backlog : ℕ) wher
     served = record { read = refl; ends = inr shut; accounted = accounted_none N slot };
     seen = inl (shut, over);
     last = λ last. over;
-    same = record { kept = refl; mute = refl; shut = refl };
+    same = record { kept = refl; mute = refl; shut = refl; noted = refl };
     quiet = refl;
     left = λ live. absurd (true≢false (sym shut ∙ live));
+    share = record { fewer = omega arith; spent = omega arith };
     none = λ idle. absurd (true≢false idle);
   }
 
   -- of whose client nothing was there,
-  pub vain_turn : (k : ℕ) (core : C) (before after : SlotData S) (calls : List StreamCall) → HasLooked N before after calls → has_last_read calls ≡ false → unread_of after ≡ [] → HasTurn M N backlog false k false core core before after
+  pub vain_turn : {given : ℕ} (k : ℕ) (core : C) (before after : SlotData S) (calls : List StreamCall) → HasLooked N before after calls → has_last_read calls ≡ false → unread_of after ≡ [] → HasTurn M N backlog given given false k false core core before after
   vain_turn k core before after calls look going none = record {
     steps = [];
     calls = calls;
@@ -223,12 +226,13 @@ module _ {C S : Type 0} (M : CoreModel C) (N : CallModel S) (backlog : ℕ) wher
     same = look.same;
     quiet = look.quiet;
     left = λ live. record { fed = []; all = look.read; left = inl none };
+    share = record { fewer = omega arith; spent = omega arith };
     none = λ idle. (none ∙ sym (no_front (unread_of before) (bytes_read calls) (look.read ∙ none)), no_back (unread_of before) (bytes_read calls) (look.read ∙ none));
   }
 
   -- whose client's stream is over,
-  pub over_turn : (k : ℕ) (old new : C) (before after : SlotData S) (calls : List StreamCall) → HasLooked N before after calls → has_last_read calls ≡ true → unread_of after ≡ [] → M.DidSteps old new (an_end k ∷ []) no_bytes → M.ended new [] k ≡ true
-      → HasTurn M N backlog true k true old new before after
+  pub over_turn : {given : ℕ} (k : ℕ) (old new : C) (before after : SlotData S) (calls : List StreamCall) → HasLooked N before after calls → has_last_read calls ≡ true → unread_of after ≡ [] → M.DidSteps old new (an_end k ∷ []) no_bytes → M.ended new [] k ≡ true
+      → HasTurn M N backlog given given true k true old new before after
   over_turn k old new before after calls look last none did over = record {
     steps = an_end k ∷ [];
     calls = calls;
@@ -242,11 +246,12 @@ module _ {C S : Type 0} (M : CoreModel C) (N : CallModel S) (backlog : ℕ) wher
     same = look.same;
     quiet = look.quiet;
     left = λ live. record { fed = []; all = look.read; left = inl none };
+    share = record { fewer = omega arith; spent = omega arith };
     none = λ idle. absurd (true≢false idle);
   }
 
   -- and of whose client bytes are unread
-  pub fed_turn : (moved : Bool) (k : ℕ) (had : Bool) (old new : C) (before between after : SlotData S) (calls : List StreamCall) → had ≡ true → HasLooked N before between calls → has_last_read calls ≡ false → IsFedPiece M N backlog moved k old new between after → HasTurn M N backlog moved k had old new before after
+  pub fed_turn : {given remains : ℕ} (moved : Bool) (k : ℕ) (had : Bool) (old new : C) (before between after : SlotData S) (calls : List StreamCall) → had ≡ true → HasLooked N before between calls → has_last_read calls ≡ false → IsFedPiece M N backlog given remains moved k old new between after → HasTurn M N backlog given remains moved k had old new before after
   fed_turn moved k false old new before between after calls is look going fed = absurd (true≢false (sym is))
   fed_turn moved k true old new before between after calls is look going fed = record {
     steps = a_piece k fed.piece ∷ [];
@@ -259,12 +264,13 @@ module _ {C S : Type 0} (M : CoreModel C) (N : CallModel S) (backlog : ℕ) wher
         (served_then N k [] (a_piece k fed.piece ∷ []) [] [] [] calls [] before between after (record { read = looked M N before between calls look; ends = inl refl; accounted = look.accounted }) fed.served);
     seen = inr look.asked;
     last = λ last. absurd (true≢false (sym last ∙ going));
-    same = record { kept = fed.same.kept ∙ look.same.kept; mute = fed.same.mute ∙ look.same.mute; shut = fed.same.shut ∙ look.same.shut };
+    same = record { kept = fed.same.kept ∙ look.same.kept; mute = fed.same.mute ∙ look.same.mute; shut = fed.same.shut ∙ look.same.shut; noted = fed.same.noted ∙ look.same.noted };
     quiet = look.quiet;
     left = λ live. record {
       fed = fed.piece;
       all = look.read ∙ sym (append-nil (unread_of between)) ∙ fed.served.read ∙ ap (λ (first : List ℕ). first ++ (unread_of after ++ [])) (one_piece k fed.piece) ∙ ap (λ (rest : List ℕ). fed.piece ++ rest) (append-nil (unread_of after));
       left = off_before M backlog k old fed.piece (unread_of after) between before look.same.kept fed.left;
     };
+    share = fed.share;
     none = λ idle. absurd (true≢false idle);
   }

@@ -2,7 +2,7 @@
 use Rattle.std.specs.Prelude.{◌≡◌, ◌≢◌, ◌⊎◌, ℕ, ◌+◌, ◌<◌, ◌≤◌, max, Bool, true, false, List, [], ◌++◌, length}
 use Rattle.std.specs.Prelude.{slice_index_or}
 use Rattle.audit_serve_passes.specs.Streams.{StreamCall, bytes_read}
-use Rattle.audit_serve_passes.specs.Core.{CoreModel, RequestKind, appending}
+use Rattle.audit_serve_passes.specs.Core.{CoreModel, RequestKind, appending, asking}
 use Rattle.audit_serve_passes.specs.Owing.{OwesOthersNoMore, IsNextRequest}
 use Rattle.audit_serve_ready.specs.Slot.{SlotData, kept_of, unread_of, is_mute}
 use Rattle.audit_serve_ready.specs.Places.{slot_at}
@@ -62,18 +62,24 @@ module _ {C S : Type 0} (M : CoreModel C) (backlog : ℕ) where
 
   -- ---- what is taken of a client's bytes
 
-  -- The bytes that a turn leaves begin with a request that has to wait: a question; or an append for whose reply the
-  -- backlog has no room beside what is kept for the client and the replies to what was taken before it in this turn.
-  -- The first request of a turn never waits for room if nothing is kept.
-  pub record IsPutOff (k : ℕ) (core : C) (fed rest : List ℕ) (slot : SlotData S) : Type 0 where
+  -- The backlog has no room for a reply of this length, beside what is kept for the client and the replies to what was
+  -- taken before it in this turn. The first request of a turn never waits for room if nothing is kept.
+  pub record LacksRoom (k : ℕ) (core : C) (fed : List ℕ) (slot : SlotData S) (reply : ℕ) : Type 0 where
+    pub full : backlog < length (kept_of slot) + (M.replies core k fed + reply)
+    pub first : M.requests core k fed ≡ [] → kept_of slot ≢ []
+
+  -- The bytes that a turn leaves begin with a request that has to wait: an append for whose reply the backlog has no
+  -- room; or a question, if the backlog has no room for a longest reply, or questions may ask for no more in the pass.
+  pub record IsPutOff (AskNoMore : Type 0) (k : ℕ) (core : C) (fed rest : List ℕ) (slot : SlotData S) : Type 0 where
     pub kind : RequestKind
     pub is : IsNextRequest M k core fed (fed ++ rest) kind
-    pub full : kind ≡ appending → backlog < length (kept_of slot) + (M.replies core k fed + M.acknowledgement)
-    pub first : kind ≡ appending → M.requests core k fed ≡ [] → kept_of slot ≢ []
+    pub appends : kind ≡ appending → LacksRoom k core fed slot M.acknowledgement
+    pub asks : kind ≡ asking → LacksRoom k core fed slot M.longest ⊎ AskNoMore
 
   -- Of what was unread, and then of what was read in these calls, the session took the first bytes: all, or those up to
   -- a request that has to wait.
-  pub record TakesUp (k : ℕ) (calls : List StreamCall) (core : C) (before after : SlotData S) : Type 0 where
+  pub record TakesUp (AskNoMore : Type 0) (k : ℕ) (calls : List StreamCall) (core : C) (before after : SlotData S)
+      : Type 0 where
     pub fed : List ℕ
     pub all : unread_of before ++ bytes_read calls ≡ fed ++ unread_of after
-    pub left : (unread_of after ≡ []) ⊎ IsPutOff k core fed (unread_of after) before
+    pub left : (unread_of after ≡ []) ⊎ IsPutOff AskNoMore k core fed (unread_of after) before

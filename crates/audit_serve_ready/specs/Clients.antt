@@ -1,5 +1,5 @@
 -- Serving clients that come and go.
-use Rattle.std.specs.Prelude.{◌≡◌, ℕ, ◌+◌, ◌-◌, ◌<◌, nat_lt, if◌then◌else◌, true, false, List, [], ◌∷◌, length}
+use Rattle.std.specs.Prelude.{◌≡◌, ℕ, ◌+◌, ◌-◌, ◌<◌, nat_lt, if◌then◌else◌, true, false, None, List, [], ◌∷◌, length}
 use Rattle.std.specs.Prelude.{slice_set}
 use Rattle.audit_base.specs.declared.limits.TheConstants.{SESSIONS}
 use Rattle.audit_serve_passes.specs.Steps.{StepData}
@@ -51,7 +51,7 @@ module _ {C S : Type 0} (M : CoreModel C) (N : CallModel S) (backlog : ℕ) wher
     pub within : k < length before
     pub vacant : has_client (slot_at k before) ≡ false
     pub begun : M.Begins k client.rights old new
-    pub place : after ≡ slice_set before k (serving client.stream [] [])
+    pub place : after ≡ slice_set before k (serving client.stream [] [] None)
 
   -- Memory was refused for the session of a client, and nothing was done.
   pub record IsTurnedAway (k : ℕ) (old new : C) (before after : List (SlotData S)) : Type 0 where

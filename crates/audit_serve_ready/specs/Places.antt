@@ -7,7 +7,7 @@ use Rattle.audit_serve_passes.specs.Streams.{StreamCall, a_read, a_failed_read, 
 use Rattle.audit_serve_passes.specs.Streams.{bytes_read, bytes_sent, has_failed_write}
 use Rattle.audit_serve_passes.specs.Core.{bytes_for}
 use Rattle.audit_serve_ready.specs.Slot.{SlotData, vacant, unread_of, kept_of, is_shut, is_mute, has_read, IsOffered}
-use Rattle.audit_serve_ready.specs.Slot.{IsAccounted}
+use Rattle.audit_serve_ready.specs.Slot.{noted_of, noted_after_sending, IsAccounted}
 
 -- the place of a session
 abbrev pub slot_at : {S : Type 0} → ℕ → List (SlotData S) → SlotData S
@@ -85,15 +85,19 @@ module _ {S : Type 0} (N : CallModel S) where
         × (unread_of (slot_at k after) ≡ unread_of (slot_at k before))
         × IsAccounted N [] (calls k) (slot_at k before) (slot_at k after)
 
-  -- What is kept was offered to each client that takes replies, and nothing was read.
+  -- What is kept was offered to each client that takes replies, and nothing was read. Replies are dropped only after a
+  -- write that failed.
   pub record OffersKept (before after : List (SlotData S)) : Type 0 where
     pub writes : WritesOn before after
     pub offered : (k : ℕ) → k < length before → IsOffered (writes.calls k) (slot_at k after)
+    pub dropped : (k : ℕ) → is_mute (slot_at k before) ≡ false → is_mute (slot_at k after) ≡ true
+        → has_failed_write (writes.calls k) ≡ true
 
   -- What was taken of the sessions' outputs was kept and offered at the places below a number. Replies are dropped
   -- after a write that failed, or in a place that is shut; and that is for want of memory, which is asked for only if
-  -- replies are to be put behind others. The other places are as they were. Unless something moved, no byte was
-  -- written; if something did, some were, or a write failed.
+  -- replies are to be put behind others. Both are noted as reasons to leave. The other places are as they were, and
+  -- their clients' streams had no calls. Unless something moved, no byte was written; if something did, some were, or a
+  -- write failed.
   pub record WritesPlaces (Did : CoreDid) (moved : Bool) (count : ℕ) (taken : ℕ → List ℕ) (calls : ℕ → List StreamCall)
       (before after : List (SlotData S)) : Type 0 where
     pub pass : IsReadyPass Did (λ k. []) [] taken calls before after
@@ -106,4 +110,7 @@ module _ {S : Type 0} (N : CallModel S) where
         → (has_failed_write (calls k) ≡ true) ⊎ (is_shut (slot_at k after) ≡ true)
     pub closed : (k : ℕ) → is_shut (slot_at k before) ≡ false → is_shut (slot_at k after) ≡ true
         → (kept_of (slot_at k before) ≢ []) × (taken k ≢ [])
+    pub noted : (k : ℕ) → noted_of (slot_at k after)
+        ≡ noted_after_sending (calls k) (slot_at k before) (slot_at k after)
     pub others : (k : ℕ) → count ≤ k → slot_at k after ≡ slot_at k before
+    pub uncalled : (k : ℕ) → count ≤ k → calls k ≡ []

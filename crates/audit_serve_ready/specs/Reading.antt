@@ -3,6 +3,7 @@ use Rattle.std.specs.Prelude.{◌≡◌, ◌≢◌, ◌⊎◌, ℕ, ◌+◌, ◌
 use Rattle.std.specs.Prelude.{List, [], ◌∷◌, ◌++◌, length, slice_index_or}
 use Rattle.std.specs.List.{AllByRecursion}
 use Rattle.audit_serve_passes.specs.declared.limits.TheConstants.{MAX_PIECE}
+use Rattle.audit_serve_ready.specs.declared.limits.TheConstants.{MAX_ASKED}
 use Rattle.audit_serve_passes.specs.Steps.{StepData, a_piece, an_end, a_flush}
 use Rattle.audit_serve_passes.specs.Rounds.{IsVisit}
 use Rattle.audit_serve_passes.specs.Streams.{StreamCall, CallModel, bytes_read, bytes_sent}
@@ -82,7 +83,28 @@ module _ {C S : Type 0} (M : CoreModel C) (N : CallModel S) where
   abbrev pub IsTurnOfLive : ℕ → C → StepData → Type 0
   IsTurnOfLive count core step = (k : ℕ) × (k < count) × (M.ended core [] k ≡ false) × IsTurn k step
 
-module _ {C S : Type 0} (M : CoreModel C) (N : CallModel S) (backlog : ℕ) where
+-- the longest replies to what these steps feed to a core, if each session is fed once
+abbrev pub replies_to : {C : Type 0} → CoreModel C → C → List StepData → ℕ
+replies_to M core [] = 0
+replies_to M core (a_piece k piece ∷ steps) = M.replies core k piece + replies_to M core steps
+replies_to M core (an_end k ∷ steps) = replies_to M core steps
+replies_to M core (a_flush ∷ steps) = replies_to M core steps
+
+-- With one more longest reply, those to what these steps feed are more than the questions of a pass may ask for.
+abbrev pub HasAskedMost : {C : Type 0} → CoreModel C → C → List StepData → Type 0
+HasAskedMost M core steps = MAX_ASKED < replies_to M core steps + M.longest
+
+-- Of what questions might ask for before these steps, in bytes of replies, this remains: the rest are replies to them.
+pub record SpendsShare {C : Type 0} (M : CoreModel C) (given remains : ℕ) (core : C) (steps : List StepData)
+    : Type 0 where
+  pub fewer : remains ≤ given
+  pub spent : given ≤ remains + replies_to M core steps
+
+-- what remains may have no room for a longest reply
+abbrev pub IsShort : {C : Type 0} → CoreModel C → ℕ → Type 0
+IsShort M remains = remains < M.longest
+
+module _ {C S : Type 0} (M : CoreModel C) (N : CallModel S) (backlog given remains : ℕ) where
   -- A session was fed the first of what is unread, or had to wait.
   pub record IsFedPiece (moved : Bool) (k : ℕ) (old new : C) (before after : SlotData S) : Type 0 where
     pub piece : List ℕ
@@ -91,8 +113,9 @@ module _ {C S : Type 0} (M : CoreModel C) (N : CallModel S) (backlog : ℕ) wher
     pub moves : moved ≡ true → piece ≢ []
     pub did : M.DidSteps old new (a_piece k piece ∷ []) no_bytes
     pub served : IsServedAt N k (a_piece k piece ∷ []) [] [] [] before after
-    pub left : (unread_of after ≡ []) ⊎ IsPutOff M backlog k old piece (unread_of after) before
-    pub same : IsSamePlace before after
+    pub left : (unread_of after ≡ []) ⊎ IsPutOff M backlog (IsShort M remains) k old piece (unread_of after) before
+    pub same : IsSamePlace [] before after
+    pub share : SpendsShare M given remains old (a_piece k piece ∷ [])
 
   -- the turn of a session
   pub record HasTurn (moved : Bool) (k : ℕ) (had : Bool) (old new : C) (before after : SlotData S) : Type 0 where
@@ -105,9 +128,10 @@ module _ {C S : Type 0} (M : CoreModel C) (N : CallModel S) (backlog : ℕ) wher
     pub served : IsServedAt N k steps [] [] calls before after
     pub seen : IsAttended M N k calls new before
     pub last : has_last_read calls ≡ true → M.ended new [] k ≡ true
-    pub same : IsSamePlace before after
+    pub same : IsSamePlace calls before after
     pub quiet : bytes_sent calls ≡ []
-    pub left : is_shut before ≡ false → TakesUp M backlog k calls old before after
+    pub left : is_shut before ≡ false → TakesUp M backlog (IsShort M remains) k calls old before after
+    pub share : SpendsShare M given remains old steps
     pub none : had ≡ false → (unread_of after ≡ unread_of before) × (bytes_read calls ≡ [])
 
   -- Some sessions had their turns, each at most one: those that are marked now and weren't before. Whoever else is
@@ -125,16 +149,18 @@ module _ {C S : Type 0} (M : CoreModel C) (N : CallModel S) (backlog : ℕ) wher
     pub seen : (k : ℕ) → k < length before → slice_index_or had k true ≡ false → M.ended old [] k ≡ false
         → (Meant k ⊎ (slice_index_or now k true ≡ true)) → IsAttended M N k (calls k) new (slot_at k before)
     pub last : (k : ℕ) → k < length before → has_last_read (calls k) ≡ true → M.ended new [] k ≡ true
-    pub same : (k : ℕ) → IsSamePlace (slot_at k before) (slot_at k after)
+    pub same : (k : ℕ) → IsSamePlace (calls k) (slot_at k before) (slot_at k after)
     pub quiet : (k : ℕ) → bytes_sent (calls k) ≡ []
     pub left : (k : ℕ) → k < length before → slice_index_or had k true ≡ false → M.ended old [] k ≡ false
         → is_shut (slot_at k before) ≡ false → (Meant k ⊎ (slice_index_or now k true ≡ true))
-        → TakesUp M backlog k (calls k) old (slot_at k before) (slot_at k after)
+        → TakesUp M backlog (IsShort M remains) k (calls k) old (slot_at k before) (slot_at k after)
+    pub share : SpendsShare M given remains old steps
     pub alone : (k : ℕ) → slice_index_or now k true ≡ false
         → IsLeftOut M k (calls k) old new (slot_at k before) (slot_at k after)
     pub over : (k : ℕ) → slice_index_or had k true ≡ true
         → (bytes_read (calls k) ≡ []) × (unread_of (slot_at k after) ≡ unread_of (slot_at k before))
 
+module _ {C S : Type 0} (M : CoreModel C) (N : CallModel S) (backlog : ℕ) where
   -- What reading does in a pass: each live session has at most one turn, and it has one or is asked for bytes in vain.
   -- Whoever's stream is over then is ended, and so is whoever's place is shut. Of the others' bytes all is taken, up to
   -- a request that has to wait. Nothing is written. Something moved, unless each of these turns was a wait.
@@ -148,7 +174,7 @@ module _ {C S : Type 0} (M : CoreModel C) (N : CallModel S) (backlog : ℕ) wher
     pub seen : (k : ℕ) → k < length before → M.ended old [] k ≡ false
         → IsAttended M N k (calls k) new (slot_at k before)
     pub last : (k : ℕ) → k < length before → has_last_read (calls k) ≡ true → M.ended new [] k ≡ true
-    pub same : (k : ℕ) → IsSamePlace (slot_at k before) (slot_at k after)
+    pub same : (k : ℕ) → IsSamePlace (calls k) (slot_at k before) (slot_at k after)
     pub quiet : (k : ℕ) → bytes_sent (calls k) ≡ []
     pub left : (k : ℕ) → k < length before → M.ended old [] k ≡ false → is_shut (slot_at k before) ≡ false
-        → TakesUp M backlog k (calls k) old (slot_at k before) (slot_at k after)
+        → TakesUp M backlog (HasAskedMost M old steps) k (calls k) old (slot_at k before) (slot_at k after)

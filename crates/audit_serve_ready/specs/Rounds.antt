@@ -6,17 +6,17 @@ use Rattle.audit_serve_passes.specs.Steps.{StepData, a_flush}
 use Rattle.audit_serve_passes.specs.Streams.{StreamCall, CallModel}
 use Rattle.audit_serve_passes.specs.Core.{CoreModel, no_bytes}
 use Rattle.audit_serve_ready.specs.declared.departure.Departure.{Departure}
-use Rattle.audit_serve_ready.specs.declared.departure.Departure.TheVariants.{Memory}
+use Rattle.audit_serve_ready.specs.declared.departure.Departure.TheVariants.{Dismissed, Memory}
 use Rattle.audit_serve_ready.specs.declared.newcomer.Newcomer.{Newcomer}
 use Rattle.audit_serve_ready.specs.declared.next.Next.{Next}
 use Rattle.audit_serve_ready.specs.declared.next.Next.TheVariants as next
 use Rattle.audit_serve_ready.specs.Door.{DoorCall, a_judging, an_asking, a_release, a_parting, an_offer, a_pause}
 use Rattle.audit_serve_ready.specs.Door.{DoorModel, joined_below}
 use Rattle.audit_serve_ready.specs.Slot.{SlotData, client_of, has_client, has_kept, is_shut, closed}
-use Rattle.audit_serve_ready.specs.Slot.{IsAskedForBytes, IsOffered}
+use Rattle.audit_serve_ready.specs.Slot.{IsAskedForBytes, IsOffered, IsReasonFor}
 use Rattle.audit_serve_ready.specs.Places.{slot_at, has_last_read, OffersKept, WritesPlaces}
 use Rattle.audit_serve_ready.specs.Backlog.{TakesTurn, TakesUp}
-use Rattle.audit_serve_ready.specs.Reading.{ReadsPlaces}
+use Rattle.audit_serve_ready.specs.Reading.{HasAskedMost, ReadsPlaces}
 use Rattle.audit_serve_ready.specs.Clients.{ClientChange, a_coming, a_refusal, a_going, next_first}
 use Rattle.audit_serve_ready.specs.Clients.{IsClientPass, AreChanges}
 
@@ -26,7 +26,7 @@ use Rattle.audit_serve_ready.specs.Clients.{IsClientPass, AreChanges}
 abbrev pub IsJudgedByDoor : {S : Type 0} → ℕ → Option S → List (DoorCall S) → SlotData S → SlotData S → Type 0
 IsJudgedByDoor k None told slot now = (told ≡ []) × (now ≡ slot)
 IsJudgedByDoor k (Some client) told slot now =
-    (said : Bool) × (told ≡ a_judging k client said ∷ []) × (now ≡ (if said then closed slot else slot))
+    (said : Bool) × (told ≡ a_judging k client said ∷ []) × (now ≡ (if said then closed Dismissed slot else slot))
 
 abbrev pub IsAsking : {S : Type 0} → DoorCall S → Type 0
 IsAsking (an_asking found answer) = Unit {0}
@@ -49,9 +49,9 @@ pub data IsOfferAnswered {S : Type 0} (k : ℕ) : List (DoorCall S) → List (Cl
   turned_away : (client : Newcomer S)
       → IsOfferAnswered k (an_offer k (Some client) ∷ a_parting k client.stream Memory ∷ []) (a_refusal k client ∷ [])
 
--- memory was refused for the session of somebody who came
-abbrev pub HasTurnedAway : {C : Type 0} → CoreModel C → Type 0
-HasTurnedAway {C} M = (k : ℕ) × (was : C) × (now : C) × M.LacksMemory k was now
+-- somebody who came to a place below a number was turned away
+abbrev pub HasTurnedAway : {S : Type 0} → ℕ → (ℕ → List (ClientChange S)) → Type 0
+HasTurnedAway {S} count changes = (k : ℕ) × (k < count) × (client : Newcomer S) × (changes k ≡ a_refusal k client ∷ [])
 
 module _ {C S : Type 0} (M : CoreModel C) where
   -- The client of a place is to go: its session has ended, and nothing is kept for it.
@@ -62,12 +62,12 @@ module _ {C S : Type 0} (M : CoreModel C) where
   abbrev pub is_free : ℕ → C → SlotData S → Bool
   is_free k core slot = M.ended core [] k && not (has_client slot)
 
-  -- A client went and was handed back to the door; or it isn't to go.
+  -- A client went and was handed back to the door, which was told the reason; or it isn't to go.
   abbrev pub IsLetGo : ℕ → C → SlotData S → List (DoorCall S) → List (ClientChange S) → Type 0
   IsLetGo k core slot told changes =
       ((is_done k core slot ≡ false) × (told ≡ []) × (changes ≡ []))
       ⊎ ((client : S) × (why : Departure) × (is_done k core slot ≡ true) × (client_of slot ≡ Some client)
-      × (told ≡ a_parting k client why ∷ []) × (changes ≡ a_going k ∷ []))
+      × IsReasonFor slot why × (told ≡ a_parting k client why ∷ []) × (changes ≡ a_going k ∷ []))
 
   -- A place that is free was offered.
   abbrev pub IsLetIn : ℕ → C → SlotData S → List (DoorCall S) → List (ClientChange S) → Type 0
@@ -171,11 +171,11 @@ module _ {C D S : Type 0} (M : CoreModel C) (N : CallModel S) (E : DoorModel D S
   -- was asked for bytes, unless some were unread. It was ended if its stream is over. It took all of its bytes, up to a
   -- request that has to wait. What it and all others had asked by then was answered, and what is kept for the client
   -- after the pass was offered to it. If it had the first turn, it took a request, if one was waiting.
-  pub record IsHeard (k first : ℕ) (judged : SlotData S) (reads writes : List StreamCall) (old new : C)
-      (before after : SlotData S) : Type 0 where
+  pub record IsHeard (k first : ℕ) (turns : List StepData) (judged : SlotData S) (reads writes : List StreamCall)
+      (old new : C) (before after : SlotData S) : Type 0 where
     pub asked : ((is_shut judged ≡ true) × (M.ended new [] k ≡ true)) ⊎ IsAskedForBytes reads judged
     pub over : has_last_read reads ≡ true → M.ended new [] k ≡ true
-    pub taken : is_shut judged ≡ false → TakesUp M backlog k reads old judged after
+    pub taken : is_shut judged ≡ false → TakesUp M backlog (HasAskedMost M old turns) k reads old judged after
     pub answered : M.Idle new
     pub offered : IsOffered writes after
     pub turn : first ≡ k → TakesTurn M backlog k old before after
@@ -192,18 +192,20 @@ module _ {C D S : Type 0} (M : CoreModel C) (N : CallModel S) (E : DoorModel D S
     pub none_done : (k : ℕ) → k < length left → is_done M k mid (slot_at k left) ≡ false
     pub comes : ChangesPlaces (IsLetIn M) (length left) (next_first first) parted now mid new left after
 
-  -- nothing moved: no byte was taken or written, no session was ended, and nobody went or came
+  -- nothing moved: no byte was taken or written, no session was ended, and nobody went, came or was turned away
   abbrev pub IsStill : {first : ℕ} {was now : D} {old new : C} {before after : List (SlotData S)}
       → ServesPlacesOnce first was now old new before after → Type 0
   IsStill {after = after} serves = (serves.pass.was_read ≡ false) × (serves.pass.was_written ≡ false)
       × (serves.left ≡ serves.present) × (after ≡ serves.left)
+      × (HasTurnedAway (length serves.left) serves.comes.changes → ⊥)
 
   -- Something moved: bytes were taken, a session was ended, bytes were written, a write failed, or somebody went, came,
   -- or was turned away.
   abbrev pub IsMoving : {first : ℕ} {was now : D} {old new : C} {before after : List (SlotData S)}
       → ServesPlacesOnce first was now old new before after → Type 0
   IsMoving {after = after} serves = ((serves.pass.was_read ≡ true) ⊎ (serves.pass.was_written ≡ true))
-      ⊎ ((serves.left ≢ serves.present) ⊎ ((after ≢ serves.left) ⊎ HasTurnedAway M))
+      ⊎ ((serves.left ≢ serves.present)
+      ⊎ ((after ≢ serves.left) ⊎ HasTurnedAway (length serves.left) serves.comes.changes))
 
   -- A round: the same, and then a pause with this answer, which is told whether something moved, and may wait only if
   -- nothing did.

@@ -3,10 +3,11 @@ ghost use Rattle.audit_base.specs.declared.limits.TheConstants.{SESSIONS};
 ghost use Rattle.audit_serve_passes.specs.Transition.{AreEmpty};
 ghost use Rattle.audit_serve_ready.specs.declared.departure.Departure.{Departure};
 ghost use Rattle.audit_serve_ready.specs.Door.{DoorCall, a_parting};
-ghost use Rattle.audit_serve_ready.specs.Slot.{vacant, client_of, has_client};
+ghost use Rattle.audit_serve_ready.specs.Slot.{vacant, client_of, has_client, IsReasonFor};
 ghost use Rattle.audit_serve_ready.specs.Places.{slot_at};
 ghost use Rattle.audit_serve_ready.specs.Backlog.{AreWithinBacklog};
-ghost use Rattle.audit_serve_ready.specs.Clients.{ClientChange, AreChanges};
+ghost use Rattle.audit_serve_ready.specs.declared.newcomer.Newcomer.{Newcomer};
+ghost use Rattle.audit_serve_ready.specs.Clients.{ClientChange, a_refusal, AreChanges};
 ghost use Rattle.audit_serve_ready.specs.Rounds.{is_done, is_free, IsLetGo, IsLetIn, IsOfferAnswered, ChangesPlaces};
 ghost use Rattle.audit_serve_ready.specs.Rounds.{HasTurnedAway};
 
@@ -27,7 +28,8 @@ fn may_go<C: SessionCore, S: ReadyStream + Drop>(core: &C, place: usize, slot: &
 fn part_with<D: Door>(place: usize, slot: &mut Slot<D::Stream>, is_cut_off: bool, door: &mut D)
     ensures left { slot.new ≡ vacant }
     ensures told { has_client slot.old ≡ true → (client : D.Stream) × (why : Departure)
-        × (client_of slot.old ≡ Some client) × D.calls.DidCalls door.old door.new (a_parting place client why ∷ []) }
+        × (client_of slot.old ≡ Some client) × IsReasonFor slot.old why
+        × D.calls.DidCalls door.old door.new (a_parting place client why ∷ []) }
 {
     if let Some((client, departure)) = slot.leave() {
         let departure = if is_cut_off {
@@ -73,7 +75,7 @@ fn is_free<C: SessionCore, S: ReadyStream + Drop>(core: &C, place: usize, slot: 
     core.ended(place) && !slot.has_client()
 }
 
-/// Lets the next client in, if one has come. Returns whether one has.
+/// Lets the next client in, if one has come. Returns whether one has; it was turned away if memory was refused.
 fn let_in_at<C: SessionCore, D: Door>(
     core: &mut C,
     place: usize,
@@ -89,10 +91,11 @@ fn let_in_at<C: SessionCore, D: Door>(
     ensures came { (told : List (DoorCall D.Stream)) × (changes : List (ClientChange D.Stream))
         × D.calls.DidCalls door.old door.new told × IsOfferAnswered place told changes
         × ((backlog first : ℕ) → AreChanges C.model D.Stream.calls backlog first changes core.old core.new
-        slots.old slots.new) }
+        slots.old slots.new)
+        × (result ≡ false → changes ≡ [])
+        × (result ≡ true → (has_client (slot_at place slots.new) ≡ true)
+        ⊎ ((client : Newcomer D.Stream) × (changes ≡ a_refusal place client ∷ []))) }
     ensures still { result ≡ false → slots.new ≡ slots.old }
-    ensures moves { result ≡ true → (has_client (slot_at place slots.new) ≡ true)
-        ⊎ C.model.LacksMemory place core.old core.new }
     ensures alone { (other : ℕ) → (other ≡ place → ⊥)
         → (C.model.ended core.new [] other ≡ C.model.ended core.old [] other)
         × (slot_at other slots.new ≡ slot_at other slots.old) }
@@ -112,7 +115,7 @@ fn let_in_at<C: SessionCore, D: Door>(
     true
 }
 
-/// Offers each place that is free to whoever comes next. Returns whether a client came.
+/// Offers each place that is free to whoever comes next. Returns whether a client came or was turned away.
 pub(crate) fn let_in<C: SessionCore, D: Door>(
     core: &mut C,
     slots: &mut [Slot<D::Stream>],
@@ -121,10 +124,11 @@ pub(crate) fn let_in<C: SessionCore, D: Door>(
     requires count { length slots.old ≤ SESSIONS }
     requires idle { C.model.Idle core.old }
     requires empty { AreEmpty C.model (length slots.old) core.old }
-    ensures came { (backlog first : ℕ) → ChangesPlaces C.model D.Stream.calls D.calls backlog (IsLetIn C.model)
-        (length slots.old) first door.old door.new core.old core.new slots.old slots.new }
+    ensures came { (backlog first : ℕ) → (comes : ChangesPlaces C.model D.Stream.calls D.calls backlog
+        (IsLetIn C.model) (length slots.old) first door.old door.new core.old core.new slots.old slots.new)
+        × (result ≡ false → HasTurnedAway (length slots.old) comes.changes → ⊥)
+        × (result ≡ true → (slots.new ≢ slots.old) ⊎ HasTurnedAway (length slots.old) comes.changes) }
     ensures still { result ≡ false → slots.new ≡ slots.old }
-    ensures moves { result ≡ true → (slots.new ≢ slots.old) ⊎ HasTurnedAway C.model }
     ensures idle { C.model.Idle core.new }
     ensures outputs { (other : ℕ) → C.model.output core.new other ≡ C.model.output core.old other }
     ensures within { (backlog : ℕ) → AreWithinBacklog C.model backlog core.old slots.old

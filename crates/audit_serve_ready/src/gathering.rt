@@ -55,8 +55,8 @@ fn first_turn<C: SessionCore, S: ReadyStream + Drop>(
     ensures stopped { OnErr result (StopsAtPlaces S.calls (C.model.DidStepsInPart core.old core.new)
         slots.old slots.new) }
     ensures refused { IfErr result (C.refuses core.old core.new) }
-    ensures done { IfOk result (λ moved. TakesTurns C.model S.calls backlog moved (λ k. k ≡ first)
-        had_turn.old had_turn.new core.old core.new slots.old slots.new) }
+    ensures done { IfOk result (λ moved. TakesTurns C.model S.calls backlog questions.old.left questions.new.left
+        moved (λ k. k ≡ first) had_turn.old had_turn.new core.old core.new slots.old slots.new) }
     ensures within { OwesOnlyAfterTurns C.model (length slots.old) had_turn.old core.old
         → AreWithinBacklog C.model backlog core.old slots.old
         → OnOk result (OwesOnlyAfterTurns C.model (length slots.old) had_turn.new core.new

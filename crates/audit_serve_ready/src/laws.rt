@@ -1,5 +1,5 @@
 //! Laws of serving, each the contract of a function that does nothing.
-ghost use Rattle.std.specs.Prelude.{◌≡◌, ◌⊎◌, ℕ, ◌+◌, ◌*◌, ◌<◌, ◌≤◌, List, [], ◌∷◌, ◌++◌, true, false, length};
+ghost use Rattle.std.specs.Prelude.{◌≡◌, ◌⊎◌, ℕ, ◌+◌, ◌*◌, ◌<◌, ◌≤◌, None, List, [], ◌∷◌, ◌++◌, true, false, length};
 ghost use Rattle.audit_base.specs.declared.limits.TheConstants.{SESSIONS};
 ghost use Rattle.audit_serve_passes.specs.Streams.{bytes_read};
 ghost use Rattle.audit_serve_passes.specs.Core.{RequestKind, appending};
@@ -25,7 +25,7 @@ pub fn a_client_is_served_from_its_coming<C: SessionCore, S: ReadyStream>()
         → AreChanges C.model S.calls backlog first (a_coming k client ∷ changes) old new before after
         → StaysAt k changes
         → IsServedAt S.calls k (steps_in changes) [] (taken_in k changes) (calls_in k changes)
-        (serving client.stream [] []) (slot_at k after) }
+        (serving client.stream [] [] None) (slot_at k after) }
 {}
 
 /// A session has the first turn once in as many passes as there are sessions, whoever comes and goes. Whoever has it
@@ -47,15 +47,15 @@ pub fn rounds_are_changes<C: SessionCore, D: Door>()
 
 /// Each session that is live is heard in each pass whose replies leave, whatever the clients of the others do: its
 /// client is asked for bytes, unless some are unread or the door dismissed it; its session takes them all, up to a
-/// request that has to wait, which is a question, or an append for whose reply its backlog has no room; whatever is
-/// taken in the pass is answered in it, so that each append is committed or refused; and what is kept for the client is
-/// offered to it.
+/// request that has to wait: one for whose reply its backlog has no room, or a question, if those to what was taken in
+/// the pass and one more may have more than [`MAX_ASKED`](crate::MAX_ASKED) bytes; whatever is taken in the pass is
+/// answered in it, so that each append is committed or refused; and what is kept for the client is offered to it.
 pub fn each_pass_hears_each_client<C: SessionCore, D: Door>()
     ensures { (backlog first k : ℕ) (was now : D) (old new : C) (before after : List (SlotData D.Stream))
         (pass : ServesPass C.model D.Stream.calls D.calls backlog true first was now old new before after)
         → k < length before → C.model.ended old [] k ≡ false
-        → IsHeard C.model D.Stream.calls D.calls backlog k first (slot_at k pass.judged) (pass.reads k) (pass.writes k)
-        old new (slot_at k before) (slot_at k after) }
+        → IsHeard C.model D.Stream.calls D.calls backlog k first pass.turns (slot_at k pass.judged) (pass.reads k)
+        (pass.writes k) old new (slot_at k before) (slot_at k after) }
 {}
 
 /// An append or a close that is at the front of a client's bytes is taken in the pass in which its last byte is read,

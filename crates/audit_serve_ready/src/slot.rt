@@ -41,7 +41,7 @@ impl<S> Model for Slot<S> {
 
     ghost Value = { SlotData S };
 
-    ghost view = { λ slot. slot_data slot.client slot.unread slot.kept slot.reception };
+    ghost view = { λ slot. slot_data slot.client slot.unread slot.kept slot.reception slot.departure };
 
     ghost invariant = { λ slot. IsKeptFor slot.reception slot.kept };
 }
@@ -90,14 +90,15 @@ fn read_some<S: ReadyStream>(
 
 impl<S: ReadyStream + Drop> Slot<S> {
     ghost use Rattle.std.specs.Prelude.{◌≡◌, ◌≢◌, ◌+◌, ◌-◌, ◌<◌, ◌≤◌, max, nat_eq, [], length, drop, true, false, List};
-    ghost use Rattle.std.specs.Prelude.{IfOk, MatchOption};
+    ghost use Rattle.std.specs.Prelude.{IfOk, IfSome, MatchOption};
     ghost use Rattle.audit_serve_passes.specs.declared.limits.TheConstants.{MAX_PIECE};
     ghost use Rattle.audit_serve_passes.specs.Streams.{StreamCall};
     ghost use Rattle.audit_serve_ready.specs.declared.slot.Look.{Look};
     ghost use Rattle.audit_serve_ready.specs.Reading.{IsFound};
     ghost use Rattle.audit_serve_ready.specs.Slot.{vacant, serving, closed, client_of, has_client, has_kept, is_shut};
     ghost use Rattle.audit_serve_ready.specs.Slot.{is_mute, kept_of, unread_of};
-    ghost use Rattle.audit_serve_ready.specs.Slot.{with_unread, HasLooked, IsAccounted, IsPushed};
+    ghost use Rattle.audit_serve_ready.specs.Slot.{with_unread, noted_of, reason_of, noting, noted_after_sending};
+    ghost use Rattle.audit_serve_ready.specs.Slot.{HasLooked, IsAccounted, IsPushed};
 
     /// A place with no client. The only error is that memory is refused.
     pub(crate) fn vacant(alloc: Global) -> Result<Slot<S>, AllocError>
@@ -149,7 +150,7 @@ impl<S: ReadyStream + Drop> Slot<S> {
 
     /// Takes a client in.
     pub(crate) fn admit(&mut self, client: S)
-        ensures { self.new ≡ serving client [] [] }
+        ensures { self.new ≡ serving client [] [] None }
     {
         self.unread.clear();
         self.kept.clear();
@@ -162,6 +163,7 @@ impl<S: ReadyStream + Drop> Slot<S> {
     pub(crate) fn leave(&mut self) -> Option<(S, Departure)>
         ensures left { self.new ≡ vacant }
         ensures client { MatchOption result (client_of self.old ≡ None) (λ given. client_of self.old ≡ Some given.0) }
+        ensures reason { IfSome result (λ given. given.1 ≡ reason_of self.old) }
     {
         let departure = self.departure.unwrap_or(Departure::Malformed);
         self.kept.clear();
@@ -174,7 +176,7 @@ impl<S: ReadyStream + Drop> Slot<S> {
 
     /// Drops what is kept for the client, which is to be dropped too.
     pub(crate) fn close(&mut self, departure: Departure)
-        ensures { self.new ≡ closed self.old }
+        ensures { self.new ≡ closed departure self.old }
     {
         self.kept.clear();
         self.reception = Reception::Shut;
@@ -247,7 +249,7 @@ impl<S: ReadyStream + Drop> Slot<S> {
 
     // Notes why the session ends, unless something worse was noted before.
     fn note(&mut self, departure: Departure)
-        ensures { self.new ≡ self.old }
+        ensures { self.new ≡ noting departure self.old }
     {
         if self.departure.is_none() {
             self.departure = Some(departure);
@@ -270,6 +272,7 @@ impl<S: ReadyStream + Drop> Slot<S> {
         ensures dropped { is_mute self.old ≡ false → is_mute self.new ≡ true → is_shut self.new ≡ true }
         ensures shut { is_shut self.old ≡ false → is_shut self.new ≡ true
             → (kept_of self.old ≢ []) × (bytes.items ≢ []) }
+        ensures noted { noted_of self.new ≡ noted_after_sending [] self.old self.new }
     {
         if self.is_mute() {
             return;

@@ -4,6 +4,7 @@ ghost use Rattle.audit_base.specs.declared.limits.TheConstants.{SESSIONS};
 ghost use Rattle.audit_serve_passes.specs.Streams.{StreamCall};
 ghost use Rattle.audit_serve_passes.specs.Core.{bytes_for};
 ghost use Rattle.audit_serve_passes.specs.Transition.{AreEmpty};
+ghost use Rattle.audit_serve_ready.specs.declared.departure.Departure.TheVariants as departure;
 ghost use Rattle.audit_serve_ready.specs.declared.turns.Pass.{Pass};
 ghost use Rattle.audit_serve_ready.specs.declared.turns.Turn.{Turn};
 ghost use Rattle.audit_serve_ready.specs.Backlog.{OwesNothing, OwesOnlyAfterTurns, AreWithinBacklog, IsTurnWithin};
@@ -81,8 +82,8 @@ fn read_turn<C: SessionCore, S: ReadyStream + Drop>(
     ensures stopped { OnErr result (StopsAtPlace S.calls (C.model.DidStepsInPart core.old core.new) session
         slot.old slot.new) }
     ensures refused { IfErr result (C.refuses core.old core.new) }
-    ensures done { IfOk result (λ turn. HasTurn C.model S.calls backlog (has_moved turn) session (is_had turn)
-        core.old core.new slot.old slot.new) }
+    ensures done { IfOk result (λ turn. HasTurn C.model S.calls backlog questions.old.left questions.new.left
+        (has_moved turn) session (is_had turn) core.old core.new slot.old slot.new) }
     ensures within { OnOk result (IsTurnWithin C.model backlog session core.old core.new slot.old slot.new) }
     ensures idle { IfOk result (λ turn. is_had turn ≡ false → (core.new ≡ core.old) × (unread_of slot.old ≡ [])) }
     ensures asked { questions.old.is_whole ≡ true → MayAsk C.model backlog session core.old slot.old
@@ -115,8 +116,8 @@ fn feed_turn<C: SessionCore, S: ReadyStream + Drop>(
     ensures stopped { OnErr result (StopsAtPlace S.calls (C.model.DidStepsInPart core.old core.new) session
         slot.old slot.new) }
     ensures refused { IfErr result (C.refuses core.old core.new) }
-    ensures done { IfOk result (λ turn. IsFedPiece C.model S.calls backlog (has_moved turn) session core.old core.new
-        slot.old slot.new) }
+    ensures done { IfOk result (λ turn. IsFedPiece C.model S.calls backlog questions.old.left questions.new.left
+        (has_moved turn) session core.old core.new slot.old slot.new) }
     ensures within { OnOk result (IsTurnWithin C.model backlog session core.old core.new slot.old slot.new) }
     ensures taken { IfOk result (λ turn. is_had turn ≡ true) }
     ensures asked { questions.old.is_whole ≡ true → MayAsk C.model backlog session core.old slot.old
@@ -176,8 +177,8 @@ pub(crate) fn turn_of<C: SessionCore, S: ReadyStream + Drop>(
     ensures stopped { OnErr result (StopsAtPlaces S.calls (C.model.DidStepsInPart core.old core.new)
         slots.old slots.new) }
     ensures refused { IfErr result (C.refuses core.old core.new) }
-    ensures done { IfOk result (λ moved. TakesTurns C.model S.calls backlog moved (λ k. k ≡ session)
-        had_turn.old had_turn.new core.old core.new slots.old slots.new) }
+    ensures done { IfOk result (λ moved. TakesTurns C.model S.calls backlog questions.old.left questions.new.left
+        moved (λ k. k ≡ session) had_turn.old had_turn.new core.old core.new slots.old slots.new) }
     ensures within { OwesOnlyAfterTurns C.model (length slots.old) had_turn.old core.old
         → AreWithinBacklog C.model backlog core.old slots.old
         → OnOk result (OwesOnlyAfterTurns C.model (length slots.old) had_turn.new core.new
@@ -212,7 +213,7 @@ pub(crate) fn read_turns<C: SessionCore, S: ReadyStream + Drop>(
     ensures stopped { OnErr result (StopsAtPlaces S.calls (C.model.DidStepsInPart core.old core.new)
         slots.old slots.new) }
     ensures refused { IfErr result (C.refuses core.old core.new) }
-    ensures done { IfOk result (λ moved. TakesTurns C.model S.calls backlog moved
+    ensures done { IfOk result (λ moved. TakesTurns C.model S.calls backlog questions.old.left questions.new.left moved
         (λ k. from ≤ turn_number first (length slots.old) k) had_turn.old had_turn.new core.old core.new
         slots.old slots.new) }
     ensures within { OwesOnlyAfterTurns C.model (length slots.old) had_turn.old core.old
@@ -295,7 +296,8 @@ pub(crate) fn dismiss<C: SessionCore, D: Door>(
 
 fn is_dismissed<D: Door>(slot: &Slot<D::Stream>, place: usize, door: &mut D) -> bool
     ensures { (told : List (DoorCall D.Stream)) × D.calls.DidCalls door.old door.new told
-        × IsJudgedByDoor place (client_of slot.now) told slot.now (if result then closed slot.now else slot.now) }
+        × IsJudgedByDoor place (client_of slot.now) told slot.now (if result then closed departure.Dismissed slot.now
+        else slot.now) }
 {
     match slot.client() {
         Some(client) => door.dismisses(place, client),

@@ -1,4 +1,4 @@
-use Rattle.std.proofs.Common.{Some, None, [], ◌∷◌, ◌++◌, ◌∙◌, set, refl, ap, inl, inr, rules}
+use Rattle.std.proofs.Common.{Some, None, [], ◌∷◌, ◌++◌, ◌∙◌, set, refl, sym, ap, inl, inr, rules, true≢false}
 use Rattle.audit_serve_passes.specs.Core.{no_bytes}
 use Rattle.std.proofs.lemmas.List.{get_or-set_same, get_or-set_other}
 use Rattle.audit_serve_ready.specs.declared.departure.Departure.TheVariants.{Memory}
@@ -10,7 +10,7 @@ use Rattle.audit_serve_ready.proofs.Bounds.{refused_within, come_within}
 use Rattle.audit_serve_ready.proofs.clients.let_in_at.Goals as goal
 
 pub returns-in_default-clause-came : goal.returns-in_default-clause-came
-returns-in_default-clause-came g c = (an_offer c.args.place None ∷ [], [], c.in_default.ensures, nobody, (λ backlog first. (refl, refl)))
+returns-in_default-clause-came g c = (an_offer c.args.place None ∷ [], [], c.in_default.ensures, nobody, (λ backlog first. (refl, refl)), (λ still. refl), λ moving. absurd (true≢false (sym moving)))
 
 pub returns-then-is_err-clause-came : goal.returns-then-is_err-clause-came
 returns-then-is_err-clause-came g c =
@@ -22,6 +22,8 @@ returns-then-is_err-clause-came g c =
       g.D.Door.calls.more_called c.args.door.now c.next_client.new.self c.gone.new.self offered parted c.in-Some.ensures c.gone.ensures,
       turned_away client,
       (λ backlog first. (c.reopen.new.self, c.args.slots.now, record { refused = search rules; did = search rules; places = refl }, (refl, refl))),
+      (λ still. absurd (true≢false still)),
+      (λ moving. inr (client, refl)),
     )
 
 pub returns-clause-came : goal.returns-clause-came
@@ -33,6 +35,8 @@ returns-clause-came g c =
       c.in-Some.ensures,
       let_in client,
       (λ backlog first. (c.reopen.new.self, after, record { ended = c.requires.ended; idle = c.requires.idle; taken = c.requires.taken; within = c.requires.within; vacant = c.requires.vacant; begun = search rules; place = search rules }, (refl, refl))),
+      (λ still. absurd (true≢false still)),
+      (λ moving. inl (ap has_client (get_or-set_same c.args.slots.now c.args.place c.admit.new.self vacant c.requires.within ∙ c.admit.ensures))),
     )
 
 pub returns-clause-alone : goal.returns-clause-alone
@@ -65,9 +69,3 @@ pub returns-clause-within : goal.returns-clause-within
 returns-clause-within g c =
     let M = g.C.SessionCore.model in λ backlog within.
     come_within M backlog c.args.place c.in-Some.newcomer.rights c.args.core.now c.reopen.new.self c.args.slots.now _ c.requires.within c.requires.idle c.reopen.ensures.idle c.requires.taken c.reopen.ensures.outputs (search rules) (search rules) within
-
-pub returns-then-is_err-clause-moves : goal.returns-then-is_err-clause-moves
-returns-then-is_err-clause-moves g c = λ moving. inr (search rules)
-
-pub returns-clause-moves : goal.returns-clause-moves
-returns-clause-moves g c = λ moving. inl (ap has_client (get_or-set_same c.args.slots.now c.args.place c.admit.new.self vacant c.requires.within ∙ c.admit.ensures))

@@ -1,4 +1,5 @@
 use Rattle.std.proofs.Common.{◌≡◌, ◌⊎◌, ◌<◌, ◌≤◌, ◌||◌, true, false, length, get_or, replicate}
+use Rattle.audit_serve_ready.specs.declared.limits.TheConstants.{MAX_ASKED}
 use Rattle.audit_serve_ready.specs.Places.{slot_at}
 use Rattle.audit_serve_ready.specs.Reading.{turn_number, TakesTurns}
 use Rattle.audit_serve_ready.specs.Rounds.{AsksDoor}
@@ -9,7 +10,7 @@ abbrev pub invariant-loop-reading : goal.invariant-loop-reading
 invariant-loop-reading g l =
     let M = g.C.SessionCore.model in
     let first = l.fn.first in
-    TakesTurns M g.D.Stream.ReadyStream.calls l.fn.backlog (l.moved || l.found) (λ k. (turn_number first (length l.fn.slots) k < l.from) ⊎ (1 ≤ l.reading)) (replicate 16 false) l.had_turn l.fn.core l.core l.fn.slots l.slots
+    TakesTurns M g.D.Stream.ReadyStream.calls l.fn.backlog MAX_ASKED l.questions.left (l.moved || l.found) (λ k. (turn_number first (length l.fn.slots) k < l.from) ⊎ (1 ≤ l.reading)) (replicate 16 false) l.had_turn l.fn.core l.core l.fn.slots l.slots
     × (1 ≤ l.reading → l.found ≡ false)
     × AsksDoor g.D.Door.calls l.fn.door l.door
     × (OwesNothing M (length l.fn.slots) l.fn.core → AreWithinBacklog M l.fn.backlog l.fn.core l.fn.slots

@@ -31,13 +31,14 @@ returns-clause-served g c =
     clients_then M N backlog first next next core mid c.let_in-come.new.core begun left c.let_in-come.new.slots
     (clients_then M N backlog first next next core mid mid begun turned left (pass_serves M N E backlog true first c.args.door.now c.serve_present.new.door core mid begun turned (c.in_ok-pass.ensures.pass (search rules)).0)
     (changed_serves M N E backlog (IsLetGo M) (gone_turns M) (length turned) next c.serve_present.new.door c.let_go-gone.new.door mid mid turned left (c.let_go-gone.ensures.went backlog next)))
-    (changed_serves M N E backlog (IsLetIn M) (come_turns M) (length left) next c.let_go-gone.new.door c.let_in-come.new.door mid c.let_in-come.new.core left c.let_in-come.new.slots (c.let_in-come.ensures.came backlog next))
+    (changed_serves M N E backlog (IsLetIn M) (come_turns M) (length left) next c.let_go-gone.new.door c.let_in-come.new.door mid c.let_in-come.new.core left c.let_in-come.new.slots (c.let_in-come.ensures.came backlog next).0)
 
 pub returns-clause-once : goal.returns-clause-once
 returns-clause-once g c = λ apart.
     let backlog = c.args.backlog in
     let next = next_first c.args.first in
-    let passed = c.in_ok-pass.ensures.pass (search rules) in (
+    let passed = c.in_ok-pass.ensures.pass (search rules) in
+    let come = c.let_in-come.ensures.came backlog next in (
       record {
         mid = c.serve_present.new.core;
         present = c.serve_present.new.slots;
@@ -47,17 +48,17 @@ returns-clause-once g c = λ apart.
         pass = passed.0;
         goes = c.let_go-gone.ensures.went backlog next;
         none_done = c.let_go-gone.ensures.none_done;
-        comes = c.let_in-come.ensures.came backlog next;
+        comes = come.0;
       },
       (λ idle. elim c.if-gone-come.branch [
         | then-gone-come w ↦ absurd (cc (w.result-is, idle))
         | else-gone-come w ↦
             let neither = neither_of c.let_go-gone.result c.let_in-come.result (search rules) in
             let still = passed.1 (sym w.result-is ∙ idle) in
-            (still.0, still.1, c.let_go-gone.ensures.still neither.0, c.let_in-come.ensures.still neither.1)
+            (still.0, still.1, c.let_go-gone.ensures.still neither.0, c.let_in-come.ensures.still neither.1, come.1 neither.1)
       ]),
       (λ moving. elim c.if-gone-come.branch [
-        | then-gone-come w ↦ inr (gone_or_come c.let_go-gone.result c.let_in-come.result (search rules) c.let_go-gone.ensures.moves c.let_in-come.ensures.moves)
+        | then-gone-come w ↦ inr (gone_or_come c.let_go-gone.result c.let_in-come.result (search rules) c.let_go-gone.ensures.moves come.2)
         | else-gone-come w ↦ inl (passed.2 (sym w.result-is ∙ moving))
       ]),
     )

@@ -29,7 +29,7 @@ returns-after-taken-gt0-clause-done g c =
     let k = c.args.session in
     let bytes : c.unread.result.now ≡ unread_of slot = c.unread.ensures.bytes c.requires.live in
     let moved = has_moved c.if-taken-gt0.result in
-    subst (λ after. IsFedPiece M N c.args.backlog moved k old new slot after) (sym c.advance.ensures)
+    subst (λ after. IsFedPiece M N c.args.backlog c.args.questions.now.left c.feed_within.new.allowance.questions.left moved k old new slot after) (sym c.advance.ensures)
     (is_fed M N c.args.backlog moved k taken old new slot c.requires.live (subst (λ (all : List ℕ). length all ≤ MAX_PIECE) bytes c.unread.ensures.most)
     (subst (λ (all : List ℕ). M.DidSteps old new (a_piece k (take taken all) ∷ []) no_bytes) bytes c.in-Ok.ensures.did)
     (λ still. elim c.if-taken-gt0.branch [
@@ -44,7 +44,11 @@ returns-after-taken-gt0-clause-done g c =
     (put_off M c.args.backlog k c.share.result c.args.questions.now old slot taken c.feed_within.new.allowance c.requires.live (c.share.ensures.exact c.requires.live)
     (subst (λ (all : List ℕ). taken < length all → IsBeyondAllowance M k old (take taken all) all c.feed_within.new.allowance) bytes c.in-Ok.ensures.stops)
     (subst (λ (all : List ℕ). M.requests old k (take taken all) ≡ [] → c.feed_within.new.allowance ≡ record { session = c.share.result; questions = c.args.questions.now }) bytes c.in-Ok.ensures.unspent)
-    (subst (λ (all : List ℕ). c.share.result.left ≤ c.feed_within.new.allowance.session.left + M.replies old k (take taken all)) bytes c.in-Ok.ensures.spent)))
+    (subst (λ (all : List ℕ). c.share.result.left ≤ c.feed_within.new.allowance.session.left + M.replies old k (take taken all)) bytes c.in-Ok.ensures.spent))
+    (record {
+      fewer = c.in-Ok.ensures.fewer;
+      spent = omega (arith, subst (λ (all : List ℕ). c.args.questions.now.left ≤ c.feed_within.new.allowance.questions.left + M.replies old k (take taken all)) bytes c.in-Ok.ensures.asked);
+    }))
 
 pub returns-in-Err-clause-stopped : goal.returns-in-Err-clause-stopped
 returns-in-Err-clause-stopped g c =

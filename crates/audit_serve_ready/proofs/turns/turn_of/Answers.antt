@@ -41,10 +41,10 @@ returns-clause-done g c =
     let slots = c.args.slots.now in
     let k = c.args.session in
     let turn = c.in_ok-turn.ensures.done in
-    subst (λ moved. TakesTurns M N c.args.backlog moved (λ j. j ≡ k) c.args.had_turn.now (set c.args.had_turn.now k c.is_had.result) core c.read_turn.new.core slots (set slots k c.read_turn.new.slot)) (sym c.has_moved.ensures)
+    subst (λ moved. TakesTurns M N c.args.backlog c.args.questions.now.left c.read_turn.new.questions.left moved (λ j. j ≡ k) c.args.had_turn.now (set c.args.had_turn.now k c.is_had.result) core c.read_turn.new.core slots (set slots k c.read_turn.new.slot)) (sym c.has_moved.ensures)
     (one_turn M N c.args.backlog (has_moved c.in_ok-turn.turn) k c.args.had_turn.now c.is_had.result core c.read_turn.new.core slots c.read_turn.new.slot c.requires.there (c.if-not-is_due.ensures.turn refl) (c.if-not-is_due.ensures.live refl)
-    (subst (λ had. HasTurn M N c.args.backlog (has_moved c.in_ok-turn.turn) k had core c.read_turn.new.core (slot_at k slots) c.read_turn.new.slot) (sym c.is_had.ensures)
-    (subst (λ slot. HasTurn M N c.args.backlog (has_moved c.in_ok-turn.turn) k (is_had c.in_ok-turn.turn) core c.read_turn.new.core slot c.read_turn.new.slot) (sym (in_any slots k vacant c.index-slots-session.result c.requires.there)) turn)))
+    (subst (λ had. HasTurn M N c.args.backlog c.args.questions.now.left c.read_turn.new.questions.left (has_moved c.in_ok-turn.turn) k had core c.read_turn.new.core (slot_at k slots) c.read_turn.new.slot) (sym c.is_had.ensures)
+    (subst (λ slot. HasTurn M N c.args.backlog c.args.questions.now.left c.read_turn.new.questions.left (has_moved c.in_ok-turn.turn) k (is_had c.in_ok-turn.turn) core c.read_turn.new.core slot c.read_turn.new.slot) (sym (in_any slots k vacant c.index-slots-session.result c.requires.there)) turn)))
 
 pub returns-clause-within : goal.returns-clause-within
 returns-clause-within g c = λ unowed inside.

@@ -3,7 +3,7 @@ use Rattle.std.proofs.lemmas.List.{take-append-drop}
 use Rattle.audit_serve_passes.specs.Steps.{a_piece}
 use Rattle.audit_server.proofs.Serving.{did_ok}
 use Rattle.audit_server.proofs.Durably.{piece_goes}
-use Rattle.audit_server.proofs.Owing.{was_sound, within_owes, within_stops, within_unspent, within_spent}
+use Rattle.audit_server.proofs.Owing.{was_sound, within_owes, within_stops, within_unspent, within_spent, within_asked, within_fewer}
 use Rattle.audit_server.proofs.session_core.CoreSessionCore.feed_within.Goals as goal
 
 pub returns-in-Ok-clause-reaches : goal.returns-in-Ok-clause-reaches
@@ -33,3 +33,11 @@ returns-in-Ok-clause-unspent g c =
 pub returns-in-Ok-clause-spent : goal.returns-in-Ok-clause-spent
 returns-in-Ok-clause-spent g c =
     within_spent c.args.session c.args.piece.now c.in-Ok.taken c.args.self.now c.feed_within.new.self c.args.allowance.now c.feed_within.new.allowance (c.in-Ok.ensures.end (was_sound c.args.self.now (λ here. cc (c.in-Ok.ensures.broken here).0)))
+
+pub returns-in-Ok-clause-asked : goal.returns-in-Ok-clause-asked
+returns-in-Ok-clause-asked g c =
+    within_asked c.args.session c.args.piece.now c.in-Ok.taken c.args.self.now c.feed_within.new.self c.args.allowance.now c.feed_within.new.allowance (c.in-Ok.ensures.end (was_sound c.args.self.now (λ here. cc (c.in-Ok.ensures.broken here).0)))
+
+pub returns-in-Ok-clause-fewer : goal.returns-in-Ok-clause-fewer
+returns-in-Ok-clause-fewer g c =
+    within_fewer c.args.session c.args.piece.now c.in-Ok.taken c.args.self.now c.feed_within.new.self c.args.allowance.now c.feed_within.new.allowance (c.in-Ok.ensures.end (was_sound c.args.self.now (λ here. cc (c.in-Ok.ensures.broken here).0)))
