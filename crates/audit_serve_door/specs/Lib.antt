@@ -4,3 +4,4 @@ pub mod Metered
 pub mod Orders
 pub mod Choice
 pub mod Nonblocking
+pub mod Waits

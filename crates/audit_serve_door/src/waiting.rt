@@ -17,6 +17,11 @@ pub(crate) struct Waiting {
 }
 
 impl Waiting {
+    ghost use Rattle.std.specs.Prelude.{◌≡◌, true, Some, None};
+    ghost use Rattle.audit_serve_door.specs.declared.entrance.Arrival.{Arrival};
+    ghost use Rattle.audit_serve_door.specs.Entrances.{rights_at_arrival};
+    ghost use Rattle.audit_serve_door.specs.Waits.{silent_at, heard_with, heard_at, KeepsOthers};
+
     /// Nobody.
     pub(crate) fn new(alloc: Global) -> Waiting {
         Waiting {
@@ -28,13 +33,20 @@ impl Waiting {
     }
 
     /// Takes a connection that has sent nothing. Returns whether there was memory for it.
-    pub(crate) fn admit(&mut self, number: usize, arrival: Arrival) -> bool {
+    pub(crate) fn admit(&mut self, number: usize, arrival: Arrival) -> bool
+        ensures waits { result ≡ true → silent_at self.new number ≡ Some arrival }
+        ensures others { KeepsOthers number self.old self.new }
+    {
         self.silent.insert(number, arrival).is_ok()
     }
 
     /// Notes that a connection has sent something, if it waits. Returns whether there was memory for that; if not, it
     /// is dropped.
-    pub(crate) fn hear(&mut self, number: usize) -> bool {
+    pub(crate) fn hear(&mut self, number: usize) -> bool
+        ensures heard { result ≡ true → (arrival : Arrival) → silent_at self.old number ≡ Some arrival
+            → heard_with (rights_at_arrival arrival) self.new number ≡ Some arrival }
+        ensures others { KeepsOthers number self.old self.new }
+    {
         let Some(arrival) = self.silent.remove(&number) else {
             return true;
         };
@@ -90,7 +102,10 @@ impl Waiting {
     }
 
     /// Gives away a connection that has sent something.
-    pub(crate) fn take(&mut self, number: usize) -> Option<Arrival> {
+    pub(crate) fn take(&mut self, number: usize) -> Option<Arrival>
+        ensures given { result ≡ heard_at self.old number }
+        ensures others { KeepsOthers number self.old self.new }
+    {
         match self.others.remove(&number) {
             Some(arrival) => Some(arrival),
             None => self.readers.remove(&number),
