@@ -16,7 +16,8 @@ use Rattle.audit_cli_serve.specs.Carried.{IsServingDone, LoopsAt, LoopsOpened, S
 use Rattle.audit_cli_serve.specs.Served.{LoopsOver, ServesRounds, StopsRounds}
 use Rattle.audit_cli_serve.specs.declared.fault.ServingError.{ServingError}
 use Rattle.audit_cli_serve.specs.declared.fault.ServingError.TheVariants.{Command}
-use Rattle.audit_cli_serve.specs.declared.request.Request.TheVariants.{Serve}
+use Rattle.audit_cli_serve.specs.declared.request.Request.{Request}
+use Rattle.audit_cli_serve.specs.declared.request.Request.TheVariants.{Serve, Loop}
 
 abbrev Ending : Type 0
 Ending = Result (Unit {0}) ServingError
@@ -48,9 +49,9 @@ module _ {D : Type 0} {g : sectors.Ghosts D} where
   loops_at input before after opened left (Err fault) looped = tt
   loops_at input before after opened left (Ok done) (lines, looped, spelled) = record { left = left; lines = lines; before = before; after = after; looped = looped; spelled = spelled }
 
-  pub loops_opened : (input : Option (List ℕ)) (opened : Store D g) (done : Ending) → OnOk done (LoopsAt input opened) → OnOk done (LoopsOpened g input)
-  loops_opened input opened (Err fault) looped = tt
-  loops_opened input opened (Ok done) looped = record { opened = opened; looped = looped }
+  pub loops_opened : {L : Type 0} (bits : L → ℕ) (mode : ℕ) (input : Option (List ℕ)) (opened : Store D g) (done : Ending) → OnOk done (LoopsAt input opened) → OnOk done ((bound : L) × (bits bound ≡ mode)) → OnOk done (LoopsOpened g bits mode input)
+  loops_opened bits mode input opened (Err fault) looped bound = tt
+  loops_opened bits mode input opened (Ok done) looped bound = record { opened = opened; bound = bound.0; mode_is = bound.1; looped = looped }
 
 module _ {D : Type 0} {g : sectors.Ghosts D} {T L : Type 0} (M : CallModel T) (N : ListenerModel L T) where
   pub serves_at : (bits : L → ℕ) (mode rounds sessions : ℕ) (opened left : Store D g) (bound last : L) (Lines : List ℕ → Type 0) (result : Ending) → bits bound ≡ mode
@@ -73,6 +74,14 @@ module _ {D : Type 0} {g : sectors.Ghosts D} {T L : Type 0} (M : CallModel T) (N
   serves_opened bits mode rounds sessions opened (Ok done) (turns, count, served) = record { opened = opened; turns = turns; count = count; served = served }
 
 module _ {D : Type 0} (g : sectors.Ghosts D) {T L : Type 0} (M : CallModel T) (N : ListenerModel L T) (bits : L → ℕ) where
+  pub loop_performed : (input : Option (List ℕ)) (request : Request) (file socket : Bor (List ℕ)) (socket_mode : Option (Bor (List ℕ))) (mode : ℕ) (done : Ending) → request ≡ Loop file socket socket_mode → (socket_mode ≡ None → mode ≡ OWNER_ONLY) → IfSome socket_mode (λ word. IsMode word.now mode)
+      → OnOk done (LoopsOpened g bits mode input) → IsServingDone g M N bits request input done
+  loop_performed input request file socket socket_mode mode done is owner mode_is looped = subst (λ (one : Request). IsServingDone g M N bits one input done) (sym is) (by done looped)
+    where
+      by : (done : Ending) → OnOk done (LoopsOpened g bits mode input) → IsServingDone g M N bits (Loop file socket socket_mode) input done
+      by (Ok done) looped = record { mode = mode; owner = owner; mode_is = mode_is; looped = looped }
+      by (Err fault) looped = tt
+
   pub performed : (input : Option (List ℕ)) (file socket rounds : Bor (List ℕ)) (sessions socket_mode : Option (Bor (List ℕ))) (count each mode : ℕ) (done : Ending) → rounds_asked rounds.now ≡ Ok count → sessions_wanted sessions ≡ Ok each → (socket_mode ≡ None → mode ≡ OWNER_ONLY) → IfSome socket_mode (λ word. IsMode word.now mode)
       → OnOk done (ServesOpened g M N bits mode each count) → IsServingDone g M N bits (Serve file socket rounds sessions socket_mode) input done
   performed input file socket rounds sessions socket_mode count each mode (Ok done) asked wanted owner mode_is served = record { count = count; rounds_are = asked; each = each; sessions_are = wanted; mode = mode; owner = owner; mode_is = mode_is; served = served }

@@ -63,10 +63,20 @@ module _ {D : Type 0} {g : sectors.Ghosts D} {T L : Type 0} (M : CallModel T) (N
 
 -- ---- over the store that was opened, whose device has these ghost members
 
--- a whole session was served over it
-pub record LoopsOpened {D : Type 0} (g : sectors.Ghosts D) (input : Option (List ℕ)) : Type 0 where
-  pub opened : Store D g
-  pub looped : LoopsAt input opened
+module _ {D : Type 0} (g : sectors.Ghosts D) {L : Type 0} (bits : L → ℕ) where
+  -- a whole session was served over it, and a socket of this program was bound, whose file has these permission bits
+  pub record LoopsOpened (mode : ℕ) (input : Option (List ℕ)) : Type 0 where
+    pub opened : Store D g
+    pub bound : L
+    pub mode_is : bits bound ≡ mode
+    pub looped : LoopsAt input opened
+
+  -- the same with the permissions that were asked for
+  pub record LoopsAsked (socket_mode : Option (Bor (List ℕ))) (input : Option (List ℕ)) : Type 0 where
+    pub mode : ℕ
+    pub owner : socket_mode ≡ None → mode ≡ OWNER_ONLY
+    pub mode_is : IfSome socket_mode (λ word. IsMode word.now mode)
+    pub looped : LoopsOpened mode input
 
 module _ {D : Type 0} (g : sectors.Ghosts D) {T L : Type 0} (M : CallModel T) (N : ListenerModel L T) (bits : L → ℕ)
   where
@@ -90,7 +100,7 @@ module _ {D : Type 0} (g : sectors.Ghosts D) {T L : Type 0} (M : CallModel T) (N
 
     abbrev pub IsServedAsAsked : Request → Option (List ℕ) → Type 0
     IsServedAsAsked (Serve file socket rounds sessions mode) input = ServesRoundsAsked rounds.now sessions mode
-    IsServedAsAsked (Loop file socket mode) input = LoopsOpened g input
+    IsServedAsAsked (Loop file socket mode) input = LoopsAsked g bits mode input
 
     -- a request was carried out with this result: on success what it asks for was served
     abbrev pub IsServingDone : Request → Option (List ℕ) → Result (Unit {0}) ServingError → Type 0

@@ -5,6 +5,7 @@ ghost use Rattle.audit_base.specs.declared.limits.TheConstants.{SESSIONS};
 ghost use Rattle.audit_cli_base.specs.Arguments.{RefusesWords};
 ghost use Rattle.audit_cli_base.specs.declared.fault.CommandError.TheVariants.{File, Replaced};
 ghost use Rattle.audit_serve_sockets.specs.Bound.{mode_of_socket};
+ghost use Rattle.audit_serve_sockets.specs.declared.socket_file.SocketFile.{SocketFile};
 ghost use Rattle.audit_cli_serve.specs.Arguments.{rounds_asked, sessions_wanted};
 ghost use Rattle.audit_cli_serve.specs.Carried.{ServesAt, ServesOpened, IsStoppedAt, LoopsAt, LoopsOpened};
 ghost use Rattle.audit_cli_serve.specs.Carried.{IsServingDone};
@@ -251,7 +252,8 @@ fn loop_file<F: SystemFiles + Net + Clock, R: Read, W: Write>(
 where
     F::File: SystemFile,
     ensures words { IfErr result IsNoWordError }
-    ensures looped { OnOk result (LoopsOpened ⟦<FileDevice<F::File> as Sectors>⟧ (R.remaining input.old)) }
+    ensures looped { OnOk result (LoopsOpened ⟦<FileDevice<F::File> as Sectors>⟧ mode_of_socket mode
+        (R.remaining input.old)) }
 {
     let Opened { content, identity } = open_store(rt, alloc, file)?;
     let watch = StoreWatch::new(rt, file, identity, content.sectors());
@@ -273,6 +275,7 @@ where
     ensures words { IfErr result IsNoWordError }
     // Nothing else is done to the store.
     ensures looped { OnOk result (LoopsAt (R.remaining input.old) store) }
+    ensures bound { OnOk result ((bound : SocketFile) × (mode_of_socket bound ≡ mode)) }
 {
     // The input's buffer is allocated before the socket's file is made, so that the file is removed whatever is
     // refused later.
