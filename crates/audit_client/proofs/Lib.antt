@@ -8,6 +8,7 @@ pub mod SentLines
 pub mod Failures
 pub mod PutFiles
 pub mod FailedExports
+mod OutputFailures
 pub mod LongLines
 pub mod ReadWhole
 mod OneEntry

@@ -309,6 +309,16 @@ abbrev pub FailsPuttingOne : {E : Type 0} → (List ℕ → Type 0) → (ClientE
 FailsPuttingOne IsAnswer Fails error =
     FailsPutting ((bytes : List ℕ) × IsAnswer bytes) ((bytes : List ℕ) × IsAnswer bytes) Fails error
 
+-- an error of the output has this cause
+abbrev pub WritingBreaksOnlyIf : Type 0 → ClientError → Type 0
+WritingBreaksOnlyIf Cause client.Output = Cause
+WritingBreaksOnlyIf Cause _ = Unit {0}
+
+-- the same of an answer that is put
+abbrev pub PuttingBreaksOnlyIf : {E : Type 0} → Type 0 → AskError E → Type 0
+PuttingBreaksOnlyIf Cause (asking.Client error) = WritingBreaksOnlyIf Cause error
+PuttingBreaksOnlyIf Cause (asking.Out error) = Unit {0}
+
 -- ---- witnesses
 
 -- What a witness doesn't believe, after it asked for the newest commitment: a log of fewer entries than the commitment

@@ -1,35 +1,47 @@
 //! Writers whose failed calls are facts.
 ghost use Rattle.std.specs.Prelude.{◌≡◌, IfErr, OnOk, OnErr};
 ghost use Rattle.std.specs.Io.KnownBytes.{Appends, Keeps};
+ghost use Rattle.audit_client.specs.Exporting.{WritesFront};
 ghost use Rattle.audit_text.specs.Writing.{WritesInPart};
 
-use audit_text::{LinesError, write_whole};
+use crate::conversation::send_rest;
+use audit_text::LinesError;
 use std::io::{self, Write};
 
-/// A writer of which contracts can say that its last call failed. Code that is generic over it can have this fact from
-/// a failed call alone. Every `Write` is one.
+/// A writer of which contracts can say that its last call failed, or was a flush that succeeded. Code that is generic
+/// over it can have such a fact from that call alone. Every `Write` is one.
 pub trait FallibleWrite: Write {
     /// The last call failed.
     ghost failed: { Self → Type 0 };
 
-    /// Writes a whole text, as `write_whole` does. After an error a prefix of it was written.
+    /// The last call was a flush, and it succeeded.
+    ghost flushed: { Self → Type 0 };
+
+    /// Writes a whole text, as `write_whole` does. After an error a prefix of it was written, and not all.
     fn write_text(&mut self, text: &[u8]) -> Result<(), LinesError>
         ensures written { OnOk result (Appends (Self.contents self.old) (Self.contents self.new) text.now) }
         ensures part { OnErr result (WritesInPart (Self.contents self.old) (Self.contents self.new) text.now) }
+        ensures lacks { OnErr result (WritesFront (Self.contents self.old) (Self.contents self.new) text.now) }
         ensures fault { IfErr result (λ fault. fault ≡ LinesError.Write) }
         ensures failed { OnErr result (failed self.new) };
 
     /// Flushes, as `Write::flush` does.
     fn flush_text(&mut self) -> io::Result<()>
         ensures kept { Keeps (Self.contents self.old) (Self.contents self.new) }
+        ensures flushed { OnOk result (flushed self.new) }
         ensures failed { OnErr result (failed self.new) };
 }
 
 impl<W: Write> FallibleWrite for W {
     ghost failed = { λ _. Unit {0} };
 
+    ghost flushed = { λ _. Unit {0} };
+
     fn write_text(&mut self, text: &[u8]) -> Result<(), LinesError> {
-        write_whole(self, text)
+        match send_rest(self, text) {
+            Ok(()) => Ok(()),
+            Err(_) => Err(LinesError::Write),
+        }
     }
 
     fn flush_text(&mut self) -> io::Result<()> {

@@ -2,7 +2,7 @@
 ghost use Rattle.std.specs.Prelude.{◌≡◌, ◌⊎◌, ℕ, List, [], length, Option, Some, None, Err, IfOk, IfErr, OnOk, OnErr};
 ghost use Rattle.audit_client.specs.declared.fault.ClientError.{ClientError};
 ghost use Rattle.audit_client.specs.Failing.{FailsEntry, FailsMember, FailsIncrement, FailsExport, FailsPutting};
-ghost use Rattle.audit_client.specs.Failing.{FailsPuttingOne, IsUnasked};
+ghost use Rattle.audit_client.specs.Failing.{FailsPuttingOne, IsUnasked, PuttingBreaksOnlyIf};
 ghost use Rattle.audit_client.specs.Putting.{IsFile, PutsOnly, IsGivenEntry, IsGivenMember, IsGivenIncrement};
 ghost use Rattle.audit_client.specs.Putting.{AreGivenEntries};
 ghost use Rattle.audit_client.specs.Exporting.{GivesExport};
@@ -10,6 +10,7 @@ ghost use Rattle.std.specs.List.{concat};
 
 use crate::asking::{entry_of, increment_proof, member_proof};
 use crate::exporting::{Export, export_entries};
+use crate::fallible_write::FallibleWrite;
 use crate::fault::ClientError;
 use std::alloc::Global;
 use std::io::{Read, Write};
@@ -20,7 +21,7 @@ pub trait Out {
     type Error;
 
     /// A file that is written. Nobody sees it before it is put.
-    type Draft: Write + Drop;
+    type Draft: FallibleWrite + Drop;
 
     /// The file that was put there, if one was: its bytes, where they are known.
     ghost file: { Self → Option (Option (List ℕ)) };
@@ -70,6 +71,8 @@ pub fn put_entry<W: Write, R: Read, O: Out>(
         (R.remaining from.old) (R.remaining from.new) index) (FailsEntry (W.contents to.old) (W.contents to.new)
         (R.remaining from.old) (R.remaining from.new) index)) }
     ensures untouched { (error : ClientError) → result ≡ Err (AskError.Client error) → O.file out.new ≡ O.file out.old }
+    // That the file couldn't be written is said only if its last call failed.
+    ensures broken { IfErr result (PuttingBreaksOnlyIf ((draft : O.Draft) × O.Draft.failed draft)) }
 {
     match entry_of(alloc, to, from, index) {
         Ok(entry) => put_bytes(&entry, out),
@@ -96,6 +99,7 @@ pub fn put_member<W: Write, R: Read, O: Out>(
         (R.remaining from.old) (R.remaining from.new) index count) (FailsMember (W.contents to.old) (W.contents to.new)
         (R.remaining from.old) (R.remaining from.new) index count)) }
     ensures untouched { (error : ClientError) → result ≡ Err (AskError.Client error) → O.file out.new ≡ O.file out.old }
+    ensures broken { IfErr result (PuttingBreaksOnlyIf ((draft : O.Draft) × O.Draft.failed draft)) }
 {
     match member_proof(alloc, to, from, index, count) {
         Ok(proof) => put_bytes(&proof, out),
@@ -122,6 +126,7 @@ pub fn put_increment<W: Write, R: Read, O: Out>(
         (R.remaining from.old) (R.remaining from.new) older newer) (FailsIncrement (W.contents to.old)
         (W.contents to.new) (R.remaining from.old) (R.remaining from.new) older newer)) }
     ensures untouched { (error : ClientError) → result ≡ Err (AskError.Client error) → O.file out.new ≡ O.file out.old }
+    ensures broken { IfErr result (PuttingBreaksOnlyIf ((draft : O.Draft) × O.Draft.failed draft)) }
 {
     match increment_proof(alloc, to, from, older, newer) {
         Ok(proof) => put_bytes(&proof, out),
@@ -135,12 +140,13 @@ fn put_bytes<O: Out>(bytes: &[u8], out: &mut O) -> Result<u64, AskError<O::Error
     ensures size { IfOk result (λ size. size ≡ length bytes.now) }
     ensures fault { IfErr result (FailsPuttingOne (λ answer. answer ≡ bytes.now) (λ error. ⊥)) }
     ensures untouched { (error : ClientError) → result ≡ Err (AskError.Client error) → O.file out.new ≡ O.file out.old }
+    ensures broken { IfErr result (PuttingBreaksOnlyIf ((draft : O.Draft) × O.Draft.failed draft)) }
 {
     let mut draft = match out.draft() {
         Ok(draft) => draft,
         Err(error) => return Err(AskError::Out(error)),
     };
-    if draft.write_all(bytes).is_err() {
+    if draft.write_text(bytes).is_err() {
         out.discard(draft);
         return Err(AskError::Client(ClientError::Output));
     }
@@ -168,6 +174,7 @@ pub fn put_export<W: Write, R: Read, O: Out>(
         × FailsExport (W.contents to.old) (W.contents to.new) (R.remaining from.old) (R.remaining from.new)
         (O.Draft.contents begun) (O.Draft.contents left) error)) }
     ensures untouched { (error : ClientError) → result ≡ Err (AskError.Client error) → O.file out.new ≡ O.file out.old }
+    ensures broken { IfErr result (PuttingBreaksOnlyIf ((draft : O.Draft) × O.Draft.failed draft)) }
 {
     let mut draft = match out.draft() {
         Ok(draft) => draft,

@@ -1,5 +1,6 @@
 use Rattle.std.proofs.Common.{inr, refl}
 use Rattle.audit_client.proofs.PutFiles.{puts_export}
+use Rattle.audit_client.proofs.OutputFailures.{writer_broke}
 use Rattle.audit_client.proofs.putting.put_export.Goals as goal
 
 pub returns-in-Ok-put-clause-only : goal.returns-in-Ok-put-clause-only
@@ -10,3 +11,6 @@ returns-in-Err-put-clause-only g c = puts_export _ g.O.Draft.Write.contents _ _ 
 
 pub returns-in-Err-put-clause-fault : goal.returns-in-Err-put-clause-fault
 returns-in-Err-put-clause-fault g c = let all = c.in-Ok-export_entries.ensures.done in inr (_, (all.0, all.1, refl))
+
+pub returns-in-Err-export_entries-clause-broken : goal.returns-in-Err-export_entries-clause-broken
+returns-in-Err-export_entries-clause-broken g c = writer_broke g.O.Draft.FallibleWrite.failed c.export_entries.new.writer _ c.in-Err-export_entries.ensures.broken

@@ -1,5 +1,6 @@
 use Rattle.std.proofs.Common.{inl}
 use Rattle.audit_client.proofs.PutFiles.{fails_to_put}
+use Rattle.audit_client.proofs.OutputFailures.{increment_only}
 use Rattle.audit_client.proofs.putting.put_increment.Goals as goal
 
 pub returns-in-Ok-clause-fault : goal.returns-in-Ok-clause-fault
@@ -7,3 +8,6 @@ returns-in-Ok-clause-fault g c = fails_to_put _ _ _ _ c.put_bytes.ensures.fault 
 
 pub returns-in-Err-clause-fault : goal.returns-in-Err-clause-fault
 returns-in-Err-clause-fault g c = inl c.in-Err.ensures.fault
+
+pub returns-in-Err-clause-broken : goal.returns-in-Err-clause-broken
+returns-in-Err-clause-broken g c = increment_only _ _ c.in-Err.ensures.fault
