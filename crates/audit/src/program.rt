@@ -3,7 +3,7 @@ use crate::ending::{End, explain_end};
 use crate::heard::Heard;
 use crate::places::key_file_of;
 use audit_cli_base::{CommandError, Status, report};
-use audit_cli_client::Request as Remote;
+use audit_cli_client::{Request as Remote, SystemServers};
 use audit_cli_daemon::{Request as Daemon, Settings};
 use audit_cli_host::{Dial, Extent, Notes, Screen, Subject};
 use audit_cli_offline::ReportForm;
@@ -134,9 +134,10 @@ where
             audit_cli_append::run(rt, alloc, request, input, output, messages)
         }
         Asked::Rotation(request) => audit_cli_rotate::run(rt, alloc, request, output, messages),
-        Asked::Remote(request) => audit_cli_client::run(
-            rt, alloc, request, input, output, messages,
-        ),
+        Asked::Remote(request) => {
+            let mut servers = SystemServers::new(rt);
+            audit_cli_client::run(&mut servers, alloc, request, input, output, messages)
+        }
         Asked::Serving(request) => audit_cli_serve::run(
             rt, alloc, request, input, output, messages,
         ),

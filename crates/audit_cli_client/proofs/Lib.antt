@@ -2,3 +2,4 @@ mod AddedLines
 pub mod StateLines
 pub mod AskedQuestions
 pub mod SaidMessages
+mod Looks

@@ -1,16 +1,10 @@
 -- What was said on the messages.
-use Rattle.std.specs.Prelude.{◌≡◌, ◌⊎◌, ℕ, Option, Some, None, IfSome, IfErr, List, ◌++◌, Bool, false, Result, Ok, Err, OnOk, OnErr}
+use Rattle.std.specs.Prelude.{ℕ, Option, Some, None, IfSome, List, Result, Ok, Err, OnOk, OnErr}
 use Rattle.std.specs.Io.KnownBytes.{Appends}
-use Rattle.std.proofs.Common.{inl, inr, sym, subst}
+use Rattle.std.proofs.Common.{inl, inr}
 use Rattle.std.proofs.KnownBytes.{Appends-trans}
 use Rattle.audit_text.specs.Writing.{WritesInPart}
-use Rattle.audit_client.specs.declared.watching.Sight.{Sight}
-use Rattle.audit_cli_client.specs.declared.fault.RemoteError.{RemoteError}
-use Rattle.audit_cli_client.specs.declared.watching.Post.{Post}
-use Rattle.audit_cli_client.specs.Faults.{is_passing_fault}
-use Rattle.audit_cli_client.specs.Looking.{FollowsLook, FailsToPrint}
 use Rattle.audit_cli_client.specs.Messages.{Says, SaysFirst}
-use Rattle.audit_cli_client.specs.ServerFacts.{ServerFacts}
 
 -- a line was written, or a part of it and then no more
 pub said_or_not : {E : Type 0} (message : Option (List ℕ)) (old new : Option (List ℕ)) (failed : Type 0) (printed : Result (Unit {0}) E) → OnOk printed (IfSome message (Appends old new)) → OnErr printed (IfSome message (WritesInPart old new)) → OnErr printed failed
@@ -32,10 +26,3 @@ said_in_part (Some text) old new failed part broken = inr (broken, part)
 pub grown : {E : Type 0} (printed : Result (Unit {0}) E) (old new : Option (List ℕ)) (text : List ℕ) → OnOk printed (Appends old new text) → OnErr printed (WritesInPart old new text) → (later : List ℕ) × Appends old new later
 grown (Ok done) old new text whole part = (text, whole)
 grown (Err error) old new text whole part = (part.written, part.appended)
-
--- a repeated look ends with the fault of its last look, or of the output
-pub last_of : (facts : ServerFacts) (post : Post) (quiet : Bool) (looked : Result Sight RemoteError) (old new : Option (List ℕ)) (failed : Type 0) (result : Result (Option RemoteError) RemoteError) → facts.looked post looked → FollowsLook quiet looked old new failed result
-    → IfErr result (λ fault. is_passing_fault fault ≡ false) → IfErr result (λ fault. (is_passing_fault fault ≡ false) × (facts.looked post (Err fault) ⊎ FailsToPrint failed fault))
-last_of facts post quiet looked old new failed (Ok reported) saw follows ends = tt
-last_of facts post quiet (Ok sight) old new failed (Err fault) saw follows ends = (ends, inr follows)
-last_of facts post quiet (Err fault) old new failed (Err last) saw follows ends = (ends, inl (subst (λ one. facts.looked post (Err one)) (sym follows.1) saw))

@@ -8,4 +8,4 @@ pub mod Looking
 pub mod Asked
 pub mod Requests
 pub mod Messages
-pub mod ServerFacts
+pub mod ServerCalls

@@ -1,13 +1,13 @@
 -- What a witness prints, and what it does after each look.
-use Rattle.std.specs.Prelude.{◌≡◌, ◌⊎◌, ℕ, Bool, true, false, Option, Some, None, IfSome, Result, Ok, Err, List}
-use Rattle.std.specs.Prelude.{[], ◌++◌, codes}
+use Rattle.std.specs.Prelude.{◌≡◌, ◌⊎◌, ℕ, Bool, true, false, not, ◌&&◌, Option, Some, None, IfSome, Result, Ok, Err}
+use Rattle.std.specs.Prelude.{List, [], ◌++◌, codes}
 use Rattle.std.specs.Io.KnownBytes.{Appends, Keeps}
 use Rattle.audit_client.specs.declared.watching.Sight.{Sight}
 use Rattle.audit_client.specs.declared.watching.Sight.TheVariants.{Began, Same, Grew}
 use Rattle.audit_text.specs.declared.fault.LinesError.TheVariants.{Write}
 use Rattle.audit_cli_base.specs.declared.fault.CommandError.TheVariants.{File, Lines}
 use Rattle.audit_cli_client.specs.declared.fault.RemoteError.{RemoteError}
-use Rattle.audit_cli_client.specs.declared.fault.RemoteError.TheVariants.{Command}
+use Rattle.audit_cli_client.specs.declared.fault.RemoteError.TheVariants.{Command, NoConnection, Server}
 use Rattle.audit_cli_client.specs.Faults.{no_memory, is_passing_fault}
 use Rattle.audit_cli_client.specs.Messages.{message_of, SaysFirst}
 use Rattle.audit_cli_client.specs.State.{commitment_word}
@@ -40,6 +40,16 @@ PrintsLook quiet (Ok sight) old new failed (Err fault) = FailsToPrint failed fau
 PrintsLook quiet (Err fault) old new failed (Ok done) = ⊥
 PrintsLook quiet (Err fault) old new failed (Err last) = (last ≡ fault) × Keeps old new
 
+-- the line of a repeated look; of one that failed there is none
+abbrev pub look_line : Bool → Result Sight RemoteError → List ℕ
+look_line quiet (Ok sight) = change_line quiet sight
+look_line quiet (Err fault) = []
+
+-- a look that another one follows: it saw something, or failed for a while
+abbrev pub IsFollowed : Result Sight RemoteError → Type 0
+IsFollowed (Ok sight) = Unit {0}
+IsFollowed (Err fault) = is_passing_fault fault ≡ true
+
 -- After a look that saw something, a repeated look prints it and goes on, or ends because it couldn't. After one that
 -- failed it goes on, and has reported the fault, if that is a passing one; and ends with every other.
 abbrev pub FollowsLook : Bool → Result Sight RemoteError → Option (List ℕ) → Option (List ℕ) → Type 0
@@ -52,9 +62,22 @@ FollowsLook quiet (Err fault) old new failed (Ok reported) =
 FollowsLook quiet (Err fault) old new failed (Err last) =
     (is_passing_fault fault ≡ false) × (last ≡ fault) × Keeps old new
 
--- A passing fault is said on the messages before all else, unless it equals the one that was reported.
+-- a fault is said on the messages before all else, or nothing is
+abbrev pub SaysFault : Bool → RemoteError → Option (List ℕ) → Option (List ℕ) → Type 0 → Type 0
+SaysFault true fault old new failed = IfSome (message_of fault) (SaysFirst old new failed)
+SaysFault false fault old new failed = Keeps old new
+
+-- After a look that failed, its fault is said if it is a passing one and isn't the one that was reported. Otherwise
+-- nothing is said.
 abbrev pub SaysPassing : (RemoteError → Bool) → Result Sight RemoteError → Option (List ℕ) → Option (List ℕ) → Type 0
     → Type 0
 SaysPassing is_reported (Ok sight) old new failed = Unit {0}
-SaysPassing is_reported (Err fault) old new failed = is_passing_fault fault ≡ true → is_reported fault ≡ false
-    → IfSome (message_of fault) (SaysFirst old new failed)
+SaysPassing is_reported (Err fault) old new failed =
+    SaysFault (is_passing_fault fault && not (is_reported fault)) fault old new failed
+
+-- After a look that saw something, only the return of a server is said, and only if its absence was reported.
+abbrev pub SaysReturn : Option RemoteError → Result Sight RemoteError → Option (List ℕ) → Option (List ℕ) → Type 0
+SaysReturn reported (Err fault) old new = Unit {0}
+SaysReturn (Some (NoConnection kind)) (Ok sight) old new = (line : List ℕ) × Appends old new line
+SaysReturn (Some (Server error)) (Ok sight) old new = (line : List ℕ) × Appends old new line
+SaysReturn reported (Ok sight) old new = Keeps old new

@@ -1,5 +1,6 @@
 -- The whole of a command that asks a server.
-use Rattle.std.specs.Prelude.{◌≡◌, ◌⊎◌, ℕ, ◌^◌, ◌-◌, false, Option, Some, None, List, Result, Ok, Err}
+use Rattle.std.specs.Prelude.{◌≡◌, ◌⊎◌, ℕ, ◌^◌, ◌-◌, false, Option, Some, None, List, [], ◌∷◌, length, Result, Ok, Err}
+use Rattle.std.specs.List.{flat_map, AllByRecursion}
 use Rattle.std.specs.Io.KnownBytes.{Appends, Keeps}
 use Rattle.audit_text.specs.declared.fault.LinesError.TheVariants.{Write}
 use Rattle.audit_cli_base.specs.declared.fault.CommandError.TheVariants.{BadArgument, Lines}
@@ -14,8 +15,8 @@ use Rattle.audit_cli_client.specs.declared.request.Request.{Request}
 use Rattle.audit_cli_client.specs.declared.watching.Post.{Post}
 use Rattle.audit_cli_client.specs.Arguments.{HasRefusedWord, IsOrderOf}
 use Rattle.audit_cli_client.specs.Faults.{remote_status, judgment_of, is_passing_fault, IsNoJudgment}
-use Rattle.audit_cli_client.specs.Looking.{FailsToPrint, PrintsLook}
-use Rattle.audit_cli_client.specs.ServerFacts.{ServerFacts}
+use Rattle.audit_cli_client.specs.Looking.{PrintsLook, FollowsLook, IsFollowed, look_line}
+use Rattle.audit_cli_client.specs.ServerCalls.{ServersModel, CommandStreams, a_query, a_sending, a_look, a_rest}
 
 abbrev pub status_of_done : Result Status RemoteError → Status
 status_of_done (Ok status) = status
@@ -26,52 +27,82 @@ abbrev pub done_after : Result (Unit {0}) RemoteError → Result Status RemoteEr
 done_after (Ok done) = Ok ends.Done
 done_after (Err fault) = Err fault
 
--- A witness looked once, and printed what it saw, if anything.
-pub record LooksOnce (facts : ServerFacts) (post : Post) (old new : Option (List ℕ)) (failed : Type 0)
-    (result : Result (Unit {0}) RemoteError) : Type 0 where
-  pub sight : Result Sight RemoteError
-  pub looked : facts.looked post sight
-  pub printed : PrintsLook post.is_quiet sight old new failed result
+module _ {F : Type 0} (servers : ServersModel F) where
+  -- A witness looked once, and printed what it saw, if anything.
+  pub record LooksOnce (post : Post) (was now : F) (old new : Option (List ℕ)) (failed : Type 0)
+      (result : Result (Unit {0}) RemoteError) : Type 0 where
+    pub sight : Result Sight RemoteError
+    pub looked : servers.DidCalls was now (a_look post sight ∷ [])
+    pub printed : PrintsLook post.is_quiet sight old new failed result
 
--- A witness looked again and again. It ended with a look that failed for more than a while, or with a line that
--- couldn't be printed; or after as many looks as a number counts.
-abbrev pub LooksOn : ServerFacts → Post → Type 0 → Result (Unit {0}) RemoteError → Type 0
-LooksOn facts post failed (Ok done) = facts.reached post (2 ^ 64 - 1)
-LooksOn facts post failed (Err fault) =
-    (is_passing_fault fault ≡ false) × (facts.looked post (Err fault) ⊎ FailsToPrint failed fault)
+  -- A witness looked again and again, with a pause after each look, and this is what each saw. Each saw something or
+  -- failed for a while, and their lines were printed in order.
+  pub record LooksOn (post : Post) (every : ℕ) (was now : F) (old new : Option (List ℕ))
+      (seen : List (Result Sight RemoteError)) : Type 0 where
+    pub did : servers.DidCalls was now (flat_map (λ saw. a_look post saw ∷ a_rest every ∷ []) seen)
+    pub followed : AllByRecursion IsFollowed seen
+    pub printed : Appends old new (flat_map (look_line post.is_quiet) seen)
 
--- What was ordered was done, and this is how it ended.
-abbrev pub EndsOrder : ServerFacts → Order → Option (List ℕ) → Option (List ℕ) → Type 0 → Result Status RemoteError
-    → Type 0
-EndsOrder facts (order.Ask socket question seconds) old new failed done = (result : Result (Unit {0}) RemoteError)
-    × facts.asked socket.now question seconds old new result × (done ≡ done_after result)
-EndsOrder facts (order.Send socket task) old new failed done = facts.sent socket.now task old new done
-EndsOrder facts (order.Watch post None) old new failed done = (result : Result (Unit {0}) RemoteError)
-    × LooksOnce facts post old new failed result × (done ≡ done_after result)
-EndsOrder facts (order.Watch post (Some every)) old new failed done = (result : Result (Unit {0}) RemoteError)
-    × LooksOn facts post failed result × (done ≡ done_after result)
+  -- A witness looked so, and then for the last time: that look failed for more than a while, or its line couldn't be
+  -- printed.
+  pub record LooksLast (post : Post) (every : ℕ) (was now : F) (old new : Option (List ℕ)) (failed : Type 0)
+      (fault : RemoteError) : Type 0 where
+    pub seen : List (Result Sight RemoteError)
+    pub mid : F
+    pub between : Option (List ℕ)
+    pub earlier : LooksOn post every was mid old between seen
+    pub sight : Result Sight RemoteError
+    pub looked : servers.DidCalls mid now (a_look post sight ∷ [])
+    pub ended : FollowsLook post.is_quiet sight between new failed (Err fault)
+    pub lasting : is_passing_fault fault ≡ false
 
--- A word is wrong, and nothing was done or written; or what the words say was ordered, and ended so.
-abbrev pub Performs : ServerFacts → Request → Option (List ℕ) → Option (List ℕ) → Type 0 → Result Status RemoteError
-    → Type 0
-Performs facts request old new failed done =
-    (HasRefusedWord request × (done ≡ Err (Command BadArgument)) × Keeps old new)
-    ⊎ ((ordered : Order) × IsOrderOf request ordered × EndsOrder facts ordered old new failed done)
+  -- It looked until there was a last look, or as often as a number counts.
+  abbrev pub LooksToTheEnd : Post → ℕ → F → F → Option (List ℕ) → Option (List ℕ) → Type 0
+      → Result (Unit {0}) RemoteError → Type 0
+  LooksToTheEnd post every was now old new failed (Ok done) = (seen : List (Result Sight RemoteError))
+      × (length seen ≡ 2 ^ 64 - 1) × LooksOn post every was now old new seen
+  LooksToTheEnd post every was now old new failed (Err fault) = LooksLast post every was now old new failed fault
 
--- A request was carried out with this result, and the judgment of the log then printed, if the result is one; if that
--- failed, the output's fault is how it ended. The output was then flushed. The program's status is that of how it
--- ended, or that of an output that couldn't be flushed.
-pub record IsClientRun {W : Type 0} (contents : W → Option (List ℕ)) (failed : W → Type 0) (facts : ServerFacts)
-    (request : Request) (before after : W) (status : Status) : Type 0 where
-  pub done : Result Status RemoteError
-  pub ended : Result Status RemoteError
-  pub written : W
-  pub printed : W
-  pub carried : Performs facts request (contents before) (contents written) (failed written) done
-  pub words : HasRefusedWord request → (done ≡ Err (Command BadArgument)) × Keeps (contents before) (contents written)
-  pub other : IsNoJudgment done → (ended ≡ done) × Keeps (contents written) (contents printed)
-  pub judged : (fault : RemoteError) (words : List ℕ) → done ≡ Err fault → judgment_of fault ≡ Some words
-      → ((ended ≡ done) × Appends (contents written) (contents printed) words)
-      ⊎ ((ended ≡ Err (Command (Lines Write))) × failed printed)
-  pub flushed : Keeps (contents printed) (contents after)
-  pub status_is : (status ≡ status_of_done ended) ⊎ ((status ≡ ends.Device) × failed after)
+  -- What was ordered was done, and nothing else, and this is how it ended.
+  abbrev pub EndsOrder : Order → F → F → CommandStreams → CommandStreams → Type 0 → Result Status RemoteError → Type 0
+  EndsOrder (order.Ask socket question seconds) was now before after failed done =
+      (result : Result (Unit {0}) RemoteError)
+      × servers.DidCalls was now (a_query socket.now question seconds before.output after.output result ∷ [])
+      × (done ≡ done_after result) × (after.input ≡ before.input)
+  EndsOrder (order.Send socket task) was now before after failed done =
+      servers.DidCalls was now (a_sending socket.now task before after done ∷ [])
+  EndsOrder (order.Watch post None) was now before after failed done = (result : Result (Unit {0}) RemoteError)
+      × LooksOnce post was now before.output after.output failed result
+      × (done ≡ done_after result) × (after.input ≡ before.input)
+  EndsOrder (order.Watch post (Some every)) was now before after failed done =
+      (result : Result (Unit {0}) RemoteError)
+      × LooksToTheEnd post every was now before.output after.output failed result
+      × (done ≡ done_after result) × (after.input ≡ before.input)
+
+  -- A word is wrong, and nothing was done or written; or what the words say was ordered, and ended so.
+  abbrev pub Performs : Request → F → F → CommandStreams → CommandStreams → Type 0 → Result Status RemoteError → Type 0
+  Performs request was now before after failed done =
+      (HasRefusedWord request × (done ≡ Err (Command BadArgument)) × servers.DidCalls was now []
+      × Keeps before.output after.output)
+      ⊎ ((ordered : Order) × IsOrderOf request ordered × EndsOrder ordered was now before after failed done)
+
+  -- A request was carried out with this result, and the judgment of the log then printed, if the result is one; if that
+  -- failed, the output's fault is how it ended. The output was then flushed. The program's status is that of how it
+  -- ended, once the output was flushed, or that of an output that couldn't be.
+  pub record IsClientRun {W : Type 0} (contents : W → Option (List ℕ)) (failed flushed : W → Type 0)
+      (request : Request) (was now : F) (input rest messages : Option (List ℕ)) (before after : W) (status : Status)
+      : Type 0 where
+    pub done : Result Status RemoteError
+    pub ended : Result Status RemoteError
+    pub said : Option (List ℕ)
+    pub written : W
+    pub printed : W
+    pub carried : Performs request was now (record { input = input; output = contents before; messages = messages })
+        (record { input = rest; output = contents written; messages = said }) (failed written) done
+    pub words : HasRefusedWord request → (done ≡ Err (Command BadArgument)) × Keeps (contents before) (contents written)
+    pub other : IsNoJudgment done → (ended ≡ done) × Keeps (contents written) (contents printed)
+    pub judged : (fault : RemoteError) (words : List ℕ) → done ≡ Err fault → judgment_of fault ≡ Some words
+        → ((ended ≡ done) × Appends (contents written) (contents printed) words)
+        ⊎ ((ended ≡ Err (Command (Lines Write))) × failed printed)
+    pub kept : Keeps (contents printed) (contents after)
+    pub status_is : ((status ≡ status_of_done ended) × flushed after) ⊎ ((status ≡ ends.Device) × failed after)

@@ -27,7 +27,7 @@ pub use asking::answer;
 pub use contradiction::Contradiction;
 pub use fault::RemoteError;
 pub use request::{Request, run};
-pub use servers::Servers;
+pub use servers::{Servers, SystemServers};
 pub use state_file::StateFile;
 pub use state_text::StateText;
 pub use watching::{Post, follow_look};

@@ -1,5 +1,5 @@
 //! The requests that ask a server, and how they are carried out.
-ghost use Rattle.std.specs.Prelude.{◌≡◌, ◌⊎◌, ℕ, List, Err, Some, None, IfOk, IfErr};
+ghost use Rattle.std.specs.Prelude.{◌≡◌, ◌⊎◌, ℕ, List, [], Err, Some, None, IfOk, IfErr};
 ghost use Rattle.std.specs.Io.KnownBytes.{Appends, Keeps};
 ghost use Rattle.audit_text.specs.declared.fault.LinesError.{LinesError};
 ghost use Rattle.audit_text.specs.LineEvents.{form_asked, long_asked};
@@ -8,6 +8,7 @@ ghost use Rattle.audit_cli_client.specs.Faults.{IsNoJudgment, judgment_of};
 ghost use Rattle.audit_cli_client.specs.Arguments.{AreNoSeconds, IsNoWindow, HasRefusedWord, IsOrderOf};
 ghost use Rattle.audit_cli_client.specs.Arguments.{HasTaskNumbers, IsNoTask};
 ghost use Rattle.audit_cli_client.specs.Requests.{IsClientRun, EndsOrder, Performs, status_of_done, done_after};
+ghost use Rattle.audit_cli_client.specs.ServerCalls.{CommandStreams};
 ghost use Rattle.audit_cli_client.specs.Arguments.{IsPause, seconds_or_default, window_or_default};
 
 use crate::alarm::print_contradiction;
@@ -71,20 +72,22 @@ pub enum Request<'a> {
 /// Carries out a request. Lines that begin with `audit: ` are written to `messages`, all others to `output`, which is
 /// flushed after each answer to an event and at the end. Returns the status with which the program exits.
 pub fn run<F: Servers, R: Read, W: FallibleWrite, M: FallibleWrite>(
-    rt: &F,
+    servers: &mut F,
     alloc: Global,
     request: Request<'_>,
     input: &mut R,
     output: &mut W,
     messages: &mut M,
 ) -> Status
-    // What the words say was ordered, and its result is that of the call that carried it out.
-    ensures carried { IsClientRun W.contents W.failed (F.facts rt.now) request.entry output.old output.new result }
+    // What the words order was done by these calls and no others, and the result is theirs.
+    ensures carried { IsClientRun F.calls W.contents W.failed W.flushed request.entry servers.old servers.new
+        (R.remaining input.old) (R.remaining input.new) (M.contents messages.old) output.old output.new result }
     // A wrong word ends the program before anything is written. An output that can't be flushed is another fault.
     ensures words { HasRefusedWord request.entry → (result ≡ Status.Usage) ⊎ (result ≡ Status.Device) }
     ensures unwritten { HasRefusedWord request.entry → Keeps (W.contents output.old) (W.contents output.new) }
+    ensures unasked { HasRefusedWord request.entry → F.calls.DidCalls servers.old servers.new [] }
 {
-    let done = perform(rt, alloc, request, input, output, messages);
+    let done = perform(servers, alloc, request, input, output, messages);
     let judged = print_judgment(done, output);
     let flushed = output.flush_text();
     let status = report_fault(judged, messages);
@@ -154,7 +157,7 @@ enum Order<'a> {
 
 // The words are judged before the socket is opened.
 fn perform<F: Servers, R: Read, W: FallibleWrite, M: FallibleWrite>(
-    rt: &F,
+    servers: &mut F,
     alloc: Global,
     request: Request<'_>,
     input: &mut R,
@@ -163,11 +166,14 @@ fn perform<F: Servers, R: Read, W: FallibleWrite, M: FallibleWrite>(
 ) -> Result<Status, RemoteError>
     ensures words { HasRefusedWord request.entry → result ≡ Err (RemoteError.Command CommandError.BadArgument) }
     ensures unwritten { HasRefusedWord request.entry → Keeps (W.contents output.old) (W.contents output.new) }
-    ensures carried { Performs (F.facts rt.now) request.entry (W.contents output.old) (W.contents output.new)
+    ensures unasked { HasRefusedWord request.entry → F.calls.DidCalls servers.old servers.new [] }
+    ensures carried { Performs F.calls request.entry servers.old servers.new
+        (record { input = R.remaining input.old; output = W.contents output.old; messages = M.contents messages.old })
+        (record { input = R.remaining input.new; output = W.contents output.new; messages = M.contents messages.new })
         (W.failed output.new) result }
 {
     match judge(request) {
-        Ok(order) => carry_out(rt, alloc, order, input, output, messages),
+        Ok(order) => carry_out(servers, alloc, order, input, output, messages),
         Err(fault) => Err(RemoteError::Command(fault)),
     }
 }
@@ -247,14 +253,16 @@ fn task_asked(
 
 // Does what was ordered. Only sending has a status of its own.
 fn carry_out<F: Servers, R: Read, W: FallibleWrite, M: FallibleWrite>(
-    rt: &F,
+    servers: &mut F,
     alloc: Global,
     order: Order<'_>,
     input: &mut R,
     output: &mut W,
     messages: &mut M,
 ) -> Result<Status, RemoteError>
-    ensures { EndsOrder (F.facts rt.now) order.entry (W.contents output.old) (W.contents output.new)
+    ensures { EndsOrder F.calls order.entry servers.old servers.new
+        (record { input = R.remaining input.old; output = W.contents output.old; messages = M.contents messages.old })
+        (record { input = R.remaining input.new; output = W.contents output.new; messages = M.contents messages.new })
         (W.failed output.new) result }
 {
     match order {
@@ -262,11 +270,13 @@ fn carry_out<F: Servers, R: Read, W: FallibleWrite, M: FallibleWrite>(
             socket,
             question,
             seconds,
-        } => done_after(rt.ask(alloc, socket, question, seconds, output)),
-        Order::Send { socket, task } => rt.send(alloc, socket, task, input, output, messages),
+        } => done_after(servers.ask(alloc, socket, question, seconds, output)),
+        Order::Send { socket, task } => servers.send(alloc, socket, task, input, output, messages),
         Order::Watch { post, every } => match every {
-            Some(every) => done_after(watch_for_ever(rt, alloc, post, every, output, messages)),
-            None => done_after(watch_once(rt, alloc, post, output)),
+            Some(every) => {
+                done_after(watch_for_ever(servers, alloc, post, every, output, messages))
+            }
+            None => done_after(watch_once(servers, alloc, post, output)),
         },
     }
 }

@@ -1,7 +1,9 @@
 //! Systems on which servers are asked.
-ghost use Rattle.std.specs.Prelude.{◌≡◌, ◌+◌, ◌<◌};
-ghost use Rattle.audit_cli_client.specs.ServerFacts.{ServerFacts, facts_of_asking};
+ghost use Rattle.std.specs.Prelude.{[], ◌∷◌};
+ghost use Rattle.audit_cli_client.specs.ServerCalls.{ServersModel, unknown_servers, CommandStreams};
+ghost use Rattle.audit_cli_client.specs.ServerCalls.{a_query, a_sending, a_look, a_rest};
 
+use crate::alarm::date_of_now;
 use crate::arguments::Question;
 use crate::asking::ask_socket;
 use crate::fault::RemoteError;
@@ -11,33 +13,34 @@ use audit_cli_base::Status;
 use audit_cli_host::Dial;
 use audit_client::Sight;
 use audit_disk::SystemFile;
+use httpdate::HttpDate;
 use std::alloc::Global;
 use std::fs::Files;
 use std::io::{Read, Write};
-use std::time::Clock;
+use std::thread;
+use std::time::{Clock, Duration};
 
-/// A system on which commands ask servers. Code that is generic over it knows how a request ended from a call alone,
-/// so no result can be made up or dropped between that call and the status of the program. Every system with files,
-/// sockets and a clock is one.
-pub trait Servers: Clock {
-    /// What calls established.
-    ghost facts: { Self → ServerFacts };
+/// A system on which commands ask servers. Code that is generic over it knows which calls were made, in order, and how
+/// each ended: so no call can be added or left out, and no result made up, without its contract saying so.
+pub trait Servers {
+    /// What its calls do, and what is known of it.
+    ghost calls: { ServersModel Self };
 
     /// Asks the server at a socket, and prints the answer. The server has this many seconds for each reply.
     fn ask<W: Write>(
-        &self,
+        &mut self,
         alloc: Global,
         socket: &str,
         question: Question<'_>,
         seconds: u64,
         output: &mut W,
     ) -> Result<(), RemoteError>
-        ensures { (facts self.now).asked socket.now question.entry seconds (W.contents output.old)
-            (W.contents output.new) result };
+        ensures { calls.DidCalls self.old self.new (a_query socket.now question.entry seconds (W.contents output.old)
+            (W.contents output.new) result ∷ []) };
 
     /// Sends the events of an input to the server at a socket, and prints its answers.
     fn send<R: Read, W: Write, M: Write>(
-        &self,
+        &mut self,
         alloc: Global,
         socket: &str,
         task: Task,
@@ -45,34 +48,64 @@ pub trait Servers: Clock {
         output: &mut W,
         messages: &mut M,
     ) -> Result<Status, RemoteError>
-        ensures { (facts self.now).sent socket.now task (W.contents output.old) (W.contents output.new) result };
+        ensures { calls.DidCalls self.old self.new (a_sending socket.now task
+            (record {
+              input = R.remaining input.old;
+              output = W.contents output.old;
+              messages = M.contents messages.old;
+            })
+            (record {
+              input = R.remaining input.new;
+              output = W.contents output.new;
+              messages = M.contents messages.new;
+            })
+            result ∷ []) };
 
-    /// Looks at a log as a witness does after this many looks.
-    fn look(&self, alloc: Global, post: Post<'_>, looks: u64) -> Result<Sight, RemoteError>
-        requires { (facts self.now).reached post looks }
-        ensures looked { (facts self.now).looked post.entry result }
-        ensures reached { (facts self.now).reached post.entry (looks + 1) };
+    /// Looks at a log as a witness does.
+    fn look(&mut self, alloc: Global, post: Post<'_>) -> Result<Sight, RemoteError>
+        ensures { calls.DidCalls self.old self.new (a_look post.entry result ∷ []) };
+
+    /// Pauses for this many seconds.
+    fn pause(&mut self, seconds: u64)
+        ensures { calls.DidCalls self.old self.new (a_rest seconds ∷ []) };
+
+    /// The date of now, to a second; none if there is no clock, or it is past the year 9999.
+    fn date(&self) -> Option<HttpDate>;
 }
 
-impl<F: Files + Dial + Clock> Servers for F
+/// The servers of a system with files, sockets and a clock.
+#[derive(Drop)]
+pub struct SystemServers<'a, F> {
+    rt: &'a F,
+}
+
+impl<'a, F> SystemServers<'a, F> {
+    /// Those of this system.
+    pub fn new(rt: &'a F) -> SystemServers<'a, F> {
+        SystemServers { rt }
+    }
+}
+
+/// Nothing is known of the system's servers.
+impl<F: Files + Dial + Clock> Servers for SystemServers<'_, F>
 where
     F::File: SystemFile,
 {
-    ghost facts = { λ _. facts_of_asking };
+    ghost calls = { unknown_servers };
 
     fn ask<W: Write>(
-        &self,
+        &mut self,
         alloc: Global,
         socket: &str,
         question: Question<'_>,
         seconds: u64,
         output: &mut W,
     ) -> Result<(), RemoteError> {
-        ask_socket(self, alloc, socket, question, seconds, output)
+        ask_socket(self.rt, alloc, socket, question, seconds, output)
     }
 
     fn send<R: Read, W: Write, M: Write>(
-        &self,
+        &mut self,
         alloc: Global,
         socket: &str,
         task: Task,
@@ -80,10 +113,18 @@ where
         output: &mut W,
         messages: &mut M,
     ) -> Result<Status, RemoteError> {
-        send_to_socket(self, alloc, socket, task, input, output, messages)
+        send_to_socket(self.rt, alloc, socket, task, input, output, messages)
     }
 
-    fn look(&self, alloc: Global, post: Post<'_>, _looks: u64) -> Result<Sight, RemoteError> {
-        look_by_file(self, alloc, post)
+    fn look(&mut self, alloc: Global, post: Post<'_>) -> Result<Sight, RemoteError> {
+        look_by_file(self.rt, alloc, post)
+    }
+
+    fn pause(&mut self, seconds: u64) {
+        thread::sleep(self.rt, Duration::from_secs(seconds));
+    }
+
+    fn date(&self) -> Option<HttpDate> {
+        date_of_now(self.rt)
     }
 }

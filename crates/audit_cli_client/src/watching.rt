@@ -1,14 +1,17 @@
 //! A witness of a log, which keeps what it sees in a file.
-ghost use Rattle.std.specs.Prelude.{◌≡◌, ◌⊎◌, ◌+◌, ◌++◌, ℕ, List, false, codes, Some, Err, IfErr, IfSome, OnOk};
+ghost use Rattle.std.specs.Prelude.{◌≡◌, ◌++◌, ℕ, List, [], ◌∷◌, Result, false, codes, Some, IfErr, IfSome, OnOk};
 ghost use Rattle.std.specs.Io.KnownBytes.{Appends};
+ghost use Rattle.audit_client.specs.declared.watching.Sight.{Sight};
+ghost use Rattle.audit_cli_client.specs.declared.fault.RemoteError.{RemoteError};
 ghost use Rattle.audit_cli_client.specs.Faults.{is_passing_fault};
 ghost use Rattle.audit_cli_client.specs.Looking.{sight_line, change_line, FollowsLook, PrintsLook, FailsToPrint};
-ghost use Rattle.audit_cli_client.specs.Looking.{SaysPassing};
+ghost use Rattle.audit_cli_client.specs.Looking.{SaysPassing, SaysReturn};
 ghost use Rattle.audit_cli_client.specs.Messages.{message_of, SaysFirst};
-ghost use Rattle.audit_cli_client.specs.Requests.{LooksOnce, LooksOn};
+ghost use Rattle.audit_cli_client.specs.Requests.{LooksOnce, LooksToTheEnd};
+ghost use Rattle.audit_cli_client.specs.ServerCalls.{a_look};
 ghost use Rattle.audit_cli_client.specs.State.{commitment_word};
 
-use crate::alarm::{date_of_now, push_date};
+use crate::alarm::push_date;
 use crate::alarm_file::keep_alarm;
 use crate::connection::{connect, socket_identity};
 use crate::contradiction::fault_of_look;
@@ -24,10 +27,10 @@ use audit_client::{ClientError, FallibleWrite, Kept, Sight, watch_and_keep};
 use audit_disk::SystemFile;
 use audit_proof::Commitment;
 use audit_text::Shown;
+use httpdate::HttpDate;
 use std::alloc::Global;
 use std::fs::Files;
 use std::io::{self, BufReader, Write};
-use std::thread;
 use std::time::{Clock, Duration};
 
 /// What a witness needs: the server's socket, its own file, how long it waits for a reply, and what it prints.
@@ -45,15 +48,15 @@ pub struct Post<'a> {
 
 /// Looks once, and prints what was seen.
 pub fn watch_once<F: Servers, W: FallibleWrite>(
-    rt: &F,
+    servers: &mut F,
     alloc: Global,
     post: Post<'_>,
     output: &mut W,
 ) -> Result<(), RemoteError>
-    ensures { LooksOnce (F.facts rt.now) post.entry (W.contents output.old) (W.contents output.new)
+    ensures { LooksOnce F.calls post.entry servers.old servers.new (W.contents output.old) (W.contents output.new)
         (W.failed output.new) result }
 {
-    let looked = rt.look(alloc, post, 0);
+    let looked = servers.look(alloc, post);
     print_look(alloc, looked, post.is_quiet, output)
 }
 
@@ -76,47 +79,50 @@ fn print_look<W: FallibleWrite>(
 /// isn't there, or doesn't answer, is reported once until something else is seen, and so is its return. What isn't such
 /// a fault ends it: a judgment of the log, and an output that can't be written.
 pub fn watch_for_ever<F: Servers, W: FallibleWrite, M: FallibleWrite>(
-    rt: &F,
+    servers: &mut F,
     alloc: Global,
     post: Post<'_>,
     every: u64,
     output: &mut W,
     messages: &mut M,
 ) -> Result<(), RemoteError>
-    ensures { LooksOn (F.facts rt.now) post.entry (W.failed output.new) result }
+    ensures { LooksToTheEnd F.calls post.entry every servers.old servers.new (W.contents output.old)
+        (W.contents output.new) (W.failed output.new) result }
 {
     let mut reported = None;
     for looks in 0..u64::MAX {
-        reported = look_again(rt, alloc, post, looks, reported, output, messages)?;
-        thread::sleep(rt, Duration::from_secs(every));
+        reported = look_again(servers, alloc, post, reported, output, messages)?;
+        servers.pause(every);
     }
     Ok(())
 }
 
 // Looks once more. Returns what was reported of a server that isn't there.
 fn look_again<F: Servers, W: FallibleWrite, M: FallibleWrite>(
-    rt: &F,
+    servers: &mut F,
     alloc: Global,
     post: Post<'_>,
-    looks: u64,
     reported: Option<RemoteError>,
     output: &mut W,
     messages: &mut M,
 ) -> Result<Option<RemoteError>, RemoteError>
-    requires { (F.facts rt.now).reached post looks }
-    ensures reached { (F.facts rt.now).reached post.entry (looks + 1) }
-    ensures last { IfErr result (λ fault. (is_passing_fault fault ≡ false)
-        × ((F.facts rt.now).looked post.entry (Err fault) ⊎ FailsToPrint (W.failed output.new) fault)) }
+    ensures looked { (saw : Result Sight RemoteError)
+        × F.calls.DidCalls servers.old servers.new (a_look post.entry saw ∷ [])
+        × FollowsLook post.entry.is_quiet saw (W.contents output.old) (W.contents output.new)
+        (W.failed output.new) result }
+    ensures ends { IfErr result (λ fault. is_passing_fault fault ≡ false) }
 {
-    let looked = rt.look(alloc, post, looks);
-    follow_look(rt, alloc, post, reported, looked, output, messages)
+    let looked = servers.look(alloc, post);
+    let date = servers.date();
+    follow_look(alloc, date, post, reported, looked, output, messages)
 }
 
 /// Prints what a look saw, or reports why it failed, unless that was reported. Returns what was reported, if the next
-/// look is to follow: of a server that isn't there or doesn't answer, or a file that another witness looks by.
-pub fn follow_look<C: Clock, W: FallibleWrite, M: FallibleWrite>(
-    clock: &C,
+/// look is to follow: of a server that isn't there or doesn't answer, or a file that another witness looks by. Reports
+/// have this date.
+pub fn follow_look<W: FallibleWrite, M: FallibleWrite>(
     alloc: Global,
+    date: Option<HttpDate>,
     post: Post<'_>,
     reported: Option<RemoteError>,
     looked: Result<Sight, RemoteError>,
@@ -126,13 +132,15 @@ pub fn follow_look<C: Clock, W: FallibleWrite, M: FallibleWrite>(
     ensures follows { FollowsLook post.entry.is_quiet looked (W.contents output.old) (W.contents output.new)
         (W.failed output.new) result }
     ensures ends { IfErr result (λ fault. is_passing_fault fault ≡ false) }
+    // A passing fault is said unless it was reported. No other fault is said here.
     ensures said { SaysPassing (λ fault. ⟦<Option<RemoteError> as PartialEq>⟧.eq reported (Some fault)) looked
         (M.contents messages.old) (M.contents messages.new) (M.failed messages.new) }
+    ensures returned { SaysReturn reported looked (M.contents messages.old) (M.contents messages.new) }
 {
     match looked {
         Ok(sight) => {
             if let Some(RemoteError::NoConnection(_) | RemoteError::Server(_)) = reported {
-                let line = moment_line(clock, alloc, post.socket, "answers again");
+                let line = moment_line(alloc, date, post.socket, "answers again");
                 print_if_made(line, messages);
             }
             print_change(alloc, sight, post.is_quiet, output)?;
@@ -140,7 +148,7 @@ pub fn follow_look<C: Clock, W: FallibleWrite, M: FallibleWrite>(
         }
         Err(fault) if fault.is_passing() => {
             if reported != Some(fault) {
-                report_passing(clock, alloc, post, fault, messages);
+                report_passing(alloc, date, post, fault, messages);
             }
             Ok(Some(fault))
         }
@@ -168,9 +176,9 @@ fn print_change<W: FallibleWrite>(
 }
 
 // Reports a passing fault: what it is, and then of what, why and when.
-fn report_passing<C: Clock, M: FallibleWrite>(
-    clock: &C,
+fn report_passing<M: FallibleWrite>(
     alloc: Global,
+    date: Option<HttpDate>,
     post: Post<'_>,
     fault: RemoteError,
     messages: &mut M,
@@ -179,7 +187,7 @@ fn report_passing<C: Clock, M: FallibleWrite>(
         (M.failed messages.new)) }
 {
     match fault.print(messages) {
-        Ok(()) => print_if_made(passing_line(clock, alloc, post, fault), messages),
+        Ok(()) => print_if_made(passing_line(alloc, date, post, fault), messages),
         Err(_) => (),
     }
 }
@@ -197,30 +205,35 @@ fn print_if_made<M: FallibleWrite>(line: io::Result<Vec<u8>>, messages: &mut M)
 }
 
 // The line of what a fault is of, why it came, and when.
-fn passing_line<C: Clock>(
-    clock: &C,
+fn passing_line(
     alloc: Global,
+    date: Option<HttpDate>,
     post: Post<'_>,
     fault: RemoteError,
 ) -> io::Result<Vec<u8>> {
     match fault {
         RemoteError::NoConnection(kind) => {
             let cause = format!(in alloc; "{kind}")?;
-            moment_line(clock, alloc, post.socket, &cause)
+            moment_line(alloc, date, post.socket, &cause)
         }
-        RemoteError::StateInUse => moment_line(clock, alloc, post.state, "in use"),
+        RemoteError::StateInUse => moment_line(alloc, date, post.state, "in use"),
         RemoteError::Server(ClientError::TimedOut) => {
-            moment_line(clock, alloc, post.socket, "no reply in time")
+            moment_line(alloc, date, post.socket, "no reply in time")
         }
-        _ => moment_line(clock, alloc, post.socket, "connection ended"),
+        _ => moment_line(alloc, date, post.socket, "connection ended"),
     }
 }
 
 // A line with the name of a file, what is said of it, and the date.
-fn moment_line<C: Clock>(clock: &C, alloc: Global, name: &str, what: &str) -> io::Result<Vec<u8>> {
+fn moment_line(
+    alloc: Global,
+    date: Option<HttpDate>,
+    name: &str,
+    what: &str,
+) -> io::Result<Vec<u8>> {
     let mut line = Vec::new(alloc);
     write!(line, "audit: {}: {what}, ", Shown(name))?;
-    push_date(&mut line, date_of_now(clock))?;
+    push_date(&mut line, date)?;
     line.push(b'\n')?;
     Ok(line)
 }
