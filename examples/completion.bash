@@ -2,7 +2,7 @@
 _audit() {
     local word=${COMP_WORDS[COMP_CWORD]} before=${COMP_WORDS[COMP_CWORD - 1]} command=${COMP_WORDS[1]}
     local commands="replay format append close rotate show prove check export verify serve loop daemon stop send ask watch help"
-    local valued="--mode --long --expect --reserve --sessions --socket-mode --reader --idle --backlog --window --timeout --every"
+    local valued="--mode --long --expect --reserve --sessions --socket-mode --reader --idle --backlog --window --timeout --every --kind --from --save"
     local options="--explain --no-progress --help" choices= files= place=0 question= index
     [ "$command" = verify ] || valued="$valued --text"
     # Which word of the command this is: options and their values aren't counted.
@@ -20,8 +20,8 @@ _audit() {
     show) options="$options --free --read-only" ;;
     prove) options="$options --read-only" ;;
     check) options="$options --print" ;;
-    verify) options="$options --text" ;;
-    export) options="$options --read-only --salvage" ;;
+    verify) options="$options --text --numbers --json --kind --from --save" ;;
+    export) options="$options --from --read-only --salvage" ;;
     serve) options="$options --sessions --socket-mode" ;;
     loop) options="$options --socket-mode" ;;
     daemon) options="$options --reader --allow-close --idle --backlog --reserve --socket-mode" ;;
@@ -34,7 +34,7 @@ _audit() {
         choices="$commands --help --version"
     elif [[ " $valued " == *" $before "* ]]; then
         case $before in
-        --reader) files=1 ;;
+        --reader | --save) files=1 ;;
         --long) choices="cut refuse" ;;
         --mode | --socket-mode) choices="600 640 660" ;;
         esac

@@ -1,6 +1,8 @@
 //! What is wrong with a word of a command line, or with a key file.
 use crate::bytes::Bytes;
 use crate::command::Asked;
+use crate::contents::state_in;
+use crate::continuing::explain_start;
 use crate::form::key_flaw;
 use crate::places::key_file_of;
 use crate::question::bad_question;
@@ -10,16 +12,23 @@ use audit_cli_host::Notes;
 use audit_cli_store::Request;
 use audit_disk::FileIdentity;
 use audit_text::Shown;
+use std::alloc::Global;
 use std::fs::{self, Files};
 use std::io::{self, Write};
 
 /// Prints which word has another form, or that the key file holds no key.
 pub(crate) fn explain_argument<F: Files, M: Write>(
     rt: &F,
+    alloc: Global,
     asked: Asked<'_>,
     notes: &Notes<'_>,
     messages: &mut M,
 ) -> io::Result<()> {
+    if let Asked::Plain(Request::Verify(asked)) = asked
+        && let Some(state) = state_in(rt, alloc, asked.start)
+    {
+        return explain_start(asked, state, messages);
+    }
     if let Some(file) = key_file_of(asked)
         && notes.key_text().is_no_key()
     {

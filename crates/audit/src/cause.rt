@@ -81,7 +81,7 @@ pub(crate) fn explain_contents<F: Files, M: Write>(
 ) -> io::Result<()> {
     let (path, wanted) = match asked {
         Asked::Plain(Request::Check { proof, .. }) => (Some(proof), Contents::Proof),
-        Asked::Plain(Request::Verify { export, .. }) => (Some(export), Contents::Export),
+        Asked::Plain(Request::Verify(asked)) => (Some(asked.export), Contents::Export),
         _ => (store_of(asked), Contents::Store),
     };
     let Some(path) = path else {

@@ -6,7 +6,7 @@ use audit_cli_daemon::{Request as Daemon, Settings};
 use audit_cli_offline::{CheckForm, ReportForm};
 use audit_cli_rotate::Request as Rotation;
 use audit_cli_serve::Request as Serving;
-use audit_cli_store::{Access, Request, ShowForm, Site};
+use audit_cli_store::{Access, Request, ShowForm, Site, Verification};
 use clap::{ArgMatches, Error};
 use std::alloc::Global;
 use std::convert::AsStr;
@@ -176,16 +176,20 @@ fn export_request<'a>(given: &ArgMatches<'a>) -> Request<'a> {
         } else {
             access(given)
         },
+        from: given.get_str("from"),
     }
 }
 
 fn verify_request<'a>(given: &ArgMatches<'a>) -> Request<'a> {
-    Request::Verify {
+    Request::Verify(Verification {
         export: word(given, "EXPORT"),
-        key_file: word(given, "KEYFILE"),
+        start: word(given, "KEYFILE"),
         commitment: word(given, "COMMIT"),
         form: report_form(given),
-    }
+        kinds: given.get_str("kind"),
+        from: given.get_str("from"),
+        save: given.get_str("save"),
+    })
 }
 
 fn prove_request<'a>(given: &ArgMatches<'a>) -> Request<'a> {
@@ -228,7 +232,11 @@ fn check_form(given: &ArgMatches<'_>) -> CheckForm {
 
 // How the events of an export are printed.
 fn report_form(given: &ArgMatches<'_>) -> ReportForm {
-    if given.get_flag("text") {
+    if given.get_flag("json") {
+        ReportForm::Json
+    } else if given.get_flag("numbers") {
+        ReportForm::Numbered
+    } else if given.get_flag("text") {
         ReportForm::Text
     } else {
         ReportForm::Events

@@ -4,6 +4,7 @@ use audit_cli_offline::read_proof;
 use audit_disk::SECTOR_SIZE;
 use audit_log::Header;
 use audit_text::read_input;
+use audit_verify::{StateError, read_state};
 use std::alloc::Global;
 use std::fmt::{self, Display, Formatter};
 use std::fs::{self, Files, Metadata};
@@ -38,6 +39,33 @@ impl Display for Contents {
             Contents::Export => "an export, which 'verify' reads",
             Contents::Proof => "a proof, which 'check' reads",
         })
+    }
+}
+
+/// What a file holds whose first word is that of a state.
+#[derive(Clone, Copy)]
+pub(crate) enum StateText {
+    /// A state after this number of entries, of which the last closed the log or didn't.
+    Whole { count: u64, is_closed: bool },
+    /// No state.
+    Damaged,
+}
+
+/// The state in a regular file whose first word is that of one.
+pub(crate) fn state_in<F: Files>(rt: &F, alloc: Global, path: &str) -> Option<StateText> {
+    metadata_of(rt, path)?;
+    let mut file = fs::open(rt, path).ok()?;
+    let text = read_input(alloc, &mut file).ok()?;
+    if !text.starts_with(b"audit-state") {
+        return None;
+    }
+    match read_state(alloc, &text) {
+        Ok(state) => Some(StateText::Whole {
+            count: state.count(),
+            is_closed: state.is_closed(),
+        }),
+        Err(StateError::Damaged) => Some(StateText::Damaged),
+        Err(StateError::Memory) => None,
     }
 }
 

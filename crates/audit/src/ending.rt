@@ -63,7 +63,7 @@ fn print_end<F: Files, M: Write>(
         explain_rest(rt, asked, messages)?;
     }
     if explains {
-        warn(rt, asked, notes, messages)?;
+        warn(rt, alloc, asked, notes, messages)?;
     }
     Ok(())
 }

@@ -5,7 +5,7 @@ use audit_cli_client::Request as Remote;
 use audit_cli_store::{Request, Site};
 use audit_disk::FileIdentity;
 use audit_text::Shown;
-use std::fs::{self, Files};
+use std::fs::{self, Files, Metadata};
 use std::io::{self, Write};
 use std::os::unix::fs::FileTypeExt;
 
@@ -17,7 +17,13 @@ pub(crate) fn explain_existing<F: Files, M: Write>(
 ) -> io::Result<()> {
     let (path, cause) = match asked {
         Asked::Plain(Request::Export { file, out, .. } | Request::Prove { file, out, .. }) => {
-            (out, cause_at(rt, out, file, "OUT is the store"))
+            return explain_output(rt, "OUT", out, (file, "the store"), messages);
+        }
+        Asked::Plain(Request::Verify(asked)) => {
+            let Some(out) = asked.save else {
+                return Ok(());
+            };
+            return explain_output(rt, "STATE", out, (asked.export, "EXPORT"), messages);
         }
         Asked::Remote(
             Remote::Ask {
@@ -30,7 +36,7 @@ pub(crate) fn explain_existing<F: Files, M: Write>(
             let Some(out) = third.or(second).or(first) else {
                 return Ok(());
             };
-            (out, cause_at(rt, out, socket, "OUT is the socket"))
+            return explain_output(rt, "OUT", out, (socket, "the socket"), messages);
         }
         Asked::Plain(Request::Format { file, site, .. }) => match site {
             Site::NewFile { .. } => (file, "it is there, and --in-place would format it"),
@@ -47,24 +53,41 @@ pub(crate) fn explain_existing<F: Files, M: Write>(
     writeln!(messages, "audit: {}: {cause}", Shown(path))
 }
 
-// Why an output isn't written to a path. `same` is said of the file that is read.
-fn cause_at<F: Files>(rt: &F, out: &str, read: &str, same: &'static str) -> &'static str {
+// Prints why an output isn't written to a path. `read` is the path of what is read, and its name.
+fn explain_output<F: Files, M: Write>(
+    rt: &F,
+    name: &'static str,
+    out: &str,
+    read: (&str, &'static str),
+    messages: &mut M,
+) -> io::Result<()> {
+    let (path, what) = read;
+    let shown = Shown(out);
     let Ok(found) = fs::metadata(rt, out) else {
-        return "OUT is gone by now";
+        return writeln!(messages, "audit: {shown}: {name} is gone by now");
     };
-    if let Ok(other) = fs::metadata(rt, read)
+    if let Ok(other) = fs::metadata(rt, path)
         && FileIdentity::of(&found) == FileIdentity::of(&other)
     {
-        return same;
+        return writeln!(messages, "audit: {shown}: {name} is {what}");
     }
+    match kind_at(rt, out, &found) {
+        Some(kind) => writeln!(messages, "audit: {shown}: {name} is {kind}"),
+        None => writeln!(
+            messages,
+            "audit: {shown}: another program has {name} locked"
+        ),
+    }
+}
+
+// What a file is that isn't replaced.
+fn kind_at<F: Files>(rt: &F, path: &str, found: &Metadata) -> Option<&'static str> {
     if found.file_type().is_block_device() {
-        return "OUT is a block device";
+        return Some("a block device");
     }
     if !found.is_file() {
-        return "OUT is no regular file";
+        return Some("no regular file");
     }
-    if store_head(rt, out).is_some() {
-        return "OUT is a store";
-    }
-    "another program has OUT locked"
+    store_head(rt, path)?;
+    Some("a store")
 }

@@ -2,6 +2,7 @@
 use crate::argument::explain_argument;
 use crate::cause::{explain_contents, print_cause};
 use crate::command::Asked;
+use crate::continuing::explain_entry;
 use crate::existing::explain_existing;
 use crate::heard::Said;
 use crate::outside::explain_outside;
@@ -28,7 +29,7 @@ pub(crate) fn explain_fault<F: Files, M: Write>(
     messages: &mut M,
 ) -> io::Result<()> {
     match said {
-        Some(Said::BadArgument) => explain_argument(rt, asked, notes, messages),
+        Some(Said::BadArgument) => explain_argument(rt, alloc, asked, notes, messages),
         Some(Said::FileFault | Said::DeviceFault) => print_cause(rt, alloc, asked, notes, messages),
         Some(Said::BadEntry) if status == Status::Device => {
             print_cause(rt, alloc, asked, notes, messages)
@@ -40,8 +41,9 @@ pub(crate) fn explain_fault<F: Files, M: Write>(
             Some(wrong) => writeln!(messages, "audit: {wrong}"),
             None => Ok(()),
         },
-        Some(Said::NotAStore | Said::BadProof | Said::BadEntry) => {
-            explain_contents(rt, alloc, asked, messages)
+        Some(Said::NotAStore | Said::BadProof) => explain_contents(rt, alloc, asked, messages),
+        Some(Said::BadEntry | Said::BadLink { .. }) => {
+            explain_entry(rt, alloc, asked, said, messages)
         }
         Some(Said::NotAllowed | Said::NoReply | Said::Ended) => {
             explain_server(asked, said, messages)

@@ -17,6 +17,8 @@ pub(crate) enum Form<'a> {
     Number { least: u64, most: u64 },
     /// The kind of an event, in 1 to 10 decimal digits.
     Kind,
+    /// Kinds of any events, with commas between them.
+    Kinds,
     /// Permissions.
     Mode,
     /// A count and a root.
@@ -47,6 +49,7 @@ impl Form<'_> {
                 None => false,
             },
             Form::Kind => kind_in_word(bytes).is_some(),
+            Form::Kinds => word.split(',').all(|part| is_any_kind(part)),
             Form::Mode => mode_asked(word).is_ok(),
             Form::Commitment => commitment_in_word(bytes).is_some(),
             Form::Socket => socket_path_asked(word, 0).is_ok(),
@@ -83,6 +86,9 @@ impl Display for Form<'_> {
             Form::Kind => f.write_str(
                 "a number from 0 to 4294967294, in at most 10 decimal digits",
             ),
+            Form::Kinds => f.write_str(
+                "numbers from 0 to 4294967295, in decimal digits, with commas between them",
+            ),
             Form::Mode => f.write_str("600 to 677, in octal digits"),
             Form::Commitment => f.write_str("COUNT:ROOT, a number and 64 hex digits"),
             Form::Socket => write!(f, "a path of 1 to {MAX_SOCKET_PATH} bytes"),
@@ -93,6 +99,14 @@ impl Display for Form<'_> {
             Form::Long { .. } => f.write_str("refuse or cut"),
             Form::Proof => f.write_str("member or increment"),
         }
+    }
+}
+
+// Whether a word is the kind of an event, or of one that closes a log.
+fn is_any_kind(word: &str) -> bool {
+    match number_in_text(word.as_bytes()) {
+        Some(kind) => kind <= u64::from(u32::MAX),
+        None => false,
     }
 }
 

@@ -347,6 +347,13 @@ static EXPORT: Form = Form {
             needs: None,
             excludes: None,
         },
+        Choice {
+            name: "from",
+            value: Some("INDEX"),
+            help: "Writes the entries from this index on alone",
+            needs: None,
+            excludes: Some("salvage"),
+        },
     ],
 };
 
@@ -362,22 +369,59 @@ static VERIFY: Form = Form {
         },
         Word {
             name: "KEYFILE",
-            help: "The file with the first key, in 64 hex digits",
+            help: "The file with the first key, in 64 hex digits, or with the STATE that EXPORT follows",
             is_required: true,
         },
         Word {
             name: "COMMIT",
-            help: "The commitment, as COUNT:ROOT",
+            help: "The commitment to the whole log, as COUNT:ROOT",
             is_required: true,
         },
     ],
-    options: &[Choice {
-        name: "text",
-        value: None,
-        help: "Prints each payload as a line of text, and nothing else; the last line goes to standard error",
-        needs: None,
-        excludes: None,
-    }],
+    options: &[
+        Choice {
+            name: "text",
+            value: None,
+            help: "Prints each payload as a line of text, and nothing else; the last line goes to standard error",
+            needs: None,
+            excludes: None,
+        },
+        Choice {
+            name: "numbers",
+            value: None,
+            help: "With --text: index and kind before each payload, with a tab after each",
+            needs: Some("text"),
+            excludes: None,
+        },
+        Choice {
+            name: "json",
+            value: None,
+            help: "Prints each event as a line of JSON; the last line goes to standard error",
+            needs: None,
+            excludes: Some("text"),
+        },
+        Choice {
+            name: "kind",
+            value: Some("K[,K..]"),
+            help: "Prints the events of these kinds alone, each 0 to 4294967295; all are verified",
+            needs: None,
+            excludes: None,
+        },
+        Choice {
+            name: "from",
+            value: Some("INDEX"),
+            help: "Prints the events from this index on alone; all are verified",
+            needs: None,
+            excludes: None,
+        },
+        Choice {
+            name: "save",
+            value: Some("STATE"),
+            help: "In the end, saves in a file the state from which a later export is verified",
+            needs: None,
+            excludes: None,
+        },
+    ],
 };
 
 static SERVE: Form = Form {

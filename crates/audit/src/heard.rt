@@ -1,5 +1,6 @@
 use audit_cli_base::Status;
 use audit_cli_host::Notes;
+use audit_text::{number_in_text, split_at_first};
 use std::io::{self, Write};
 
 // The most bytes of a line that are held before it is passed on. Longer lines are none of those that are told apart.
@@ -19,6 +20,8 @@ pub(crate) enum Said {
     BadProof,
     /// An entry of an export isn't the one that it is to be.
     BadEntry,
+    /// The entry with this index of an export doesn't follow what comes before it.
+    BadLink { index: u64 },
     NoReply,
     Ended,
     DeviceFault,
@@ -33,7 +36,7 @@ impl Said {
             Said::FileFault | Said::DeviceFault | Said::InUse | Said::NoReply | Said::Ended => {
                 status == Status::Device
             }
-            Said::BadEntry => true,
+            Said::BadEntry | Said::BadLink { .. } => true,
             Said::FileExists
             | Said::NoSuchVersion
             | Said::BadSize
@@ -133,11 +136,20 @@ impl<M: Write> Write for Heard<'_, '_, '_, M> {
     }
 }
 
+// What a line says of an entry, after that word.
+fn said_of_entry(words: &[u8]) -> Said {
+    let (index, cause) = split_at_first(words, b':');
+    match number_in_text(index) {
+        Some(index) if cause == b" 42 BadLink\n".as_slice() => Said::BadLink { index },
+        _ => Said::BadEntry,
+    }
+}
+
 // What a line says, with its line feed.
 fn said_in(line: &[u8]) -> Option<Said> {
     let words = line.strip_prefix(b"audit: ")?;
-    if words.starts_with(b"entry ") {
-        return Some(Said::BadEntry);
+    if let Some(entry) = words.strip_prefix(b"entry ") {
+        return Some(said_of_entry(entry));
     }
     match words {
         b"bad argument\n" => Some(Said::BadArgument),

@@ -6,6 +6,7 @@ mod bytes;
 mod cause;
 mod command;
 mod contents;
+mod continuing;
 mod ending;
 mod existing;
 mod explaining;

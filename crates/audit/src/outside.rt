@@ -13,7 +13,7 @@ use std::io::{self, Write};
 /// A number that a log doesn't have.
 #[derive(Clone, Copy)]
 enum Outside {
-    /// A count is above the log's.
+    /// A count, or an index that may be one, is above the log's count.
     Above { name: &'static str, count: u64 },
     /// An index isn't below the count.
     Index { index: u64, count: u64 },
@@ -61,6 +61,16 @@ pub(crate) fn explain_outside<F: Files, M: Write>(
             let total = store_head(rt, file).map(|head| head.count);
             (kind, Some(first), Some(second), total)
         }
+        Asked::Plain(
+            Request::Export {
+                file,
+                from: Some(from),
+                ..
+            },
+        ) => {
+            let total = store_head(rt, file).map(|head| head.count);
+            ("--from", Some(from), None, total)
+        }
         Asked::Remote(
             Remote::Ask {
                 question: (name, first, second, _),
@@ -103,6 +113,12 @@ fn outside_of(
     total: Option<u64>,
 ) -> Option<Outside> {
     let one = number_in_text(first?.as_bytes())?;
+    if kind == "--from" {
+        return Some(Outside::Above {
+            name: "INDEX",
+            count: one,
+        });
+    }
     if kind == "entry" {
         return Some(Outside::Entry { index: one });
     }

@@ -23,16 +23,15 @@ fn store_of_plain<'a>(request: Request<'a>) -> Option<&'a str> {
         | Request::Show { file, .. }
         | Request::Export { file, .. }
         | Request::Prove { file, .. } => Some(file),
-        Request::Replay | Request::Check { .. } | Request::Verify { .. } => None,
+        Request::Replay | Request::Check { .. } | Request::Verify(_) => None,
     }
 }
 
 /// The file from which a command reads a key.
 pub(crate) fn key_file_of<'a>(asked: Asked<'a>) -> Option<&'a str> {
     match asked {
-        Asked::Plain(Request::Format { key_file, .. } | Request::Verify { key_file, .. }) => {
-            Some(key_file)
-        }
+        Asked::Plain(Request::Format { key_file, .. }) => Some(key_file),
+        Asked::Plain(Request::Verify(asked)) => Some(asked.start),
         Asked::Rotation(rotation) => Some(rotation.key_file),
         _ => None,
     }

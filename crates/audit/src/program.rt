@@ -109,6 +109,7 @@ fn hint<M: Write>(messages: &mut M) {
 fn only_answers(asked: Asked<'_>) -> bool {
     match asked {
         Asked::Plain(Request::Format { .. } | Request::Close { .. }) => false,
+        Asked::Plain(Request::Verify(asked)) => asked.save.is_none(),
         Asked::Plain(_) => true,
         Asked::Remote(Remote::Ask { question, .. }) => question.0 != "close",
         _ => false,
@@ -147,22 +148,19 @@ where
     }
 }
 
-// Whether payloads are printed as lines of text.
+// Whether payloads are printed as text.
 fn prints_text(asked: Asked<'_>) -> bool {
-    matches!(
-        asked,
-        Asked::Plain(Request::Verify {
-            form: ReportForm::Text,
-            ..
-        })
-    )
+    match asked {
+        Asked::Plain(Request::Verify(asked)) => asked.form != ReportForm::Events,
+        _ => false,
+    }
 }
 
 // Shows how far a command is that may take long, by the file that it reads or writes most.
 fn show_progress(asked: Asked<'_>, notes: &Notes<'_>) {
     match asked {
-        Asked::Plain(Request::Verify { export, .. }) => {
-            notes.show_progress(notes.subject_of(export), Extent::Whole)
+        Asked::Plain(Request::Verify(asked)) => {
+            notes.show_progress(notes.subject_of(asked.export), Extent::Whole)
         }
         Asked::Plain(
             Request::Format { file, .. }

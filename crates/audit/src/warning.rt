@@ -1,9 +1,10 @@
 //! Warnings about files that hold keys.
 use crate::command::Asked;
-use crate::contents::store_head;
+use crate::contents::{StateText, state_in, store_head};
 use crate::places::{key_file_of, store_of};
 use audit_cli_host::Notes;
 use audit_text::Shown;
+use std::alloc::Global;
 use std::fs::{self, Files};
 use std::io::{self, Write};
 use std::os::unix::fs::PermissionsExt;
@@ -14,6 +15,7 @@ const OTHERS: u32 = 0o077;
 /// Prints a warning for each file with a key that others than its owner can access.
 pub(crate) fn warn<F: Files, M: Write>(
     rt: &F,
+    alloc: Global,
     asked: Asked<'_>,
     notes: &Notes<'_>,
     messages: &mut M,
@@ -26,7 +28,16 @@ pub(crate) fn warn<F: Files, M: Write>(
     }
     match key_file_of(asked) {
         Some(file) if notes.key_text().is_key() => warn_of(rt, file, messages),
-        _ => Ok(()),
+        Some(file) => match state_in(rt, alloc, file) {
+            Some(
+                StateText::Whole {
+                    is_closed: false,
+                    ..
+                },
+            ) => warn_of(rt, file, messages),
+            _ => Ok(()),
+        },
+        None => Ok(()),
     }
 }
 

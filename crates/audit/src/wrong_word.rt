@@ -98,8 +98,10 @@ fn wrong_in_plain<'a>(request: Request<'a>) -> Option<Wrong<'a>> {
                 Form::Commitment,
             ))
         }
-        Request::Verify { commitment, .. } => {
-            judge("COMMIT", Some(commitment), Form::Commitment)
+        Request::Verify(asked) => {
+            judge("COMMIT", Some(asked.commitment), Form::Commitment)
+                .or(judge("--kind", asked.kinds, Form::Kinds))
+                .or(judge("--from", asked.from, Form::ANY))
         }
         Request::Prove {
             kind,
@@ -107,8 +109,8 @@ fn wrong_in_plain<'a>(request: Request<'a>) -> Option<Wrong<'a>> {
             second,
             ..
         } => judge("KIND", Some(kind), Form::Proof).or(wrong_in_pair(kind, first, second)),
-        Request::Replay | Request::Close { .. } | Request::Show { .. } | Request::Export { .. } =>
-            None,
+        Request::Export { from, .. } => judge("--from", from, Form::ANY),
+        Request::Replay | Request::Close { .. } | Request::Show { .. } => None,
     }
 }
 

@@ -19,14 +19,17 @@ key_of_digits text digits said cut is = ap (λ d. result_ok (decode_sized d 32))
 no_key_in : (digits : List ℕ) → 66 ≤ length digits → result_ok (decode_sized digits 32) ≡ None
 no_key_in digits long = grind (arith, nat_tests)
 
-long_front : (ended : Bool) (text : List ℕ) → INPUT_LIMIT < length text
+long_front : (ended : Bool) (text : List ℕ) → 67 ≤ length text
     → 66 ≤ length (if ended then take (length text - 1) text else text)
 long_front true text long = omega (arith, long, length-take (length text - 1) text)
 long_front false text long = omega (arith, long)
 
-pub too_long_for_a_key : (text : List ℕ) → INPUT_LIMIT < length text → key_of_file text ≡ None
+pub no_key_if_long : (text : List ℕ) → 67 ≤ length text → key_of_file text ≡ None
 unfolding key_of_file
-too_long_for_a_key text long = no_key_in (without_line_feed text) (long_front (ends_with nat_eq text (codes "\n")) text long)
+no_key_if_long text long = no_key_in (without_line_feed text) (long_front (ends_with nat_eq text (codes "\n")) text long)
+
+pub too_long_for_a_key : (text : List ℕ) → INPUT_LIMIT < length text → key_of_file text ≡ None
+too_long_for_a_key text long = no_key_if_long text (omega (arith, long))
 
 pub no_key_if_too_long : (known : Option (List ℕ)) → IfSome known (λ text. INPUT_LIMIT < length text)
     → IfSome known (λ text. key_of_file text ≡ None)

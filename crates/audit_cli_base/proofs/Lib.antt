@@ -1,3 +1,4 @@
 pub mod KeyFiles
+mod StartFiles
 pub mod Blank
 pub mod Sectors

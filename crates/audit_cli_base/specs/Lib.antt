@@ -3,4 +3,5 @@ pub mod Mode
 pub mod SocketPath
 pub mod Arguments
 pub mod KeyFile
+pub mod StartFile
 pub mod Blank

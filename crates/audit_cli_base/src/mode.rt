@@ -1,5 +1,6 @@
 //! The permissions of a new file.
-ghost use Rattle.std.specs.Prelude.{◌≡◌, ℕ, IfOk, IfErr, Ok, bit_and};
+ghost use Rattle.std.specs.Prelude.{◌≡◌, ℕ, Some, IfOk, IfErr, Ok, bit_and};
+ghost use Rattle.std.specs.Option.{option_map};
 ghost use Rattle.audit_cli_base.specs.Mode.{IsMode, mode_digits};
 
 use crate::fault::CommandError;
@@ -8,9 +9,32 @@ use audit_disk::OWNER_ONLY;
 /// Reading and writing for everyone.
 const ANYONE: u32 = 0o666;
 
-/// The permissions of a file that replaces one with the mode `replaced`: at most those, and never more than reading and
-/// writing. So nobody executes what was written, and no bit changes the user or the group of a program.
-pub(crate) fn replacing_mode(replaced: u32) -> u32
+/// Who may read and write a file that a command writes.
+#[derive(Clone, Copy)]
+pub(crate) enum Readers {
+    /// Those who may by the file that it replaces, or by the system's habit.
+    AsReplaced,
+    /// Its owner alone.
+    Owner,
+}
+
+/// The permissions of a file for these readers that replaces one with this mode, if there is one. `None` leaves them to
+/// the system.
+pub(crate) fn mode_for(readers: Readers, replaced: Option<u32>) -> Option<u32>
+    ensures owner { readers ≡ Readers.Owner → result ≡ Some 0o600 }
+    ensures replaced { readers ≡ Readers.AsReplaced → result
+        ≡ option_map (λ mode. bit_and mode 0o666) replaced }
+{
+    match (readers, replaced) {
+        (Readers::Owner, _) => Some(OWNER_ONLY),
+        (Readers::AsReplaced, Some(mode)) => Some(replacing_mode(mode)),
+        (Readers::AsReplaced, None) => None,
+    }
+}
+
+// The permissions of a file that replaces one with the mode `replaced`: at most those, and never more than reading and
+// writing. So nobody executes what was written, and no bit changes the user or the group of a program.
+fn replacing_mode(replaced: u32) -> u32
     ensures { result ≡ bit_and replaced 0o666 }
 {
     replaced & ANYONE

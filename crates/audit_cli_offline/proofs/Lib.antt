@@ -1,3 +1,4 @@
+mod KindWords
 pub mod Lines
 pub mod SecondPass
 mod TextReports

@@ -1,4 +1,6 @@
 pub mod CommitmentWord
+pub mod KindsWord
+pub mod Printing
 pub mod ReportLines
 pub mod VerifiedExport
 pub mod Judgment

@@ -11,8 +11,8 @@ use audit_text::{LinesError, write_whole};
 use std::alloc::{AllocError, Global};
 use std::io::Write;
 
-/// Writes the message after a report in text: `audit: verified`, the number of the events, and whether they close the
-/// log. After a report in the other form, whose last line has these, nothing is written.
+/// Writes the message after a report: `audit: verified`, the number of all entries, and whether the log is closed.
+/// After a report in the form `Events`, whose last line has these, nothing is written.
 ///
 /// Errors: `Memory` if memory was refused, and then nothing was written; `Write` if a write failed, and then a prefix
 /// of the message was written.
@@ -38,7 +38,7 @@ fn push_message(line: &mut Vec<u8>, form: ReportForm, end: VerifiedEnd) -> Resul
 {
     match form {
         ReportForm::Events => Ok(()),
-        ReportForm::Text => {
+        ReportForm::Text | ReportForm::Numbered | ReportForm::Json => {
             line.extend_from_slice(b"audit: ")?;
             push_count(line, end.count, end.closed)
         }

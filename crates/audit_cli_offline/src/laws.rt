@@ -1,13 +1,36 @@
-//! Laws of reports. Each function does nothing: its contract is the law.
-ghost use Rattle.std.specs.Prelude.{◌≡◌, Bool, List, map};
+//! Laws of reports. Each function does nothing: its contract is the law, which may stand on another one.
+ghost use Rattle.std.specs.Prelude.{◌≡◌, ◌+◌, ◌^◌, ◌≤◌, Bool, ℕ, List, Some, length, map};
 ghost use Rattle.std.specs.List.{AllByRecursion};
 ghost use Rattle.audit_chain.specs.Event.{EventData, IsEvent};
 ghost use Rattle.audit_text.specs.PrintedText.{read_back};
-ghost use Rattle.audit_cli_offline.specs.declared.report_form.ReportForm.TheVariants.{Text};
-ghost use Rattle.audit_cli_offline.specs.ReportLines.{report_lines};
+ghost use Rattle.audit_text.specs.NumberedEvent.{NumberedEvent};
+ghost use Rattle.audit_text.specs.NumberedText.{events_of_numbered};
+ghost use Rattle.audit_text.specs.JsonLine.{events_of_json};
+ghost use Rattle.audit_cli_offline.specs.declared.report_form.ReportForm.TheVariants.{Text, Numbered, Json};
+ghost use Rattle.audit_cli_offline.specs.Printing.{PrintingData};
+ghost use Rattle.audit_cli_offline.specs.ReportLines.{report_lines, printed_events};
 
-/// A report in text is read back to the payloads of its events, whatever bytes they have.
+use audit_text::laws::printed_events_are_read_back;
+
+/// A report in text is read back to the payloads of the events that it prints, whatever bytes they have.
 pub fn text_reports_are_read_back()
-    ensures { (events : List EventData) (closed : Bool) → AllByRecursion IsEvent events
-        → read_back (report_lines Text events closed) ≡ map (λ (event : EventData). event.payload) events }
+    ensures { (printing : PrintingData) (first : ℕ) (events : List EventData) (closed : Bool)
+        → printing.form ≡ Text → AllByRecursion IsEvent events
+        → read_back (report_lines printing first events closed)
+        ≡ map (λ (event : NumberedEvent). event.payload) (printed_events printing first events) }
 {}
+
+/// A report with indices is read back to the events that it prints, whatever bytes their payloads have: in numbered
+/// text and in JSON.
+pub fn numbered_reports_are_read_back()
+    ensures text { (printing : PrintingData) (first : ℕ) (events : List EventData) (closed : Bool)
+        → printing.form ≡ Numbered → AllByRecursion IsEvent events → first + length events ≤ 2 ^ 64
+        → events_of_numbered (report_lines printing first events closed)
+        ≡ map (λ event. Some event) (printed_events printing first events) }
+    ensures json { (printing : PrintingData) (first : ℕ) (events : List EventData) (closed : Bool)
+        → printing.form ≡ Json → AllByRecursion IsEvent events → first + length events ≤ 2 ^ 64
+        → events_of_json (report_lines printing first events closed)
+        ≡ map (λ event. Some event) (printed_events printing first events) }
+{
+    printed_events_are_read_back();
+}

@@ -1,9 +1,13 @@
-/// How the events of a verified export are printed.
+/// How an event of a verified export is printed.
 #[derive(Clone, Copy, Debug, PartialEq, Eq)]
 pub enum ReportForm {
-    /// A line with the number, the kind and the payload of each event, in hex digits, then a line with their number and
-    /// whether they close the log.
+    /// As a line with its index, its kind and its payload in hex digits. After the events follows a line with their
+    /// number and whether they close the log.
     Events,
-    /// The payload of each event as a line of text, and nothing else.
+    /// As its payload, a line of text, and nothing else.
     Text,
+    /// As a line of text with its index, its kind and its payload, and a tab between them.
+    Numbered,
+    /// As a line with an object of JSON.
+    Json,
 }

@@ -6,3 +6,4 @@ pub mod Exports
 pub mod Checks
 pub mod Salvaged
 pub mod Requests
+pub mod Verifications

@@ -4,7 +4,8 @@ use Rattle.std.specs.Io.KnownBytes.{Keeps, Appends}
 use Rattle.audit_text.specs.declared.fault.LinesError.{LinesError}
 use Rattle.audit_text.specs.Answers.{IsFaultOf, IsBeforeWriting}
 use Rattle.audit_text.specs.Writing.{WritesInPart}
-use Rattle.audit_cli_base.specs.Arguments.{sectors_asked, proof_asked, IsNewFileFault, AreNoCommitments, RefusesWords}
+use Rattle.audit_cli_base.specs.Arguments.{number_asked, sectors_asked, proof_asked, IsNewFileFault, AreNoCommitments}
+use Rattle.audit_cli_base.specs.Arguments.{RefusesWords}
 use Rattle.audit_cli_base.specs.Faults.{status_of_end}
 use Rattle.audit_cli_base.specs.declared.status.Status.{Status}
 use Rattle.audit_cli_base.specs.declared.status.Status.TheVariants as ends
@@ -14,7 +15,7 @@ use Rattle.audit_cli_store.specs.Replay.{replay_output}
 use Rattle.audit_cli_store.specs.declared.request.Site.{Site}
 use Rattle.audit_cli_store.specs.declared.request.Site.TheVariants.{NewFile, InPlace}
 use Rattle.audit_cli_store.specs.declared.request.Request.{Request}
-use Rattle.audit_cli_store.specs.declared.request.Request.TheVariants.{Replay, Format, Check}
+use Rattle.audit_cli_store.specs.declared.request.Request.TheVariants.{Replay, Format, Check, Export}
 use Rattle.audit_cli_store.specs.declared.request.Request.TheVariants.{Prove}
 
 -- ---- words
@@ -27,6 +28,7 @@ IsFormatFault (InPlace erase) sectors fault = sectors_asked sectors ≡ Err faul
 abbrev pub IsWordFault : Request → CommandError → Type 0
 IsWordFault (Format file site sectors key_file) fault = IsFormatFault site sectors.now fault
 IsWordFault (Check proof older newer form) fault = AreNoCommitments older.now newer × (fault ≡ BadArgument)
+IsWordFault (Export file out access from) fault = number_asked from 0 ≡ Err fault
 IsWordFault (Prove file kind first second out access) fault =
     (proof_asked kind.now first.now second.now ≡ None) × (fault ≡ BadArgument)
 IsWordFault _ fault = ⊥

@@ -1,5 +1,8 @@
 //! Commands that only answer about the store in a file.
-use crate::exporting::write_entries;
+ghost use Rattle.std.specs.Prelude.{◌≡◌, Err};
+ghost use Rattle.audit_cli_base.specs.Arguments.{RefusesWords, number_asked};
+
+use crate::exporting::{judge_first, write_entries};
 use crate::proving::proof_bytes;
 use crate::request::Access;
 use crate::salvaging::{Salvaged, write_salvage_line, write_salvaged};
@@ -7,8 +10,8 @@ use crate::show_form::ShowForm;
 use crate::showing::show;
 use audit_cli_base::{
     CommandError, Opened, OutputFile, ProofRequest, STANDARD_OUTPUT, is_standard_output,
-    open_device_to_read, open_device_to_salvage, open_store, store_to_read, write_exported,
-    write_number,
+    number_asked, open_device_to_read, open_device_to_salvage, open_store, store_to_read,
+    write_exported, write_number,
 };
 use audit_disk::{FileIdentity, Reading, SystemFile, SystemFiles};
 use audit_disk_model::Sectors;
@@ -25,9 +28,30 @@ const FILE_ROOM: usize = 1 << 16;
 pub enum StoreQuestion<'a> {
     /// Its commitment, and the state of its log.
     State { form: ShowForm },
-    /// Its entries, which are written to the file `out`. With `Access::Salvage` those of a damaged store that can still
-    /// be read are written.
-    Entries { out: &'a str },
+    /// Its entries from the index `first` on, which are written to the file `out`. With `Access::Salvage` those of a
+    /// damaged store that can still be read are written, from the first one on.
+    Entries { out: &'a str, first: u64 },
+}
+
+/// Writes the entries of the store in a file, from an index on, to the file `out`. The word for the index is checked
+/// before the store is opened; without one it is 0.
+pub fn export_file<F: SystemFiles, W: Write>(
+    rt: &F,
+    alloc: Global,
+    file: &str,
+    access: Access,
+    from: Option<&str>,
+    out: &str,
+    output: &mut W,
+) -> Result<(), CommandError>
+where
+    F::File: SystemFile,
+    ensures { RefusesWords (λ fault. number_asked from.entry 0 ≡ Err fault) (W.contents output.old)
+        (W.contents output.new) result }
+{
+    let first = number_asked(from, 0)?;
+    let question = StoreQuestion::Entries { out, first };
+    answer_file(rt, alloc, file, access, question, output)
 }
 
 /// Answers a question about the store in a file. The file that is written can't be the store's. The store is opened
@@ -124,7 +148,9 @@ fn answer<F: Files, D: Sectors, W: Write>(
 ) -> Result<(), CommandError> {
     match question {
         StoreQuestion::State { form } => show(alloc, store, form, output),
-        StoreQuestion::Entries { out } => export_store(rt, alloc, store, identity, out, output),
+        StoreQuestion::Entries { out, first } => {
+            export_store(rt, alloc, store, identity, first, out, output)
+        }
     }
 }
 
@@ -140,7 +166,9 @@ fn answer_damaged<F: Files, D: Sectors, W: Write>(
 ) -> Result<(), CommandError> {
     match question {
         StoreQuestion::State { .. } => Err(CommandError::Refused(damage)),
-        StoreQuestion::Entries { out } => salvage_device(rt, alloc, disk, identity, out, output),
+        StoreQuestion::Entries { out, .. } => {
+            salvage_device(rt, alloc, disk, identity, out, output)
+        }
     }
 }
 
@@ -161,16 +189,18 @@ fn export_store<F: Files, D: Sectors, W: Write>(
     alloc: Global,
     store: &mut Store<D>,
     identity: FileIdentity,
+    first: u64,
     out: &str,
     output: &mut W,
 ) -> Result<(), CommandError> {
     let count = store.commitment().count;
-    let mut export = Export { store };
+    judge_first(first, count)?;
+    let mut export = Export { store, first };
     let size = put(rt, alloc, &mut export, identity, out, output)?;
     if out == STANDARD_OUTPUT {
         return Ok(());
     }
-    write_exported(alloc, count, size, output)
+    write_exported(alloc, count.saturating_sub(first), size, output)
 }
 
 // Writes the entries of a damaged store that can still be read.
@@ -198,17 +228,18 @@ trait Contents {
     fn write_to<W: Write>(&mut self, output: &mut W) -> Result<Self::Extent, CommandError>;
 }
 
-// The entries of a store; their size in bytes.
+// The entries of a store from an index on; their size in bytes.
 #[derive(Drop)]
 struct Export<'a, D: Sectors> {
     store: &'a mut Store<D>,
+    first: u64,
 }
 
 impl<D: Sectors> Contents for Export<'_, D> {
     type Extent = u64;
 
     fn write_to<W: Write>(&mut self, output: &mut W) -> Result<u64, CommandError> {
-        write_entries(self.store, output)
+        write_entries(self.store, self.first, output)
     }
 }
 

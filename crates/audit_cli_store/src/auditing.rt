@@ -1,18 +1,48 @@
 //! Commands that check files without a store.
-ghost use Rattle.std.specs.Prelude.{◌≡◌, OnOk};
+ghost use Rattle.std.specs.Prelude.{◌≡◌, ◌⊎◌, Ok, Err, IsErr, IfOk, IfErr, OnOk, OnErr};
 ghost use Rattle.std.specs.Io.KnownBytes.{Appends, Keeps};
+ghost use Rattle.audit_text.specs.Writing.{WritesInPart};
+ghost use Rattle.audit_verify.specs.StateText.{state_text};
 ghost use Rattle.audit_cli_offline.specs.ReportLines.{end_message};
 ghost use Rattle.audit_cli_base.specs.Arguments.{AreNoCommitments, RefusesWords};
+ghost use Rattle.audit_cli_base.specs.Faults.{IsUnwritten};
+ghost use Rattle.audit_cli_store.specs.Verifications.{AreKindsAsked, IsKindsFault, IsPrintingAsked, IsPrintingFault};
 
 use crate::checking::check_proof;
-use crate::making::key_in;
-use audit_cli_base::{CommandError, commitment_asked, commitments_asked};
-use audit_cli_offline::{
-    CheckForm, ReportForm, VerifiedEnd, verify_export, verify_in_two_passes, write_end_message,
+use audit_cli_base::{
+    CommandError, OutputFile, commitment_asked, commitments_asked, judge_start, number_asked,
+    read_start,
 };
+use audit_cli_offline::{
+    CheckForm, Printing, ReportForm, VerifiedEnd, kinds_in_word, verify_export,
+    verify_in_two_passes, write_end_message,
+};
+use audit_disk::FileIdentity;
+use audit_proof::Commitment;
+use audit_text::write_whole;
+use audit_verify::{State, state_text};
 use std::alloc::Global;
 use std::fs::{self, Files, OpenFile};
-use std::io::Write;
+use std::io::{self, Write};
+
+/// What is asked of a verification, with the words of the command line as given.
+#[derive(Clone, Copy)]
+pub struct Verification<'a> {
+    /// The file with the export.
+    pub export: &'a str,
+    /// The file with the first key, or with the state that the export follows.
+    pub start: &'a str,
+    /// The commitment to the whole log.
+    pub commitment: &'a str,
+    /// How the events are written.
+    pub form: ReportForm,
+    /// The kinds of the events that are written, with commas between them; any kind if there is no word.
+    pub kinds: Option<&'a str>,
+    /// The index of the first event that may be written.
+    pub from: Option<&'a str>,
+    /// The file for the state after the export, which is replaced. It can't be the export's.
+    pub save: Option<&'a str>,
+}
 
 /// Checks the proof in a file. The commitments are checked before the file is opened.
 pub fn check_file<F: Files, W: Write>(
@@ -38,67 +68,159 @@ pub fn check_file<F: Files, W: Write>(
     )
 }
 
-/// Verifies the export in a file, and writes its events. After a report in text the output is flushed, and then the
-/// message with its number of events is written.
+/// Verifies the export in a file, and writes its events. The output is flushed, and then the message with the number of
+/// entries is written, if the form has one. After that the state is saved, if a file for it is given.
 pub fn verify_and_report<F: Files, W: Write, M: Write>(
     rt: &F,
     alloc: Global,
-    export: &str,
-    key_file: &str,
-    commitment: &str,
-    form: ReportForm,
+    asked: Verification<'_>,
     output: &mut W,
     messages: &mut M,
 ) -> Result<(), CommandError> {
-    let end = verify_file(rt, alloc, export, key_file, commitment, form, output)?;
-    end_report(alloc, form, end, output, messages)
+    let next = verify_file(rt, alloc, asked, output)?;
+    let end = VerifiedEnd {
+        count: next.count(),
+        closed: next.is_closed(),
+    };
+    end_report(alloc, asked.form, end, output.flush(), messages)?;
+    match asked.save {
+        Some(out) => save_state(rt, alloc, &next, asked.export, out),
+        None => Ok(()),
+    }
 }
 
-// Verifies the export in a file. The arguments are checked before the export is opened. A file is read twice, so that
-// nothing of it has to be kept. Input that can't be read twice, such as a pipe, is read once and kept. Returns how the
-// export ends.
+// Verifies the export in a file. The arguments are checked before the export is opened. Returns the state after it.
 fn verify_file<F: Files, W: Write>(
     rt: &F,
     alloc: Global,
-    export: &str,
-    key_file: &str,
-    commitment: &str,
-    form: ReportForm,
+    asked: Verification<'_>,
     output: &mut W,
-) -> Result<VerifiedEnd, CommandError> {
-    let first_key = key_in(rt, alloc, key_file)?;
-    let commitment = commitment_asked(commitment)?;
+) -> Result<State, CommandError> {
+    let start = start_in(rt, alloc, asked.start)?;
+    let commitment = commitment_asked(asked.commitment)?;
+    judge_start(&start, &commitment)?;
+    let printing = printing_asked(alloc, asked.form, asked.kinds, asked.from)?;
+    verify_further(
+        rt,
+        alloc,
+        asked.export,
+        &start,
+        &commitment,
+        &printing,
+        output,
+    )
+}
+
+// The state in a file, or the one before the first entry if the file has a first key.
+fn start_in<F: Files>(rt: &F, alloc: Global, file: &str) -> Result<State, CommandError> {
+    let mut file = fs::open(rt, file)?;
+    read_start(alloc, &mut file)
+}
+
+// What is printed, by the words for it.
+fn printing_asked(
+    alloc: Global,
+    form: ReportForm,
+    kinds: Option<&str>,
+    from: Option<&str>,
+) -> Result<Printing, CommandError>
+    ensures printing { IfOk result (IsPrintingAsked form kinds.entry from.entry) }
+    ensures fault { IfErr result (IsPrintingFault kinds.entry from.entry) }
+{
+    let kinds = kinds_asked(alloc, kinds)?;
+    let from = number_asked(from, 0)?;
+    Ok(Printing::new(form, kinds, from))
+}
+
+// The kinds in a word. Without a word there are none.
+fn kinds_asked(alloc: Global, word: Option<&str>) -> Result<Vec<u32>, CommandError>
+    ensures kinds { IfOk result (λ kinds. AreKindsAsked word.entry kinds.items) }
+    ensures fault { IfErr result (IsKindsFault word.entry) }
+{
+    let Some(word) = word else {
+        return Ok(Vec::new(alloc));
+    };
+    match kinds_in_word(alloc, word.as_bytes())? {
+        Some(kinds) => Ok(kinds),
+        None => Err(CommandError::BadArgument),
+    }
+}
+
+// Verifies the export in a file from a state on. A file is read twice, so that nothing of it has to be kept. Input that
+// can't be read twice, such as a pipe, is read once and kept.
+fn verify_further<F: Files, W: Write>(
+    rt: &F,
+    alloc: Global,
+    export: &str,
+    start: &State,
+    commitment: &Commitment,
+    printing: &Printing,
+    output: &mut W,
+) -> Result<State, CommandError> {
     let mut first = fs::open(rt, export)?;
     if !first.metadata()?.is_file() {
-        return Ok(verify_export(alloc, &mut first, &first_key, &commitment, form, output)?);
+        return Ok(verify_export(alloc, &mut first, start, commitment, printing, output)?);
     }
     let mut second = fs::open(rt, export)?;
     Ok(verify_in_two_passes(
         alloc,
         &mut first,
         &mut second,
-        &first_key,
-        &commitment,
-        form,
+        start,
+        commitment,
+        printing,
         output,
     )?)
 }
 
-// Ends a report. After one in text the output is flushed, and then the message with its number of events is written.
-fn end_report<W: Write, M: Write>(
+// Ends a report whose output was flushed: writes the message with the number of entries, if the form has one.
+fn end_report<M: Write>(
     alloc: Global,
     form: ReportForm,
     end: VerifiedEnd,
-    output: &mut W,
+    flushed: io::Result<()>,
     messages: &mut M,
 ) -> Result<(), CommandError>
-    ensures output { Keeps (W.contents output.old) (W.contents output.new) }
+    ensures unflushed { IsErr flushed → (result ≡ Err CommandError.File)
+        × Keeps (M.contents messages.old) (M.contents messages.new) }
     ensures message { OnOk result (Appends (M.contents messages.old) (M.contents messages.new)
         (end_message form end)) }
 {
-    match form {
-        ReportForm::Events => {}
-        ReportForm::Text => output.flush()?,
-    }
+    flushed?;
     Ok(write_end_message(alloc, form, end, messages)?)
+}
+
+// Saves a state in a file, which its owner alone can read, and which can't be the export's.
+fn save_state<F: Files>(
+    rt: &F,
+    alloc: Global,
+    state: &State,
+    export: &str,
+    out: &str,
+) -> Result<(), CommandError> {
+    let identity = FileIdentity::of(&fs::metadata(rt, export)?);
+    let mut made = OutputFile::create_private(rt, alloc, identity, out)?;
+    match write_state(alloc, state, &mut made) {
+        Ok(()) => made.publish(rt),
+        Err(fault) => {
+            made.discard(rt);
+            Err(fault)
+        }
+    }
+}
+
+/// Writes the text of a state. After an error a prefix of it was written.
+pub fn write_state<W: Write>(
+    alloc: Global,
+    state: &State,
+    writer: &mut W,
+) -> Result<(), CommandError>
+    ensures written { OnOk result (Appends (W.contents writer.old) (W.contents writer.new) (state_text state.now)) }
+    ensures part { OnErr result (WritesInPart (W.contents writer.old) (W.contents writer.new)
+        (state_text state.now)) }
+    ensures fault { IfErr result (IsUnwritten (W.contents writer.old) (W.contents writer.new)) }
+{
+    let text = state_text(alloc, state)?;
+    write_whole(writer, &text)?;
+    Ok(())
 }

@@ -16,6 +16,7 @@ mod salvaging;
 mod show_form;
 mod showing;
 
+pub use auditing::{Verification, write_state};
 pub use checking::check_proof;
 pub use closing::close_log;
 pub use exporting::write_entries;

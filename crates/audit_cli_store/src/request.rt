@@ -2,14 +2,14 @@
 ghost use Rattle.audit_cli_base.specs.Arguments.{RefusesWords};
 ghost use Rattle.audit_cli_store.specs.Requests.{IsWordFault, IsReplayOf, IsCarriedOut};
 
-use crate::answering::{StoreQuestion, answer_file, prove_file};
-use crate::auditing::{check_file, verify_and_report};
+use crate::answering::{StoreQuestion, answer_file, export_file, prove_file};
+use crate::auditing::{Verification, check_file, verify_and_report};
 use crate::closing::close_file;
 use crate::making::format_site;
 use crate::replaying::replay;
 use crate::show_form::ShowForm;
 use audit_cli_base::{CommandError, Status, proof_request, report_end};
-use audit_cli_offline::{CheckForm, ReportForm};
+use audit_cli_offline::CheckForm;
 use audit_disk::{SystemFile, SystemFiles};
 use std::alloc::Global;
 use std::fs::Files;
@@ -90,18 +90,11 @@ pub enum Request<'a> {
         out: &'a str,
         /// How the store is opened.
         access: Access,
+        /// The index of the first entry that is written; 0 if there is no word.
+        from: Option<&'a str>,
     },
     /// Verify an export, and write its events.
-    Verify {
-        /// The file with the export.
-        export: &'a str,
-        /// The file with the first key.
-        key_file: &'a str,
-        /// The commitment.
-        commitment: &'a str,
-        /// How the events are written.
-        form: ReportForm,
-    },
+    Verify(Verification<'a>),
     /// Make a proof about the store in a file, and write it to another file.
     Prove {
         /// The file.
@@ -177,24 +170,13 @@ where
             newer,
             form,
         } => check_file(rt, alloc, proof, older, newer, form, output),
-        Request::Export { file, out, access } => {
-            answer_file(
-                rt,
-                alloc,
-                file,
-                access,
-                StoreQuestion::Entries { out },
-                output,
-            )
-        }
-        Request::Verify {
-            export,
-            key_file,
-            commitment,
-            form,
-        } => verify_and_report(
-            rt, alloc, export, key_file, commitment, form, output, messages,
-        ),
+        Request::Export {
+            file,
+            out,
+            access,
+            from,
+        } => export_file(rt, alloc, file, access, from, out, output),
+        Request::Verify(asked) => verify_and_report(rt, alloc, asked, output, messages),
         Request::Prove {
             file,
             kind,

@@ -1,11 +1,11 @@
 // The expected values come from an independent model.
 use audit_chain::Key;
 use audit_cli_offline::{
-    OfflineError, ReportForm, VerifiedEnd, commitment_in_word, verify_export, verify_in_two_passes,
-    write_end_message,
+    OfflineError, Printing, ReportForm, VerifiedEnd, commitment_in_word, verify_export,
+    verify_in_two_passes, write_end_message,
 };
 use audit_proof::Commitment;
-use audit_verify::{Cause, VerifyFault};
+use audit_verify::{Cause, State, VerifyFault};
 use hex::FromHex;
 use std::alloc::Global;
 use std::process::Abort;
@@ -41,6 +41,16 @@ fn commitment_of(rt: &impl Abort, word: &[u8]) -> Commitment {
     commitment_in_word(word).expect(rt, "a commitment")
 }
 
+// The state before the first entry of the log with a key of zeros.
+fn start() -> State {
+    State::first(&Key::from_bytes([0; 32]))
+}
+
+// Every event in a form.
+fn every_event(alloc: Global, form: ReportForm) -> Printing {
+    Printing::new(form, Vec::new(alloc), 0)
+}
+
 fn entry_of_hi(rt: &impl Abort, alloc: Global) -> Vec<u8> {
     hex::decode(alloc, ENTRY_OF_HI).expect(rt, "digits")
 }
@@ -54,13 +64,12 @@ fn verified_lines(
 ) -> Vec<u8> {
     let mut reader = bytes;
     let mut written = Vec::new(alloc);
-    let key = Key::from_bytes([0; 32]);
     verify_export(
         alloc,
         &mut reader,
-        &key,
+        &start(),
         commitment,
-        ReportForm::Events,
+        &every_event(alloc, ReportForm::Events),
         &mut written,
     )
     .expect(rt, "a report");
@@ -77,9 +86,9 @@ fn an_export_of_one_event(rt: HostRuntime) {
     let cut = verify_export(
         alloc,
         &mut &entry[..0],
-        &Key::from_bytes([0; 32]),
+        &start(),
         &commitment,
-        ReportForm::Events,
+        &every_event(alloc, ReportForm::Events),
         &mut written,
     );
     assert!(rt; cut.is_err() && written.len() == 31);
@@ -105,6 +114,15 @@ fn closed_export(rt: &impl Abort, alloc: Global) -> Vec<u8> {
     bytes
 }
 
+// How a verification ended.
+fn end_of(done: Result<State, OfflineError>) -> Result<VerifiedEnd, OfflineError> {
+    let state = done?;
+    Ok(VerifiedEnd {
+        count: state.count(),
+        closed: state.is_closed(),
+    })
+}
+
 // The outcome of two passes, over these bytes and then those, under the closed log's commitment; and what they wrote.
 fn outcome_of<'a>(
     alloc: Global,
@@ -114,25 +132,25 @@ fn outcome_of<'a>(
     form: ReportForm,
 ) -> (Result<VerifiedEnd, OfflineError>, Vec<u8>) {
     let mut written = Vec::new(alloc);
-    let key = Key::from_bytes([0; 32]);
     let done = verify_in_two_passes(
         alloc,
         &mut first,
         &mut second,
-        &key,
+        &start(),
         commitment,
-        form,
+        &every_event(alloc, form),
         &mut written,
     );
-    (done, written)
+    (end_of(done), written)
 }
 
 // Whether bytes get the same verdict in two passes as in one, with the same lines.
 fn is_one_verdict(alloc: Global, bytes: &[u8], commitment: &Commitment, form: ReportForm) -> bool {
     let mut held = Vec::new(alloc);
-    let key = Key::from_bytes([0; 32]);
+    let printing = every_event(alloc, form);
     let mut reader = bytes;
-    let once = verify_export(alloc, &mut reader, &key, commitment, form, &mut held);
+    let once = verify_export(alloc, &mut reader, &start(), commitment, &printing, &mut held);
+    let once = end_of(once);
     let (twice, written) = outcome_of(alloc, bytes, bytes, commitment, form);
     once == twice && held.as_slice() == written.as_slice()
 }

@@ -1,5 +1,5 @@
-use Rattle.audit_cli_offline.proofs.TextReports.{report_read_back}
+use Rattle.audit_cli_offline.proofs.TextReports.{text_read}
 use Rattle.audit_cli_offline.proofs.laws.text_reports_are_read_back.Goals as goal
 
 pub returns : goal.returns
-returns c = report_read_back
+returns c = text_read

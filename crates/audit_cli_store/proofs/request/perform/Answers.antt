@@ -3,7 +3,7 @@ use Rattle.std.proofs.lemmas.Result.{err_from_is_err_and}
 use Rattle.audit_cli_store.specs.Requests.{IsWordFault, IsReplayed, IsReplayOf}
 use Rattle.audit_cli_store.proofs.request.perform.Goals as goal
 
--- Only a format, a check and a proof have words that are checked before a file is opened.
+-- Only a format, an export, a check and a proof have words that are checked before a file is opened.
 
 pub returns-in-Close-clause-words : goal.returns-in-Close-clause-words
 returns-in-Close-clause-words g c = λ fault asked. absurd (subst (λ request. IsWordFault request fault) c.in-Close.is asked)
@@ -12,7 +12,7 @@ pub returns-in-Show-clause-words : goal.returns-in-Show-clause-words
 returns-in-Show-clause-words g c = λ fault asked. absurd (subst (λ request. IsWordFault request fault) c.in-Show.is asked)
 
 pub returns-in-Export-clause-words : goal.returns-in-Export-clause-words
-returns-in-Export-clause-words g c = λ fault asked. absurd (subst (λ request. IsWordFault request fault) c.in-Export.is asked)
+returns-in-Export-clause-words g c = λ fault asked. c.export_file.ensures fault (subst (λ request. IsWordFault request fault) c.in-Export.is asked)
 
 pub returns-in-Verify-clause-words : goal.returns-in-Verify-clause-words
 returns-in-Verify-clause-words g c = λ fault asked. absurd (subst (λ request. IsWordFault request fault) c.in-Verify.is asked)
