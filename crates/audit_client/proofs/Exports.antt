@@ -26,7 +26,7 @@ use Rattle.audit_client.proofs.Conversations.{consumes_none, consumes_more, appe
 entry_requests-more : (n : ℕ) → entry_requests (n + 1) ≡ entry_requests n ++ request.Entry (entry_tag n) n ∷ []
 entry_requests-more n = ap entry_requests (add-one n)
 
-entry_replies-more : (first : ℕ) (entries : List (List ℕ)) (entry : List ℕ) → entry_replies first (entries ++ entry ∷ []) ≡ entry_replies first entries ++ reply.Entry (entry_tag (first + length entries)) entry ∷ []
+pub entry_replies-more : (first : ℕ) (entries : List (List ℕ)) (entry : List ℕ) → entry_replies first (entries ++ entry ∷ []) ≡ entry_replies first entries ++ reply.Entry (entry_tag (first + length entries)) entry ∷ []
 entry_replies-more first [] entry = let e : first ≡ first + 0 = omega arith in ap (λ n. reply.Entry (entry_tag n) entry ∷ []) e
 entry_replies-more first (e ∷ es) entry =
     let same : suc first + length es ≡ first + length (e ∷ es) = omega arith in

@@ -232,8 +232,8 @@ pub fn join<W: Write, R: Read>(
     join_by(alloc, to, from, JOIN_TAG, older, newer)
 }
 
-// The same, with a tag of its own.
-pub(crate) fn join_by<W: Write, R: Read>(
+/// The same, with a tag of its own.
+pub fn join_by<W: Write, R: Read>(
     alloc: Global,
     to: &mut W,
     from: &mut R,

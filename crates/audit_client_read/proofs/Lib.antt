@@ -1,0 +1,6 @@
+mod ReadPieces
+mod PieceEntries
+mod Fronts
+mod Asked
+mod Doubted
+mod CallsSoFar

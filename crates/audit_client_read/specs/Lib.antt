@@ -1,0 +1,7 @@
+pub mod Outlet
+pub mod Newest
+pub mod Pieces
+pub mod Questions
+pub mod ReadingOn
+pub mod FailedReading
+pub mod Front

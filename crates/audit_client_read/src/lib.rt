@@ -1,0 +1,14 @@
+//! Reading a log on: the entries of a running store since a state, verified piece by piece under the newest commitment,
+//! and what is printed and kept of them.
+#![tactic(auto)]
+
+pub mod laws;
+mod outlet;
+mod piece;
+mod read_error;
+mod reading;
+
+pub use outlet::Outlet;
+pub use piece::{PIECE_BYTES, PIECE_ENTRIES};
+pub use read_error::ReadError;
+pub use reading::read_on;
