@@ -89,11 +89,28 @@ pub fn run<F: Servers, R: Read, W: FallibleWrite, M: FallibleWrite>(
 {
     let done = perform(servers, alloc, request, input, output, messages);
     let judged = print_judgment(done, output);
-    let flushed = output.flush_text();
-    let status = report_fault(judged, messages);
-    let status = report_flush(status, flushed, messages);
+    let status = flush_and_report(judged, output, messages);
     report_alarm(alloc, request, done, messages);
     status
+}
+
+// Flushes the output, and prints how the command ended. Returns the status of that, or a failed file's if the output
+// couldn't be flushed.
+fn flush_and_report<W: FallibleWrite, M: FallibleWrite>(
+    ended: Result<Status, RemoteError>,
+    output: &mut W,
+    messages: &mut M,
+) -> Status
+    ensures kept { Keeps (W.contents output.old) (W.contents output.new) }
+    ensures status { ((result ≡ status_of_done ended) × W.flushed output.new)
+        ⊎ ((result ≡ Status.Device) × W.failed output.new) }
+{
+    let flushed = output.flush_text();
+    let status = report_fault(ended, messages);
+    match flushed {
+        Ok(()) => status,
+        Err(error) => report_flush(status, Err(error), messages),
+    }
 }
 
 // Prints the fault of a command, if it has one, and returns its status.

@@ -1,5 +1,6 @@
 //! A witness of a log, which keeps what it sees in a file.
-ghost use Rattle.std.specs.Prelude.{◌≡◌, ◌++◌, ℕ, List, [], ◌∷◌, Result, false, codes, Some, IfErr, IfSome, OnOk};
+ghost use Rattle.std.specs.Prelude.{◌≡◌, ◌++◌, ℕ, List, [], ◌∷◌, Result, false, codes, Some};
+ghost use Rattle.std.specs.Prelude.{IfErr, IfSome, OnOk, OnErr};
 ghost use Rattle.std.specs.Io.KnownBytes.{Appends};
 ghost use Rattle.audit_client.specs.declared.watching.Sight.{Sight};
 ghost use Rattle.audit_cli_client.specs.declared.fault.RemoteError.{RemoteError};
@@ -8,7 +9,7 @@ ghost use Rattle.audit_cli_client.specs.Looking.{sight_line, change_line, Follow
 ghost use Rattle.audit_cli_client.specs.Looking.{SaysPassing, SaysReturn};
 ghost use Rattle.audit_cli_client.specs.Messages.{message_of, SaysFirst};
 ghost use Rattle.audit_cli_client.specs.Requests.{LooksOnce, LooksToTheEnd};
-ghost use Rattle.audit_cli_client.specs.ServerCalls.{a_look};
+ghost use Rattle.audit_cli_client.specs.ServerCalls.{a_look, a_rest};
 ghost use Rattle.audit_cli_client.specs.State.{commitment_word};
 
 use crate::alarm::push_date;
@@ -91,10 +92,39 @@ pub fn watch_for_ever<F: Servers, W: FallibleWrite, M: FallibleWrite>(
 {
     let mut reported = None;
     for looks in 0..u64::MAX {
-        reported = look_again(servers, alloc, post, reported, output, messages)?;
-        servers.pause(every);
+        reported = look_and_pause(servers, alloc, post, every, reported, output, messages)?;
     }
     Ok(())
+}
+
+// Looks once more, and pauses before the next look. Returns what was reported of a server that isn't there.
+fn look_and_pause<F: Servers, W: FallibleWrite, M: FallibleWrite>(
+    servers: &mut F,
+    alloc: Global,
+    post: Post<'_>,
+    every: u64,
+    reported: Option<RemoteError>,
+    output: &mut W,
+    messages: &mut M,
+) -> Result<Option<RemoteError>, RemoteError>
+    ensures on { OnOk result ((saw : Result Sight RemoteError) × (mid : F)
+        × F.calls.DidCalls servers.old mid (a_look post.entry saw ∷ [])
+        × F.calls.DidCalls mid servers.new (a_rest every ∷ [])
+        × FollowsLook post.entry.is_quiet saw (W.contents output.old) (W.contents output.new)
+        (W.failed output.new) result) }
+    ensures last { OnErr result ((saw : Result Sight RemoteError)
+        × F.calls.DidCalls servers.old servers.new (a_look post.entry saw ∷ [])
+        × FollowsLook post.entry.is_quiet saw (W.contents output.old) (W.contents output.new)
+        (W.failed output.new) result) }
+    ensures ends { IfErr result (λ fault. is_passing_fault fault ≡ false) }
+{
+    match look_again(servers, alloc, post, reported, output, messages) {
+        Ok(reported) => {
+            servers.pause(every);
+            Ok(reported)
+        }
+        Err(fault) => Err(fault),
+    }
 }
 
 // Looks once more. Returns what was reported of a server that isn't there.

@@ -9,17 +9,17 @@ loop-looks-init g c = ([], refl, no_looks g.F.Servers.calls c.args.post c.args.e
 pub loop-looks-preserved : goal.loop-looks-preserved
 loop-looks-preserved g c =
     let seen = c.loop-looks.invariant in
-    let looked = c.in_ok-reported.ensures.looked in (
+    let looked = c.in_ok-reported.ensures.on in (
       seen.0 ++ looked.0 ∷ [],
       one_more_look seen.0 looked.0 c.loop-looks.looks seen.1,
-      looks_more g.F.Servers.calls c.args.post c.args.every _ _ _ _ _ _ _ seen.0 looked.0 _ _ seen.2 looked.1 c.pause.ensures looked.2,
+      looks_more g.F.Servers.calls c.args.post c.args.every _ _ _ _ _ _ _ seen.0 looked.0 _ _ seen.2 looked.2 looked.3 looked.4,
     )
 
 pub returns-in_err-reported : goal.returns-in_err-reported
 returns-in_err-reported g c =
     let p = err_from_is_err_and c.from_residual.result c.from_residual.ensures.1 in
     let seen = c.loop-looks.invariant in
-    let looked = c.in_err-reported.ensures.looked in
+    let looked = c.in_err-reported.ensures.last in
     rw (p.1, p.2) (record {
       seen = seen.0;
       mid = c.loop-looks.servers;
