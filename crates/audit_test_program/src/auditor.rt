@@ -149,7 +149,14 @@ fn is_one_verdict(alloc: Global, bytes: &[u8], commitment: &Commitment, form: Re
     let mut held = Vec::new(alloc);
     let printing = every_event(alloc, form);
     let mut reader = bytes;
-    let once = verify_export(alloc, &mut reader, &start(), commitment, &printing, &mut held);
+    let once = verify_export(
+        alloc,
+        &mut reader,
+        &start(),
+        commitment,
+        &printing,
+        &mut held,
+    );
     let once = end_of(once);
     let (twice, written) = outcome_of(alloc, bytes, bytes, commitment, form);
     once == twice && held.as_slice() == written.as_slice()
