@@ -18,8 +18,8 @@ mod taking;
 mod watching;
 
 pub use asking::{
-    ASKED_TAG, JOIN_TAG, NEWEST_TAG, close_log, entry_of, increment_proof, join, join_by, member_proof,
-    newest_commitment,
+    ASKED_TAG, JOIN_TAG, NEWEST_TAG, close_log, entry_of, increment_proof, join, join_by,
+    member_proof, newest_commitment,
 };
 pub use conversation::{ask, next_reply, send_bytes};
 pub use exporting::{Export, ask_ahead, entry_in, export_entries, piece_tag};
