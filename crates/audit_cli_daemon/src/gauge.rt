@@ -10,6 +10,15 @@ const HEADER_LEN: u64 = 512;
 
 const END_OFFSET: u64 = 40;
 
+// A pass takes at most as many sectors: of each of 16 clients a piece of 4,096 bytes, in which an event has 11 at least,
+// and the event that was begun before, of 65 sectors at most.
+const PASS_SECTORS: u64 = 8_192;
+
+// After so many passes, or so many, it is looked again.
+const MANY_PASSES: u64 = 64;
+
+const FEW_PASSES: u64 = 8;
+
 /// Says once of each mark that a log passes that it did, and at the start of the highest one that it is above.
 #[derive(Drop)]
 pub struct Gauge<'n, 'a, 'b, F, M> {
@@ -20,6 +29,8 @@ pub struct Gauge<'n, 'a, 'b, F, M> {
     most: u64,
     // The highest mark of which it was said.
     said: u64,
+    // How many passes no mark can be passed in.
+    passes: u64,
     messages: &'a RefCell<&'b mut M>,
 }
 
@@ -36,11 +47,17 @@ impl<'n, 'a, 'b, F: Read + Seek, M: Write> Gauge<'n, 'a, 'b, F, M> {
             name,
             most,
             said: 0,
+            passes: 0,
             messages,
         }
     }
 
+    // Looks after a pass, unless no mark can have been passed.
     fn look(&mut self) {
+        if self.passes > 0 {
+            self.passes -= 1;
+            return;
+        }
         let Ok(taken) = self.taken() else {
             return;
         };
@@ -48,6 +65,23 @@ impl<'n, 'a, 'b, F: Read + Seek, M: Write> Gauge<'n, 'a, 'b, F, M> {
             self.said = mark;
             self.print(mark, self.most.saturating_sub(taken));
         }
+        self.passes = self.passes_without_mark(taken);
+    }
+
+    // In how many passes no further mark can be passed; few are enough to make the looks cheap.
+    fn passes_without_mark(&self, taken: u64) -> u64 {
+        if self.has_room_before_mark(taken, MANY_PASSES * PASS_SECTORS) {
+            MANY_PASSES
+        } else if self.has_room_before_mark(taken, FEW_PASSES * PASS_SECTORS) {
+            FEW_PASSES
+        } else {
+            0
+        }
+    }
+
+    // Whether no further mark is passed once as many sectors more are taken.
+    fn has_room_before_mark(&self, taken: u64, more: u64) -> bool {
+        mark_passed(self.said, taken.saturating_add(more), self.most).is_none()
     }
 
     fn print(&mut self, mark: u64, left: u64) {
@@ -75,7 +109,7 @@ impl<'n, 'a, 'b, F: Read + Seek, M: Write> Gauge<'n, 'a, 'b, F, M> {
     }
 }
 
-/// A door behind which a gauge is read after each flush.
+/// A door behind which a gauge is read after each flush that can have passed a mark.
 #[derive(Drop)]
 pub struct GaugedDoor<'n, 'a, 'b, E, F, M> {
     door: E,
