@@ -25,6 +25,7 @@ pub(crate) fn explain_argument<F: Files, M: Write>(
     messages: &mut M,
 ) -> io::Result<()> {
     if let Asked::Plain(Request::Verify(asked)) = asked
+        && may_be_state(notes)
         && let Some(state) = state_in(rt, alloc, asked.start)
     {
         return explain_start(asked, state, messages);
@@ -57,6 +58,12 @@ pub(crate) fn explain_argument<F: Files, M: Write>(
         }
         _ => Ok(()),
     }
+}
+
+// Whether what was read in the place of a key file may be a state, whose first word has `u` as its second letter. Nothing
+// else is read again, since its length is noted.
+fn may_be_state(notes: &Notes<'_>) -> bool {
+    matches!(notes.key_text().odd(), Some((2, b'u')))
 }
 
 // Whether two paths lead to one file.
