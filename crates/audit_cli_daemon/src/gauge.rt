@@ -14,7 +14,7 @@ const END_OFFSET: u64 = 40;
 // and the event that was begun before, of 65 sectors at most.
 const PASS_SECTORS: u64 = 8_192;
 
-// After so many passes, or so many, it is looked again.
+// How many passes go by between two looks, far from the next mark and nearer to it.
 const MANY_PASSES: u64 = 64;
 
 const FEW_PASSES: u64 = 8;
