@@ -37,27 +37,32 @@ class State(typing.NamedTuple):
     def root(self):
         return self.node([], 0, depth(self.count)) if self.count else bytes(32)
 
-    def text(self):
+    def text(self, newest=None):
+        """Its lines; before the last one those of the newest commitment, a count and a root, if there is one."""
         lines = ["audit-state 1", "count %d" % self.count, "key " + self.key.hex(), "link " + self.link.hex()]
         lines.append("log closed" if self.closed else "log open")
         lines += ["node " + self.nodes[layer].hex() for layer in sorted(self.nodes)]
+        if newest is not None:
+            lines += ["newest %d" % newest[0], "root " + newest[1].hex()]
         text = "".join(line + "\n" for line in lines).encode()
         return text + b"sha256 " + hashlib.sha256(text).hexdigest().encode() + b"\n"
 
     @staticmethod
     def read(text):
-        """The state that has this text, of which there is at most one."""
+        """The state that has this text, of which there is at most one, and the newest commitment, or None."""
         try:
-            values = [line.split(" ")[1] for line in text.decode().split("\n")[:-1]]
+            lines = [line.split(" ") for line in text.decode().split("\n")[:-1]]
+            values = [line[1] for line in lines]
+            newest = (int(values[-3]), bytes.fromhex(values[-2])) if lines[-3][0] == "newest" else None
             count, digits = int(values[1]), iter(values[5:-1])
             nodes = {layer: bytes.fromhex(next(digits)) for layer in range(LAYERS) if count >> layer & 1}
             state = State(count, bytes.fromhex(values[2]), bytes.fromhex(values[3]), values[4] == "closed", nodes)
         except (IndexError, StopIteration, ValueError):
             raise BadArgument from None
         fits = count <= MAX_ENTRIES and (not state.closed or count > 0 and state.key == bytes(32))
-        if not fits or count == 0 and any(state.link) or state.text() != text:
+        if not fits or count == 0 and any(state.link) or state.text(newest) != text:
             raise BadArgument
-        return state
+        return state, newest
 
 
 # Before the first entry. The key is the log's own.

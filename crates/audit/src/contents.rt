@@ -4,7 +4,7 @@ use audit_cli_offline::read_proof;
 use audit_disk::SECTOR_SIZE;
 use audit_log::Header;
 use audit_text::read_input;
-use audit_verify::{StateError, read_state};
+use audit_verify::{StateError, read_bookmark};
 use std::alloc::Global;
 use std::fmt::{self, Display, Formatter};
 use std::fs::{self, Files, Metadata};
@@ -59,10 +59,10 @@ pub(crate) fn state_in<F: Files>(rt: &F, alloc: Global, path: &str) -> Option<St
     if !text.starts_with(b"audit-state") {
         return None;
     }
-    match read_state(alloc, &text) {
-        Ok(state) => Some(StateText::Whole {
-            count: state.count(),
-            is_closed: state.is_closed(),
+    match read_bookmark(alloc, &text) {
+        Ok(mark) => Some(StateText::Whole {
+            count: mark.state.count(),
+            is_closed: mark.state.is_closed(),
         }),
         Err(StateError::Damaged) => Some(StateText::Damaged),
         Err(StateError::Memory) => None,

@@ -1,7 +1,8 @@
 //! What the verification of an export starts from: a key file, or a state that was saved.
-ghost use Rattle.std.specs.Prelude.{◌≡◌, ◌<◌, ℕ, List, Some, Ok, Err, IfOk, IfErr, IfSome, MatchResult};
+ghost use Rattle.std.specs.Prelude.{◌≡◌, ◌<◌, ℕ, List, Option, Some, Ok, Err, IfOk, IfErr, IfSome, MatchResult};
+ghost use Rattle.audit_proof.specs.declared.commitment.Commitment.{Commitment};
 ghost use Rattle.audit_verify.specs.State.{StateData, first_state};
-ghost use Rattle.audit_verify.specs.StateText.{IsSoundState, state_text};
+ghost use Rattle.audit_verify.specs.Bookmark.{AreSoundParts, bookmark_text};
 ghost use Rattle.audit_cli_base.specs.KeyFile.{key_of_file};
 ghost use Rattle.audit_cli_base.specs.StartFile.{IsStart, IsNoStart, IsStartFault};
 
@@ -9,20 +10,20 @@ use crate::fault::CommandError;
 use crate::key_file::key_of_file;
 use audit_proof::Commitment;
 use audit_text::{LinesError, read_input};
-use audit_verify::{State, StateError, read_state};
+use audit_verify::{State, StateError, read_bookmark};
 use std::alloc::Global;
 use std::io::Read;
 
 /// Reads what a verification starts from: the state before the first entry of the log, if the file holds its first key,
-/// or the state whose text it holds. The error is `BadArgument` if it holds neither. Otherwise it fails only if a read
+/// or the state of the bookmark whose text it holds. The error is `BadArgument` if it holds neither. Otherwise it fails only if a read
 /// failed or memory was refused.
 pub fn read_start<R: Read>(alloc: Global, reader: &mut R) -> Result<State, CommandError>
     ensures start { IfOk result (λ state. IfSome (R.remaining reader.old) (λ text. IsStart text state)) }
     ensures fault { IfErr result (IsStartFault (R.remaining reader.old)) }
 
-    // A state is read from its text.
-    ensures state { IfSome (R.remaining reader.old) (λ text. (state : StateData) → IsSoundState state
-        → text ≡ state_text state → IfOk result (λ given. given ≡ state)) }
+    // The state of a bookmark is read from its text.
+    ensures state { IfSome (R.remaining reader.old) (λ text. (state : StateData) (newest : Option Commitment)
+        → AreSoundParts state newest → text ≡ bookmark_text state newest → IfOk result (λ given. given ≡ state)) }
 {
     match read_input(alloc, reader) {
         Ok(text) => start_of_file(alloc, &text),
@@ -35,14 +36,14 @@ pub fn read_start<R: Read>(alloc: Global, reader: &mut R) -> Result<State, Comma
 fn start_of_file(alloc: Global, text: &[u8]) -> Result<State, CommandError>
     ensures start { IfOk result (IsStart text.now) }
     ensures fault { IfErr result (IsStartFault (Some text.now)) }
-    ensures state { (state : StateData) → IsSoundState state → text.now ≡ state_text state
-        → IfOk result (λ given. given ≡ state) }
+    ensures state { (state : StateData) (newest : Option Commitment) → AreSoundParts state newest
+        → text.now ≡ bookmark_text state newest → IfOk result (λ given. given ≡ state) }
 {
     if let Some(key) = key_of_file(text) {
         return Ok(State::first(&key));
     }
-    match read_state(alloc, text) {
-        Ok(state) => Ok(state),
+    match read_bookmark(alloc, text) {
+        Ok(mark) => Ok(mark.state),
         Err(StateError::Damaged) => Err(CommandError::BadArgument),
         Err(StateError::Memory) => Err(CommandError::Lines(LinesError::Memory)),
     }

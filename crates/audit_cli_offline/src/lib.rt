@@ -26,4 +26,4 @@ pub use printing::Printing;
 pub use report_form::ReportForm;
 pub use two_passes::verify_in_two_passes;
 pub use verified_end::VerifiedEnd;
-pub use verifying::{push_state, verify_export, write_report};
+pub use verifying::{push_state, verify_export, write_events, write_last_line, write_report};

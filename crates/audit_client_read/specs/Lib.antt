@@ -1,5 +1,6 @@
 pub mod Outlet
 pub mod Newest
+pub mod Under
 pub mod Pieces
 pub mod Questions
 pub mod ReadingOn

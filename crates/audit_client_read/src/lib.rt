@@ -7,8 +7,10 @@ mod outlet;
 mod piece;
 mod read_error;
 mod reading;
+mod under;
 
 pub use outlet::Outlet;
 pub use piece::{PIECE_BYTES, PIECE_ENTRIES};
 pub use read_error::ReadError;
 pub use reading::read_on;
+pub use under::newest_under;

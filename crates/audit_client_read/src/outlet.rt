@@ -1,5 +1,6 @@
 //! Where verified events go.
-ghost use Rattle.std.specs.Prelude.{[], ◌∷◌, OnOk, OnErr};
+ghost use Rattle.std.specs.Prelude.{◌≤◌, [], ◌∷◌, OnOk, OnErr};
+ghost use Rattle.audit_base.specs.declared.limits.TheConstants.{MAX_COUNT};
 ghost use Rattle.audit_client_read.specs.Outlet.{OutletModel, a_keeping, a_printing};
 
 use audit_chain::Event;
@@ -20,9 +21,10 @@ pub trait Outlet {
         ensures done { OnOk result (calls.DidCalls self.old self.new (a_keeping state.now newest.now ∷ [])) }
         ensures failed { OnErr result (calls.Tried self.old self.new (a_keeping state.now newest.now)) };
 
-    /// Prints events, of which the first has this index in its log, and flushes. After an error some of them may have
+    /// Prints events, of which the first has this index in its log, and flushes. An index is at most `MAX_COUNT`. After an error some of them may have
     /// been printed.
     fn print(&mut self, first: u64, events: &[Event]) -> Result<(), Self::Error>
+        requires most { first ≤ MAX_COUNT }
         ensures done { OnOk result (calls.DidCalls self.old self.new (a_printing first events.now ∷ [])) }
         ensures failed { OnErr result (calls.Tried self.old self.new (a_printing first events.now)) };
 }

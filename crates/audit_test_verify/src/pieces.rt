@@ -3,7 +3,8 @@
 use crate::tests::{Log, add_bytes, closed_log, counted_log, counting_key, hash, turn};
 use audit_chain::Key;
 use audit_verify::{
-    State, StateError, advance, check_from, collect, read_state, state_text, verify, verify_from,
+    State, StateError, advance, bookmark_text, check_from, collect, read_bookmark, state_text, verify,
+    verify_from,
 };
 use sha2::{Digest, Sha256};
 use std::alloc::Global;
@@ -68,7 +69,7 @@ fn the_state_of_a_closed_log_is_the_models(rt: HostRuntime) {
 // the state of the whole log.
 fn continues_at(rt: &impl Abort, alloc: Global, log: &Log, cut: usize, whole: &[u8]) -> bool {
     let text = state_text(alloc, &state_at(rt, alloc, log, cut)).expect(rt, "memory");
-    let state = read_state(alloc, &text).expect(rt, "a state");
+    let state = read_bookmark(alloc, &text).expect(rt, "a state").state;
     let tail = piece(rt, alloc, log, cut, 33);
     let end = check_from(&mut tail.as_slice(), &state, &log.commitment).expect(rt, "a state");
     let next = verify_from(alloc, &mut tail.as_slice(), &state, &log.commitment).expect(
@@ -141,31 +142,36 @@ fn a_fault_after_a_cut_is_that_of_the_whole(rt: HostRuntime) {
 }
 
 fn is_damaged(alloc: Global, text: &[u8]) -> bool {
-    match read_state(alloc, text) {
+    match read_bookmark(alloc, text) {
         Err(StateError::Damaged) => true,
         _ => false,
     }
 }
 
-// A state's text with one byte changed, cut off, or with a byte after it, isn't read.
-#[test]
-fn a_damaged_state(rt: HostRuntime) {
-    let log = counted_log(&rt, rt.alloc(), 33);
-    let mut text = state_text(rt.alloc(), &state_at(&rt, rt.alloc(), &log, 33)).expect(
-        &rt, "memory",
-    );
+// A text with one byte changed, cut off, or with a byte after it, is that of no bookmark.
+fn each_change_damages(rt: &impl Abort, alloc: Global, text: &mut Vec<u8>) {
     for place in 0..text.len() {
         for mask in [0x01, 0x20, 0x80] {
-            turn(&mut text, place, mask);
-            assert!(rt; is_damaged(rt.alloc(), &text), "byte {place}");
-            turn(&mut text, place, mask);
+            turn(text, place, mask);
+            assert!(rt; is_damaged(alloc, text), "byte {place}");
+            turn(text, place, mask);
         }
-        assert!(rt;
-            is_damaged(rt.alloc(), &text[..place]),
-            "the first {place} bytes"
-        );
+        assert!(rt; is_damaged(alloc, &text[..place]), "the first {place} bytes");
     }
-    assert!(rt; !is_damaged(rt.alloc(), &text));
-    text.push(b'\n').expect(&rt, "memory");
-    assert!(rt; is_damaged(rt.alloc(), &text));
+    assert!(rt; !is_damaged(alloc, text));
+    text.push(b'\n').expect(rt, "memory");
+    assert!(rt; is_damaged(alloc, text));
+}
+
+#[test]
+fn a_damaged_bookmark(rt: HostRuntime) {
+    let log = counted_log(&rt, rt.alloc(), 33);
+    let own = state_at(&rt, rt.alloc(), &log, 33);
+    let mut text = state_text(rt.alloc(), &own).expect(&rt, "memory");
+    each_change_damages(&rt, rt.alloc(), &mut text);
+    let early = state_at(&rt, rt.alloc(), &log, 5);
+    let mut text = bookmark_text(rt.alloc(), &early, Some(log.commitment)).expect(&rt, "memory");
+    let mark = read_bookmark(rt.alloc(), &text).expect(&rt, "a bookmark");
+    assert!(rt; mark.newest == Some(log.commitment));
+    each_change_damages(&rt, rt.alloc(), &mut text);
 }

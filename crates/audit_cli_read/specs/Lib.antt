@@ -1,0 +1,2 @@
+pub mod EventCalls
+pub mod EventModel

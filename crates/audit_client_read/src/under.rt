@@ -1,0 +1,73 @@
+//! A reader under a witness of the same log.
+ghost use Rattle.std.specs.Prelude.{IfOk, IfErr, OnOk};
+ghost use Rattle.audit_client_read.specs.Newest.{Extends};
+ghost use Rattle.audit_client_read.specs.Questions.{AsksToRead};
+ghost use Rattle.audit_client_read.specs.Under.{IsNotAfter, FailsUnder};
+
+use audit_client::{ClientError, Sight, Unseen, join_by, watch};
+use audit_proof::Commitment;
+use std::alloc::Global;
+use std::io::{Read, Write};
+
+// The tag of the question for an increment from what a reader kept.
+const KEPT_TAG: u32 = 1;
+
+/// Asks for the newest commitment, which has to extend the one that a witness saw and the one that a reader kept. So
+/// both are of one log, and what is read on from it is the log that the witness saw.
+///
+/// Errors: as [`watch`], by either of the two, with the commitment that the server gave if it was judged.
+pub fn newest_under<W: Write, R: Read>(
+    alloc: Global,
+    to: &mut W,
+    from: &mut R,
+    kept: &Commitment,
+    witnessed: &Commitment,
+) -> Result<Commitment, Unseen>
+    ensures witnessed { IfOk result (Extends witnessed.now) }
+    ensures kept { IfOk result (Extends kept.now) }
+    ensures asked { OnOk result (AsksToRead (W.contents to.old) (W.contents to.new) (R.remaining from.old)
+        (R.remaining from.new)) }
+    ensures fault { IfErr result (FailsUnder (W.contents to.old) (W.contents to.new) (R.remaining from.old)
+        (R.remaining from.new) kept.now witnessed.now) }
+{
+    let newest = match watch(alloc, to, from, Some(*witnessed)) {
+        Ok(Sight::Began(seen) | Sight::Same(seen) | Sight::Grew(seen)) => seen,
+        Err(unseen) => return Err(unseen),
+    };
+    match lead_kept(alloc, to, from, kept, &newest) {
+        Ok(()) => Ok(newest),
+        Err(error) => Err(Unseen {
+            error,
+            given: Some(newest),
+        }),
+    }
+}
+
+// Sees that the newest commitment extends the one that a reader kept.
+fn lead_kept<W: Write, R: Read>(
+    alloc: Global,
+    to: &mut W,
+    from: &mut R,
+    kept: &Commitment,
+    newest: &Commitment,
+) -> Result<(), ClientError>
+    ensures extends { OnOk result (Extends kept.now newest.now) }
+    ensures asked { OnOk result (AsksToRead (W.contents to.old) (W.contents to.new) (R.remaining from.old)
+        (R.remaining from.new)) }
+    ensures fault { IfErr result (IsNotAfter (W.contents to.old) (W.contents to.new) (R.remaining from.old)
+        (R.remaining from.new) kept.now newest.now) }
+{
+    if *newest == *kept {
+        return Ok(());
+    }
+    if newest.count < kept.count {
+        return Err(ClientError::Shorter);
+    }
+    if newest.count == kept.count {
+        return Err(ClientError::OtherRoot);
+    }
+    if kept.count == 0 {
+        return Ok(());
+    }
+    join_by(alloc, to, from, KEPT_TAG, kept, newest)
+}
