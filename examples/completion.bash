@@ -1,10 +1,10 @@
 # Bash completion for `audit`: `source examples/completion.bash`.
 _audit() {
     local word=${COMP_WORDS[COMP_CWORD]} before=${COMP_WORDS[COMP_CWORD - 1]} command=${COMP_WORDS[1]}
-    local commands="replay format append close rotate show prove check export verify serve loop daemon stop send ask watch help"
-    local valued="--mode --long --expect --reserve --sessions --socket-mode --reader --idle --backlog --window --timeout --every --kind --from --save"
+    local commands="replay format append close rotate show prove check export verify serve loop daemon stop send ask watch read help"
+    local valued="--mode --long --expect --reserve --sessions --socket-mode --reader --idle --backlog --window --timeout --every --kind --from --save --first --under"
     local options="--explain --no-progress --help" choices= files= place=0 question= index
-    [ "$command" = verify ] || valued="$valued --text"
+    [[ $command = verify || $command = read ]] || valued="$valued --text"
     # Which word of the command this is: options and their values aren't counted.
     for ((index = 2; index < COMP_CWORD; index++)); do
         if [[ " $valued " == *" ${COMP_WORDS[index]} "* ]]; then
@@ -28,13 +28,14 @@ _audit() {
     send) options="$options --text --long --window --timeout" ;;
     ask) options="$options --timeout" ;;
     watch) options="$options --every --timeout --quiet" ;;
+    read) options="$options --first --under --text --numbers --json --kind --every --timeout" ;;
     help) options= ;;
     esac
     if [ "$COMP_CWORD" -eq 1 ]; then
         choices="$commands --help --version"
     elif [[ " $valued " == *" $before "* ]]; then
         case $before in
-        --reader | --save) files=1 ;;
+        --reader | --save | --first | --under) files=1 ;;
         --long) choices="cut refuse" ;;
         --mode | --socket-mode) choices="600 640 660" ;;
         esac
@@ -43,7 +44,7 @@ _audit() {
     else
         case $command:$place:$question in
         format:[02]: | format:2:* | append:0: | close:0: | rotate:[01]: | rotate:3:* | show:0: | check:0: | export:[01]: | \
-            verify:[01]: | serve:[01]: | loop:[01]: | daemon:[01]: | stop:0: | send:0: | watch:[01]: | prove:0: | ask:0: | \
+            verify:[01]: | serve:[01]: | loop:[01]: | daemon:[01]: | stop:0: | send:0: | watch:[01]: | read:[01]: | prove:0: | ask:0: | \
             prove:4:* | ask:2:export | ask:3:entry | ask:4:member | ask:4:increment) files=1 ;;
         prove:1:) choices="member increment" ;;
         ask:1:) choices="commitment entry member increment export close" ;;

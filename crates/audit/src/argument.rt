@@ -1,7 +1,7 @@
 //! What is wrong with a word of a command line, or with a key file.
 use crate::bytes::Bytes;
 use crate::command::Asked;
-use crate::contents::state_in;
+use crate::contents::{StateText, state_in, state_or_other};
 use crate::continuing::explain_start;
 use crate::form::key_flaw;
 use crate::places::key_file_of;
@@ -29,6 +29,12 @@ pub(crate) fn explain_argument<F: Files, M: Write>(
         && let Some(state) = state_in(rt, alloc, asked.start)
     {
         return explain_start(asked, state, messages);
+    }
+    if let Asked::Remote(Remote::Read { state, .. }) = asked
+        && let Some(StateText::Damaged) = state_or_other(rt, alloc, state)
+    {
+        let shown = Shown(state);
+        return writeln!(messages, "audit: {shown}: no state, or one that was changed or cut off");
     }
     if let Some(file) = key_file_of(asked)
         && notes.key_text().is_no_key()

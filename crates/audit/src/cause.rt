@@ -36,7 +36,9 @@ pub(crate) fn print_cause<F: Files, M: Write>(
                 "audit: {shown}: the daemon didn't answer within 30 seconds that it ended"
             )
         }
-        Asked::Remote(Remote::Watch { state, .. }) => print_kind(rt, alloc, state, true, messages),
+        Asked::Remote(Remote::Watch { state, .. } | Remote::Read { state, .. }) => {
+            print_kind(rt, alloc, state, true, messages)
+        }
         _ => match store_of(asked) {
             Some(store) => print_kind(rt, alloc, store, false, messages),
             None => Ok(()),

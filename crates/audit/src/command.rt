@@ -230,8 +230,8 @@ fn check_form(given: &ArgMatches<'_>) -> CheckForm {
     }
 }
 
-// How the events of an export are printed.
-fn report_form(given: &ArgMatches<'_>) -> ReportForm {
+/// How the events of a log are printed.
+pub(crate) fn report_form(given: &ArgMatches<'_>) -> ReportForm {
     if given.get_flag("json") {
         ReportForm::Json
     } else if given.get_flag("numbers") {

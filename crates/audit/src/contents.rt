@@ -69,6 +69,12 @@ pub(crate) fn state_in<F: Files>(rt: &F, alloc: Global, path: &str) -> Option<St
     }
 }
 
+/// The state in a regular file; another text is a damaged one.
+pub(crate) fn state_or_other<F: Files>(rt: &F, alloc: Global, path: &str) -> Option<StateText> {
+    metadata_of(rt, path)?;
+    Some(state_in(rt, alloc, path).unwrap_or(StateText::Damaged))
+}
+
 /// Finds out what a file holds, if it is a regular file or a block device that can be read.
 pub(crate) fn contents_of<F: Files>(rt: &F, alloc: Global, path: &str) -> Option<Contents> {
     if store_head(rt, path).is_some() {

@@ -77,7 +77,7 @@ pub(crate) fn explain_outside<F: Files, M: Write>(
                 ..
             },
         ) => (name, first, second, notes.count()),
-        Asked::Remote(Remote::Watch { socket, .. }) => {
+        Asked::Remote(Remote::Watch { socket, .. } | Remote::Read { socket, .. }) => {
             return writeln!(
                 messages,
                 "audit: {}: it has no proof from STATE's last line to its newest commitment",

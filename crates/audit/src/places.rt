@@ -1,5 +1,6 @@
 //! The files of a command that may hold keys.
 use crate::command::Asked;
+use audit_cli_client::Request as Remote;
 use audit_cli_daemon::Request as Daemon;
 use audit_cli_serve::Request as Serving;
 use audit_cli_store::Request;
@@ -33,6 +34,7 @@ pub(crate) fn key_file_of<'a>(asked: Asked<'a>) -> Option<&'a str> {
         Asked::Plain(Request::Format { key_file, .. }) => Some(key_file),
         Asked::Plain(Request::Verify(asked)) => Some(asked.start),
         Asked::Rotation(rotation) => Some(rotation.key_file),
+        Asked::Remote(Remote::Read { state, first, .. }) => Some(first.unwrap_or(state)),
         _ => None,
     }
 }

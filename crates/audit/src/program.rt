@@ -152,6 +152,7 @@ where
 fn prints_text(asked: Asked<'_>) -> bool {
     match asked {
         Asked::Plain(Request::Verify(asked)) => asked.form != ReportForm::Events,
+        Asked::Remote(Remote::Read { form, .. }) => form != ReportForm::Events,
         _ => false,
     }
 }

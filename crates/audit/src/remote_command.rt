@@ -1,5 +1,5 @@
 //! The commands that ask a server, as requests.
-use crate::command::word;
+use crate::command::{report_form, word};
 use audit_cli_client::Request as Remote;
 use clap::ArgMatches;
 
@@ -31,6 +31,16 @@ pub fn remote_request<'a>(name: &str, given: &ArgMatches<'a>) -> Option<Remote<'
             every: given.get_str("every"),
             timeout,
             is_quiet: given.get_flag("quiet"),
+        }),
+        "read" => Some(Remote::Read {
+            socket,
+            state: word(given, "STATE"),
+            first: given.get_str("first"),
+            under: given.get_str("under"),
+            form: report_form(given),
+            kinds: given.get_str("kind"),
+            every: given.get_str("every"),
+            timeout,
         }),
         _ => None,
     }

@@ -125,7 +125,85 @@ static WATCH: Form = Form {
     ],
 };
 
+static READ: Form = Form {
+    name: "read",
+    about: "Reads a server's log on from a state, verifies its events and prints them",
+    after: Some(
+        "STATE has the key of the next entry. It is replaced once the events before it are printed, so that after a stop at most those of one piece are printed again, with their indices.",
+    ),
+    words: &[
+        Word {
+            name: "SOCKET",
+            help: "The path of the server's socket",
+            is_required: true,
+        },
+        Word {
+            name: "STATE",
+            help: "The file with the state, which is replaced",
+            is_required: true,
+        },
+    ],
+    options: &[
+        Choice {
+            name: "first",
+            value: Some("KEYFILE"),
+            help: "Without STATE, reads from the start of the log with this first key",
+            needs: None,
+            excludes: None,
+        },
+        Choice {
+            name: "under",
+            value: Some("FILE"),
+            help: "The log has to extend the last commitment of a witness in FILE, too",
+            needs: None,
+            excludes: None,
+        },
+        Choice {
+            name: "text",
+            value: None,
+            help: "Prints each payload as a line of text, and nothing else",
+            needs: None,
+            excludes: Some("json"),
+        },
+        Choice {
+            name: "numbers",
+            value: None,
+            help: "With --text, puts the index and the kind before each payload",
+            needs: Some("text"),
+            excludes: None,
+        },
+        Choice {
+            name: "json",
+            value: None,
+            help: "Prints each event as a line with an object of JSON",
+            needs: None,
+            excludes: None,
+        },
+        Choice {
+            name: "kind",
+            value: Some("K,K.."),
+            help: "Prints the events of these kinds alone",
+            needs: None,
+            excludes: None,
+        },
+        Choice {
+            name: "every",
+            value: Some("SECONDS"),
+            help: "Reads on every SECONDS, 1 to 86400, and prints nothing where nothing is new",
+            needs: None,
+            excludes: None,
+        },
+        Choice {
+            name: "timeout",
+            value: Some("SECONDS"),
+            help: "How long the server has for each reply, 1 to 86400 [default: 30]",
+            needs: None,
+            excludes: None,
+        },
+    ],
+};
+
 /// The commands that ask a server.
-pub fn remote_forms() -> [&'static Form; 3] {
-    [&SEND, &ASK, &WATCH]
+pub fn remote_forms() -> [&'static Form; 4] {
+    [&SEND, &ASK, &WATCH, &READ]
 }

@@ -22,7 +22,9 @@ pub(crate) fn explain_server<M: Write>(
         } => (socket, "its clients may not close the log"),
         Remote::Ask { socket, .. } => (socket, "its clients may not ask this"),
         Remote::Send { socket, .. } => (socket, "its clients may only read"),
-        Remote::Watch { socket, .. } => (socket, "its clients may not ask"),
+        Remote::Watch { socket, .. } | Remote::Read { socket, .. } => {
+            (socket, "its clients may not ask")
+        }
     };
     let cause = match said {
         Some(Said::NotAllowed) => refused,

@@ -172,6 +172,18 @@ fn wrong_in_remote<'a>(request: Remote<'a>) -> Option<Wrong<'a>> {
                 .or(judge("--timeout", timeout, SECONDS))
                 .or(judge("--every", every, SECONDS))
         }
+        Remote::Read {
+            socket,
+            kinds,
+            timeout,
+            every,
+            ..
+        } => {
+            judge("SOCKET", Some(socket), Form::Socket)
+                .or(judge("--kind", kinds, Form::Kinds))
+                .or(judge("--timeout", timeout, SECONDS))
+                .or(judge("--every", every, SECONDS))
+        }
     }
 }
 

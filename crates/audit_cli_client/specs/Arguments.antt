@@ -4,6 +4,8 @@ use Rattle.std.specs.Prelude.{◌≡◌, ◌⊎◌, ℕ, nat_le, ◌&&◌, Optio
 use Rattle.std.specs.Prelude.{if◌then◌else◌}
 use Rattle.std.specs.Str.{bytes_eq}
 use Rattle.audit_text.specs.Number.{number_in_text}
+use Rattle.std.specs.Option.{is_some}
+use Rattle.audit_cli_offline.specs.declared.report_form.ReportForm.{ReportForm}
 use Rattle.audit_text.specs.LineEvents.{form_asked, long_asked}
 use Rattle.audit_cli_base.specs.Arguments.{proof_asked}
 use Rattle.audit_cli_base.specs.declared.arguments.ProofRequest.{ProofRequest}
@@ -16,7 +18,8 @@ use Rattle.audit_cli_client.specs.declared.arguments.Question.TheVariants as que
 use Rattle.audit_cli_client.specs.declared.arguments.Evidence.TheVariants as evidence
 use Rattle.audit_cli_client.specs.declared.request.TheConstants.{TIMEOUT, WINDOW}
 use Rattle.audit_cli_client.specs.declared.request.Request.{Request}
-use Rattle.audit_cli_client.specs.declared.request.Request.TheVariants.{Ask, Send, Watch}
+use Rattle.audit_cli_client.specs.declared.request.Request.TheVariants.{Ask, Send, Watch, Read}
+use Rattle.audit_cli_client.specs.declared.reading.ReadTask.{ReadTask}
 use Rattle.audit_cli_client.specs.declared.sending.Task.{Task}
 use Rattle.audit_cli_client.specs.declared.request.Order.{Order}
 use Rattle.audit_cli_client.specs.declared.request.Order.TheVariants as order
@@ -99,6 +102,8 @@ HasRefusedWord (Send socket text long window timeout) =
     IsNoSocketPath socket.now 0 ⊎ IsNoTask text long window timeout
 HasRefusedWord (Watch socket state every timeout is_quiet) =
     IsNoSocketPath socket.now 0 ⊎ (AreNoSeconds every ⊎ AreNoSeconds timeout)
+HasRefusedWord (Read socket state first under form kinds every timeout) =
+    IsNoSocketPath socket.now 0 ⊎ (AreNoSeconds every ⊎ AreNoSeconds timeout)
 
 -- a task has the form and the numbers of the words
 abbrev pub HasTaskNumbers : Option (Bor (List ℕ)) → Option (Bor (List ℕ)) → Option (Bor (List ℕ))
@@ -106,6 +111,16 @@ abbrev pub HasTaskNumbers : Option (Bor (List ℕ)) → Option (Bor (List ℕ)) 
 HasTaskNumbers text long window timeout task = (form_asked text ≡ Some task.form)
     × (long_asked long text ≡ Some task.long) × (window_or_default window ≡ Ok task.window)
     × (seconds_or_default timeout ≡ Ok task.seconds)
+
+-- what is read, and how it is printed, is that of the words
+pub record IsTaskOf (socket state : Bor (List ℕ)) (first under : Option (Bor (List ℕ))) (form : ReportForm)
+    (kinds : Option (Bor (List ℕ))) (task : ReadTask) : Type 0 where
+  pub socket_is : task.socket ≡ socket
+  pub state_is : task.state ≡ state
+  pub first_is : task.first ≡ first
+  pub under_is : task.under ≡ under
+  pub form_is : task.form ≡ form
+  pub kinds_are : task.kinds ≡ kinds
 
 -- what is ordered has the paths, the question and the numbers of the words
 abbrev pub IsOrderOf : Request → Order → Type 0
@@ -116,4 +131,7 @@ IsOrderOf (Send socket text long window timeout) (order.Send path task) =
 IsOrderOf (Watch socket state every timeout is_quiet) (order.Watch post pause) = (post.socket ≡ socket)
     × (post.state ≡ state) × IsPause every pause × (seconds_or_default timeout ≡ Ok post.seconds)
     × (post.is_quiet ≡ is_quiet)
+IsOrderOf (Read socket state first under form kinds every timeout) (order.Read task pause) =
+    IsTaskOf socket state first under form kinds task × IsPause every pause
+    × (seconds_or_default timeout ≡ Ok task.seconds) × (task.is_quiet ≡ is_some pause)
 IsOrderOf request other = ⊥

@@ -15,7 +15,7 @@ use Rattle.audit_client.specs.declared.send_error.SendError.{SendError}
 use Rattle.audit_client.specs.declared.send_error.SendError.TheVariants as sending
 use Rattle.audit_cli_client.specs.declared.fault.RemoteError.{RemoteError}
 use Rattle.audit_cli_client.specs.declared.fault.RemoteError.TheVariants.{Command, NoConnection, Server, BadStateLine}
-use Rattle.audit_cli_client.specs.declared.fault.RemoteError.TheVariants.{Contradicted, NotAcknowledged, StateInUse}
+use Rattle.audit_cli_client.specs.declared.fault.RemoteError.TheVariants.{Contradicted, NotLed, NotAcknowledged, StateInUse, ReaderInUse}
 
 -- the error for refused memory
 abbrev pub no_memory : RemoteError
@@ -40,14 +40,17 @@ remote_status (Command fault) = commands.status_of fault
 remote_status (NoConnection kind) = ends.Device
 remote_status (Server error) = status_of_server error
 remote_status (Contradicted found) = ends.Refused
+remote_status (NotLed error found) = ends.Refused
 remote_status (BadStateLine line) = ends.Refused
 remote_status StateInUse = ends.Device
+remote_status ReaderInUse = ends.Device
 remote_status (NotAcknowledged lines first) = ends.Device
 
--- A later try may succeed: the server isn't there or doesn't answer, or another witness looks.
+-- A later try may succeed: the server isn't there or doesn't answer, or another witness or reader has the file.
 abbrev pub is_passing_fault : RemoteError → Bool
 is_passing_fault (NoConnection kind) = true
 is_passing_fault StateInUse = true
+is_passing_fault ReaderInUse = true
 is_passing_fault (Server client.Ended) = true
 is_passing_fault (Server client.TimedOut) = true
 is_passing_fault _ = false

@@ -9,3 +9,5 @@ pub mod Asked
 pub mod Requests
 pub mod Messages
 pub mod ServerCalls
+pub mod ReadingTask
+pub mod ReadFaults

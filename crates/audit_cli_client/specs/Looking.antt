@@ -75,9 +75,13 @@ SaysPassing is_reported (Ok sight) old new failed = Unit {0}
 SaysPassing is_reported (Err fault) old new failed =
     SaysFault (is_passing_fault fault && not (is_reported fault)) fault old new failed
 
--- After a look that saw something, only the return of a server is said, and only if its absence was reported.
+-- the return of a server is said if its absence was reported, and nothing else is
+abbrev pub SaysAnswersAgain : Option RemoteError → Option (List ℕ) → Option (List ℕ) → Type 0
+SaysAnswersAgain (Some (NoConnection kind)) old new = (line : List ℕ) × Appends old new line
+SaysAnswersAgain (Some (Server error)) old new = (line : List ℕ) × Appends old new line
+SaysAnswersAgain reported old new = Keeps old new
+
+-- After a look that saw something, only that is said.
 abbrev pub SaysReturn : Option RemoteError → Result Sight RemoteError → Option (List ℕ) → Option (List ℕ) → Type 0
 SaysReturn reported (Err fault) old new = Unit {0}
-SaysReturn (Some (NoConnection kind)) (Ok sight) old new = (line : List ℕ) × Appends old new line
-SaysReturn (Some (Server error)) (Ok sight) old new = (line : List ℕ) × Appends old new line
-SaysReturn reported (Ok sight) old new = Keeps old new
+SaysReturn reported (Ok sight) old new = SaysAnswersAgain reported old new

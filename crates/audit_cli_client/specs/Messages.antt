@@ -5,7 +5,7 @@ use Rattle.audit_text.specs.Writing.{WritesInPart}
 use Rattle.audit_client.specs.declared.fault.ClientError.{ClientError}
 use Rattle.audit_client.specs.declared.fault.ClientError.TheVariants as client
 use Rattle.audit_cli_client.specs.declared.fault.RemoteError.{RemoteError}
-use Rattle.audit_cli_client.specs.declared.fault.RemoteError.TheVariants.{NoConnection, StateInUse, Server}
+use Rattle.audit_cli_client.specs.declared.fault.RemoteError.TheVariants.{NoConnection, StateInUse, ReaderInUse, Server, NotLed}
 
 -- the line of an error of the server that has no number
 abbrev pub message_of_server : ClientError → Option (List ℕ)
@@ -15,11 +15,20 @@ message_of_server client.TimedOut = Some (codes "audit: no reply in time\n")
 message_of_server client.Output = Some (codes "audit: file fault\n")
 message_of_server _ = None
 
+-- the line of a reader that judges the log
+abbrev pub message_not_led : ClientError → Option (List ℕ)
+message_not_led client.NotAccepted = Some (codes "audit: not accepted\n")
+message_not_led client.Shorter = Some (codes "audit: shorter\n")
+message_not_led client.OtherRoot = Some (codes "audit: other root\n")
+message_not_led _ = None
+
 -- the line that says why a command failed, if it is one of the client's own and has no number: each passing fault's is
 abbrev pub message_of : RemoteError → Option (List ℕ)
 message_of (NoConnection kind) = Some (codes "audit: file fault\n")
 message_of StateInUse = Some (codes "audit: witness file in use\n")
+message_of ReaderInUse = Some (codes "audit: state in use\n")
 message_of (Server error) = message_of_server error
+message_of (NotLed error found) = message_not_led error
 message_of _ = None
 
 -- The text was written; or a part of it, and then the writer failed.

@@ -16,7 +16,8 @@ use Rattle.audit_cli_client.specs.declared.watching.Post.{Post}
 use Rattle.audit_cli_client.specs.Arguments.{HasRefusedWord, IsOrderOf}
 use Rattle.audit_cli_client.specs.Faults.{remote_status, judgment_of, is_passing_fault, IsNoJudgment}
 use Rattle.audit_cli_client.specs.Looking.{PrintsLook, FollowsLook, IsFollowed, look_line}
-use Rattle.audit_cli_client.specs.ServerCalls.{ServersModel, CommandStreams, a_query, a_sending, a_look, a_rest}
+use Rattle.audit_cli_client.specs.ServerCalls.{ServersModel, CommandStreams, a_query, a_sending, a_look, a_reading, a_rest}
+use Rattle.audit_cli_client.specs.ReadingTask.{ReadsToTheEnd}
 
 abbrev pub status_of_done : Result Status RemoteError → Status
 status_of_done (Ok status) = status
@@ -77,6 +78,13 @@ module _ {F : Type 0} (servers : ServersModel F) where
   EndsOrder (order.Watch post (Some every)) was now before after failed done =
       (result : Result (Unit {0}) RemoteError)
       × LooksToTheEnd post every was now before.output after.output failed result
+      × (done ≡ done_after result) × (after.input ≡ before.input)
+  EndsOrder (order.Read task None) was now before after failed done = (result : Result (Unit {0}) RemoteError)
+      × servers.DidCalls was now (a_reading task before.output after.output result ∷ [])
+      × (done ≡ done_after result) × (after.input ≡ before.input)
+  EndsOrder (order.Read task (Some every)) was now before after failed done =
+      (result : Result (Unit {0}) RemoteError)
+      × ReadsToTheEnd servers task every was now before.output after.output result
       × (done ≡ done_after result) × (after.input ≡ before.input)
 
   -- A word is wrong, and nothing was done or written; or what the words say was ordered, and ended so.

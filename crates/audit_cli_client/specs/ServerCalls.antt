@@ -1,9 +1,10 @@
--- The calls by which a program asks servers, sends them events, looks at their logs and pauses.
+-- The calls by which a program asks servers, sends them events, looks at their logs, reads them on and pauses.
 use Rattle.std.specs.Prelude.{ℕ, Option, List, [], ◌++◌, Result}
 use Rattle.audit_cli_base.specs.declared.status.Status.{Status}
 use Rattle.audit_client.specs.declared.watching.Sight.{Sight}
 use Rattle.audit_cli_client.specs.declared.arguments.Question.{Question}
 use Rattle.audit_cli_client.specs.declared.fault.RemoteError.{RemoteError}
+use Rattle.audit_cli_client.specs.declared.reading.ReadTask.{ReadTask}
 use Rattle.audit_cli_client.specs.declared.sending.Task.{Task}
 use Rattle.audit_cli_client.specs.declared.watching.Post.{Post}
 
@@ -20,6 +21,8 @@ pub data ServerCall : Type 0 where
   a_sending : List ℕ → Task → CommandStreams → CommandStreams → Result Status RemoteError → ServerCall
   -- a witness looked, and this is what it saw
   a_look : Post → Result Sight RemoteError → ServerCall
+  -- a log was read on; the output before and after, and how that ended
+  a_reading : ReadTask → Option (List ℕ) → Option (List ℕ) → Result (Unit {0}) RemoteError → ServerCall
   -- nothing was done for this many seconds
   a_rest : ℕ → ServerCall
 

@@ -3,7 +3,7 @@ ghost use Rattle.std.specs.Io.KnownBytes.{Appends};
 ghost use Rattle.audit_text.specs.Writing.{WritesInPart};
 ghost use Rattle.audit_cli_client.specs.Faults.{no_memory, remote_status, status_of_server, of_sending, judgment_of};
 ghost use Rattle.audit_cli_client.specs.Faults.{judgment_in, is_passing_fault};
-ghost use Rattle.audit_cli_client.specs.Messages.{Says, message_of, message_of_server};
+ghost use Rattle.audit_cli_client.specs.Messages.{Says, message_of, message_of_server, message_not_led};
 
 use crate::contradiction::Contradiction;
 use audit_cli_base::{CommandError, Status, report};
@@ -25,10 +25,15 @@ pub enum RemoteError {
     Server(ClientError),
     /// What the server gave contradicts what a witness holds.
     Contradicted(Contradiction),
+    /// What the server gave doesn't follow from what a reader holds: `Shorter`, `OtherRoot` or `NotAccepted`; and the
+    /// two commitments, if it gave one.
+    NotLed(ClientError, Option<Contradiction>),
     /// The line with this number, counted from 1, of a witness's file isn't a commitment.
     BadStateLine(u64),
     /// Another witness looks by the file, and didn't end in time.
     StateInUse,
+    /// Another program reads by the file, and didn't end in time.
+    ReaderInUse,
     /// As many lines were sent, from the line with this number on, and weren't acknowledged.
     NotAcknowledged {
         /// Their number.
@@ -47,9 +52,12 @@ impl RemoteError {
             RemoteError::Command(fault) => fault.status(),
             RemoteError::NoConnection(_)
             | RemoteError::StateInUse
+            | RemoteError::ReaderInUse
             | RemoteError::NotAcknowledged { .. } => Status::Device,
             RemoteError::Server(error) => status_of_server(error),
-            RemoteError::Contradicted(_) | RemoteError::BadStateLine(_) => Status::Refused,
+            RemoteError::Contradicted(_)
+            | RemoteError::NotLed(_, _)
+            | RemoteError::BadStateLine(_) => Status::Refused,
         }
     }
 
@@ -86,7 +94,9 @@ impl RemoteError {
         match self {
             RemoteError::NoConnection(_) => Some("audit: file fault\n"),
             RemoteError::StateInUse => Some("audit: witness file in use\n"),
+            RemoteError::ReaderInUse => Some("audit: state in use\n"),
             RemoteError::Server(error) => message_of_server(error),
+            RemoteError::NotLed(error, _) => message_not_led(error),
             _ => None,
         }
     }
@@ -102,7 +112,8 @@ impl RemoteError {
         }
     }
 
-    /// Whether a later try may succeed: the server isn't there, or doesn't answer, or another witness looks.
+    /// Whether a later try may succeed: the server isn't there, or doesn't answer, or another witness or reader has the
+    /// file.
     pub fn is_passing(self) -> bool
         ensures { result ≡ is_passing_fault self }
     {
@@ -110,6 +121,7 @@ impl RemoteError {
             self,
             RemoteError::NoConnection(_)
                 | RemoteError::StateInUse
+                | RemoteError::ReaderInUse
                 | RemoteError::Server(ClientError::Ended | ClientError::TimedOut)
         )
     }
@@ -122,6 +134,18 @@ fn judgment_in(error: ClientError) -> Option<&'static str>
         ClientError::NotAccepted => Some("not accepted\n"),
         ClientError::Shorter => Some("shorter\n"),
         ClientError::OtherRoot => Some("other root\n"),
+        _ => None,
+    }
+}
+
+// A judgment of the log among the messages: the output of a reader has nothing but events.
+fn message_not_led(error: ClientError) -> Option<&'static str>
+    ensures { option_map (λ words. words.now) result ≡ message_not_led error }
+{
+    match error {
+        ClientError::NotAccepted => Some("audit: not accepted\n"),
+        ClientError::Shorter => Some("audit: shorter\n"),
+        ClientError::OtherRoot => Some("audit: other root\n"),
         _ => None,
     }
 }

@@ -14,10 +14,12 @@ ghost use Rattle.audit_cli_client.specs.Arguments.{IsPause, seconds_or_default, 
 use crate::alarm::print_contradiction;
 use crate::arguments::{Question, QuestionWords, question_asked, seconds_asked, window_asked};
 use crate::fault::RemoteError;
+use crate::reading::{ReadTask, read_for_ever};
 use crate::sending::Task;
 use crate::servers::Servers;
 use crate::watching::{Post, watch_for_ever, watch_once};
 use audit_cli_base::{CommandError, Status, report_flush, socket_path_asked};
+use audit_cli_offline::ReportForm;
 use audit_client::FallibleWrite;
 use audit_text::{LineForm, LongLines, form_asked, long_asked};
 use std::alloc::Global;
@@ -66,6 +68,25 @@ pub enum Request<'a> {
         timeout: Option<&'a str>,
         /// Whether nothing is printed of a log that is the same or has grown.
         is_quiet: bool,
+    },
+    /// Reads the log on from the bookmark in a file, and prints its events.
+    Read {
+        /// The path of the server's socket.
+        socket: &'a str,
+        /// The file.
+        state: &'a str,
+        /// The file with the first key, with which reading begins if there is no bookmark.
+        first: Option<&'a str>,
+        /// The file of a witness, whose newest commitment the log has to extend.
+        under: Option<&'a str>,
+        /// How events are printed.
+        form: ReportForm,
+        /// The kinds of the events that are printed; any if absent.
+        kinds: Option<&'a str>,
+        /// After how many seconds to read on again; if absent, it reads once.
+        every: Option<&'a str>,
+        /// How many seconds a reply is waited for; 30 if absent.
+        timeout: Option<&'a str>,
     },
 }
 
@@ -123,16 +144,17 @@ fn report_fault<M: FallibleWrite>(ended: Result<Status, RemoteError>, messages: 
     }
 }
 
-// Prints what contradicts a witness, after the word on the output.
+// Prints what contradicts a witness or a reader, after the word for it.
 fn report_alarm<M: Write>(
     alloc: Global,
     request: Request<'_>,
     done: Result<Status, RemoteError>,
     messages: &mut M,
 ) {
-    if let Request::Watch { socket, state, .. } = request
-        && let Err(RemoteError::Contradicted(found)) = done
-    {
+    let (Request::Watch { socket, state, .. } | Request::Read { socket, state, .. }) = request else {
+        return;
+    };
+    if let Err(RemoteError::Contradicted(found) | RemoteError::NotLed(_, Some(found))) = done {
         let _ = print_contradiction(alloc, socket, state, &found, messages);
     }
 }
@@ -168,6 +190,10 @@ enum Order<'a> {
     },
     Watch {
         post: Post<'a>,
+        every: Option<u64>,
+    },
+    Read {
+        task: ReadTask<'a>,
         every: Option<u64>,
     },
 }
@@ -242,6 +268,31 @@ fn judge<'a>(request: Request<'a>) -> Result<Order<'a>, CommandError>
             let every = pause_asked(every)?;
             Ok(Order::Watch { post, every })
         }
+        Request::Read {
+            socket,
+            state,
+            first,
+            under,
+            form,
+            kinds,
+            every,
+            timeout,
+        } => {
+            socket_path_asked(socket, 0)?;
+            let seconds = seconds_or_default(timeout)?;
+            let every = pause_asked(every)?;
+            let task = ReadTask {
+                socket,
+                state,
+                first,
+                under,
+                form,
+                kinds,
+                seconds,
+                is_quiet: every.is_some(),
+            };
+            Ok(Order::Read { task, every })
+        }
     }
 }
 
@@ -294,6 +345,12 @@ fn carry_out<F: Servers, R: Read, W: FallibleWrite, M: FallibleWrite>(
                 done_after(watch_for_ever(servers, alloc, post, every, output, messages))
             }
             None => done_after(watch_once(servers, alloc, post, output)),
+        },
+        Order::Read { task, every } => match every {
+            Some(every) => {
+                done_after(read_for_ever(servers, alloc, task, every, output, messages))
+            }
+            None => done_after(servers.read(alloc, task, output, messages)),
         },
     }
 }

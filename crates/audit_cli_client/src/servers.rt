@@ -1,17 +1,19 @@
 //! Systems on which servers are asked.
 ghost use Rattle.std.specs.Prelude.{[], ◌∷◌};
 ghost use Rattle.audit_cli_client.specs.ServerCalls.{ServersModel, unknown_servers, CommandStreams};
-ghost use Rattle.audit_cli_client.specs.ServerCalls.{a_query, a_sending, a_look, a_rest};
+ghost use Rattle.audit_cli_client.specs.ServerCalls.{a_query, a_sending, a_look, a_reading, a_rest};
 
 use crate::alarm::date_of_now;
 use crate::arguments::Question;
 use crate::asking::ask_socket;
 use crate::fault::RemoteError;
+use crate::read_file::read_by_file;
+use crate::reading::ReadTask;
 use crate::sending::{Task, send_to_socket};
 use crate::watching::{Post, look_by_file};
 use audit_cli_base::Status;
 use audit_cli_host::Dial;
-use audit_client::Sight;
+use audit_client::{FallibleWrite, Sight};
 use audit_disk::SystemFile;
 use httpdate::HttpDate;
 use std::alloc::Global;
@@ -64,6 +66,17 @@ pub trait Servers {
     /// Looks at a log as a witness does.
     fn look(&mut self, alloc: Global, post: Post<'_>) -> Result<Sight, RemoteError>
         ensures { calls.DidCalls self.old self.new (a_look post.entry result ∷ []) };
+
+    /// Reads a log on, prints its events, and keeps the bookmark after them.
+    fn read<W: FallibleWrite, M: Write>(
+        &mut self,
+        alloc: Global,
+        task: ReadTask<'_>,
+        output: &mut W,
+        messages: &mut M,
+    ) -> Result<(), RemoteError>
+        ensures { calls.DidCalls self.old self.new (a_reading task.entry (W.contents output.old)
+            (W.contents output.new) result ∷ []) };
 
     /// Pauses for this many seconds.
     fn pause(&mut self, seconds: u64)
@@ -118,6 +131,16 @@ where
 
     fn look(&mut self, alloc: Global, post: Post<'_>) -> Result<Sight, RemoteError> {
         look_by_file(self.rt, alloc, post)
+    }
+
+    fn read<W: FallibleWrite, M: Write>(
+        &mut self,
+        alloc: Global,
+        task: ReadTask<'_>,
+        output: &mut W,
+        messages: &mut M,
+    ) -> Result<(), RemoteError> {
+        read_by_file(self.rt, alloc, task, output, messages)
     }
 
     fn pause(&mut self, seconds: u64) {

@@ -6,7 +6,7 @@ ghost use Rattle.audit_client.specs.declared.watching.Sight.{Sight};
 ghost use Rattle.audit_cli_client.specs.declared.fault.RemoteError.{RemoteError};
 ghost use Rattle.audit_cli_client.specs.Faults.{is_passing_fault};
 ghost use Rattle.audit_cli_client.specs.Looking.{sight_line, change_line, FollowsLook, PrintsLook, FailsToPrint};
-ghost use Rattle.audit_cli_client.specs.Looking.{SaysPassing, SaysReturn};
+ghost use Rattle.audit_cli_client.specs.Looking.{SaysAnswersAgain, SaysPassing, SaysReturn};
 ghost use Rattle.audit_cli_client.specs.Messages.{message_of, SaysFirst};
 ghost use Rattle.audit_cli_client.specs.Requests.{LooksOnce, LooksToTheEnd};
 ghost use Rattle.audit_cli_client.specs.ServerCalls.{a_look, a_rest};
@@ -169,16 +169,13 @@ pub fn follow_look<W: FallibleWrite, M: FallibleWrite>(
 {
     match looked {
         Ok(sight) => {
-            if let Some(RemoteError::NoConnection(_) | RemoteError::Server(_)) = reported {
-                let line = moment_line(alloc, date, post.socket, "answers again");
-                print_if_made(line, messages);
-            }
+            report_return(alloc, date, post.socket, reported, messages);
             print_change(alloc, sight, post.is_quiet, output)?;
             Ok(None)
         }
         Err(fault) if fault.is_passing() => {
             if reported != Some(fault) {
-                report_passing(alloc, date, post, fault, messages);
+                report_passing(alloc, date, post.socket, post.state, fault, messages);
             }
             Ok(Some(fault))
         }
@@ -205,11 +202,28 @@ fn print_change<W: FallibleWrite>(
     Ok(output.flush_text()?)
 }
 
-// Reports a passing fault: what it is, and then of what, why and when.
-fn report_passing<M: FallibleWrite>(
+/// Reports the return of a server that was reported not to be there.
+pub(crate) fn report_return<M: FallibleWrite>(
     alloc: Global,
     date: Option<HttpDate>,
-    post: Post<'_>,
+    socket: &str,
+    reported: Option<RemoteError>,
+    messages: &mut M,
+)
+    ensures { SaysAnswersAgain reported (M.contents messages.old) (M.contents messages.new) }
+{
+    if let Some(RemoteError::NoConnection(_) | RemoteError::Server(_)) = reported {
+        let line = moment_line(alloc, date, socket, "answers again");
+        print_if_made(line, messages);
+    }
+}
+
+/// Reports a passing fault of a command with this socket and this file: what it is, and then of what, why and when.
+pub(crate) fn report_passing<M: FallibleWrite>(
+    alloc: Global,
+    date: Option<HttpDate>,
+    socket: &str,
+    state: &str,
     fault: RemoteError,
     messages: &mut M,
 )
@@ -217,7 +231,7 @@ fn report_passing<M: FallibleWrite>(
         (M.failed messages.new)) }
 {
     match fault.print(messages) {
-        Ok(()) => print_if_made(passing_line(alloc, date, post, fault), messages),
+        Ok(()) => print_if_made(passing_line(alloc, date, socket, state, fault), messages),
         Err(_) => (),
     }
 }
@@ -238,19 +252,22 @@ fn print_if_made<M: FallibleWrite>(line: io::Result<Vec<u8>>, messages: &mut M)
 fn passing_line(
     alloc: Global,
     date: Option<HttpDate>,
-    post: Post<'_>,
+    socket: &str,
+    state: &str,
     fault: RemoteError,
 ) -> io::Result<Vec<u8>> {
     match fault {
         RemoteError::NoConnection(kind) => {
             let cause = format!(in alloc; "{kind}")?;
-            moment_line(alloc, date, post.socket, &cause)
+            moment_line(alloc, date, socket, &cause)
         }
-        RemoteError::StateInUse => moment_line(alloc, date, post.state, "in use"),
+        RemoteError::StateInUse | RemoteError::ReaderInUse => {
+            moment_line(alloc, date, state, "in use")
+        },
         RemoteError::Server(ClientError::TimedOut) => {
-            moment_line(alloc, date, post.socket, "no reply in time")
+            moment_line(alloc, date, socket, "no reply in time")
         }
-        _ => moment_line(alloc, date, post.socket, "connection ended"),
+        _ => moment_line(alloc, date, socket, "connection ended"),
     }
 }
 

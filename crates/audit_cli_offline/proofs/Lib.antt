@@ -1,3 +1,4 @@
+mod ReportEnds
 mod KindWords
 pub mod Lines
 pub mod SecondPass

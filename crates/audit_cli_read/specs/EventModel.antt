@@ -10,7 +10,7 @@ use Rattle.audit_client_read.specs.Outlet.{OutletCall, a_keeping, a_printing, Ou
 use Rattle.audit_cli_read.specs.declared.event_outlet.EventOutlet.{EventOutlet}
 use Rattle.audit_cli_read.specs.EventCalls.{lines_of_calls, file_after_calls, DidOutlet, TriedOutlet}
 
-lines_more : (printing : PrintingData) (calls later : List OutletCall)
+pub lines_more : (printing : PrintingData) (calls later : List OutletCall)
     → lines_of_calls printing (calls ++ later) ≡ lines_of_calls printing calls ++ lines_of_calls printing later
 lines_more printing [] later = refl
 lines_more printing (a_keeping state newest ∷ calls) later = lines_more printing calls later
@@ -19,13 +19,13 @@ lines_more printing (a_printing first events ∷ calls) later =
     ap (λ rest. lines ++ rest) (lines_more printing calls later)
     ∙ sym (append_assoc lines (lines_of_calls printing calls) (lines_of_calls printing later))
 
-file_more : (bytes : List ℕ) (calls later : List OutletCall)
+pub file_more : (bytes : List ℕ) (calls later : List OutletCall)
     → file_after_calls bytes (calls ++ later) ≡ file_after_calls (file_after_calls bytes calls) later
 file_more bytes [] later = refl
 file_more bytes (a_keeping state newest ∷ calls) later = file_more (bookmark_text state (Some newest)) calls later
 file_more bytes (a_printing first events ∷ calls) later = file_more bytes calls later
 
-kept_more : (old mid new : Option (List ℕ)) (calls later : List OutletCall)
+pub kept_more : (old mid new : Option (List ℕ)) (calls later : List OutletCall)
     → IfSome old (λ before. mid ≡ Some (file_after_calls before calls))
     → IfSome mid (λ before. new ≡ Some (file_after_calls before later))
     → IfSome old (λ before. new ≡ Some (file_after_calls before (calls ++ later)))
@@ -34,7 +34,7 @@ kept_more (Some before) mid new calls later first second =
     subst (λ (m : Option (List ℕ)). IfSome m (λ held. new ≡ Some (file_after_calls held later))) first second
     ∙ ap (λ (b : List ℕ). Some b) (sym (file_more before calls later))
 
-kept_none : (known : Option (List ℕ)) → IfSome known (λ before. known ≡ Some before)
+pub kept_none : (known : Option (List ℕ)) → IfSome known (λ before. known ≡ Some before)
 kept_none None = tt
 kept_none (Some before) = refl
 

@@ -1,5 +1,9 @@
 //! Where the events of a log go that is read on.
-ghost use Rattle.std.specs.Prelude.{◌≡◌, [], ◌∷◌, OnOk, OnErr};
+ghost use Rattle.std.specs.Prelude.{◌≡◌, ◌≤◌, [], ◌∷◌, OnOk, OnErr};
+ghost use Rattle.std.specs.Io.KnownBytes.{Appends};
+ghost use Rattle.audit_base.specs.declared.limits.TheConstants.{MAX_COUNT};
+ghost use Rattle.audit_text.specs.Writing.{WritesInPart};
+ghost use Rattle.audit_cli_offline.specs.ReportLines.{event_lines};
 ghost use Rattle.audit_cli_read.specs.EventModel.{event_calls};
 
 use crate::bookmark_file::BookmarkFile;
@@ -37,7 +41,16 @@ impl<'a, K: BookmarkFile, W: FallibleWrite> EventOutlet<'a, K, W> {
         }
     }
 
-    fn print_lines(&mut self, first: u64, events: &[Event]) -> Result<(), LinesError> {
+    // Prints the lines of events, and flushes.
+    fn print_lines(&mut self, first: u64, events: &[Event]) -> Result<(), LinesError>
+        requires most { first ≤ MAX_COUNT }
+        ensures kept { self.new.file ≡ self.old.file }
+        ensures same { self.new.printing ≡ self.old.printing }
+        ensures printed { OnOk result (Appends (W.contents self.old.output) (W.contents self.new.output)
+            (event_lines self.old.printing.now first events.now)) }
+        ensures part { OnErr result (WritesInPart (W.contents self.old.output) (W.contents self.new.output)
+            (event_lines self.old.printing.now first events.now)) }
+    {
         write_events(self.alloc, first, events, self.printing, &mut self.output)?;
         match self.output.flush_text() {
             Ok(()) => Ok(()),

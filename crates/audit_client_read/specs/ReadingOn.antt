@@ -36,26 +36,36 @@ module _ {O : Type 0} (E : OutletModel O) where
   TriesFirst [] old new = ⊥
   TriesFirst (call ∷ calls) old new = E.Tried old new call
 
+  -- these events after a state were printed, and the next state kept
+  abbrev pub PutsPiece : StateData → List EventData → StateData → Commitment → O → O → Type 0
+  PutsPiece state events next newest old new =
+      E.DidCalls old new (a_printing state.frontier.count events ∷ a_keeping next newest ∷ [])
+
+  -- they were tried to be printed, and no more; or they were printed, and the next state tried to be kept
+  abbrev pub TriesPutting : StateData → List EventData → StateData → Commitment → O → O → Type 0
+  TriesPutting state events next newest old new = E.Tried old new (a_printing state.frontier.count events)
+      ⊎ ((mid : O) × E.DidCalls old mid (a_printing state.frontier.count events ∷ [])
+      × E.Tried mid new (a_keeping next newest))
+
   -- the next piece was printed, and the state after it kept, which is this
   pub record ReadsPiece (state : StateData) (newest : Commitment) (old new : O) (reached : StateData) : Type 0 where
     pub piece : List EventData
     pub is : IsPiece state newest piece
-    pub did : E.DidCalls old new
-        (a_printing state.frontier.count piece ∷ a_keeping (next_state state piece) newest ∷ [])
+    pub did : PutsPiece state piece (next_state state piece) newest old new
     pub reached_is : reached ≡ next_state state piece
 
-  -- the next piece was tried to be printed, and no more; or it was printed, and the state after it tried to be kept
+  -- the next piece was tried to be printed and the state after it to be kept
   pub record TriesPiece (state : StateData) (newest : Commitment) (old new : O) : Type 0 where
     pub piece : List EventData
     pub is : IsPiece state newest piece
-    pub tried : E.Tried old new (a_printing state.frontier.count piece)
-        ⊎ ((mid : O) × E.DidCalls old mid (a_printing state.frontier.count piece ∷ [])
-        × E.Tried mid new (a_keeping (next_state state piece) newest))
+    pub tried : TriesPutting state piece (next_state state piece) newest old new
 
-  -- The calls of some pieces were made from the first one on; the next one may have been tried, and no other was.
+  -- The calls of some pieces were made from the first one on; the next one may have been tried, and no other was. None
+  -- is made before a piece is verified and leads to the newest commitment, if there are entries after the state.
   pub record ReadsFront (state : StateData) (newest : Commitment) (old new : O) : Type 0 where
     pub pieces : List (List EventData)
     pub are : AreReadPieces state newest pieces
+    pub begun : pieces ≡ [] → newest.count ≡ state.frontier.count
     pub done : List OutletCall
     pub rest : List OutletCall
     pub split : reading_calls state newest pieces ≡ done ++ rest

@@ -3,6 +3,7 @@
 #![tactic(auto)]
 
 pub mod laws;
+mod newest;
 mod outlet;
 mod piece;
 mod read_error;

@@ -4,7 +4,8 @@ ghost use Rattle.audit_client_read.specs.Newest.{Extends};
 ghost use Rattle.audit_client_read.specs.Questions.{AsksToRead};
 ghost use Rattle.audit_client_read.specs.Under.{IsNotAfter, FailsUnder};
 
-use audit_client::{ClientError, Sight, Unseen, join_by, watch};
+use crate::newest::newest_after;
+use audit_client::{ClientError, Unseen, join_by};
 use audit_proof::Commitment;
 use std::alloc::Global;
 use std::io::{Read, Write};
@@ -15,7 +16,7 @@ const KEPT_TAG: u32 = 1;
 /// Asks for the newest commitment, which has to extend the one that a witness saw and the one that a reader kept. So
 /// both are of one log, and what is read on from it is the log that the witness saw.
 ///
-/// Errors: as [`watch`], by either of the two, with the commitment that the server gave if it was judged.
+/// Errors: as [`watch`](audit_client::watch), by either of the two, with the commitment that the server gave if it was judged.
 pub fn newest_under<W: Write, R: Read>(
     alloc: Global,
     to: &mut W,
@@ -30,10 +31,7 @@ pub fn newest_under<W: Write, R: Read>(
     ensures fault { IfErr result (FailsUnder (W.contents to.old) (W.contents to.new) (R.remaining from.old)
         (R.remaining from.new) kept.now witnessed.now) }
 {
-    let newest = match watch(alloc, to, from, Some(*witnessed)) {
-        Ok(Sight::Began(seen) | Sight::Same(seen) | Sight::Grew(seen)) => seen,
-        Err(unseen) => return Err(unseen),
-    };
+    let newest = newest_after(alloc, to, from, witnessed)?;
     match lead_kept(alloc, to, from, kept, &newest) {
         Ok(()) => Ok(newest),
         Err(error) => Err(Unseen {

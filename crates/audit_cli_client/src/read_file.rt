@@ -1,0 +1,224 @@
+//! Reading a log on by the bookmark in a file.
+use crate::alarm_file::keep_alarm;
+use crate::connection::{connect, socket_identity};
+use crate::fault::RemoteError;
+use crate::line::{LineEnd, Pace};
+use crate::read_error::{fault_of_reading, fault_of_unseen};
+use crate::reading::ReadTask;
+use crate::state_file::StateFile;
+use crate::state_lock::{Locked, lock_state, metadata_if_any, remove_made};
+use crate::state_text::StateAt;
+use audit_cli_base::{CommandError, OutputFile, read_key};
+use audit_cli_host::Dial;
+use audit_cli_offline::{
+    Printing, VerifiedEnd, kinds_in_word, write_end_message, write_last_line,
+};
+use audit_cli_read::{BookmarkFile, EventOutlet};
+use audit_client::{FallibleWrite, Kept};
+use audit_client_read::{newest_under, read_on};
+use audit_disk::{FileIdentity, SystemFile};
+use audit_proof::Commitment;
+use audit_text::{read_input, write_whole};
+use audit_verify::{Bookmark, State, StateError, read_bookmark};
+use std::alloc::Global;
+use std::fs::{self, Files};
+use std::io::{BufReader, Read, Write};
+use std::time::{Clock, Duration};
+
+/// Reads a log on from the bookmark in a file, prints its events, and keeps the bookmark after them. Meanwhile the file
+/// with `.lock` after its name is locked, so that one program at a time reads by it. What contradicts the bookmark is
+/// kept beside it.
+pub(crate) fn read_by_file<F: Files + Dial + Clock, W: FallibleWrite, M: Write>(
+    rt: &F,
+    alloc: Global,
+    task: ReadTask<'_>,
+    output: &mut W,
+    messages: &mut M,
+) -> Result<(), RemoteError>
+where
+    F::File: SystemFile,
+{
+    let printing = printing_asked(alloc, task)?;
+    let socket = socket_identity(rt, task.socket)?;
+    let name = format!(in alloc; "{}.lock", task.state)?;
+    let locked = lock_reader(rt, &name, task.seconds)?;
+    let done = read_alone(rt, alloc, socket, task, &printing, output);
+    remove_made(rt, &name);
+    drop(locked);
+    match done {
+        Ok(read) => print_end(alloc, task, read, output, messages),
+        Err(RemoteError::NotLed(error, Some(mut found))) => {
+            found.is_kept = keep_alarm(rt, alloc, task.state, &found).is_ok();
+            Err(RemoteError::NotLed(error, Some(found)))
+        }
+        Err(fault) => Err(fault),
+    }
+}
+
+// What was read.
+#[derive(Clone, Copy)]
+struct Reading {
+    // Whether there was a new event.
+    has_news: bool,
+    // The number of all entries, and whether the last one closed the log.
+    end: VerifiedEnd,
+}
+
+// What is printed, by the words for it.
+fn printing_asked(alloc: Global, task: ReadTask<'_>) -> Result<Printing, RemoteError> {
+    let kinds = match task.kinds {
+        Some(word) => match kinds_in_word(alloc, word.as_bytes())? {
+            Some(kinds) => kinds,
+            None => return Err(RemoteError::Command(CommandError::BadArgument)),
+        },
+        None => Vec::new(alloc),
+    };
+    Ok(Printing::new(task.form, kinds, 0))
+}
+
+fn lock_reader<F: Files + Clock>(
+    rt: &F,
+    name: &str,
+    seconds: u64,
+) -> Result<Locked<F::File>, RemoteError>
+where
+    F::File: SystemFile,
+{
+    match lock_state(rt, name, Duration::from_secs(seconds)) {
+        Err(RemoteError::StateInUse) => Err(RemoteError::ReaderInUse),
+        other => other,
+    }
+}
+
+fn read_alone<F: Files + Dial + Clock, W: FallibleWrite>(
+    rt: &F,
+    alloc: Global,
+    socket: FileIdentity,
+    task: ReadTask<'_>,
+    printing: &Printing,
+    output: &mut W,
+) -> Result<Reading, RemoteError>
+where
+    F::File: SystemFile,
+{
+    let Bookmark { state, newest } = bookmark_of(rt, alloc, task)?;
+    let held = newest.unwrap_or(state.commitment());
+    let witnessed = match task.under {
+        Some(path) => Some(witnessed_in(rt, alloc, path)?),
+        None => None,
+    };
+    let line = connect(rt, task.socket, task.seconds, Pace::Question)?;
+    let mut to = LineEnd::of(&line);
+    let mut from = BufReader::new(alloc, LineEnd::of(&line))?;
+    let kept = match witnessed {
+        Some(witnessed) => match newest_under(alloc, &mut to, &mut from, &held, &witnessed) {
+            Ok(newest) => newest,
+            Err(unseen) => return Err(fault_of_unseen(held, unseen)),
+        },
+        None => held,
+    };
+    let first = state.count();
+    let file = BookmarkAt {
+        rt,
+        alloc,
+        socket,
+        path: task.state,
+    };
+    let mut outlet = EventOutlet::new(alloc, file, output, printing);
+    match read_on(alloc, &mut to, &mut from, state, &kept, &mut outlet) {
+        Ok(state) => Ok(reading_to(first, &state)),
+        Err(error) => Err(fault_of_reading(held, error)),
+    }
+}
+
+fn reading_to(first: u64, state: &State) -> Reading {
+    Reading {
+        has_news: state.count() > first,
+        end: VerifiedEnd {
+            count: state.count(),
+            closed: state.is_closed(),
+        },
+    }
+}
+
+// The bookmark from which it is read; where there is none, the start of the log with the first key in a file.
+fn bookmark_of<F: Files>(
+    rt: &F,
+    alloc: Global,
+    task: ReadTask<'_>,
+) -> Result<Bookmark, RemoteError> {
+    match (metadata_if_any(rt, task.state)?, task.first) {
+        (None, Some(first)) => {
+            let key = read_key(alloc, &mut fs::open(rt, first)?)?;
+            Ok(Bookmark {
+                state: State::first(&key),
+                newest: None,
+            })
+        }
+        _ => bookmark_in(alloc, &mut fs::open(rt, task.state)?),
+    }
+}
+
+fn bookmark_in<R: Read>(alloc: Global, file: &mut R) -> Result<Bookmark, RemoteError> {
+    let text = read_input(alloc, file)?;
+    match read_bookmark(alloc, &text) {
+        Ok(mark) => Ok(mark),
+        Err(StateError::Damaged) => Err(RemoteError::Command(CommandError::BadArgument)),
+        Err(StateError::Memory) => Err(crate::fault::no_memory()),
+    }
+}
+
+// The newest commitment in the file of a witness, which has one at least.
+fn witnessed_in<F: Files>(rt: &F, alloc: Global, path: &str) -> Result<Commitment, RemoteError> {
+    let file = fs::open(rt, path)?;
+    let kept = StateFile::read(alloc, StateAt { rt, path, file })?;
+    match kept.newest() {
+        Some(newest) => Ok(newest),
+        None => Err(RemoteError::BadStateLine(1)),
+    }
+}
+
+// The file of a bookmark at a path. Only its owner can read it.
+#[derive(Drop)]
+struct BookmarkAt<'a, R> {
+    rt: &'a R,
+    alloc: Global,
+    // The server's socket, which it doesn't replace.
+    socket: FileIdentity,
+    path: &'a str,
+}
+
+/// Nothing is known of its bytes.
+impl<R: Files> BookmarkFile for BookmarkAt<'_, R> {
+    ghost use Rattle.std.specs.Prelude.{None};
+
+    ghost bytes = { λ _. None };
+
+    fn replace(&mut self, text: &[u8]) -> Result<(), CommandError> {
+        let mut made = OutputFile::create_private(self.rt, self.alloc, self.socket, self.path)?;
+        match write_whole(&mut made, text) {
+            Ok(()) => made.publish(self.rt),
+            Err(fault) => {
+                made.discard(self.rt);
+                Err(CommandError::Lines(fault))
+            }
+        }
+    }
+}
+
+// Ends the report of what was read, as a verification does: in the form `Events` with a line of the output, and in
+// another one with a message.
+fn print_end<W: FallibleWrite, M: Write>(
+    alloc: Global,
+    task: ReadTask<'_>,
+    read: Reading,
+    output: &mut W,
+    messages: &mut M,
+) -> Result<(), RemoteError> {
+    if task.is_quiet && !read.has_news {
+        return Ok(());
+    }
+    write_last_line(alloc, task.form, read.end, output)?;
+    output.flush_text()?;
+    Ok(write_end_message(alloc, task.form, read.end, messages)?)
+}

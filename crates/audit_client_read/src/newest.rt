@@ -1,0 +1,28 @@
+//! The newest commitment after one that is held.
+ghost use Rattle.std.specs.Prelude.{Some, IfOk, IfErr};
+ghost use Rattle.audit_client.specs.Failing.{FailsWatch};
+ghost use Rattle.audit_client_read.specs.Newest.{SeesNewest, Extends};
+
+use audit_client::{Sight, Unseen, watch};
+use audit_proof::Commitment;
+use std::alloc::Global;
+use std::io::{Read, Write};
+
+/// Asks for the newest commitment, which has to extend the one that is held, as [`watch`] judges it.
+pub(crate) fn newest_after<W: Write, R: Read>(
+    alloc: Global,
+    to: &mut W,
+    from: &mut R,
+    held: &Commitment,
+) -> Result<Commitment, Unseen>
+    ensures extends { IfOk result (Extends held.now) }
+    ensures sees { IfOk result (SeesNewest (W.contents to.old) (W.contents to.new) (R.remaining from.old)
+        (R.remaining from.new) held.now) }
+    ensures fault { IfErr result (FailsWatch (W.contents to.old) (W.contents to.new) (R.remaining from.old)
+        (R.remaining from.new) (Some held.now)) }
+{
+    match watch(alloc, to, from, Some(*held)) {
+        Ok(Sight::Began(seen) | Sight::Same(seen) | Sight::Grew(seen)) => Ok(seen),
+        Err(unseen) => Err(unseen),
+    }
+}
