@@ -25,7 +25,7 @@ impl<'n, 'w, R> Host<'n, 'w, R> {
         Host { rt, notes }
     }
 
-    ghost use Rattle.std.specs.Prelude.{◌≡◌, IfOk, Ok};
+    ghost use Rattle.std.specs.Prelude.{◌≡◌, IfOk, OnErr, IsErr, Ok};
     ghost use Rattle.audit_cli_host.specs.NotedFile.{file_within};
 
     // Returns the result of a call about a path, after noting its error.
@@ -42,7 +42,8 @@ impl<'n, 'w, R> Host<'n, 'w, R> {
         path: &str,
         opened: io::Result<F>,
     ) -> io::Result<NotedFile<'n, 'w, F>>
-        ensures { IfOk result (λ noted. opened ≡ Ok (file_within noted)) }
+        ensures opened { IfOk result (λ noted. opened ≡ Ok (file_within noted)) }
+        ensures failed { OnErr result (IsErr opened) }
     {
         let file = self.noted(path, opened)?;
         self.notes.forget();
@@ -61,6 +62,8 @@ where
     R::File: SystemFile,
 {
     ghost synced = { λ host folder. R.synced host.rt.now folder };
+
+    ghost failed = { λ host. R.failed host.rt.now };
 
     fn open_to_write(&self, path: &str) -> io::Result<Self::File> {
         self.opened(path, self.rt.open_to_write(path))

@@ -22,6 +22,7 @@ pub mod PositionedCalls
 pub mod ReadOnlyCalls
 pub mod Reached
 pub mod Replays
+pub mod Ragged
 pub mod RowReads
 pub mod RowTries
 pub mod RowWrites

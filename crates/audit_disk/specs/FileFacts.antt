@@ -24,6 +24,8 @@ pub record FileFacts : Type 1 where
   pub mode : ℕ → Type 0
   -- it was given this length and synced
   pub laid_out : ℕ → Type 0
+  -- a call that locks it, or gives it its permission bits or its length, failed
+  pub failed : Type 0
 
 -- a file of which each call establishes its fact
 abbrev pub facts_of_calls : FileFacts
@@ -35,6 +37,7 @@ facts_of_calls = record {
   locked_shared = Unit {0};
   mode = λ mode. Unit {0};
   laid_out = λ length. Unit {0};
+  failed = Unit {0};
 }
 
 -- what was known before is still known

@@ -18,6 +18,8 @@ pub record PositionedView : Type 1 where
   pub failed : Type 0
   -- the last call of it failed
   pub last_failed : Type 0
+  -- its last call returned this length in bytes
+  pub told : ℕ → Type 0
   pub honest : Type 0
   pub given_once : (offset : ℕ) (bytes : Sector) → IsProp (gave offset bytes)
   pub failed_once : IsProp failed
@@ -47,6 +49,7 @@ uncounted file = record {
   gave = file.gave;
   failed = 1 ≤ file.failures;
   last_failed = 1 ≤ file.failures;
+  told = λ bytes. file.honest → bytes ≡ length file.bytes;
   honest = file.honest;
   given_once = file.given_once;
   failed_once = Prim.hlevel props;
@@ -63,6 +66,7 @@ unknown_positioned = record {
   gave = λ offset bytes. Unit {0};
   failed = Unit {0};
   last_failed = Unit {0};
+  told = λ bytes. Unit {0};
   honest = ⊥;
   given_once = λ offset bytes. Unit-prop;
   failed_once = Unit-prop;
@@ -76,7 +80,7 @@ AnswersAlike one other = MatchResult one (λ _. IsOk other) (λ _. IsErr other)
 
 -- After an error this call is known to have failed. That a call has failed is known from then on; that the last one
 -- did isn't after another.
-pub record FailsAsCalled {E : Type 0} (old new : PositionedView) (result : Result (Unit {0}) E) : Type 0 where
+pub record FailsAsCalled {A E : Type 0} (old new : PositionedView) (result : Result A E) : Type 0 where
   pub fails : OnErr result new.failed
   pub last : OnErr result new.last_failed
   pub still : old.failed → new.failed
@@ -101,10 +105,16 @@ pub record IsPositionedSync {E : Type 0} (old new : PositionedView) (result : Re
       → IsFileSync (counted_file old failures) (counted_file new failures') result
   pub cause : FailsAsCalled old new result
 
+-- No write or sync was requested.
+abbrev pub IsOnlyRead : PositionedView → PositionedView → Type 0
+IsOnlyRead old new = OnlyFileReads (counted_file old 0) (counted_file new 0)
+
 -- Nothing changed, and the number is the length in bytes.
 pub record IsMeasured {E : Type 0} (old new : PositionedView) (result : Result ℕ E) : Type 0 where
-  pub only : OnlyFileReads (counted_file old 0) (counted_file new 0)
+  pub only : IsOnlyRead old new
   pub found : old.honest → IfOk result (λ bytes. bytes ≡ length old.bytes)
+  pub told : IfOk result new.told
+  pub cause : FailsAsCalled old new result
 
 -- no write or sync was requested
 abbrev pub IsUncalled : PositionedView → Type 0

@@ -4,12 +4,13 @@
 //! may write holds an exclusive lock. For a block device further locks are held, which whoever opens it by another node
 //! finds (see `guards`).
 ghost use Rattle.std.specs.Prelude.{◌≡◌, ◌≢◌, ◌⊎◌, ◌*◌, ◌/◌, ◌%◌, ◌^◌, ◌<◌, ◌≤◌, ◌↔◌};
-ghost use Rattle.std.specs.Prelude.{ℕ, List, IfOk, IfErr, OnOk, IsErrOf, replicate, length};
+ghost use Rattle.std.specs.Prelude.{ℕ, List, IfOk, IfErr, OnOk, OnErr, IsErrOf, replicate, length};
 ghost use Rattle.audit_base.specs.declared.limits.TheConstants.{SECTOR_SIZE};
 ghost use Rattle.audit_disk.specs.FileDisk.{IsFreshFile, file_disk_view};
 ghost use Rattle.audit_disk.specs.FileFacts.{IsOpenedAs, IsFrontOfOpened, IsWholeOpened, IsMadeDevice, KeepsFacts};
 ghost use Rattle.audit_disk.specs.FileFacts.{IsLaidOut};
-ghost use Rattle.audit_disk.specs.FileFaults.{IsLockingFault};
+ghost use Rattle.audit_disk.specs.FileFaults.{IsLockingFault, IsMakingFault};
+ghost use Rattle.audit_disk.specs.FileFaults.{IsMeasuringFault, IsFrontFault, IsOpeningFault, IsFrontOpeningFault};
 ghost use Rattle.audit_disk.specs.Folder.{folder_of};
 ghost use Rattle.audit_disk.specs.MemDisk.{IsFresh};
 ghost use Rattle.audit_disk.specs.declared.guards.Hold.TheVariants.{Alone, Shared};
@@ -48,6 +49,7 @@ impl<F: SystemFile> FileDisk<OsFile<F>> {
             path.now OWNER_ONLY sectors (file_disk_view disk)) }
         ensures named { OnOk result (R.synced rt.now (folder_of path.now)) }
         ensures length { IsErrOf result FileFault.Length ↔ (2 ^ 64 ≤ SECTOR_SIZE * sectors) }
+        ensures fault { IfErr result (IsMakingFault F.facts (R.failed rt.now) path.now) }
     {
         FileDisk::create_with_mode(rt, alloc, path, sectors, OWNER_ONLY)
     }
@@ -67,6 +69,7 @@ impl<F: SystemFile> FileDisk<OsFile<F>> {
             path.now mode sectors (file_disk_view disk)) }
         ensures named { OnOk result (R.synced rt.now (folder_of path.now)) }
         ensures length { IsErrOf result FileFault.Length ↔ (2 ^ 64 ≤ SECTOR_SIZE * sectors) }
+        ensures fault { IfErr result (IsMakingFault F.facts (R.failed rt.now) path.now) }
     {
         let Some(length) = sectors.checked_mul(SECTOR_SIZE as u64) else {
             return Err(FileFault::Length);
@@ -90,6 +93,7 @@ impl<F: SystemFile> FileDisk<OsFile<F>> {
         ensures fresh { IfOk result IsFreshFile }
         ensures opened { IfOk result (λ disk. IsWholeOpened F.facts F.positioned
             Alone path.now (file_disk_view disk)) }
+        ensures fault { IfErr result (IsOpeningFault F.facts F.positioned Alone path.now) }
     {
         FileDisk::over_whole_of(alloc, open_locked(rt, alloc, path, Hold::Alone)?)
     }
@@ -107,6 +111,7 @@ impl<F: SystemFile> FileDisk<OsFile<F>> {
         ensures opened { IfOk result (λ disk. IsFrontOfOpened F.facts F.positioned
             Alone path.now (file_disk_view disk)) }
         ensures small { IfErr result (λ fault. (held : _) → fault ≡ FileFault.TooSmall held → held < sectors) }
+        ensures fault { IfErr result (IsFrontOpeningFault F.facts F.positioned Alone path.now sectors) }
     {
         FileDisk::over_front_of(alloc, open_locked(rt, alloc, path, Hold::Alone)?, sectors)
     }
@@ -121,6 +126,7 @@ impl<F: SystemFile> FileDisk<OsFile<F>> {
         ensures fresh { IfOk result IsFreshFile }
         ensures opened { IfOk result (λ disk. IsWholeOpened F.facts F.positioned
             Shared path.now (file_disk_view disk)) }
+        ensures fault { IfErr result (IsOpeningFault F.facts F.positioned Shared path.now) }
     {
         FileDisk::over_whole_of(alloc, open_locked(rt, alloc, path, Hold::Shared)?)
     }
@@ -141,6 +147,7 @@ impl<F: PositionedFile + Drop> FileDisk<OsFile<F>> {
             length (F.positioned file).bytes ≡ SECTOR_SIZE * (file_disk_view disk).size) }
         ensures length { (F.positioned file).honest → IsErrOf result FileFault.Length
             → length (F.positioned file).bytes % SECTOR_SIZE ≢ 0 }
+        ensures fault { IfErr result (IsMeasuringFault F.positioned file) }
     {
         FileDisk::over_whole_of(alloc, Locked { file, guards: None })
     }
@@ -154,6 +161,7 @@ impl<F: PositionedFile + Drop> FileDisk<OsFile<F>> {
             length (F.positioned locked.file).bytes ≡ SECTOR_SIZE * (file_disk_view disk).size) }
         ensures length { (F.positioned locked.file).honest → IsErrOf result FileFault.Length
             → length (F.positioned locked.file).bytes % SECTOR_SIZE ≢ 0 }
+        ensures fault { IfErr result (IsMeasuringFault F.positioned locked.file) }
     {
         let Locked { mut file, guards } = locked;
         let sectors = whole_sectors(file.length()?)?;
@@ -173,6 +181,7 @@ impl<F: PositionedFile + Drop> FileDisk<OsFile<F>> {
         ensures small { IfErr result (λ fault. (held : _) → fault ≡ FileFault.TooSmall held → held < sectors) }
         ensures held { (F.positioned file).honest → IfErr result (λ fault. (held : _)
             → fault ≡ FileFault.TooSmall held → held ≡ length (F.positioned file).bytes / SECTOR_SIZE) }
+        ensures fault { IfErr result (IsFrontFault F.positioned file sectors) }
     {
         FileDisk::over_front_of(alloc, Locked { file, guards: None }, sectors)
     }
@@ -190,6 +199,7 @@ impl<F: PositionedFile + Drop> FileDisk<OsFile<F>> {
         ensures small { IfErr result (λ fault. (held : _) → fault ≡ FileFault.TooSmall held → held < sectors) }
         ensures held { (F.positioned locked.file).honest → IfErr result (λ fault. (held : _)
             → fault ≡ FileFault.TooSmall held → held ≡ length (F.positioned locked.file).bytes / SECTOR_SIZE) }
+        ensures fault { IfErr result (IsFrontFault F.positioned locked.file sectors) }
     {
         let Locked { mut file, guards } = locked;
         let held = file.length()? / SECTOR_SIZE as u64;
@@ -218,6 +228,7 @@ impl FileDisk<MemFile> {
 fn whole_sectors(length: u64) -> Result<u64, FileFault>
     ensures sectors { IfOk result (λ sectors. length ≡ SECTOR_SIZE * sectors) }
     ensures length { IsErrOf result FileFault.Length ↔ (length % SECTOR_SIZE ≢ 0) }
+    ensures fault { IfErr result (λ fault. fault ≡ FileFault.Length) }
 {
     if length % SECTOR_SIZE as u64 != 0 {
         return Err(FileFault::Length);
@@ -242,7 +253,7 @@ fn open_locked<R: SystemFiles<File = F>, F: SystemFile>(
 ) -> Result<Locked<F>, FileFault>
     ensures opened { IfOk result (λ locked. IsOpenedAs hold path.now (F.facts locked.file)) }
     ensures uncalled { IfOk result (λ locked. IsUncalled (F.positioned locked.file)) }
-    ensures fault { IfErr result IsLockingFault }
+    ensures fault { IfErr result (IsLockingFault F.facts) }
 {
     let found = fs::metadata(rt, path)?;
     let kind = found.file_type();
@@ -284,10 +295,11 @@ fn take_and_lay_out<R: SystemFiles<File = F>, F: SystemFile>(
     ensures locked { OnOk result (F.facts file.new).locked }
     ensures mode { OnOk result ((mode ≡ OWNER_ONLY) ⊎ (F.facts file.new).mode mode) }
     ensures laid_out { OnOk result ((F.facts file.new).laid_out length) }
-    ensures kept { OnOk result (KeepsFacts (F.facts file.old) (F.facts file.new)) }
+    ensures kept { KeepsFacts (F.facts file.old) (F.facts file.new) }
     ensures bytes { OnOk result (IsLaidOut (F.positioned file.old) (F.positioned file.new) length result) }
     ensures named { OnOk result (R.synced rt.now (folder_of path.now)) }
-    ensures fault { IfErr result (λ fault. (fault ≡ FileFault.Io) ⊎ (fault ≡ FileFault.InUse)) }
+    ensures fault { IfErr result (λ fault. ((fault ≡ FileFault.Io) × R.failed rt.now)
+        ⊎ (((fault ≡ FileFault.Io) ⊎ (fault ≡ FileFault.InUse)) × (F.facts file.new).failed)) }
 {
     file.try_lock()?;
     if mode != OWNER_ONLY {
@@ -302,7 +314,8 @@ fn take_and_lay_out<R: SystemFiles<File = F>, F: SystemFile>(
 fn sync_name<R: SystemFiles>(rt: &R, path: &str) -> io::Result<()>
 where
     R::File: SystemFile,
-    ensures { OnOk result (R.synced rt.now (folder_of path.now)) }
+    ensures synced { OnOk result (R.synced rt.now (folder_of path.now)) }
+    ensures failed { OnErr result (R.failed rt.now) }
 {
     rt.sync_folder(folder_of(path))
 }

@@ -1,4 +1,5 @@
-ghost use Rattle.std.specs.Prelude.{◌≡◌, ◌^◌, ◌<◌, length, map};
+ghost use Rattle.std.specs.Prelude.{◌≡◌, ◌*◌, ◌^◌, ◌<◌, length, map};
+ghost use Rattle.audit_base.specs.declared.limits.TheConstants.{SECTOR_SIZE};
 ghost use Rattle.audit_disk.specs.Held.{settled, content_of, bytes_of_blocks};
 ghost use Rattle.audit_disk.specs.Memory.{after_calls, memory_view};
 
@@ -137,6 +138,13 @@ impl MemDisk {
         MemDisk::with_content(alloc, left)
     }
 
+    /// Returns how many bytes its sectors have.
+    pub(crate) fn byte_count(&self) -> u64
+        ensures { result ≡ SECTOR_SIZE * (disk_view self.now).size }
+    {
+        bytes_in(&self.start)
+    }
+
     fn with_content(alloc: Global, content: Vec<Block>) -> Result<MemDisk, AllocError>
         ensures fresh { IfOk result (λ disk. IsFresh (disk_view disk) (bytes_of_blocks content.items)) }
         ensures held { IfOk result (λ disk. HoldsOnly (disk_held disk) (bytes_of_blocks content.items)) }
@@ -148,4 +156,11 @@ impl MemDisk {
             log: CallLog::new(alloc),
         })
     }
+}
+
+// How many bytes these blocks have, as memory for them was allocated.
+fn bytes_in(blocks: &[Block]) -> u64
+    ensures { result ≡ SECTOR_SIZE * length blocks.now }
+{
+    (SECTOR_SIZE * blocks.len()) as u64
 }

@@ -3,7 +3,7 @@ ghost use Rattle.audit_disk.specs.MemFileView.{mem_file_view};
 ghost use Rattle.audit_disk.specs.Positioned.{AnswersAlike};
 ghost use Rattle.audit_disk.specs.Positioned.{uncounted};
 
-use crate::{DeviceFault, MemFile, PositionedFile, SECTOR_SIZE, SectorFile, Sectors};
+use crate::{DeviceFault, MemFile, PositionedFile, SECTOR_SIZE, SectorFile};
 use std::io::{self, ErrorKind};
 
 impl PositionedFile for MemFile {
@@ -22,10 +22,7 @@ impl PositionedFile for MemFile {
     }
 
     fn length(&mut self) -> io::Result<u64> {
-        match self.disk.size().checked_mul(SECTOR_SIZE as u64) {
-            Some(bytes) => Ok(bytes),
-            None => Err(io::Error::from(ErrorKind::FileTooLarge)),
-        }
+        Ok(self.disk.byte_count())
     }
 }
 

@@ -1,5 +1,5 @@
 //! The files of the operating system.
-ghost use Rattle.std.specs.Prelude.{OnOk};
+ghost use Rattle.std.specs.Prelude.{OnOk, OnErr};
 ghost use Rattle.audit_disk.specs.FileFacts.{FileFacts, KeepsFacts, IsLaidOut, facts_of_calls};
 ghost use Rattle.audit_disk.specs.Positioned.{unknown_positioned};
 
@@ -18,19 +18,23 @@ pub trait SystemFile: PositionedFile + OpenFile + Drop {
 
     /// Takes the exclusive lock, which only one open of the file can hold. It is held until the file is dropped.
     fn try_lock(&self) -> Result<(), TryLockError>
-        ensures { OnOk result (facts self.now).locked };
+        ensures locked { OnOk result (facts self.now).locked }
+        ensures failed { OnErr result (facts self.now).failed };
 
     /// Takes the shared lock, which any number of opens can hold while none holds the exclusive one.
     fn try_lock_shared(&self) -> Result<(), TryLockError>
-        ensures { OnOk result (facts self.now).locked_shared };
+        ensures locked { OnOk result (facts self.now).locked_shared }
+        ensures failed { OnErr result (facts self.now).failed };
 
     /// Gives the file these permission bits, whatever the umask is.
     fn set_mode(&self, mode: u32) -> io::Result<()>
-        ensures { OnOk result ((facts self.now).mode mode) };
+        ensures mode { OnOk result ((facts self.now).mode mode) }
+        ensures failed { OnErr result (facts self.now).failed };
 
     /// Gives an empty file its length, all of it zeros, and syncs it.
     fn lay_out(&mut self, length: u64) -> io::Result<()>
         ensures done { OnOk result ((facts self.new).laid_out length) }
+        ensures failed { OnErr result (facts self.new).failed }
         ensures kept { KeepsFacts (facts self.old) (facts self.new) }
         ensures bytes { IsLaidOut (Self.positioned self.old) (Self.positioned self.new) length result };
 }

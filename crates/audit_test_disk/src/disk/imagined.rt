@@ -165,6 +165,8 @@ impl Files for Imagined<'_> {
 impl SystemFiles for Imagined<'_> {
     ghost synced = { λ _ _. Unit {0} };
 
+    ghost failed = { λ _. Unit {0} };
+
     fn open_to_write(&self, path: &str) -> io::Result<ImaginedFile> {
         Ok(ImaginedFile {
             file: MemFile {
