@@ -2,3 +2,4 @@ pub mod KeyFiles
 mod StartFiles
 pub mod Blank
 pub mod Sectors
+pub mod OpenedStore

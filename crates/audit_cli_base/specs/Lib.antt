@@ -5,3 +5,5 @@ pub mod Arguments
 pub mod KeyFile
 pub mod StartFile
 pub mod Blank
+pub mod OpenedStore
+pub mod Watched

@@ -2,7 +2,9 @@
 ghost use Rattle.std.specs.Prelude.{◌≡◌, true, false, Ok, Err, IfOk, IfErr, IsTrue};
 ghost use Rattle.audit_cli_base.specs.Blank.{IsBlankUpTo};
 ghost use Rattle.audit_cli_base.specs.Faults.{IsNoWordFault};
-ghost use Rattle.audit_disk.specs.Positioned.{IsUncalled};
+ghost use Rattle.audit_cli_base.specs.OpenedStore.{IsStoreOn, IsStoreAt, IsDeviceAt};
+ghost use Rattle.audit_disk.specs.FileDisk.{file_disk_view};
+ghost use Rattle.audit_disk.specs.Positioned.{IsUncalled, ShowsFront};
 
 use crate::fault::CommandError;
 use crate::system_use::is_used_by_system;
@@ -46,7 +48,8 @@ pub fn open_store<F: SystemFiles>(
 ) -> Result<Opened<FileStore<F::File>>, CommandError>
 where
     F::File: SystemFile,
-    ensures { IfErr result IsNoWordFault }
+    ensures cause { IfErr result IsNoWordFault }
+    ensures at { IfOk result (λ opened. IsStoreAt F.File.facts F.File.positioned file.now opened.content) }
 {
     let opened = repaired(alloc, open_bounded(rt, alloc, file)?)?;
     opened.content.wipe_stack();
@@ -61,7 +64,8 @@ fn repaired<D: Sectors + Drop>(
     alloc: Global,
     opened: Opened<D>,
 ) -> Result<Opened<Store<D>>, CommandError>
-    ensures { IfErr result IsNoWordFault }
+    ensures cause { IfErr result IsNoWordFault }
+    ensures on { IfOk result (λ store. IsStoreOn (D.view opened.content) store.content) }
 {
     let Opened { content, identity } = opened;
     match Store::open(alloc, content) {
@@ -199,14 +203,18 @@ fn open_bounded<F: SystemFiles>(
 ) -> Result<Opened<FileDevice<F::File>>, CommandError>
 where
     F::File: SystemFile,
-    ensures { IfErr result IsNoWordFault }
+    ensures cause { IfErr result IsNoWordFault }
+    ensures at { IfOk result (λ opened. IsDeviceAt F.File.facts F.File.positioned file.now
+        (file_disk_view opened.content)) }
 {
     identified(FileDisk::open(rt, alloc, file)?)
 }
 
 // A device with the identity of its file, limited to the sectors that a store can have.
 fn identified<F: SystemFile>(disk: FileDevice<F>) -> Result<Opened<FileDevice<F>>, CommandError>
-    ensures { IfErr result IsNoWordFault }
+    ensures cause { IfErr result IsNoWordFault }
+    ensures front { (file : _) → ShowsFront (F.positioned file) (file_disk_view disk)
+        → IfOk result (λ opened. ShowsFront (F.positioned file) (file_disk_view opened.content)) }
 {
     let identity = disk.identity()?;
     Ok(Opened {
@@ -217,7 +225,10 @@ fn identified<F: SystemFile>(disk: FileDevice<F>) -> Result<Opened<FileDevice<F>
 
 // A block device may have more sectors than a store: the store then uses the first ones. A file has the size that it
 // was made with.
-fn bounded<F: SystemFile>(disk: FileDevice<F>, identity: FileIdentity) -> FileDevice<F> {
+fn bounded<F: SystemFile>(disk: FileDevice<F>, identity: FileIdentity) -> FileDevice<F>
+    ensures { (file : _) → ShowsFront (F.positioned file) (file_disk_view disk)
+        → ShowsFront (F.positioned file) (file_disk_view result) }
+{
     let is_block = matches!(identity, FileIdentity::Block { .. });
     if is_block && disk.size() > MAX_SECTORS {
         disk.with_sectors(MAX_SECTORS)

@@ -25,8 +25,13 @@ pub struct WatchedOutput<'a, 'b, R, W> {
 }
 
 impl<'a, 'b, R: Files + Clock, W: Write> WatchedOutput<'a, 'b, R, W> {
+    ghost use Rattle.audit_cli_base.specs.Watched.{numbered, watched_bytes};
+
     /// An output of a command whose store is watched.
-    pub fn new(watch: StoreWatch<'a, R>, output: &'b mut W) -> WatchedOutput<'a, 'b, R, W> {
+    pub fn new(watch: StoreWatch<'a, R>, output: &'b mut W) -> WatchedOutput<'a, 'b, R, W>
+        ensures same_reference { result.output.ghost_name ≡ output.entry.ghost_name }
+        ensures bytes { watched_bytes W.contents result ≡ numbered output.entry.ghost_name (W.contents output.old) }
+    {
         let StoreWatch {
             rt,
             path,
@@ -45,18 +50,29 @@ impl<'a, 'b, R: Files + Clock, W: Write> WatchedOutput<'a, 'b, R, W> {
     }
 
     /// Whether the store isn't in its place, now or when it was last looked.
-    pub fn is_replaced(&mut self) -> bool {
+    pub fn is_replaced(&mut self) -> bool
+        ensures { watched_bytes W.contents self.new ≡ watched_bytes W.contents self.old }
+    {
         self.is_replaced || !self.look()
     }
 
-    fn look(&mut self) -> bool {
+    fn look(&mut self) -> bool
+        ensures output { self.new.output ≡ self.old.output }
+        ensures replaced { result ≡ false → self.new.is_replaced ≡ true }
+        ensures stays { self.old.is_replaced ≡ true → self.new.is_replaced ≡ true }
+    {
         let is_in_place = is_store_at(self.rt, self.path, self.identity, self.sectors);
         self.is_replaced |= !is_in_place;
         is_in_place
     }
 
     // Whether the store is in its place, as far as was looked in the last second.
-    fn lets_write(&mut self) -> bool {
+    fn lets_write(&mut self) -> bool
+        ensures output { self.new.output ≡ self.old.output }
+        ensures gone { self.old.is_replaced ≡ true → result ≡ false }
+        ensures replaced { result ≡ false → self.new.is_replaced ≡ true }
+        ensures stays { self.old.is_replaced ≡ true → self.new.is_replaced ≡ true }
+    {
         if self.is_replaced {
             return false;
         }
@@ -73,7 +89,12 @@ impl<'a, 'b, R: Files + Clock, W: Write> WatchedOutput<'a, 'b, R, W> {
     }
 }
 
+// Once the store isn't in its place, no write reaches the output any more.
 impl<R: Files + Clock, W: Write> Write for WatchedOutput<'_, '_, R, W> {
+    ghost use Rattle.audit_cli_base.specs.Watched.{watched_bytes};
+
+    ghost contents = { watched_bytes W.contents };
+
     fn write(&mut self, bytes: &[u8]) -> io::Result<usize> {
         let is_in_place = self.lets_write();
         write_in_place(is_in_place, self.output, bytes)

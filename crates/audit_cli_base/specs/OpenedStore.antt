@@ -1,0 +1,35 @@
+-- The store that was opened at a path.
+use Rattle.std.specs.Prelude.{◌≡◌, ℕ, List}
+use Rattle.audit_chain.specs.Event.{EventData}
+use Rattle.audit_disk_model.specs.View.{View}
+use Rattle.audit_disk_model.specs.declared.sectors.Sectors as sectors
+use Rattle.audit_disk.specs.FileFacts.{FileFacts}
+use Rattle.audit_disk.specs.Positioned.{PositionedView, ShowsFront}
+use Rattle.audit_store_layout.specs.Layout.{IsRecoverable}
+use Rattle.audit_store_layout.specs.Origin.{Origin}
+use Rattle.audit_store.specs.Recovered.{IsOpened}
+use Rattle.audit_store.specs.Store.{device, active_header, index_of, Holds}
+use Rattle.audit_store.specs.declared.store.Store.{Store}
+
+module _ {D : Type 0} {g : sectors.Ghosts D} where
+  -- The store is what an opening found on this device: the events of its content, if it is honest and they can be
+  -- recovered.
+  pub record IsStoreOn (disk : View) (store : Store D g) : Type 0 where
+    pub opened : IsOpened disk (device store) (active_header store) (index_of store)
+    pub holds : (origin : Origin) (events : List EventData) → disk.honest → IsRecoverable origin events disk.content
+        → Holds store origin events
+
+module _ {F : Type 0} (facts : F → FileFacts) (positioned : F → PositionedView) where
+  -- The device has the first sectors of a file that was opened at this path, for reading and writing, and then locked
+  -- alone, before any other call of it.
+  pub record IsDeviceAt (path : List ℕ) (view : View) : Type 0 where
+    pub file : F
+    pub opened : (facts file).opened path
+    pub locked : (facts file).locked
+    pub front : ShowsFront (positioned file) view
+
+  -- the store is what an opening found on such a device
+  pub record IsStoreAt {D : Type 0} {g : sectors.Ghosts D} (path : List ℕ) (store : Store D g) : Type 0 where
+    pub disk : D
+    pub file : IsDeviceAt path (g.view disk)
+    pub found : IsStoreOn (g.view disk) store
