@@ -1,5 +1,6 @@
-ghost use Rattle.std.specs.Prelude.{◌≡◌, ◌⊎◌, OnOk, IfOk, IfErr};
+ghost use Rattle.std.specs.Prelude.{◌≡◌, ◌⊎◌, OnOk, OnErr, IfOk, IfErr};
 ghost use Rattle.std.specs.Io.KnownBytes.{Appends};
+ghost use Rattle.audit_text.specs.Writing.{WritesInPart};
 ghost use Rattle.audit_text.specs.declared.fault.LinesError.TheVariants as fault;
 ghost use Rattle.audit_serve_sockets.specs.RoundLine.{round_line};
 
@@ -16,6 +17,7 @@ pub fn write_round<W: Write>(
     writer: &mut W,
 ) -> Result<(), LinesError>
     ensures written { OnOk result (Appends (W.contents writer.old) (W.contents writer.new) (round_line round turns)) }
+    ensures part { OnErr result (WritesInPart (W.contents writer.old) (W.contents writer.new) (round_line round turns)) }
     ensures fault { IfErr result (λ cause. (cause ≡ fault.Write) ⊎ (cause ≡ fault.Memory)) }
 {
     let line = line_of(alloc, round, turns)?;
