@@ -1,18 +1,24 @@
 -- What a request to serve comes to.
+use base.Fml.{GName}
 use denote.Ref.{Bor}
+use Rattle.std.specs.List.{flat_map}
 use Rattle.std.specs.Prelude.{IfErr, OnOk, IsOk, IfSome}
-use Rattle.std.proofs.Common.{◌≡◌, ◌⊎◌, ◌∙◌, inl, inr, ℕ, Bool, true, false, Option, None, Result, Ok, Err, List, length, refl, sym, subst}
+use Rattle.std.specs.Io.KnownBytes.{Appends, Keeps}
+use Rattle.std.proofs.Common.{◌≡◌, ◌⊎◌, ◌∙◌, inl, inr, ℕ, Bool, true, false, Option, Some, None, Result, Ok, Err, List, [], ◌++◌, length, append-nil, refl, sym, subst}
 use Rattle.audit_disk_model.specs.declared.sectors.Sectors as sectors
 use Rattle.audit_store.specs.declared.store.Store.{Store}
 use Rattle.audit_serve_passes.specs.Streams.{CallModel}
+use Rattle.audit_serve_sockets.specs.Frames.{frame_line}
 use Rattle.audit_serve_sockets.specs.Input.{SpellsInput}
 use Rattle.audit_serve_sockets.specs.Listening.{ListenerModel}
 use Rattle.audit_serve_sockets.specs.Looping.{IsWholeLoop}
 use Rattle.audit_cli_base.specs.Mode.{IsMode}
+use Rattle.audit_cli_base.specs.Watched.{numbered}
 use Rattle.audit_disk.specs.declared.files.TheConstants.{OWNER_ONLY}
 use Rattle.audit_cli_base.specs.declared.fault.CommandError.TheVariants.{File, Replaced}
 use Rattle.audit_cli_serve.specs.Arguments.{rounds_asked, sessions_wanted}
-use Rattle.audit_cli_serve.specs.Carried.{IsServingDone, LoopsAt, LoopsOpened, ServesAt, IsStoppedAt, ServesOpened}
+use Rattle.audit_cli_serve.specs.Carried.{IsServingDone, LoopsAt, LoopsOpened, ServesAt, ServesWithLines, IsStoppedWith, ServesOpened, StopsOpened}
+use Rattle.audit_cli_serve.specs.Rounds.{round_lines, AreCutOff}
 use Rattle.audit_cli_serve.specs.Served.{LoopsOver, ServesRounds, StopsRounds}
 use Rattle.audit_cli_serve.specs.declared.fault.ServingError.{ServingError}
 use Rattle.audit_cli_serve.specs.declared.fault.ServingError.TheVariants.{Command}
@@ -44,45 +50,130 @@ after_all P replaced served watched (Ok done) holds is not ok = by served watche
     by (Ok done) watched holds ok same = holds
     by (Err fault) watched holds ok same = absurd (cc (subst IsOk (sym same) ok))
 
-module _ {D : Type 0} {g : sectors.Ghosts D} where
-  pub loops_at : (input before after : Option (List ℕ)) (opened left : Store D g) (done : Ending) → OnOk done ((lines : List (List ℕ)) × LoopsOver opened left before after (IsWholeLoop lines) × IfSome input (SpellsInput lines)) → OnOk done (LoopsAt input opened)
-  loops_at input before after opened left (Err fault) looped = tt
-  loops_at input before after opened left (Ok done) (lines, looped, spelled) = record { left = left; lines = lines; before = before; after = after; looped = looped; spelled = spelled }
+-- what was appended behind the number of a reference was appended to what the reference leads to
+pub plain : (one other : GName) (was old new end : Option (List ℕ)) (text : List ℕ) → was ≡ numbered one old → (one ≡ other → end ≡ new) → Appends was (numbered other new) text → Appends old end text
+plain one other was old new end text is same appends = by old new (subst (λ (first : Option (List ℕ)). Appends first (numbered other new) text) is appends) same
+  where
+    by : (old new : Option (List ℕ)) → Appends (numbered one old) (numbered other new) text → (one ≡ other → end ≡ new) → Appends old end text
+    by None new appends same = tt
+    by (Some xs) None appends same = absurd appends
+    by (Some xs) (Some ys) appends same = let reference : one ≡ other = cc appends in
+        let bytes : ys ≡ xs ++ text = cc appends in
+        subst (λ (last : Option (List ℕ)). Appends (Some xs) last text) (sym (same reference)) bytes
 
-  pub loops_opened : {L : Type 0} (bits : L → ℕ) (mode : ℕ) (input : Option (List ℕ)) (opened : Store D g) (done : Ending) → OnOk done (LoopsAt input opened) → OnOk done ((bound : L) × (bits bound ≡ mode)) → OnOk done (LoopsOpened g bits mode input)
-  loops_opened bits mode input opened (Err fault) looped bound = tt
-  loops_opened bits mode input opened (Ok done) looped bound = record { opened = opened; bound = bound.0; mode_is = bound.1; looped = looped }
+pub nothing : (known : Option (List ℕ)) → Appends known known []
+nothing None = tt
+nothing (Some bytes) = sym (append-nil bytes)
+
+module _ {D : Type 0} {g : sectors.Ghosts D} where
+  pub loops_at : (input before after : Option (List ℕ)) (opened left : Store D g) (done : Ending) → OnOk done ((lines : List (List ℕ)) × LoopsOver opened left before after (IsWholeLoop lines) × IfSome input (SpellsInput lines)) → OnOk done (LoopsAt input before after opened)
+  loops_at input before after opened left (Err fault) looped = tt
+  loops_at input before after opened left (Ok done) (lines, looped, spelled) = record { left = left; lines = lines; looped = looped; spelled = spelled }
+
+  loops_plain : (one other : GName) (input was old new end : Option (List ℕ)) (opened : Store D g) → was ≡ numbered one old → (one ≡ other → end ≡ new) → LoopsAt input was (numbered other new) opened → LoopsAt input old end opened
+  loops_plain one other input was old new end opened is same at =
+      let run = at.looped.run in
+      let written = run.written in record {
+        left = at.left;
+        lines = at.lines;
+        looped = record {
+          core = at.looped.core;
+          made = at.looped.made;
+          last = at.looped.last;
+          left = at.looped.left;
+          run = record {
+            steps = run.steps;
+            taken = run.taken;
+            did = run.did;
+            others = run.others;
+            shape = run.shape;
+            written = record { bodies = written.bodies; are = written.are; all = written.all; written = plain one other was old new end (flat_map frame_line written.bodies) is same written.written };
+          };
+        };
+        spelled = at.spelled;
+      }
+
+  pub loops_opened : {L : Type 0} (At : List ℕ → Store D g → Type 0) (bits : L → ℕ) (path : List ℕ) (mode : ℕ) (one other : GName) (input was old new end : Option (List ℕ)) (opened : Store D g) (done : Ending) → At path opened → was ≡ numbered one old → (one ≡ other → end ≡ new)
+      → OnOk done (LoopsAt input was (numbered other new) opened) → OnOk done ((bound : L) × (bits bound ≡ mode)) → OnOk done (LoopsOpened g At bits path mode input old end)
+  loops_opened At bits path mode one other input was old new end opened (Err fault) at is same looped bound = tt
+  loops_opened At bits path mode one other input was old new end opened (Ok done) at is same looped bound =
+      record { opened = opened; at = at; bound = bound.0; mode_is = bound.1; looped = loops_plain one other input was old new end opened is same looped }
 
 module _ {D : Type 0} {g : sectors.Ghosts D} {T L : Type 0} (M : CallModel T) (N : ListenerModel L T) where
-  pub serves_at : (bits : L → ℕ) (mode rounds sessions : ℕ) (opened left : Store D g) (bound last : L) (Lines : List ℕ → Type 0) (result : Ending) → bits bound ≡ mode
-      → OnOk result ((turns : List ℕ) × (length turns ≡ rounds) × ServesRounds M N sessions turns opened left bound last × Lines turns) → OnOk result ((turns : List ℕ) × (length turns ≡ rounds) × ServesAt M N bits mode sessions turns opened)
-  serves_at bits mode rounds sessions opened left bound last Lines (Err fault) mode_is served = tt
-  serves_at bits mode rounds sessions opened left bound last Lines (Ok done) mode_is (turns, count, all, lines) = (turns, count, record { left = left; bound = bound; mode_is = mode_is; last = last; served = all })
+  -- all rounds
+  abbrev ServesAll : (sessions rounds : ℕ) (opened left : Store D g) (bound last : L) (before after : Option (List ℕ)) → Type 0
+  ServesAll sessions rounds opened left bound last before after = (turns : List ℕ) × (length turns ≡ rounds) × ServesRounds M N sessions turns opened left bound last × Appends before after (round_lines 1 turns)
 
-  pub stops_at : (sessions : ℕ) (opened left : Store D g) (bound last : L) (replaced : Bool) (served watched result : Ending) → IfErr served (StopsRounds M N sessions opened left bound last)
-      → (replaced ≡ true → watched ≡ Err (Command Replaced)) → (replaced ≡ false → watched ≡ served) → IfErr result (λ fault. (watched ≡ Err fault) ⊎ (fault ≡ Command File)) → IfErr result (IsStoppedAt M N sessions opened)
-  stops_at sessions opened left bound last replaced served watched (Ok done) stopped is not ends = tt
-  stops_at sessions opened left bound last replaced served watched (Err fault) stopped is not (inr file) = inr (inr file)
-  stops_at sessions opened left bound last replaced served watched (Err fault) stopped is not (inl same) = by replaced (is_watched replaced served watched is not)
+  -- up to an error
+  abbrev ServesUpTo : (sessions : ℕ) (opened left : Store D g) (bound last : L) (before after : Option (List ℕ)) (fault : ServingError) → Type 0
+  ServesUpTo sessions opened left bound last before after fault = (text : List ℕ) × Appends before after text × StopsRounds M N sessions opened left bound last text fault
+
+  pub serves_at : (bits : L → ℕ) (mode rounds sessions : ℕ) (opened left : Store D g) (bound last : L) (before mid after : Option (List ℕ)) (result : Ending) → bits bound ≡ mode → after ≡ mid → OnOk result (ServesAll sessions rounds opened left bound last before mid)
+      → OnOk result ((turns : List ℕ) × (length turns ≡ rounds) × ServesAt M N bits mode sessions turns opened × Appends before after (round_lines 1 turns))
+  serves_at bits mode rounds sessions opened left bound last before mid after (Err fault) mode_is same served = tt
+  serves_at bits mode rounds sessions opened left bound last before mid after (Ok done) mode_is same (turns, count, all, lines) =
+      (turns, count, record { left = left; bound = bound; mode_is = mode_is; last = last; served = all }, subst (λ (known : Option (List ℕ)). Appends before known (round_lines 1 turns)) (sym same) lines)
+
+  -- what was printed, however serving ended
+  abbrev Prints : (sessions : ℕ) (opened : Store D g) (before after : Option (List ℕ)) → Type 0
+  Prints sessions opened before after = (text : List ℕ) × Appends before after text × ServesWithLines M N sessions opened text
+
+  printed : (sessions rounds : ℕ) (opened left : Store D g) (bound last : L) (before after : Option (List ℕ)) (served : Ending) → OnOk served (ServesAll sessions rounds opened left bound last before after) → IfErr served (ServesUpTo sessions opened left bound last before after) → Prints sessions opened before after
+  printed sessions rounds opened left bound last before after (Ok done) (turns, count, all, lines) stopped =
+      (round_lines 1 turns, lines, record { turns = turns; left = left; bound = bound; last = last; served = all; lines = inl refl })
+  printed sessions rounds opened left bound last before after (Err fault) served (text, appends, stops) =
+      (text, appends, record { turns = stops.turns; left = stops.mid; bound = bound; last = stops.between; served = stops.served; lines = by stops.stops })
     where
-      by : (replaced : Bool) → IsWatched replaced served watched → IsStoppedAt M N sessions opened fault
-      by true gone = inr (inl (cc (sym same ∙ gone)))
-      by false not = inl (record { left = left; bound = bound; last = last; stops = subst (λ (ending : Ending). IfErr ending (StopsRounds M N sessions opened left bound last)) (sym not ∙ same) stopped })
+      by : {A B C : Type 0} → (A × (text ≡ round_lines 1 stops.turns)) ⊎ (B × C × AreCutOff stops.turns text) → (text ≡ round_lines 1 stops.turns) ⊎ AreCutOff stops.turns text
+      by (inl (round, is)) = inl is
+      by (inr (lost, same, cut)) = inr cut
 
-  pub serves_opened : (bits : L → ℕ) (mode rounds sessions : ℕ) (opened : Store D g) (result : Ending) → OnOk result ((turns : List ℕ) × (length turns ≡ rounds) × ServesAt M N bits mode sessions turns opened) → OnOk result (ServesOpened g M N bits mode sessions rounds)
-  serves_opened bits mode rounds sessions opened (Err fault) served = tt
-  serves_opened bits mode rounds sessions opened (Ok done) (turns, count, served) = record { opened = opened; turns = turns; count = count; served = served }
-
-module _ {D : Type 0} (g : sectors.Ghosts D) {T L : Type 0} (M : CallModel T) (N : ListenerModel L T) (bits : L → ℕ) where
-  pub loop_performed : (input : Option (List ℕ)) (request : Request) (file socket : Bor (List ℕ)) (socket_mode : Option (Bor (List ℕ))) (mode : ℕ) (done : Ending) → request ≡ Loop file socket socket_mode → (socket_mode ≡ None → mode ≡ OWNER_ONLY) → IfSome socket_mode (λ word. IsMode word.now mode)
-      → OnOk done (LoopsOpened g bits mode input) → IsServingDone g M N bits request input done
-  loop_performed input request file socket socket_mode mode done is owner mode_is looped = subst (λ (one : Request). IsServingDone g M N bits one input done) (sym is) (by done looped)
+  pub stops_at : (sessions rounds : ℕ) (opened left : Store D g) (bound last : L) (before mid after : Option (List ℕ)) (replaced : Bool) (served watched result : Ending) → after ≡ mid → OnOk served (ServesAll sessions rounds opened left bound last before mid) → IfErr served (ServesUpTo sessions opened left bound last before mid)
+      → (replaced ≡ true → watched ≡ Err (Command Replaced)) → (replaced ≡ false → watched ≡ served) → IfErr result (λ fault. (watched ≡ Err fault) ⊎ (fault ≡ Command File)) → IfErr result (IsStoppedWith M N sessions opened before after)
+  stops_at sessions rounds opened left bound last before mid after replaced served watched (Ok done) same all stopped is not ends = tt
+  stops_at sessions rounds opened left bound last before mid after replaced served watched (Err fault) same all stopped is not ends =
+      subst (λ (known : Option (List ℕ)). IsStoppedWith M N sessions opened before known fault) (sym same) (by ends)
     where
-      by : (done : Ending) → OnOk done (LoopsOpened g bits mode input) → IsServingDone g M N bits (Loop file socket socket_mode) input done
+      prints : Prints sessions opened before mid
+      prints = printed sessions rounds opened left bound last before mid served all stopped
+
+      stopped_by : (replaced : Bool) → IsWatched replaced served watched → watched ≡ Err fault → IsStoppedWith M N sessions opened before mid fault
+      stopped_by true gone same = (prints.0, prints.1, inr (inl (cc (sym same ∙ gone)), inr prints.2))
+      stopped_by false not same =
+          let why = subst (λ (ending : Ending). IfErr ending (ServesUpTo sessions opened left bound last before mid)) (sym not ∙ same) stopped in
+          (why.0, why.1, inl (record { left = left; bound = bound; last = last; stops = why.2 }))
+
+      by : (watched ≡ Err fault) ⊎ (fault ≡ Command File) → IsStoppedWith M N sessions opened before mid fault
+      by (inl same) = stopped_by replaced (is_watched replaced served watched is not) same
+      by (inr file) = (prints.0, prints.1, inr (inr file, inr prints.2))
+
+  -- there was no socket
+  pub no_socket : (sessions : ℕ) (opened : Store D g) (known : Option (List ℕ)) (result : Ending) → IfErr result (λ fault. fault ≡ Command File) → IfErr result (IsStoppedWith M N sessions opened known known)
+  no_socket sessions opened known (Ok done) file = tt
+  no_socket sessions opened known (Err fault) file = ([], nothing known, inr (inr file, inl refl))
+
+  -- over the store that was opened, once the output isn't watched any more
+  module _ (At : List ℕ → Store D g → Type 0) (bits : L → ℕ) (path : List ℕ) (mode sessions : ℕ) (one other : GName) (was old new end : Option (List ℕ)) (opened : Store D g) (at : At path opened) (is : was ≡ numbered one old) (same : one ≡ other → end ≡ new) where
+    pub serves_opened : (rounds : ℕ) (result : Ending) → OnOk result ((turns : List ℕ) × (length turns ≡ rounds) × ServesAt M N bits mode sessions turns opened × Appends was (numbered other new) (round_lines 1 turns)) → OnOk result (ServesOpened g At M N bits path mode sessions rounds old end)
+    serves_opened rounds (Err fault) served = tt
+    serves_opened rounds (Ok done) (turns, count, served, lines) =
+        record { opened = opened; at = at; turns = turns; count = count; served = served; lines = plain one other was old new end (round_lines 1 turns) is same lines }
+
+    pub stops_opened : (result : Ending) → IfErr result (IsStoppedWith M N sessions opened was (numbered other new)) → IfErr result (λ fault. Keeps old end ⊎ StopsOpened g At M N bits path sessions old end fault)
+    stops_opened (Ok done) stopped = tt
+    stops_opened (Err fault) (text, appends, why) = inr (record { opened = opened; at = at; stopped = (text, plain one other was old new end text is same appends, why) })
+
+module _ {D : Type 0} (g : sectors.Ghosts D) (At : List ℕ → Store D g → Type 0) {T L : Type 0} (M : CallModel T) (N : ListenerModel L T) (bits : L → ℕ) where
+  pub loop_performed : (input before after : Option (List ℕ)) (request : Request) (file socket : Bor (List ℕ)) (socket_mode : Option (Bor (List ℕ))) (mode : ℕ) (done : Ending) → request ≡ Loop file socket socket_mode → (socket_mode ≡ None → mode ≡ OWNER_ONLY) → IfSome socket_mode (λ word. IsMode word.now mode)
+      → OnOk done (LoopsOpened g At bits file.now mode input before after) → IsServingDone g At M N bits request input before after done
+  loop_performed input before after request file socket socket_mode mode done is owner mode_is looped = subst (λ (one : Request). IsServingDone g At M N bits one input before after done) (sym is) (by done looped)
+    where
+      by : (done : Ending) → OnOk done (LoopsOpened g At bits file.now mode input before after) → IsServingDone g At M N bits (Loop file socket socket_mode) input before after done
       by (Ok done) looped = record { mode = mode; owner = owner; mode_is = mode_is; looped = looped }
-      by (Err fault) looped = tt
+      by (Err fault) looped = inr tt
 
-  pub performed : (input : Option (List ℕ)) (file socket rounds : Bor (List ℕ)) (sessions socket_mode : Option (Bor (List ℕ))) (count each mode : ℕ) (done : Ending) → rounds_asked rounds.now ≡ Ok count → sessions_wanted sessions ≡ Ok each → (socket_mode ≡ None → mode ≡ OWNER_ONLY) → IfSome socket_mode (λ word. IsMode word.now mode)
-      → OnOk done (ServesOpened g M N bits mode each count) → IsServingDone g M N bits (Serve file socket rounds sessions socket_mode) input done
-  performed input file socket rounds sessions socket_mode count each mode (Ok done) asked wanted owner mode_is served = record { count = count; rounds_are = asked; each = each; sessions_are = wanted; mode = mode; owner = owner; mode_is = mode_is; served = served }
-  performed input file socket rounds sessions socket_mode count each mode (Err fault) asked wanted owner mode_is served = tt
+  pub performed : (input before after : Option (List ℕ)) (file socket rounds : Bor (List ℕ)) (sessions socket_mode : Option (Bor (List ℕ))) (count each mode : ℕ) (done : Ending) → rounds_asked rounds.now ≡ Ok count → sessions_wanted sessions ≡ Ok each → (socket_mode ≡ None → mode ≡ OWNER_ONLY) → IfSome socket_mode (λ word. IsMode word.now mode)
+      → OnOk done (ServesOpened g At M N bits file.now mode each count before after) → IfErr done (λ fault. Keeps before after ⊎ StopsOpened g At M N bits file.now each before after fault) → IsServingDone g At M N bits (Serve file socket rounds sessions socket_mode) input before after done
+  performed input before after file socket rounds sessions socket_mode count each mode (Ok done) asked wanted owner mode_is served stopped = record { count = count; rounds_are = asked; each = each; sessions_are = wanted; mode = mode; owner = owner; mode_is = mode_is; served = served }
+  performed input before after file socket rounds sessions socket_mode count each mode (Err fault) asked wanted owner mode_is served (inl kept) = inl kept
+  performed input before after file socket rounds sessions socket_mode count each mode (Err fault) asked wanted owner mode_is served (inr stopped) = inr (each, wanted, stopped)

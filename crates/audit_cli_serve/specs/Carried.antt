@@ -1,7 +1,7 @@
--- The effect of carrying out a request, apart from its files and its sockets.
+-- The effect of carrying out a request.
 use denote.Ref.{Bor}
-use Rattle.std.specs.Prelude.{◌≡◌, ◌⊎◌, ℕ, Option, Some, None, Result, Ok, Err, List, length, IfSome}
-use Rattle.std.specs.Io.KnownBytes.{Keeps}
+use Rattle.std.specs.Prelude.{◌≡◌, ◌⊎◌, ℕ, Option, Some, None, Result, Ok, Err, List, [], length, IfSome}
+use Rattle.std.specs.Io.KnownBytes.{Keeps, Appends}
 use Rattle.audit_disk_model.specs.declared.sectors.Sectors as sectors
 use Rattle.audit_disk.specs.declared.files.TheConstants.{OWNER_ONLY}
 use Rattle.audit_store.specs.declared.store.Store.{Store}
@@ -17,6 +17,7 @@ use Rattle.audit_cli_base.specs.declared.fault.CommandError.{CommandError}
 use Rattle.audit_cli_base.specs.declared.fault.CommandError.TheVariants.{File, Replaced}
 use Rattle.audit_cli_serve.specs.Arguments.{rounds_asked, sessions_wanted}
 use Rattle.audit_cli_serve.specs.Faults.{serving_status}
+use Rattle.audit_cli_serve.specs.Rounds.{round_lines, AreCutOff}
 use Rattle.audit_cli_serve.specs.Served.{ServesRounds, StopsRounds, LoopsOver}
 use Rattle.audit_cli_serve.specs.Words.{IsServingFault}
 use Rattle.audit_cli_serve.specs.declared.fault.ServingError.{ServingError}
@@ -30,12 +31,10 @@ serving_end_status (Ok done) = ends.Done
 serving_end_status (Err fault) = serving_status fault
 
 module _ {D : Type 0} {g : sectors.Ghosts D} where
-  -- a whole session was served over a store, whose bytes the lines of the input spell
-  pub record LoopsAt (input : Option (List ℕ)) (opened : Store D g) : Type 0 where
+  -- A whole session was served over a store, whose bytes the lines of the input spell, and its replies were written.
+  pub record LoopsAt (input before after : Option (List ℕ)) (opened : Store D g) : Type 0 where
     pub left : Store D g
     pub lines : List (List ℕ)
-    pub before : Option (List ℕ)
-    pub after : Option (List ℕ)
     pub looped : LoopsOver opened left before after (IsWholeLoop lines)
     pub spelled : IfSome input (SpellsInput lines)
 
@@ -49,71 +48,108 @@ module _ {D : Type 0} {g : sectors.Ghosts D} {T L : Type 0} (M : CallModel T) (N
     pub last : L
     pub served : ServesRounds M N sessions turns opened left bound last
 
-  -- Why serving over a store ended with an error: there was no socket, or a round stopped; or the store wasn't in its
-  -- place at the end, or the socket's file couldn't be removed.
-  pub record StopsAt (sessions : ℕ) (opened : Store D g) (fault : ServingError) : Type 0 where
+  -- Serving over a store ended with an error, and this text was written: a round stopped.
+  pub record StopsAt (sessions : ℕ) (opened : Store D g) (text : List ℕ) (fault : ServingError) : Type 0 where
     pub left : Store D g
     pub bound : L
     pub last : L
-    pub stops : StopsRounds M N sessions opened left bound last fault
+    pub stops : StopsRounds M N sessions opened left bound last text fault
 
-  abbrev pub IsStoppedAt : ℕ → Store D g → ServingError → Type 0
-  IsStoppedAt sessions opened fault =
-      StopsAt sessions opened fault ⊎ ((fault ≡ Command Replaced) ⊎ (fault ≡ Command File))
+  -- Rounds were served over a store, and this text was written: the line of each, or the last one is cut off.
+  pub record ServesWithLines (sessions : ℕ) (opened : Store D g) (text : List ℕ) : Type 0 where
+    pub turns : List ℕ
+    pub left : Store D g
+    pub bound : L
+    pub last : L
+    pub served : ServesRounds M N sessions turns opened left bound last
+    pub lines : (text ≡ round_lines 1 turns) ⊎ AreCutOff turns text
 
--- ---- over the store that was opened, whose device has these ghost members
+  -- Why serving over a store ended with an error: a round stopped; or there was no socket, and nothing was written; or
+  -- the store wasn't in its place at the end, or the socket's file couldn't be removed.
+  abbrev pub IsStoppedAt : ℕ → Store D g → List ℕ → ServingError → Type 0
+  IsStoppedAt sessions opened text fault =
+      StopsAt sessions opened text fault
+      ⊎ (((fault ≡ Command Replaced) ⊎ (fault ≡ Command File)) × ((text ≡ []) ⊎ ServesWithLines sessions opened text))
 
-module _ {D : Type 0} (g : sectors.Ghosts D) {L : Type 0} (bits : L → ℕ) where
+  -- the same, and the output has that text
+  abbrev pub IsStoppedWith : ℕ → Store D g → Option (List ℕ) → Option (List ℕ) → ServingError → Type 0
+  IsStoppedWith sessions opened before after fault =
+      (text : List ℕ) × Appends before after text × IsStoppedAt sessions opened text fault
+
+-- ---- over the store that was opened, whose device has these ghost members. `At` says at which path it was.
+
+module _ {D : Type 0} (g : sectors.Ghosts D) (At : List ℕ → Store D g → Type 0) {L : Type 0} (bits : L → ℕ) where
   -- a whole session was served over it, and a socket of this program was bound, whose file has these permission bits
-  pub record LoopsOpened (mode : ℕ) (input : Option (List ℕ)) : Type 0 where
+  pub record LoopsOpened (path : List ℕ) (mode : ℕ) (input before after : Option (List ℕ)) : Type 0 where
     pub opened : Store D g
+    pub at : At path opened
     pub bound : L
     pub mode_is : bits bound ≡ mode
-    pub looped : LoopsAt input opened
+    pub looped : LoopsAt input before after opened
 
   -- the same with the permissions that were asked for
-  pub record LoopsAsked (socket_mode : Option (Bor (List ℕ))) (input : Option (List ℕ)) : Type 0 where
+  pub record LoopsAsked (path : List ℕ) (socket_mode : Option (Bor (List ℕ))) (input before after : Option (List ℕ))
+      : Type 0 where
     pub mode : ℕ
     pub owner : socket_mode ≡ None → mode ≡ OWNER_ONLY
     pub mode_is : IfSome socket_mode (λ word. IsMode word.now mode)
-    pub looped : LoopsOpened mode input
+    pub looped : LoopsOpened path mode input before after
 
-module _ {D : Type 0} (g : sectors.Ghosts D) {T L : Type 0} (M : CallModel T) (N : ListenerModel L T) (bits : L → ℕ)
-  where
-    -- this many rounds were served over it
-    pub record ServesOpened (mode sessions rounds : ℕ) : Type 0 where
+module _ {D : Type 0} (g : sectors.Ghosts D) (At : List ℕ → Store D g → Type 0) {T L : Type 0} (M : CallModel T)
+    (N : ListenerModel L T) (bits : L → ℕ) where
+  -- this many rounds were served over it, and the line of each was written, in order
+  pub record ServesOpened (path : List ℕ) (mode sessions rounds : ℕ) (before after : Option (List ℕ)) : Type 0 where
+    pub opened : Store D g
+    pub at : At path opened
+    pub turns : List ℕ
+    pub count : length turns ≡ rounds
+    pub served : ServesAt M N bits mode sessions turns opened
+    pub lines : Appends before after (round_lines 1 turns)
+
+  -- as many as asked for, each of as many sessions, on a socket with the permissions that were asked for
+  pub record ServesRoundsAsked (path rounds : List ℕ) (sessions socket_mode : Option (Bor (List ℕ)))
+      (before after : Option (List ℕ)) : Type 0 where
+    pub count : ℕ
+    pub rounds_are : rounds_asked rounds ≡ Ok count
+    pub each : ℕ
+    pub sessions_are : sessions_wanted sessions ≡ Ok each
+    pub mode : ℕ
+    pub owner : socket_mode ≡ None → mode ≡ OWNER_ONLY
+    pub mode_is : IfSome socket_mode (λ word. IsMode word.now mode)
+    pub served : ServesOpened path mode each count before after
+
+  -- serving over the store that was opened stopped with this error
+  pub record StopsOpened (path : List ℕ) (sessions : ℕ) (before after : Option (List ℕ)) (fault : ServingError) : Type 0
+    where
       pub opened : Store D g
-      pub turns : List ℕ
-      pub count : length turns ≡ rounds
-      pub served : ServesAt M N bits mode sessions turns opened
+      pub at : At path opened
+      pub stopped : IsStoppedWith M N sessions opened before after fault
 
-    -- as many as asked for, each of as many sessions, on a socket with the permissions that were asked for
-    pub record ServesRoundsAsked (rounds : List ℕ) (sessions socket_mode : Option (Bor (List ℕ))) : Type 0 where
-      pub count : ℕ
-      pub rounds_are : rounds_asked rounds ≡ Ok count
-      pub each : ℕ
-      pub sessions_are : sessions_wanted sessions ≡ Ok each
-      pub mode : ℕ
-      pub owner : socket_mode ≡ None → mode ≡ OWNER_ONLY
-      pub mode_is : IfSome socket_mode (λ word. IsMode word.now mode)
-      pub served : ServesOpened mode each count
+  -- as many sessions as asked for were served in each round over it, up to this error
+  abbrev pub StopsAsked : Request → Option (List ℕ) → Option (List ℕ) → ServingError → Type 0
+  StopsAsked (Serve file socket rounds sessions mode) before after fault =
+      (each : ℕ) × (sessions_wanted sessions ≡ Ok each) × StopsOpened file.now each before after fault
+  StopsAsked (Loop file socket mode) before after fault = Unit {0}
 
-    abbrev pub IsServedAsAsked : Request → Option (List ℕ) → Type 0
-    IsServedAsAsked (Serve file socket rounds sessions mode) input = ServesRoundsAsked rounds.now sessions mode
-    IsServedAsAsked (Loop file socket mode) input = LoopsAsked g bits mode input
+  abbrev pub IsServedAsAsked : Request → Option (List ℕ) → Option (List ℕ) → Option (List ℕ) → Type 0
+  IsServedAsAsked (Serve file socket rounds sessions mode) input before after =
+      ServesRoundsAsked file.now rounds.now sessions mode before after
+  IsServedAsAsked (Loop file socket mode) input before after = LoopsAsked g At bits file.now mode input before after
 
-    -- a request was carried out with this result: on success what it asks for was served
-    abbrev pub IsServingDone : Request → Option (List ℕ) → Result (Unit {0}) ServingError → Type 0
-    IsServingDone request input (Ok done) = IsServedAsAsked request input
-    IsServingDone request input (Err fault) = Unit {0}
+  -- A request was carried out with this result. On success what it asks for was served and written; otherwise nothing
+  -- was written, or the lines of rounds that were served.
+  abbrev pub IsServingDone : Request → Option (List ℕ) → Option (List ℕ) → Option (List ℕ)
+      → Result (Unit {0}) ServingError → Type 0
+  IsServingDone request input before after (Ok done) = IsServedAsAsked request input before after
+  IsServingDone request input before after (Err fault) = Keeps before after ⊎ StopsAsked request before after fault
 
-    -- A request was carried out with this result, and the output was then flushed. The program's status is that of the
-    -- result, or that of an output that couldn't be flushed.
-    pub record IsServingCarriedOut (request : Request) (input before after : Option (List ℕ)) (status : Status)
-        : Type 0 where
+  -- A request was carried out with this result, and the output was then flushed. The program's status is that of the
+  -- result, or that of an output that couldn't be flushed.
+  pub record IsServingCarriedOut (request : Request) (input before after : Option (List ℕ)) (status : Status) : Type 0
+    where
       pub done : Result (Unit {0}) ServingError
       pub written : Option (List ℕ)
       pub words : RefusesWords (IsServingFault request) before written done
-      pub served : IsServingDone request input done
+      pub served : IsServingDone request input before written done
       pub flushed : Keeps written after
       pub status_is : (status ≡ serving_end_status done) ⊎ (status ≡ ends.Device)

@@ -20,6 +20,7 @@ use Rattle.audit_text.specs.declared.fault.LinesError.TheVariants.{Write, Memory
 use Rattle.audit_serve_sockets.specs.Listening.{ListenerModel}
 use Rattle.audit_serve_sockets.specs.Looping.{BringsLines, LoopTransition, LoopReached}
 use Rattle.audit_cli_base.specs.declared.fault.CommandError.TheVariants.{File, Lines, Refused}
+use Rattle.audit_cli_serve.specs.Rounds.{round_lines, AreCutOff}
 use Rattle.audit_cli_serve.specs.declared.fault.ServingError.{ServingError}
 use Rattle.audit_cli_serve.specs.declared.fault.ServingError.TheVariants.{Command, BadFrameLine, TooManyPasses}
 
@@ -140,10 +141,13 @@ module _ {D : Type 0} {g : sectors.Ghosts D} {T L : Type 0} (M : CallModel T) (N
   StopsRound sessions old new before after fault = HasRefused old new fault
       ⊎ (((fault ≡ Command File) × (new ≡ old)) ⊎ ((fault ≡ TooManyPasses) × CutsRound sessions old new before after))
 
-  -- Rounds were served. Then one stopped with this error, or the line of the last one wasn't written.
-  pub record StopsRounds (sessions : ℕ) (old new : Store D g) (before after : L) (fault : ServingError) : Type 0 where
+  -- Rounds were served, and this text was written. Then one stopped with this error, and each of them has its line; or
+  -- the line of the last one was cut off.
+  pub record StopsRounds (sessions : ℕ) (old new : Store D g) (before after : L) (text : List ℕ) (fault : ServingError)
+      : Type 0 where
     pub turns : List ℕ
     pub mid : Store D g
     pub between : L
     pub served : ServesRounds sessions turns old mid before between
-    pub stops : StopsRound sessions mid new between after fault ⊎ (IsLineLost fault × (new ≡ mid))
+    pub stops : (StopsRound sessions mid new between after fault × (text ≡ round_lines 1 turns))
+        ⊎ (IsLineLost fault × (new ≡ mid) × AreCutOff turns text)

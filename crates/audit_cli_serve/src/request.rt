@@ -1,15 +1,17 @@
 //! The requests to serve sessions, and how they are carried out.
 ghost use Rattle.std.specs.Prelude.{◌≡◌, ◌⊎◌, ◌≤◌, List, ℕ, length, IsOk, true, false, Ok, Err, IfOk, IfErr, OnOk};
-ghost use Rattle.std.specs.Io.KnownBytes.{Keeps};
+ghost use Rattle.std.specs.Io.KnownBytes.{Keeps, Appends};
 ghost use Rattle.audit_base.specs.declared.limits.TheConstants.{SESSIONS};
 ghost use Rattle.audit_cli_base.specs.Arguments.{RefusesWords};
 ghost use Rattle.audit_cli_base.specs.declared.fault.CommandError.TheVariants.{File, Replaced};
 ghost use Rattle.audit_serve_sockets.specs.Bound.{mode_of_socket};
 ghost use Rattle.audit_serve_sockets.specs.declared.socket_file.SocketFile.{SocketFile};
 ghost use Rattle.audit_cli_serve.specs.Arguments.{rounds_asked, sessions_wanted};
-ghost use Rattle.audit_cli_serve.specs.Carried.{ServesAt, ServesOpened, IsStoppedAt, LoopsAt, LoopsOpened};
-ghost use Rattle.audit_cli_serve.specs.Carried.{IsServingDone};
-ghost use Rattle.audit_cli_serve.specs.Carried.{IsServingCarriedOut};
+ghost use Rattle.audit_cli_base.specs.OpenedStore.{IsStoreAt};
+ghost use Rattle.audit_cli_base.specs.Watched.{watched_bytes};
+ghost use Rattle.audit_cli_serve.specs.Carried.{ServesAt, ServesOpened, IsStoppedWith, StopsOpened, LoopsAt};
+ghost use Rattle.audit_cli_serve.specs.Carried.{LoopsOpened, IsServingDone, IsServingCarriedOut};
+ghost use Rattle.audit_cli_serve.specs.Rounds.{round_lines};
 ghost use Rattle.audit_cli_serve.specs.Faults.{IsNoWordError};
 ghost use Rattle.audit_cli_serve.specs.declared.fault.ServingError.TheVariants.{Command};
 ghost use Rattle.audit_cli_serve.specs.Words.{IsWrongNumber, HasWrongWord, IsServingFault};
@@ -86,8 +88,10 @@ where
     ensures words { HasWrongWord request.entry → (result ≡ Status.Usage) ⊎ (result ≡ Status.Device) }
     ensures only { result ≡ Status.Usage → HasWrongWord request.entry }
     ensures unwritten { HasWrongWord request.entry → Keeps (W.contents output.old) (W.contents output.new) }
-    // The status is that of the result; on success what was asked for was served.
-    ensures carried { IsServingCarriedOut ⟦<FileDevice<F::File> as Sectors>⟧ ⟦<UnixStream as Duplex>⟧.calls
+    // The status is that of the result. On success what was asked for was served, over the store that was opened in the
+    // file that was named; whatever happens, the output has the lines of what was served, in order.
+    ensures carried { IsServingCarriedOut ⟦<FileDevice<F::File> as Sectors>⟧
+        (IsStoreAt F.File.facts F.File.positioned) ⟦<UnixStream as Duplex>⟧.calls
         ⟦<SocketFile as Listener<UnixStream>>⟧.model mode_of_socket request.entry (R.remaining input.old)
         (W.contents output.old) (W.contents output.new) result }
 {
@@ -113,8 +117,10 @@ where
     F::File: SystemFile,
     ensures words { RefusesWords (IsServingFault request.entry) (W.contents output.old) (W.contents output.new) result }
     ensures only { result ≡ Err (ServingError.Command CommandError.BadArgument) → HasWrongWord request.entry }
-    ensures served { IsServingDone ⟦<FileDevice<F::File> as Sectors>⟧ ⟦<UnixStream as Duplex>⟧.calls
-        ⟦<SocketFile as Listener<UnixStream>>⟧.model mode_of_socket request.entry (R.remaining input.old) result }
+    ensures served { IsServingDone ⟦<FileDevice<F::File> as Sectors>⟧
+        (IsStoreAt F.File.facts F.File.positioned) ⟦<UnixStream as Duplex>⟧.calls
+        ⟦<SocketFile as Listener<UnixStream>>⟧.model mode_of_socket request.entry (R.remaining input.old)
+        (W.contents output.old) (W.contents output.new) result }
 {
     match request {
         Request::Serve {
@@ -169,8 +175,13 @@ where
     requires { sessions ≤ SESSIONS }
     ensures words { IfErr result IsNoWordError }
     ensures served { OnOk result (ServesOpened ⟦<FileDevice<F::File> as Sectors>⟧
-        ⟦<UnixStream as Duplex>⟧.calls ⟦<SocketFile as Listener<UnixStream>>⟧.model
-        mode_of_socket mode sessions rounds) }
+        (IsStoreAt F.File.facts F.File.positioned) ⟦<UnixStream as Duplex>⟧.calls
+        ⟦<SocketFile as Listener<UnixStream>>⟧.model mode_of_socket file.now mode sessions rounds
+        (W.contents output.old) (W.contents output.new)) }
+    ensures stopped { IfErr result (λ fault. Keeps (W.contents output.old) (W.contents output.new)
+        ⊎ StopsOpened ⟦<FileDevice<F::File> as Sectors>⟧ (IsStoreAt F.File.facts F.File.positioned)
+        ⟦<UnixStream as Duplex>⟧.calls ⟦<SocketFile as Listener<UnixStream>>⟧.model mode_of_socket
+        file.now sessions (W.contents output.old) (W.contents output.new) fault) }
 {
     let Opened { content, identity } = open_store(rt, alloc, file)?;
     let watch = StoreWatch::new(rt, file, identity, content.sectors());
@@ -204,9 +215,11 @@ where
     // Nothing else is done to the store.
     ensures served { OnOk result ((turns : List ℕ) × (length turns ≡ rounds)
         × ServesAt ⟦<UnixStream as Duplex>⟧.calls ⟦<SocketFile as Listener<UnixStream>>⟧.model
-        mode_of_socket mode sessions turns store) }
-    ensures stopped { IfErr result (IsStoppedAt ⟦<UnixStream as Duplex>⟧.calls
-        ⟦<SocketFile as Listener<UnixStream>>⟧.model sessions store) }
+        mode_of_socket mode sessions turns store
+        × Appends (watched_bytes W.contents output.old) (watched_bytes W.contents output.new) (round_lines 1 turns)) }
+    ensures stopped { IfErr result (IsStoppedWith ⟦<UnixStream as Duplex>⟧.calls
+        ⟦<SocketFile as Listener<UnixStream>>⟧.model sessions store
+        (watched_bytes W.contents output.old) (watched_bytes W.contents output.new)) }
 {
     let (mut bound, lock) = SocketFile::bind(rt, alloc, socket, mode)?;
     // The store stays locked until the socket's file is removed.
@@ -252,8 +265,9 @@ fn loop_file<F: SystemFiles + Net + Clock, R: Read, W: Write>(
 where
     F::File: SystemFile,
     ensures words { IfErr result IsNoWordError }
-    ensures looped { OnOk result (LoopsOpened ⟦<FileDevice<F::File> as Sectors>⟧ mode_of_socket mode
-        (R.remaining input.old)) }
+    ensures looped { OnOk result (LoopsOpened ⟦<FileDevice<F::File> as Sectors>⟧
+        (IsStoreAt F.File.facts F.File.positioned) mode_of_socket file.now mode (R.remaining input.old)
+        (W.contents output.old) (W.contents output.new)) }
 {
     let Opened { content, identity } = open_store(rt, alloc, file)?;
     let watch = StoreWatch::new(rt, file, identity, content.sectors());
@@ -274,7 +288,8 @@ where
     F::File: SystemFile,
     ensures words { IfErr result IsNoWordError }
     // Nothing else is done to the store.
-    ensures looped { OnOk result (LoopsAt (R.remaining input.old) store) }
+    ensures looped { OnOk result (LoopsAt (R.remaining input.old) (watched_bytes W.contents output.old)
+        (watched_bytes W.contents output.new) store) }
     ensures bound { OnOk result ((bound : SocketFile) × (mode_of_socket bound ≡ mode)) }
 {
     // The input's buffer is allocated before the socket's file is made, so that the file is removed whatever is
@@ -299,7 +314,8 @@ fn loop_bound<F: Files + Net, D: Sectors + Drop, R: BufRead, W: Write>(
     output: &mut W,
 ) -> (Store<D>, Result<(), ServingError>)
     ensures words { IfErr result.1 IsNoWordError }
-    ensures looped { OnOk result.1 (LoopsAt (R.remaining reader.old) store) }
+    ensures looped { OnOk result.1 (LoopsAt (R.remaining reader.old) (W.contents output.old) (W.contents output.new)
+        store) }
 {
     match connect(rt, bound, socket) {
         Ok(mut link) => loop_over(alloc, store, &mut link, reader, output),

@@ -49,8 +49,10 @@ where
     // On an error some rounds were served, and some steps of one more were done.
     ensures stopped { OnErr result.1 ((turns : List ℕ)
         × ReachesByRounds T.calls L.model sessions turns store result.0 socket.old socket.new) }
-    // The error states why serving stopped, and what a refusal states about the store holds.
-    ensures fault { IfErr result.1 (StopsRounds T.calls L.model sessions store result.0 socket.old socket.new) }
+    // The error states why serving stopped, and what a refusal states about the store holds. Each round that was served
+    // has its line, except that the last one may be cut off: then nothing more is written.
+    ensures fault { IfErr result.1 (λ fault. (text : List ℕ) × Appends (W.contents writer.old) (W.contents writer.new) text
+        × StopsRounds T.calls L.model sessions store result.0 socket.old socket.new text fault) }
 {
     let mut store = store;
     for round in 0..rounds {

@@ -3,7 +3,8 @@ use Rattle.std.specs.Prelude.{IfOk, IfErr}
 use Rattle.audit_server_model.proofs.Serving.{kept_then}
 use Rattle.audit_cli_serve.specs.declared.fault.ServingError.{ServingError}
 use Rattle.audit_cli_serve.specs.Served.{ServesRound, StopsRound}
-use Rattle.audit_cli_serve.proofs.RoundLines.{round_more}
+use Rattle.audit_cli_serve.specs.Rounds.{round_lines}
+use Rattle.audit_cli_serve.proofs.RoundLines.{round_more, cut_off}
 use Rattle.audit_cli_serve.proofs.Served.{rounds_more, none_gone, line_lost}
 use Rattle.audit_cli_serve.proofs.rounds.serve_rounds.Goals as goal
 
@@ -40,7 +41,7 @@ returns-in-Err-clause-fault g c =
     let left = c.serve_round-kept.result.0 in
     let stops : StopsRound M N c.args.sessions c.loop-round.store left between after c.in-Err.fault =
     subst (λ (answer : Result ℕ ServingError). IfErr answer (StopsRound M N c.args.sessions c.loop-round.store left between after)) c.in-Err.is c.serve_round-kept.ensures.fault in
-    record { turns = before.0; mid = c.loop-round.store; between = between; served = before.2; stops = inl stops }
+    (round_lines 1 before.0, before.3, record { turns = before.0; mid = c.loop-round.store; between = between; served = before.2; stops = inl (stops, refl) })
 
 pub returns-in-Err-write_round-clause-fault : goal.returns-in-Err-write_round-clause-fault
 returns-in-Err-write_round-clause-fault g c =
@@ -52,13 +53,18 @@ returns-in-Err-write_round-clause-fault g c =
     let left = c.serve_round-kept.result.0 in
     let round : ServesRound M N c.args.sessions c.in-Ok.turns c.loop-round.store left between after =
     subst (λ (answer : Result ℕ ServingError). IfOk answer (λ turns. ServesRound M N c.args.sessions turns c.loop-round.store left between after)) c.in-Ok.is c.serve_round-kept.ensures.served in
-    record {
-      turns = before.0 ++ c.in-Ok.turns ∷ [];
-      mid = left;
-      between = after;
-      served = rounds_more M N c.args.sessions c.in-Ok.turns before.0 c.args.store c.loop-round.store left c.args.socket.now between after before.2 round;
-      stops = inr (line_lost c.in-Err-write_round.fault c.into.result c.into.ensures c.in-Err-write_round.ensures.fault, refl);
-    }
+    let cut =
+    cut_off (g.W.Write.contents c.args.writer.now) (g.W.Write.contents c.loop-round.writer) (g.W.Write.contents c.write_round.new.writer) before.0 c.in-Ok.turns (c.loop-round.round + 1) before.3 (omega (arith, before.1)) c.in-Err-write_round.ensures.part in (
+      cut.0,
+      cut.1,
+      record {
+        turns = before.0 ++ c.in-Ok.turns ∷ [];
+        mid = left;
+        between = after;
+        served = rounds_more M N c.args.sessions c.in-Ok.turns before.0 c.args.store c.loop-round.store left c.args.socket.now between after before.2 round;
+        stops = inr (line_lost c.in-Err-write_round.fault c.into.result c.into.ensures c.in-Err-write_round.ensures.fault, refl, cut.2);
+      },
+    )
 
 pub loop-round-preserved : goal.loop-round-preserved
 loop-round-preserved g c =
