@@ -280,7 +280,7 @@ fn judge<'a>(request: Request<'a>) -> Result<Order<'a>, CommandError>
         } => {
             socket_path_asked(socket, 0)?;
             let seconds = seconds_or_default(timeout)?;
-            let every = pause_asked(every)?;
+            let pause = pause_asked(every)?;
             let task = ReadTask {
                 socket,
                 state,
@@ -289,9 +289,9 @@ fn judge<'a>(request: Request<'a>) -> Result<Order<'a>, CommandError>
                 form,
                 kinds,
                 seconds,
-                is_quiet: every.is_some(),
+                is_quiet: pause.is_some(),
             };
-            Ok(Order::Read { task, every })
+            Ok(Order::Read { task, every: pause })
         }
     }
 }

@@ -13,7 +13,7 @@ use Rattle.audit_serve_sockets.specs.Input.{SpellsInput}
 use Rattle.audit_serve_sockets.specs.Listening.{ListenerModel}
 use Rattle.audit_serve_sockets.specs.Looping.{IsWholeLoop}
 use Rattle.audit_cli_base.specs.Mode.{IsMode}
-use Rattle.audit_cli_base.specs.Watched.{numbered}
+use Rattle.audit_cli_base.specs.Watched.{after_reference}
 use Rattle.audit_disk.specs.declared.files.TheConstants.{OWNER_ONLY}
 use Rattle.audit_cli_base.specs.declared.fault.CommandError.TheVariants.{File, Replaced}
 use Rattle.audit_cli_serve.specs.Arguments.{rounds_asked, sessions_wanted}
@@ -51,10 +51,10 @@ after_all P replaced served watched (Ok done) holds is not ok = by served watche
     by (Err fault) watched holds ok same = absurd (cc (subst IsOk (sym same) ok))
 
 -- what was appended behind the number of a reference was appended to what the reference leads to
-pub plain : (one other : GName) (was old new end : Option (List ℕ)) (text : List ℕ) → was ≡ numbered one old → (one ≡ other → end ≡ new) → Appends was (numbered other new) text → Appends old end text
-plain one other was old new end text is same appends = by old new (subst (λ (first : Option (List ℕ)). Appends first (numbered other new) text) is appends) same
+pub plain : (one other : GName) (was old new end : Option (List ℕ)) (text : List ℕ) → was ≡ after_reference one old → (one ≡ other → end ≡ new) → Appends was (after_reference other new) text → Appends old end text
+plain one other was old new end text is same appends = by old new (subst (λ (first : Option (List ℕ)). Appends first (after_reference other new) text) is appends) same
   where
-    by : (old new : Option (List ℕ)) → Appends (numbered one old) (numbered other new) text → (one ≡ other → end ≡ new) → Appends old end text
+    by : (old new : Option (List ℕ)) → Appends (after_reference one old) (after_reference other new) text → (one ≡ other → end ≡ new) → Appends old end text
     by None new appends same = tt
     by (Some xs) None appends same = absurd appends
     by (Some xs) (Some ys) appends same = let reference : one ≡ other = cc appends in
@@ -70,7 +70,7 @@ module _ {D : Type 0} {g : sectors.Ghosts D} where
   loops_at input before after opened left (Err fault) looped = tt
   loops_at input before after opened left (Ok done) (lines, looped, spelled) = record { left = left; lines = lines; looped = looped; spelled = spelled }
 
-  loops_plain : (one other : GName) (input was old new end : Option (List ℕ)) (opened : Store D g) → was ≡ numbered one old → (one ≡ other → end ≡ new) → LoopsAt input was (numbered other new) opened → LoopsAt input old end opened
+  loops_plain : (one other : GName) (input was old new end : Option (List ℕ)) (opened : Store D g) → was ≡ after_reference one old → (one ≡ other → end ≡ new) → LoopsAt input was (after_reference other new) opened → LoopsAt input old end opened
   loops_plain one other input was old new end opened is same at =
       let run = at.looped.run in
       let written = run.written in record {
@@ -93,8 +93,8 @@ module _ {D : Type 0} {g : sectors.Ghosts D} where
         spelled = at.spelled;
       }
 
-  pub loops_opened : {L : Type 0} (At : List ℕ → Store D g → Type 0) (bits : L → ℕ) (path : List ℕ) (mode : ℕ) (one other : GName) (input was old new end : Option (List ℕ)) (opened : Store D g) (done : Ending) → At path opened → was ≡ numbered one old → (one ≡ other → end ≡ new)
-      → OnOk done (LoopsAt input was (numbered other new) opened) → OnOk done ((bound : L) × (bits bound ≡ mode)) → OnOk done (LoopsOpened g At bits path mode input old end)
+  pub loops_opened : {L : Type 0} (At : List ℕ → Store D g → Type 0) (bits : L → ℕ) (path : List ℕ) (mode : ℕ) (one other : GName) (input was old new end : Option (List ℕ)) (opened : Store D g) (done : Ending) → At path opened → was ≡ after_reference one old → (one ≡ other → end ≡ new)
+      → OnOk done (LoopsAt input was (after_reference other new) opened) → OnOk done ((bound : L) × (bits bound ≡ mode)) → OnOk done (LoopsOpened g At bits path mode input old end)
   loops_opened At bits path mode one other input was old new end opened (Err fault) at is same looped bound = tt
   loops_opened At bits path mode one other input was old new end opened (Ok done) at is same looped bound =
       record { opened = opened; at = at; bound = bound.0; mode_is = bound.1; looped = loops_plain one other input was old new end opened is same looped }
@@ -153,13 +153,13 @@ module _ {D : Type 0} {g : sectors.Ghosts D} {T L : Type 0} (M : CallModel T) (N
   no_socket sessions opened known (Err fault) file = ([], nothing known, inr (inr file, inl refl))
 
   -- over the store that was opened, once the output isn't watched any more
-  module _ (At : List ℕ → Store D g → Type 0) (bits : L → ℕ) (path : List ℕ) (mode sessions : ℕ) (one other : GName) (was old new end : Option (List ℕ)) (opened : Store D g) (at : At path opened) (is : was ≡ numbered one old) (same : one ≡ other → end ≡ new) where
-    pub serves_opened : (rounds : ℕ) (result : Ending) → OnOk result ((turns : List ℕ) × (length turns ≡ rounds) × ServesAt M N bits mode sessions turns opened × Appends was (numbered other new) (round_lines 1 turns)) → OnOk result (ServesOpened g At M N bits path mode sessions rounds old end)
+  module _ (At : List ℕ → Store D g → Type 0) (bits : L → ℕ) (path : List ℕ) (mode sessions : ℕ) (one other : GName) (was old new end : Option (List ℕ)) (opened : Store D g) (at : At path opened) (is : was ≡ after_reference one old) (same : one ≡ other → end ≡ new) where
+    pub serves_opened : (rounds : ℕ) (result : Ending) → OnOk result ((turns : List ℕ) × (length turns ≡ rounds) × ServesAt M N bits mode sessions turns opened × Appends was (after_reference other new) (round_lines 1 turns)) → OnOk result (ServesOpened g At M N bits path mode sessions rounds old end)
     serves_opened rounds (Err fault) served = tt
     serves_opened rounds (Ok done) (turns, count, served, lines) =
         record { opened = opened; at = at; turns = turns; count = count; served = served; lines = plain one other was old new end (round_lines 1 turns) is same lines }
 
-    pub stops_opened : (result : Ending) → IfErr result (IsStoppedWith M N sessions opened was (numbered other new)) → IfErr result (λ fault. Keeps old end ⊎ StopsOpened g At M N bits path sessions old end fault)
+    pub stops_opened : (result : Ending) → IfErr result (IsStoppedWith M N sessions opened was (after_reference other new)) → IfErr result (λ fault. Keeps old end ⊎ StopsOpened g At M N bits path sessions old end fault)
     stops_opened (Ok done) stopped = tt
     stops_opened (Err fault) (text, appends, why) = inr (record { opened = opened; at = at; stopped = (text, plain one other was old new end text is same appends, why) })
 
