@@ -21,6 +21,8 @@ pub data RequestKind : Type 0 where
 pub record CoreModel (C : Type 0) : Type 1 where
   -- whether a session has ended after the core did these steps
   pub ended : C → List StepData → ℕ → Bool
+  -- whether a session has ended by a request that its rights don't allow
+  pub cut_off : C → ℕ → Bool
   -- the bytes that wait for a session
   pub output : C → ℕ → List ℕ
   -- nothing waits to be answered

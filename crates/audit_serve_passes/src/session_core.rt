@@ -112,7 +112,8 @@ pub trait SessionCore {
     /// Returns whether a session has ended by a request that its rights don't allow.
     fn is_cut_off(&self, session: usize) -> bool
         requires { session < SESSIONS }
-        ensures { result ≡ true → model.ended self.now [] session ≡ true };
+        ensures by { result ≡ model.cut_off self.now session }
+        ensures over { result ≡ true → model.ended self.now [] session ≡ true };
 
     // If a refusal follows other steps, what it states holds from before those steps too.
     ghost refuses_after: { (old mid new : Self) (steps : List StepData) (taken : ℕ → List ℕ) (error : Self.Error)

@@ -1,6 +1,6 @@
 -- In a turn of its own a session takes a request, or all that is unread.
 use Rattle.std.proofs.Common.{◌≡◌, ◌≢◌, ◌∙◌, inl, inr, ◌⊎◌, ℕ, ◌+◌, ◌-◌, ◌<◌, ◌≤◌, Bool, true, false, ◌||◌, ◌&&◌, leb, nat_eq, Option, Some, None, IfSome, List, [], ◌∷◌, ◌++◌, length, take, drop, refl, sym, ap, subst, arith, true≢false}
-use Rattle.std.proofs.lemmas.Bool.{cases_Bool, eq-eqb, le-leb, leb-false, eqb-true, eqb-false}
+use Rattle.std.proofs.lemmas.Bool.{cases_Bool, eq-eqb, le-leb, leb-false, eqb-false}
 use Rattle.std.proofs.lemmas.List.{append-nil, take-append-drop, drop_all, length-drop, length-take}
 use Rattle.audit_serve_passes.specs.Streams.{StreamCall, bytes_read}
 use Rattle.audit_serve_passes.specs.CallLaws.{bytes_read-append}

@@ -1,12 +1,11 @@
 -- Whoever is done goes, from one place after another.
-use Rattle.std.proofs.Common.{◌≡◌, inl, inr, ◌∙◌, ℕ, ◌+◌, ◌<◌, ◌≤◌, Bool, true, false, not, ◌&&◌, Some, List, [], ◌∷◌, length, set, refl, sym, ap, subst, arith, true≢false}
+use Rattle.std.proofs.Common.{◌≡◌, inl, inr, ◌∙◌, ℕ, ◌+◌, ◌<◌, ◌≤◌, Bool, true, false, not, ◌&&◌, Some, List, [], ◌∷◌, length, set, refl, sym, ap, arith, true≢false}
 use Rattle.std.proofs.lemmas.Bool.{cases_eq}
 use Rattle.std.proofs.lemmas.List.{length-set, get_or-set_same, get_or-set_other}
 use Rattle.audit_serve_passes.specs.Streams.{CallModel}
 use Rattle.audit_serve_passes.specs.Core.{CoreModel}
-use Rattle.audit_serve_ready.specs.declared.departure.Departure.{Departure}
 use Rattle.audit_serve_ready.specs.Door.{DoorModel, a_parting}
-use Rattle.audit_serve_ready.specs.Slot.{SlotData, vacant, serving, unheard, closing, client_of, has_client, has_bytes, has_kept, kept_of, IsReasonFor}
+use Rattle.audit_serve_ready.specs.Slot.{SlotData, vacant, serving, unheard, closing, client_of, has_client, has_bytes, has_kept, kept_of, noted_of, departure_for}
 use Rattle.audit_serve_ready.specs.Places.{slot_at}
 use Rattle.audit_serve_ready.specs.Clients.{a_going}
 use Rattle.audit_serve_ready.specs.Rounds.{is_done, IsLetGo, ChangesPlaces}
@@ -81,16 +80,16 @@ module _ {C D S : Type 0} (M : CoreModel C) (N : CallModel S) (E : DoorModel D S
     others = λ j above. first.others j (omega (arith, above));
   }
 
-  pub leaving_goes : (k : ℕ) (core : C) (was mid now : D) (client : S) (why : Departure) (before between : List (SlotData S)) (at : SlotData S) → k < length between → Leaving core k was mid before between → IsReasonFor (slot_at k between) why
-      → is_done M k core (slot_at k between) ≡ true → client_of (slot_at k between) ≡ Some client → M.output core k ≡ [] → E.DidCalls mid now (a_parting k client why ∷ []) → at ≡ vacant → Leaving core (k + 1) was now before (set between k at)
-  leaving_goes k core was mid now client why before between at within first reason done is taken told left =
+  pub leaving_goes : (k : ℕ) (core : C) (was mid now : D) (client : S) (before between : List (SlotData S)) (left at : SlotData S) (cut : Bool) → k < length between → Leaving core k was mid before between → left ≡ slot_at k between → cut ≡ M.cut_off core k
+      → is_done M k core (slot_at k between) ≡ true → client_of (slot_at k between) ≡ Some client → M.output core k ≡ [] → E.DidCalls mid now (a_parting k client (departure_for cut (noted_of left)) ∷ []) → at ≡ vacant → Leaving core (k + 1) was now before (set between k at)
+  leaving_goes k core was mid now client before between left at cut within first same_left same_cut done is taken told gone =
       let slot = slot_at k between in
       let ended = both_are (M.ended core [] k) (has_client slot && not (has_kept slot)) done in
       let there = both_are (has_client slot) (not (has_kept slot)) ended.1 in
       let here = first.others k (omega arith) in
       record {
         same = length-set between k at ∙ first.same;
-        went = λ backlog turn. changed_more M N E backlog (IsLetGo M) (gone_turns M) k turn was mid now core core core before between (set between k at) (a_parting k client why ∷ []) (a_going k ∷ []) (first.went backlog turn) told (
+        went = λ backlog turn. changed_more M N E backlog (IsLetGo M) (gone_turns M) k turn was mid now core core core before between (set between k at) (a_parting k client (departure_for cut (noted_of left)) ∷ []) (a_going k ∷ []) (first.went backlog turn) told (
           core,
           set between k at,
           record {
@@ -100,13 +99,13 @@ module _ {C D S : Type 0} (M : CoreModel C) (N : CallModel S) (E : DoorModel D S
             within = within;
             had = there.0;
             written = none_kept slot (not_true (has_kept slot) there.1);
-            place = ap (set between k) left;
+            place = ap (set between k) gone;
           },
           (refl, refl),
         )
-            (inr (client, why, sym (ap (is_done M k core) here) ∙ done, sym (ap client_of here) ∙ is, subst (λ (slot : SlotData S). IsReasonFor slot why) here reason, refl, refl));
+            (inr (client, sym (ap (is_done M k core) here) ∙ done, sym (ap client_of here) ∙ is, ap (λ (b : Bool). a_parting k client (departure_for b (noted_of left)) ∷ []) same_cut ∙ ap (λ (was : SlotData S). a_parting k client (departure_for (M.cut_off core k) (noted_of was)) ∷ []) (same_left ∙ here), refl));
         none_done = λ j below. elim (cases_eq j k) [
-          | inl same ↦ done_vacant j core (slot_at j (set between k at)) (ap (λ (i : ℕ). slot_at i (set between k at)) same ∙ get_or-set_same between k at vacant within ∙ left)
+          | inl same ↦ done_vacant j core (slot_at j (set between k at)) (ap (λ (i : ℕ). slot_at i (set between k at)) same ∙ get_or-set_same between k at vacant within ∙ gone)
           | inr apart ↦ ap (is_done M j core) (get_or-set_other between k j at vacant apart) ∙ first.none_done j (omega (arith, below, apart))
         ];
         others = λ j above. get_or-set_other between k j at vacant (λ same. omega (arith, above, same)) ∙ first.others j (omega (arith, above));

@@ -1,11 +1,15 @@
 -- What rounds do for each client.
-use Rattle.std.proofs.Common.{◌≡◌, ◌⊎◌, inl, inr, ◌∙◌, ℕ, zero, suc, ◌+◌, ◌<◌, ◌≤◌, Bool, true, false, not, ◌&&◌, List, [], ◌∷◌, ◌++◌, length, refl, sym, ap, subst, arith, true≢false}
+use Rattle.std.proofs.Common.{◌≡◌, ◌⊎◌, ◌↔◌, inl, inr, ◌∙◌, ℕ, zero, suc, ◌+◌, ◌<◌, ◌≤◌, Bool, true, false, not, ◌&&◌, Option, Some, None, List, [], ◌∷◌, ◌++◌, length, refl, sym, ap, subst, arith, true≢false}
 use Rattle.std.proofs.lemmas.List.{append-nil}
 use Rattle.audit_serve_passes.specs.Steps.{a_flush}
 use Rattle.audit_serve_passes.specs.Streams.{StreamCall, CallModel, bytes_read}
 use Rattle.audit_serve_passes.specs.Core.{CoreModel, RequestKind, appending, no_bytes}
-use Rattle.audit_serve_ready.specs.Door.{DoorCall, DoorModel, joined_below}
-use Rattle.audit_serve_ready.specs.Slot.{SlotData, unread_of, kept_of, has_client, has_kept, is_shut, IsAskedForBytes}
+use Rattle.audit_serve_ready.specs.declared.departure.Departure.{Departure}
+use Rattle.audit_serve_ready.specs.declared.departure.Departure.TheVariants.{CutOff}
+use Rattle.audit_serve_ready.specs.declared.note.Note.{Note}
+use Rattle.audit_serve_ready.specs.declared.note.Note.TheVariants.{Finished, ReadFailed, WriteFailed, Dismissed, Memory}
+use Rattle.audit_serve_ready.specs.Door.{DoorCall, DoorModel, a_parting, joined_below}
+use Rattle.audit_serve_ready.specs.Slot.{SlotData, unread_of, kept_of, has_client, has_kept, is_shut, noted_of, departure_for, IsAskedForBytes}
 use Rattle.audit_serve_ready.specs.Places.{slot_at}
 use Rattle.audit_serve_ready.specs.Reading.{HasAskedMost, IsAttended}
 use Rattle.audit_serve_ready.specs.Backlog.{TakesTurn, IsPutOff, TakesUp}
@@ -35,7 +39,7 @@ answered_passes k told changes (turned_away client) = refl
 module _ {C S : Type 0} (M : CoreModel C) where
   gone_passes : (k : ℕ) (core : C) (slot : SlotData S) (told : List (DoorCall S)) (changes : List (ClientChange S)) → IsLetGo M k core slot told changes → passes_in changes ≡ 0
   gone_passes k core slot told changes (inl none) = ap passes_in none.2
-  gone_passes k core slot told changes (inr gone) = ap passes_in gone.6
+  gone_passes k core slot told changes (inr gone) = ap passes_in gone.4
 
   come_passes : (k : ℕ) (core : C) (slot : SlotData S) (told : List (DoorCall S)) (changes : List (ClientChange S)) → IsLetIn M k core slot told changes → passes_in changes ≡ 0
   come_passes k core slot told changes (inl none) = ap passes_in none.2
@@ -160,3 +164,20 @@ module _ {C D S : Type 0} (M : CoreModel C) (N : CallModel S) (E : DoorModel D S
   offered_then k core slot told changes (inl taken) ended vacant =
       absurd (true≢false (sym (ap (λ (b : Bool). b && not (has_client slot)) ended ∙ ap not vacant) ∙ taken.0))
   offered_then k core slot told changes (inr (free, answered)) ended vacant = answered
+
+  -- why a client goes
+  cut_only : (cut : Bool) (noted : Option Note) → (departure_for cut noted ≡ CutOff) ↔ (cut ≡ true)
+  cut_only true noted = ((λ is. refl), λ cut. refl)
+  cut_only false None = ((λ is. absurd (cc is)), λ cut. absurd (cc cut))
+  cut_only false (Some Finished) = ((λ is. absurd (cc is)), λ cut. absurd (cc cut))
+  cut_only false (Some ReadFailed) = ((λ is. absurd (cc is)), λ cut. absurd (cc cut))
+  cut_only false (Some WriteFailed) = ((λ is. absurd (cc is)), λ cut. absurd (cc cut))
+  cut_only false (Some Dismissed) = ((λ is. absurd (cc is)), λ cut. absurd (cc cut))
+  cut_only false (Some Memory) = ((λ is. absurd (cc is)), λ cut. absurd (cc cut))
+
+  pub why_gone : (k : ℕ) (core : C) (slot : SlotData S) (told : List (DoorCall S)) (changes : List (ClientChange S)) (client : S) (why : Departure) → IsLetGo M k core slot told changes → told ≡ a_parting k client why ∷ []
+      → (why ≡ departure_for (M.cut_off core k) (noted_of slot)) × ((why ≡ CutOff) ↔ (M.cut_off core k ≡ true))
+  why_gone k core slot told changes client why (inl none) is = absurd (cc (is, none.1))
+  why_gone k core slot told changes client why (inr gone) is =
+      let same : departure_for (M.cut_off core k) (noted_of slot) ≡ why = cc (sym gone.3 ∙ is) in
+      (sym same, subst (λ (d : Departure). (d ≡ CutOff) ↔ (M.cut_off core k ≡ true)) same (cut_only (M.cut_off core k) (noted_of slot)))

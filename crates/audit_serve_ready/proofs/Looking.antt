@@ -4,8 +4,8 @@ use Rattle.std.proofs.lemmas.List.{append-nil, take_all}
 use Rattle.audit_serve_passes.specs.declared.stream_fault.StreamError.{StreamError}
 use Rattle.audit_serve_passes.specs.Streams.{StreamCall, a_read, a_read_in_vain, a_failed_read, a_write, a_failed_write, CallModel, bytes_read, bytes_sent}
 use Rattle.audit_serve_ready.specs.Ready.{ready_read_call, IsReadInto}
-use Rattle.audit_serve_ready.specs.declared.departure.Departure.{Departure}
-use Rattle.audit_serve_ready.specs.declared.departure.Departure.TheVariants.{Finished, ReadFailed}
+use Rattle.audit_serve_ready.specs.declared.note.Note.{Note}
+use Rattle.audit_serve_ready.specs.declared.note.Note.TheVariants.{Finished, ReadFailed}
 use Rattle.audit_serve_ready.specs.declared.reception.Reception.{Reception}
 use Rattle.audit_serve_ready.specs.declared.reception.Reception.TheVariants as reception
 use Rattle.audit_serve_ready.specs.Slot.{SlotData, vacant, serving, unheard, closing, slot_data, noting, or_noted, noted_after_call, is_shut, is_no_client, unread_of, has_read, HasCalled, HasLooked, IsAccounted}
@@ -50,27 +50,27 @@ pub some_of : (count : ℕ) (bytes : List ℕ) → 0 < count → IsReadInto (Som
 some_of count [] some into = absurd (omega (arith, some, into))
 some_of count (byte ∷ bytes) some into = ap (λ (all : List ℕ). has_last_read (a_read all ∷ [])) (take_all count (byte ∷ bytes) (omega (arith, into)))
 
-pub unread_data : {S : Type 0} (client : Option S) (how : Reception) (unread kept : List ℕ) (noted : Option Departure) → unread ≡ [] → unread_of (slot_data client unread kept how noted) ≡ []
+pub unread_data : {S : Type 0} (client : Option S) (how : Reception) (unread kept : List ℕ) (noted : Option Note) → unread ≡ [] → unread_of (slot_data client unread kept how noted) ≡ []
 unread_data None how unread kept noted none = refl
 unread_data (Some client) reception.Takes unread kept noted none = none
 unread_data (Some client) reception.Drops unread kept noted none = none
 unread_data (Some client) reception.Shut unread kept noted none = none
 
 -- a reason is noted in the place as the code has it
-pub noting_data : {S : Type 0} (why : Departure) (client : Option S) (how : Reception) (unread kept : List ℕ) (noted : Option Departure) → noting why (slot_data client unread kept how noted) ≡ slot_data client unread kept how (or_noted noted why)
+pub noting_data : {S : Type 0} (why : Note) (client : Option S) (how : Reception) (unread kept : List ℕ) (noted : Option Note) → noting why (slot_data client unread kept how noted) ≡ slot_data client unread kept how (or_noted noted why)
 noting_data why None how unread kept noted = refl
 noting_data why (Some client) reception.Takes unread kept noted = refl
 noting_data why (Some client) reception.Drops unread kept noted = refl
 noting_data why (Some client) reception.Shut unread kept noted = refl
 
-pub unread_noting : {S : Type 0} (why : Departure) (slot : SlotData S) → unread_of (noting why slot) ≡ unread_of slot
+pub unread_noting : {S : Type 0} (why : Note) (slot : SlotData S) → unread_of (noting why slot) ≡ unread_of slot
 unread_noting why vacant = refl
 unread_noting why (serving client unread kept noted) = refl
 unread_noting why (unheard client unread noted) = refl
 unread_noting why (closing client unread noted) = refl
 
 -- a read that isn't the last notes nothing
-pub noted_still : (call : StreamCall) (noted : Option Departure) → has_last_read (call ∷ []) ≡ false → noted_after_call call noted ≡ noted
+pub noted_still : (call : StreamCall) (noted : Option Note) → has_last_read (call ∷ []) ≡ false → noted_after_call call noted ≡ noted
 noted_still (a_read []) noted going = absurd (true≢false going)
 noted_still (a_read (byte ∷ bytes)) noted going = refl
 noted_still a_read_in_vain noted going = refl
@@ -79,17 +79,17 @@ noted_still (a_write bytes left) noted going = refl
 noted_still (a_failed_write bytes) noted going = refl
 
 -- one that found the end, or failed, does
-pub noted_at_end : (given : Option (Result ℕ StreamError)) (count : ℕ) (bytes : List ℕ) (noted : Option Departure) → given ≡ Some (Ok count) → count ≡ 0 → noted_after_call (ready_read_call given bytes) noted ≡ or_noted noted Finished
+pub noted_at_end : (given : Option (Result ℕ StreamError)) (count : ℕ) (bytes : List ℕ) (noted : Option Note) → given ≡ Some (Ok count) → count ≡ 0 → noted_after_call (ready_read_call given bytes) noted ≡ or_noted noted Finished
 noted_at_end given count bytes noted is none = ap (λ r. noted_after_call (ready_read_call r bytes) noted) is ∙ ap (λ (n : ℕ). noted_after_call (a_read (take n bytes)) noted) none
 
-pub noted_failed : (given : Option (Result ℕ StreamError)) (fault : StreamError) (bytes : List ℕ) (noted : Option Departure) → given ≡ Some (Err fault) → noted_after_call (ready_read_call given bytes) noted ≡ or_noted noted ReadFailed
+pub noted_failed : (given : Option (Result ℕ StreamError)) (fault : StreamError) (bytes : List ℕ) (noted : Option Note) → given ≡ Some (Err fault) → noted_after_call (ready_read_call given bytes) noted ≡ or_noted noted ReadFailed
 noted_failed given fault bytes noted is = ap (λ r. noted_after_call (ready_read_call r bytes) noted) is
 
 module _ {S : Type 0} (N : CallModel S) where
   pub stays : (slot : SlotData S) → unread_of slot ≢ [] → HasLooked N slot slot []
   stays slot some = record { read = append-nil (unread_of slot); asked = inl some; same = record { kept = refl; mute = refl; shut = refl; noted = refl }; quiet = refl; accounted = accounted_none N slot }
 
-  read_serving : (client after : S) (bytes kept : List ℕ) (noted : Option Departure) (given : Option (Result ℕ StreamError)) → IsReadInto given bytes → N.DidCalls client after (ready_read_call given bytes ∷ [])
+  read_serving : (client after : S) (bytes kept : List ℕ) (noted : Option Note) (given : Option (Result ℕ StreamError)) → IsReadInto given bytes → N.DidCalls client after (ready_read_call given bytes ∷ [])
       → HasLooked N (serving client [] kept noted) (serving after bytes kept (noted_after_call (ready_read_call given bytes) noted)) (ready_read_call given bytes ∷ [])
   read_serving client after bytes kept noted given into did = record {
     read = given_all given bytes into;
@@ -104,7 +104,7 @@ module _ {S : Type 0} (N : CallModel S) where
       reads (Some (Ok count)) did = record { client = did; dropped = []; written = refl; none_dropped = λ now. refl; whole = tt; mute = λ mute. mute; fails = λ failed. absurd (true≢false (sym failed)); shut = λ shut. shut }
       reads (Some (Err fault)) did = record { client = did; dropped = []; written = refl; none_dropped = λ now. refl; whole = tt; mute = λ mute. mute; fails = λ failed. absurd (true≢false (sym failed)); shut = λ shut. shut }
 
-  read_unheard : (client after : S) (bytes : List ℕ) (noted : Option Departure) (given : Option (Result ℕ StreamError)) → IsReadInto given bytes → N.DidCalls client after (ready_read_call given bytes ∷ [])
+  read_unheard : (client after : S) (bytes : List ℕ) (noted : Option Note) (given : Option (Result ℕ StreamError)) → IsReadInto given bytes → N.DidCalls client after (ready_read_call given bytes ∷ [])
       → HasLooked N (unheard client [] noted) (unheard after bytes (noted_after_call (ready_read_call given bytes) noted)) (ready_read_call given bytes ∷ [])
   read_unheard client after bytes noted given into did = record {
     read = given_all given bytes into;
@@ -119,7 +119,7 @@ module _ {S : Type 0} (N : CallModel S) where
       reads (Some (Ok count)) did = record { client = did; dropped = []; written = refl; none_dropped = λ now. refl; whole = tt; mute = λ mute. mute; fails = λ failed. absurd (true≢false (sym failed)); shut = λ shut. shut }
       reads (Some (Err fault)) did = record { client = did; dropped = []; written = refl; none_dropped = λ now. refl; whole = tt; mute = λ mute. mute; fails = λ failed. absurd (true≢false (sym failed)); shut = λ shut. shut }
 
-  read_into : (before after : Option S) (how : Reception) (unread bytes kept : List ℕ) (noted : Option Departure) (given : Option (Result ℕ StreamError)) → is_shut (slot_data before unread kept how noted) ≡ false → unread ≡ [] → IsReadInto given bytes
+  read_into : (before after : Option S) (how : Reception) (unread bytes kept : List ℕ) (noted : Option Note) (given : Option (Result ℕ StreamError)) → is_shut (slot_data before unread kept how noted) ≡ false → unread ≡ [] → IsReadInto given bytes
       → (is_no_client before ≡ false → HasCalled N before after (ready_read_call given bytes ∷ []))
       → HasLooked N (slot_data before unread kept how noted) (slot_data after bytes kept how (noted_after_call (ready_read_call given bytes) noted)) (ready_read_call given bytes ∷ [])
   read_into None after how unread bytes kept noted given live none into did = absurd (true≢false live)
@@ -134,12 +134,12 @@ module _ {S : Type 0} (N : CallModel S) where
       (read_unheard client after bytes noted given into (did refl))
 
   -- the same, with what was noted given
-  pub reads : (before after : Option S) (how : Reception) (unread bytes kept : List ℕ) (noted now : Option Departure) (given : Option (Result ℕ StreamError)) → noted_after_call (ready_read_call given bytes) noted ≡ now → is_shut (slot_data before unread kept how noted) ≡ false → unread ≡ []
+  pub reads : (before after : Option S) (how : Reception) (unread bytes kept : List ℕ) (noted now : Option Note) (given : Option (Result ℕ StreamError)) → noted_after_call (ready_read_call given bytes) noted ≡ now → is_shut (slot_data before unread kept how noted) ≡ false → unread ≡ []
       → IsReadInto given bytes → (is_no_client before ≡ false → HasCalled N before after (ready_read_call given bytes ∷ [])) → HasLooked N (slot_data before unread kept how noted) (slot_data after bytes kept how now) (ready_read_call given bytes ∷ [])
   reads before after how unread bytes kept noted now given is live none into did =
-      subst (λ (why : Option Departure). HasLooked N (slot_data before unread kept how noted) (slot_data after bytes kept how why) (ready_read_call given bytes ∷ [])) is (read_into before after how unread bytes kept noted given live none into did)
+      subst (λ (why : Option Note). HasLooked N (slot_data before unread kept how noted) (slot_data after bytes kept how why) (ready_read_call given bytes ∷ [])) is (read_into before after how unread bytes kept noted given live none into did)
 
-pub open_unread : {S : Type 0} (client : Option S) (how : Reception) (unread kept : List ℕ) (noted : Option Departure) → is_shut (slot_data client unread kept how noted) ≡ false → unread_of (slot_data client unread kept how noted) ≡ unread
+pub open_unread : {S : Type 0} (client : Option S) (how : Reception) (unread kept : List ℕ) (noted : Option Note) → is_shut (slot_data client unread kept how noted) ≡ false → unread_of (slot_data client unread kept how noted) ≡ unread
 open_unread None how unread kept noted live = absurd (true≢false live)
 open_unread (Some client) reception.Takes unread kept noted live = refl
 open_unread (Some client) reception.Drops unread kept noted live = refl

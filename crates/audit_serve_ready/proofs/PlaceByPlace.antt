@@ -97,7 +97,7 @@ module _ {C S : Type 0} (M : CoreModel C) where
   -- the first turn goes on in passes alone
   pub gone_turns : (k first : ℕ) (core : C) (slot : SlotData S) (told : List (DoorCall S)) (changes : List (ClientChange S)) → IsLetGo M k core slot told changes → first_after_all first changes ≡ first
   gone_turns k first core slot told changes (inl none) = ap (first_after_all first) none.2
-  gone_turns k first core slot told changes (inr gone) = ap (first_after_all first) gone.6
+  gone_turns k first core slot told changes (inr gone) = ap (first_after_all first) gone.4
 
   pub come_turns : (k first : ℕ) (core : C) (slot : SlotData S) (told : List (DoorCall S)) (changes : List (ClientChange S)) → IsLetIn M k core slot told changes → first_after_all first changes ≡ first
   come_turns k first core slot told changes (inl none) = ap (first_after_all first) none.2

@@ -1,13 +1,13 @@
 -- What is sent to a client: kept and written.
 use Rattle.std.proofs.lemmas.Bool.{cases_Bool, ltb-true, ltb-false}
-use Rattle.std.proofs.Common.{◌≡◌, ◌≢◌, inl, inr, ℕ, ◌<◌, ◌≤◌, Bool, true, false, not, ◌&&◌, if◌then◌else◌, Option, Some, None, unwrap_or, List, [], ◌∷◌, ◌++◌, length, take, drop, ltb, arith, refl, sym, ap, subst, ◌∙◌, append_assoc, true≢false}
+use Rattle.std.proofs.Common.{◌≡◌, ◌≢◌, inl, inr, ℕ, ◌<◌, ◌≤◌, Bool, true, false, not, ◌&&◌, if◌then◌else◌, Option, Some, None, List, [], ◌∷◌, ◌++◌, length, take, drop, ltb, arith, refl, sym, ap, subst, ◌∙◌, append_assoc, true≢false}
 use Rattle.std.proofs.lemmas.List.{append-nil, take-append-drop, length-take}
 use Rattle.audit_serve_passes.specs.Streams.{a_write, a_failed_write, CallModel, has_failed_write}
-use Rattle.audit_serve_ready.specs.declared.departure.Departure.{Departure}
-use Rattle.audit_serve_ready.specs.declared.departure.Departure.TheVariants.{Malformed, WriteFailed, Memory}
+use Rattle.audit_serve_ready.specs.declared.note.Note.{Note}
+use Rattle.audit_serve_ready.specs.declared.note.Note.TheVariants.{WriteFailed, Memory}
 use Rattle.audit_serve_ready.specs.declared.reception.Reception.{Reception}
 use Rattle.audit_serve_ready.specs.declared.reception.Reception.TheVariants as reception
-use Rattle.audit_serve_ready.specs.Slot.{SlotData, vacant, serving, unheard, closing, closed, noted_of, reason_of, noted_after_sending, has_kept, slot_data, is_mute, is_shut, is_no_client, unread_of, kept_of, HasCalled, IsAccounted, IsPushed}
+use Rattle.audit_serve_ready.specs.Slot.{SlotData, vacant, serving, unheard, closing, closed, noted_of, noted_after_sending, has_kept, slot_data, is_mute, is_shut, is_no_client, unread_of, kept_of, HasCalled, IsAccounted, IsPushed}
 use Rattle.audit_serve_ready.proofs.Accounts.{accounted_none, accounted_then}
 
 -- nothing was taken
@@ -25,27 +25,27 @@ kept_heard (serving client unread bytes noted) kept = refl
 kept_heard (unheard client unread noted) kept = absurd (true≢false (sym kept))
 kept_heard (closing client unread noted) kept = absurd (true≢false (sym kept))
 
-pub mute_closed : {S : Type 0} (why : Departure) (slot : SlotData S) → is_mute (closed why slot) ≡ true
+pub mute_closed : {S : Type 0} (why : Note) (slot : SlotData S) → is_mute (closed why slot) ≡ true
 mute_closed why vacant = refl
 mute_closed why (serving client unread kept noted) = refl
 mute_closed why (unheard client unread noted) = refl
 mute_closed why (closing client unread noted) = refl
 
-pub unread_closed : {S : Type 0} (why : Departure) (slot : SlotData S) → unread_of (closed why slot) ≡ unread_of slot
+pub unread_closed : {S : Type 0} (why : Note) (slot : SlotData S) → unread_of (closed why slot) ≡ unread_of slot
 unread_closed why vacant = refl
 unread_closed why (serving client unread kept noted) = refl
 unread_closed why (unheard client unread noted) = refl
 unread_closed why (closing client unread noted) = refl
 
 -- what a place is as the code has it
-pub closes : {S : Type 0} (why : Departure) (client : Option S) (how : Reception) (unread kept rest : List ℕ) (noted : Option Departure) → slot_data client unread rest reception.Shut (Some why) ≡ closed why (slot_data client unread kept how noted)
+pub closes : {S : Type 0} (why : Note) (client : Option S) (how : Reception) (unread kept rest : List ℕ) (noted : Option Note) → slot_data client unread rest reception.Shut (Some why) ≡ closed why (slot_data client unread kept how noted)
 closes why None how unread kept rest noted = refl
 closes why (Some client) reception.Takes unread kept rest noted = refl
 closes why (Some client) reception.Drops unread kept rest noted = refl
 closes why (Some client) reception.Shut unread kept rest noted = refl
 
--- the reason for which a client leaves as the code has it
-pub leaves_for : {S : Type 0} (client : S) (how : Reception) (unread kept : List ℕ) (noted : Option Departure) → unwrap_or noted Malformed ≡ reason_of (slot_data (Some client) unread kept how noted)
+-- what is noted as the code has it
+pub leaves_for : {S : Type 0} (client : S) (how : Reception) (unread kept : List ℕ) (noted : Option Note) → noted ≡ noted_of (slot_data (Some client) unread kept how noted)
 leaves_for client reception.Takes unread kept noted = refl
 leaves_for client reception.Drops unread kept noted = refl
 leaves_for client reception.Shut unread kept noted = refl
@@ -116,7 +116,7 @@ module _ {S : Type 0} (N : CallModel S) where
   }
 
   -- what was kept is dropped when the place is shut
-  pub closed_accounted : (why : Departure) (slot : SlotData S) → IsAccounted N [] [] slot (closed why slot)
+  pub closed_accounted : (why : Note) (slot : SlotData S) → IsAccounted N [] [] slot (closed why slot)
   closed_accounted why vacant = accounted_none N vacant
   closed_accounted why (serving client unread kept noted) = record {
     client = N.nothing_called client;
@@ -153,7 +153,7 @@ module _ {S : Type 0} (N : CallModel S) where
   push_none slot none = record { calls = []; offered = λ kept. absurd (true≢false (sym kept ∙ none)); quiet = refl; no_reads = refl; idle = λ still. refl; moves = λ moving. absurd (true≢false (sym moving)); unread = refl; accounted = accounted_none N slot; dropped = λ heard mute. absurd (true≢false (sym mute ∙ heard)); closed = λ live shut. absurd (true≢false (sym shut ∙ live)); noted = noted_same slot }
 
   -- a write took this number of the bytes that are kept
-  pub push_some : (moved : Bool) (client after : S) (unread kept rest : List ℕ) (noted : Option Departure) (count : ℕ) → N.DidCalls client after (a_write (take count kept) rest ∷ []) → kept ≡ take count kept ++ rest → (moved ≡ false → count ≡ 0) → (moved ≡ true → 0 < count) → count ≤ length kept → IsPushed N moved [] (serving client unread kept noted) (serving after unread rest noted)
+  pub push_some : (moved : Bool) (client after : S) (unread kept rest : List ℕ) (noted : Option Note) (count : ℕ) → N.DidCalls client after (a_write (take count kept) rest ∷ []) → kept ≡ take count kept ++ rest → (moved ≡ false → count ≡ 0) → (moved ≡ true → 0 < count) → count ≤ length kept → IsPushed N moved [] (serving client unread kept noted) (serving after unread rest noted)
   push_some moved client after unread kept rest noted count did split none some within = record {
     calls = a_write (take count kept) rest ∷ [];
     offered = λ still. inl refl;
@@ -178,7 +178,7 @@ module _ {S : Type 0} (N : CallModel S) where
   }
 
   -- a write of them failed
-  pub push_failed : (client after : S) (unread kept : List ℕ) (noted : Option Departure) → N.DidCalls client after (a_failed_write kept ∷ []) → IsPushed N true [] (serving client unread kept noted) (unheard after unread (Some WriteFailed))
+  pub push_failed : (client after : S) (unread kept : List ℕ) (noted : Option Note) → N.DidCalls client after (a_failed_write kept ∷ []) → IsPushed N true [] (serving client unread kept noted) (unheard after unread (Some WriteFailed))
   push_failed client after unread kept noted did = record {
     calls = a_failed_write kept ∷ [];
     offered = λ still. absurd (true≢false (sym still));
@@ -202,7 +202,7 @@ module _ {S : Type 0} (N : CallModel S) where
     };
   }
 
-  pub push_ok : (moved : Bool) (before after : Option S) (how : Reception) (unread kept : List ℕ) (noted : Option Departure) (count : ℕ) → is_mute (slot_data before unread kept how noted) ≡ false → (is_no_client before ≡ false → HasCalled N before after (a_write (take count kept) (drop count kept) ∷ []))
+  pub push_ok : (moved : Bool) (before after : Option S) (how : Reception) (unread kept : List ℕ) (noted : Option Note) (count : ℕ) → is_mute (slot_data before unread kept how noted) ≡ false → (is_no_client before ≡ false → HasCalled N before after (a_write (take count kept) (drop count kept) ∷ []))
       → (moved ≡ false → count ≡ 0) → (moved ≡ true → 0 < count) → count ≤ length kept → IsPushed N moved [] (slot_data before unread kept how noted) (slot_data after unread (drop count kept) how noted)
   push_ok moved None after how unread kept noted count live did none some within = absurd (true≢false live)
   push_ok moved (Some client) after reception.Drops unread kept noted count live did none some within = absurd (true≢false live)
@@ -210,7 +210,7 @@ module _ {S : Type 0} (N : CallModel S) where
   push_ok moved (Some client) None reception.Takes unread kept noted count live did none some within = absurd (did refl)
   push_ok moved (Some client) (Some after) reception.Takes unread kept noted count live did none some within = push_some moved client after unread kept (drop count kept) noted count (did refl) (sym (take-append-drop count kept)) none some within
 
-  pub push_err : (before after : Option S) (how : Reception) (unread kept rest : List ℕ) (noted : Option Departure) → is_mute (slot_data before unread kept how noted) ≡ false → (is_no_client before ≡ false → HasCalled N before after (a_failed_write kept ∷ []))
+  pub push_err : (before after : Option S) (how : Reception) (unread kept rest : List ℕ) (noted : Option Note) → is_mute (slot_data before unread kept how noted) ≡ false → (is_no_client before ≡ false → HasCalled N before after (a_failed_write kept ∷ []))
       → IsPushed N true [] (slot_data before unread kept how noted) (slot_data after unread rest reception.Drops (Some WriteFailed))
   push_err None after how unread kept rest noted live did = absurd (true≢false live)
   push_err (Some client) after reception.Drops unread kept rest noted live did = absurd (true≢false live)

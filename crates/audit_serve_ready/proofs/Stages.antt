@@ -5,7 +5,7 @@ use Rattle.audit_serve_passes.specs.Streams.{StreamCall, CallModel}
 use Rattle.audit_serve_passes.specs.Core.{CoreModel, no_bytes}
 use Rattle.audit_serve_passes.proofs.Transitions.{no_calls}
 use Rattle.audit_serve_ready.specs.Door.{DoorCall, DoorModel, a_release}
-use Rattle.audit_serve_ready.specs.declared.departure.Departure.TheVariants.{Dismissed}
+use Rattle.audit_serve_ready.specs.declared.note.Note.TheVariants.{Dismissed}
 use Rattle.audit_serve_ready.specs.Slot.{SlotData, client_of, closed}
 use Rattle.audit_serve_ready.specs.Places.{slot_at, IsServedAt, IsReadyPass, ServesPlaces, WritesPlaces}
 use Rattle.audit_serve_ready.specs.Reading.{ReadsPlaces}

@@ -10,7 +10,7 @@ use Rattle.audit_serve_passes.specs.CallLaws.{or_of_three, bytes_read-append, by
 use Rattle.audit_serve_passes.proofs.Calls.{calls_here, calls_there, or_left, or_right}
 use Rattle.audit_serve_passes.proofs.StreamSteps.{about_elsewhere}
 use Rattle.audit_serve_passes.proofs.Transitions.{none_of_both}
-use Rattle.audit_serve_ready.specs.declared.departure.Departure.{Departure}
+use Rattle.audit_serve_ready.specs.declared.note.Note.{Note}
 use Rattle.audit_serve_ready.specs.Slot.{SlotData, vacant, unread_of, noted_of, noted_after_call, noted_after_reading, is_read, has_read, is_shut, IsSamePlace}
 use Rattle.audit_serve_ready.specs.Places.{slot_at, has_last_read, IsServedAt, IsReadyPass, ServesPlaces}
 use Rattle.audit_serve_ready.specs.Reading.{IsWait, IsTurn, replies_to, IsShort, is_about, steps_about, mark, IsTurnTaken, IsAttended, HasTurn, IsTurnOfLive, IsLeftOut, TakesTurns, ReadsPlaces}
@@ -122,7 +122,7 @@ one_mark marks k = by (get_or marks k true)
     by true = omega arith
     by false = omega arith
 
-noted-append : (calls later : List StreamCall) (noted : Option Departure) → noted_after_reading (calls ++ later) noted ≡ noted_after_reading later (noted_after_reading calls noted)
+noted-append : (calls later : List StreamCall) (noted : Option Note) → noted_after_reading (calls ++ later) noted ≡ noted_after_reading later (noted_after_reading calls noted)
 noted-append [] later noted = refl
 noted-append (call ∷ calls) later noted = noted-append calls later (noted_after_call call noted)
 

@@ -5,15 +5,15 @@ use Rattle.std.specs.Prelude.{if◌then◌else◌, Option, Some, None, List, [],
 use Rattle.audit_serve_passes.specs.Steps.{StepData, a_flush}
 use Rattle.audit_serve_passes.specs.Streams.{StreamCall, CallModel}
 use Rattle.audit_serve_passes.specs.Core.{CoreModel, no_bytes}
-use Rattle.audit_serve_ready.specs.declared.departure.Departure.{Departure}
-use Rattle.audit_serve_ready.specs.declared.departure.Departure.TheVariants.{Dismissed, Memory}
+use Rattle.audit_serve_ready.specs.declared.departure.Departure.TheVariants.{Memory}
+use Rattle.audit_serve_ready.specs.declared.note.Note.TheVariants.{Dismissed}
 use Rattle.audit_serve_ready.specs.declared.newcomer.Newcomer.{Newcomer}
 use Rattle.audit_serve_ready.specs.declared.next.Next.{Next}
 use Rattle.audit_serve_ready.specs.declared.next.Next.TheVariants as next
 use Rattle.audit_serve_ready.specs.Door.{DoorCall, a_judging, an_asking, a_release, a_parting, an_offer, a_pause}
 use Rattle.audit_serve_ready.specs.Door.{DoorModel, joined_below}
 use Rattle.audit_serve_ready.specs.Slot.{SlotData, client_of, has_client, has_kept, is_shut, closed}
-use Rattle.audit_serve_ready.specs.Slot.{IsAskedForBytes, IsOffered, IsReasonFor}
+use Rattle.audit_serve_ready.specs.Slot.{noted_of, departure_for, IsAskedForBytes, IsOffered}
 use Rattle.audit_serve_ready.specs.Places.{slot_at, has_last_read, OffersKept, WritesPlaces}
 use Rattle.audit_serve_ready.specs.Backlog.{TakesTurn, TakesUp}
 use Rattle.audit_serve_ready.specs.Reading.{HasAskedMost, ReadsPlaces}
@@ -66,8 +66,9 @@ module _ {C S : Type 0} (M : CoreModel C) where
   abbrev pub IsLetGo : ℕ → C → SlotData S → List (DoorCall S) → List (ClientChange S) → Type 0
   IsLetGo k core slot told changes =
       ((is_done k core slot ≡ false) × (told ≡ []) × (changes ≡ []))
-      ⊎ ((client : S) × (why : Departure) × (is_done k core slot ≡ true) × (client_of slot ≡ Some client)
-      × IsReasonFor slot why × (told ≡ a_parting k client why ∷ []) × (changes ≡ a_going k ∷ []))
+      ⊎ ((client : S) × (is_done k core slot ≡ true) × (client_of slot ≡ Some client)
+      × (told ≡ a_parting k client (departure_for (M.cut_off core k) (noted_of slot)) ∷ [])
+      × (changes ≡ a_going k ∷ []))
 
   -- A place that is free was offered.
   abbrev pub IsLetIn : ℕ → C → SlotData S → List (DoorCall S) → List (ClientChange S) → Type 0

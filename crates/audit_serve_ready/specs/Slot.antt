@@ -1,11 +1,12 @@
 -- The place of a client, and what becomes of the bytes that are for it.
 use Rattle.std.specs.Prelude.{◌≡◌, ◌≢◌, ◌⊎◌, ℕ, Bool, true, false, not, ◌&&◌, ◌||◌, if◌then◌else◌, Option, Some, None}
-use Rattle.std.specs.Prelude.{unwrap_or, List, [], ◌∷◌, ◌++◌}
-use Rattle.audit_serve_passes.specs.Streams.{StreamCall, a_read, a_read_in_vain, a_failed_read, a_write, a_failed_write}
+use Rattle.std.specs.Prelude.{List, [], ◌∷◌, ◌++◌}
+use Rattle.audit_serve_passes.specs.Streams.{StreamCall, a_read, a_read_in_vain, a_failed_read, a_write}
 use Rattle.audit_serve_passes.specs.Streams.{CallModel, bytes_read, bytes_sent, has_failed_write, AreWrittenWhole}
 use Rattle.audit_serve_ready.specs.declared.departure.Departure.{Departure}
-use Rattle.audit_serve_ready.specs.declared.departure.Departure.TheVariants.{Finished, Malformed, CutOff, ReadFailed}
-use Rattle.audit_serve_ready.specs.declared.departure.Departure.TheVariants.{WriteFailed, Memory}
+use Rattle.audit_serve_ready.specs.declared.departure.Departure.TheVariants as departure
+use Rattle.audit_serve_ready.specs.declared.note.Note.{Note}
+use Rattle.audit_serve_ready.specs.declared.note.Note.TheVariants.{Finished, ReadFailed, WriteFailed, Dismissed, Memory}
 use Rattle.audit_serve_ready.specs.declared.reception.Reception.{Reception}
 use Rattle.audit_serve_ready.specs.declared.reception.Reception.TheVariants as reception
 
@@ -14,18 +15,18 @@ pub data SlotData (S : Type 0) : Type 0 where
   -- there is no client
   vacant : SlotData S
   -- there is a client, with these bytes unread, for which these bytes are kept
-  serving : S → List ℕ → List ℕ → Option Departure → SlotData S
+  serving : S → List ℕ → List ℕ → Option Note → SlotData S
   -- there is a client that takes no replies: nothing is kept for it
-  unheard : S → List ℕ → Option Departure → SlotData S
+  unheard : S → List ℕ → Option Note → SlotData S
   -- there is a client that is to be dropped: nothing more is read either
-  closing : S → List ℕ → Option Departure → SlotData S
+  closing : S → List ℕ → Option Note → SlotData S
 
-abbrev pub slot_with : {S : Type 0} → Reception → S → List ℕ → List ℕ → Option Departure → SlotData S
+abbrev pub slot_with : {S : Type 0} → Reception → S → List ℕ → List ℕ → Option Note → SlotData S
 slot_with reception.Takes client unread kept noted = serving client unread kept noted
 slot_with reception.Drops client unread kept noted = unheard client unread noted
 slot_with reception.Shut client unread kept noted = closing client unread noted
 
-abbrev pub slot_data : {S : Type 0} → Option S → List ℕ → List ℕ → Reception → Option Departure → SlotData S
+abbrev pub slot_data : {S : Type 0} → Option S → List ℕ → List ℕ → Reception → Option Note → SlotData S
 slot_data None unread kept how noted = vacant
 slot_data (Some client) unread kept how noted = slot_with how client unread kept noted
 
@@ -78,7 +79,7 @@ has_kept (unheard client unread noted) = false
 has_kept (closing client unread noted) = false
 
 -- the same place, whose client is to be dropped for this reason
-abbrev pub closed : {S : Type 0} → Departure → SlotData S → SlotData S
+abbrev pub closed : {S : Type 0} → Note → SlotData S → SlotData S
 closed why vacant = vacant
 closed why (serving client unread kept noted) = closing client unread (Some why)
 closed why (unheard client unread noted) = closing client unread (Some why)
@@ -135,48 +136,51 @@ IsAskedForBytes calls slot = (unread_of slot ≢ []) ⊎ (has_read calls ≡ tru
 -- ---- why a client leaves
 
 -- the reason that was noted
-abbrev pub noted_of : {S : Type 0} → SlotData S → Option Departure
+abbrev pub noted_of : {S : Type 0} → SlotData S → Option Note
 noted_of vacant = None
 noted_of (serving client unread kept noted) = noted
 noted_of (unheard client unread noted) = noted
 noted_of (closing client unread noted) = noted
 
--- if none was, its own bytes have ended its session
-abbrev pub reason_of : {S : Type 0} → SlotData S → Departure
-reason_of slot = unwrap_or (noted_of slot) Malformed
+-- Why a client is handed back: its session was cut off; or else what was noted; or else, if nothing was, its own bytes
+-- have ended its session.
+abbrev pub departure_for : Bool → Option Note → Departure
+departure_for true noted = departure.CutOff
+departure_for false None = departure.Malformed
+departure_for false (Some Finished) = departure.Finished
+departure_for false (Some ReadFailed) = departure.ReadFailed
+departure_for false (Some WriteFailed) = departure.WriteFailed
+departure_for false (Some Dismissed) = departure.Dismissed
+departure_for false (Some Memory) = departure.Memory
 
 -- a reason is noted, unless one was
-abbrev pub or_noted : Option Departure → Departure → Option Departure
+abbrev pub or_noted : Option Note → Note → Option Note
 or_noted None why = Some why
 or_noted (Some noted) why = Some noted
 
-abbrev pub noting : {S : Type 0} → Departure → SlotData S → SlotData S
+abbrev pub noting : {S : Type 0} → Note → SlotData S → SlotData S
 noting why vacant = vacant
 noting why (serving client unread kept noted) = serving client unread kept (or_noted noted why)
 noting why (unheard client unread noted) = unheard client unread (or_noted noted why)
 noting why (closing client unread noted) = closing client unread (or_noted noted why)
 
 -- what is noted after a call that reads: that the stream has ended, or that the read failed; and after several
-abbrev pub noted_after_call : StreamCall → Option Departure → Option Departure
+abbrev pub noted_after_call : StreamCall → Option Note → Option Note
 noted_after_call (a_read []) noted = or_noted noted Finished
 noted_after_call a_failed_read noted = or_noted noted ReadFailed
 noted_after_call _ noted = noted
 
-abbrev pub noted_after_reading : List StreamCall → Option Departure → Option Departure
+abbrev pub noted_after_reading : List StreamCall → Option Note → Option Note
 noted_after_reading [] noted = noted
 noted_after_reading (call ∷ calls) noted = noted_after_reading calls (noted_after_call call noted)
 
 -- what is noted after replies were kept and written in these calls: that a write failed, or that memory was refused, so
 -- that the place was shut
-abbrev pub noted_after_sending : {S : Type 0} → List StreamCall → SlotData S → SlotData S → Option Departure
+abbrev pub noted_after_sending : {S : Type 0} → List StreamCall → SlotData S → SlotData S → Option Note
 noted_after_sending calls before after =
     if has_failed_write calls then Some WriteFailed
     else if is_shut after && not (is_shut before) then Some Memory
     else noted_of before
-
--- The reason for which a client is handed back: that of its place, or that its session was cut off.
-abbrev pub IsReasonFor : {S : Type 0} → SlotData S → Departure → Type 0
-IsReasonFor slot why = (why ≡ CutOff) ⊎ (why ≡ reason_of slot)
 
 -- ---- calls
 

@@ -1,9 +1,8 @@
 ghost use Rattle.std.specs.Prelude.{◌≡◌, ◌≢◌, ◌⊎◌, ◌<◌, ◌≤◌, ℕ, List, [], ◌∷◌, true, false, length};
 ghost use Rattle.audit_base.specs.declared.limits.TheConstants.{SESSIONS};
 ghost use Rattle.audit_serve_passes.specs.Transition.{AreEmpty};
-ghost use Rattle.audit_serve_ready.specs.declared.departure.Departure.{Departure};
 ghost use Rattle.audit_serve_ready.specs.Door.{DoorCall, a_parting};
-ghost use Rattle.audit_serve_ready.specs.Slot.{vacant, client_of, has_client, IsReasonFor};
+ghost use Rattle.audit_serve_ready.specs.Slot.{vacant, client_of, has_client, noted_of, departure_for};
 ghost use Rattle.audit_serve_ready.specs.Places.{slot_at};
 ghost use Rattle.audit_serve_ready.specs.Backlog.{AreWithinBacklog};
 ghost use Rattle.audit_serve_ready.specs.declared.newcomer.Newcomer.{Newcomer};
@@ -11,7 +10,7 @@ ghost use Rattle.audit_serve_ready.specs.Clients.{ClientChange, a_refusal, AreCh
 ghost use Rattle.audit_serve_ready.specs.Rounds.{is_done, is_free, IsLetGo, IsLetIn, IsOfferAnswered, ChangesPlaces};
 ghost use Rattle.audit_serve_ready.specs.Rounds.{HasTurnedAway};
 
-use crate::departure::Departure;
+use crate::departure::{Departure, departure_for};
 use crate::door::Door;
 use crate::ready_stream::ReadyStream;
 use crate::slot::Slot;
@@ -27,17 +26,12 @@ fn may_go<C: SessionCore, S: ReadyStream + Drop>(core: &C, place: usize, slot: &
 
 fn part_with<D: Door>(place: usize, slot: &mut Slot<D::Stream>, is_cut_off: bool, door: &mut D)
     ensures left { slot.new ≡ vacant }
-    ensures told { has_client slot.old ≡ true → (client : D.Stream) × (why : Departure)
-        × (client_of slot.old ≡ Some client) × IsReasonFor slot.old why
-        × D.calls.DidCalls door.old door.new (a_parting place client why ∷ []) }
+    ensures told { has_client slot.old ≡ true → (client : D.Stream) × (client_of slot.old ≡ Some client)
+        × D.calls.DidCalls door.old door.new
+        (a_parting place client (departure_for is_cut_off (noted_of slot.old)) ∷ []) }
 {
-    if let Some((client, departure)) = slot.leave() {
-        let departure = if is_cut_off {
-            Departure::CutOff
-        } else {
-            departure
-        };
-        door.gone(place, client, departure);
+    if let Some((client, noted)) = slot.leave() {
+        door.gone(place, client, departure_for(is_cut_off, noted));
     }
 }
 

@@ -1,10 +1,14 @@
 //! Laws of serving, each the contract of a function that does nothing.
-ghost use Rattle.std.specs.Prelude.{◌≡◌, ◌⊎◌, ℕ, ◌+◌, ◌*◌, ◌<◌, ◌≤◌, None, List, [], ◌∷◌, ◌++◌, true, false, length};
+ghost use Rattle.std.specs.Prelude.{◌≡◌, ◌⊎◌, ◌↔◌, ℕ, ◌+◌, ◌*◌, ◌<◌, ◌≤◌, None, List, [], ◌∷◌, ◌++◌, true, false, length};
 ghost use Rattle.audit_base.specs.declared.limits.TheConstants.{SESSIONS};
 ghost use Rattle.audit_serve_passes.specs.Streams.{bytes_read};
 ghost use Rattle.audit_serve_passes.specs.Core.{RequestKind, appending};
+ghost use Rattle.audit_serve_ready.specs.declared.departure.Departure.{Departure};
+ghost use Rattle.audit_serve_ready.specs.declared.departure.Departure.TheVariants.{CutOff};
 ghost use Rattle.audit_serve_ready.specs.declared.newcomer.Newcomer.{Newcomer};
+ghost use Rattle.audit_serve_ready.specs.Door.{a_parting};
 ghost use Rattle.audit_serve_ready.specs.Slot.{SlotData, serving, kept_of, unread_of, has_client, has_kept, is_shut};
+ghost use Rattle.audit_serve_ready.specs.Slot.{noted_of, departure_for};
 ghost use Rattle.audit_serve_ready.specs.Places.{slot_at, IsServedAt};
 ghost use Rattle.audit_serve_ready.specs.Clients.{ClientChange, a_coming, AreChanges};
 ghost use Rattle.audit_serve_ready.specs.Stays.{steps_in, taken_in, calls_in, StaysAt};
@@ -76,14 +80,21 @@ pub fn appends_in_front_are_taken<C: SessionCore, D: Door>()
         × (C.model.requests old k fed ≡ appending ∷ more) }
 {}
 
-/// Whoever is still there after the goings of a round has a session that goes on, or something is kept for it. And each
-/// place that was free after them was offered: it has a client now, or nobody came, or memory was refused for whoever
-/// came.
+/// Whoever is still there after the goings of a round has a session that goes on, or something is kept for it. Whoever
+/// went was handed back as [`CutOff`](crate::Departure::CutOff) exactly if its session had ended by a request that its
+/// rights don't allow, and else for what was noted in its place. And each place that was free after them was offered: it
+/// has a client now, or nobody came, or memory was refused for whoever came.
 pub fn whoever_is_done_goes<C: SessionCore, D: Door>()
     ensures goes { (backlog first k : ℕ) (was now : D) (old new : C) (before after : List (SlotData D.Stream))
         (once : ServesPlacesOnce C.model D.Stream.calls D.calls backlog first was now old new before after)
         → k < length once.left → C.model.ended once.mid [] k ≡ true → has_client (slot_at k once.left) ≡ true
         → has_kept (slot_at k once.left) ≡ true }
+    ensures why { (backlog first k : ℕ) (was now : D) (old new : C) (before after : List (SlotData D.Stream))
+        (once : ServesPlacesOnce C.model D.Stream.calls D.calls backlog first was now old new before after)
+        (client : D.Stream) (why : Departure) → k < length once.present
+        → once.goes.told k ≡ a_parting k client why ∷ []
+        → (why ≡ departure_for (C.model.cut_off once.mid k) (noted_of (slot_at k once.present)))
+        × ((why ≡ CutOff) ↔ (C.model.cut_off once.mid k ≡ true)) }
     ensures comes { (backlog first k : ℕ) (was now : D) (old new : C) (before after : List (SlotData D.Stream))
         (once : ServesPlacesOnce C.model D.Stream.calls D.calls backlog first was now old new before after)
         → k < length once.left → C.model.ended once.mid [] k ≡ true → has_client (slot_at k once.left) ≡ false

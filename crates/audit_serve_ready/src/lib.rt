@@ -18,6 +18,7 @@ pub mod laws;
 mod limits;
 mod newcomer;
 mod next;
+mod note;
 mod ready_stream;
 mod reception;
 mod serving;

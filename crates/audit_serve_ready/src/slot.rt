@@ -3,7 +3,7 @@ ghost use Rattle.audit_serve_ready.specs.Ready.{ready_read_call, ready_write_cal
 ghost use Rattle.audit_serve_ready.specs.Slot.{vacant, is_no_client, HasCalled};
 
 use crate::backlog::Backlog;
-use crate::departure::Departure;
+use crate::note::Note;
 use crate::ready_stream::ReadyStream;
 use crate::reception::Reception;
 use crate::unread::Unread;
@@ -22,7 +22,7 @@ pub struct Slot<S> {
     unread: Unread,
     kept: Backlog,
     reception: Reception,
-    departure: Option<Departure>,
+    noted: Option<Note>,
 }
 
 /// What was found of a client's bytes.
@@ -41,7 +41,7 @@ impl<S> Model for Slot<S> {
 
     ghost Value = { SlotData S };
 
-    ghost view = { λ slot. slot_data slot.client slot.unread slot.kept slot.reception slot.departure };
+    ghost view = { λ slot. slot_data slot.client slot.unread slot.kept slot.reception slot.noted };
 
     ghost invariant = { λ slot. IsKeptFor slot.reception slot.kept };
 }
@@ -97,7 +97,7 @@ impl<S: ReadyStream + Drop> Slot<S> {
     ghost use Rattle.audit_serve_ready.specs.Reading.{IsFound};
     ghost use Rattle.audit_serve_ready.specs.Slot.{vacant, serving, closed, client_of, has_client, has_kept, is_shut};
     ghost use Rattle.audit_serve_ready.specs.Slot.{is_mute, kept_of, unread_of};
-    ghost use Rattle.audit_serve_ready.specs.Slot.{with_unread, noted_of, reason_of, noting, noted_after_sending};
+    ghost use Rattle.audit_serve_ready.specs.Slot.{with_unread, noted_of, noting, noted_after_sending};
     ghost use Rattle.audit_serve_ready.specs.Slot.{HasLooked, IsAccounted, IsPushed};
 
     /// A place with no client. The only error is that memory is refused.
@@ -109,7 +109,7 @@ impl<S: ReadyStream + Drop> Slot<S> {
             unread: Unread::new(alloc)?,
             kept: Backlog::new(alloc),
             reception: Reception::Takes,
-            departure: None,
+            noted: None,
         })
     }
 
@@ -155,32 +155,32 @@ impl<S: ReadyStream + Drop> Slot<S> {
         self.unread.clear();
         self.kept.clear();
         self.reception = Reception::Takes;
-        self.departure = None;
+        self.noted = None;
         self.client = Some(client);
     }
 
-    /// Gives the client back, with the reason for which it leaves. The place is vacant then.
-    pub(crate) fn leave(&mut self) -> Option<(S, Departure)>
+    /// Gives the client back, with what is noted of why it leaves. The place is vacant then.
+    pub(crate) fn leave(&mut self) -> Option<(S, Option<Note>)>
         ensures left { self.new ≡ vacant }
         ensures client { MatchOption result (client_of self.old ≡ None) (λ given. client_of self.old ≡ Some given.0) }
-        ensures reason { IfSome result (λ given. given.1 ≡ reason_of self.old) }
+        ensures noted { IfSome result (λ given. given.1 ≡ noted_of self.old) }
     {
-        let departure = self.departure.unwrap_or(Departure::Malformed);
+        let noted = self.noted;
         self.kept.clear();
-        self.departure = None;
+        self.noted = None;
         match mem::replace(&mut self.client, None) {
-            Some(client) => Some((client, departure)),
+            Some(client) => Some((client, noted)),
             None => None,
         }
     }
 
     /// Drops what is kept for the client, which is to be dropped too.
-    pub(crate) fn close(&mut self, departure: Departure)
-        ensures { self.new ≡ closed departure self.old }
+    pub(crate) fn close(&mut self, why: Note)
+        ensures { self.new ≡ closed why self.old }
     {
         self.kept.clear();
         self.reception = Reception::Shut;
-        self.departure = Some(departure);
+        self.noted = Some(why);
     }
 
     /// How many bytes of replies may be queued for the client, beside those that are kept for it, if there is a backlog
@@ -237,22 +237,22 @@ impl<S: ReadyStream + Drop> Slot<S> {
             None => Look::Nothing,
             Some(Ok(count)) if count > 0 => Look::Bytes,
             Some(Ok(_)) => {
-                self.note(Departure::Finished);
+                self.note(Note::Finished);
                 Look::Over
             }
             Some(Err(_)) => {
-                self.note(Departure::ReadFailed);
+                self.note(Note::ReadFailed);
                 Look::Over
             }
         }
     }
 
     // Notes why the session ends, unless something worse was noted before.
-    fn note(&mut self, departure: Departure)
-        ensures { self.new ≡ noting departure self.old }
+    fn note(&mut self, why: Note)
+        ensures { self.new ≡ noting why self.old }
     {
-        if self.departure.is_none() {
-            self.departure = Some(departure);
+        if self.noted.is_none() {
+            self.noted = Some(why);
         }
     }
 
@@ -278,7 +278,7 @@ impl<S: ReadyStream + Drop> Slot<S> {
             return;
         }
         if self.kept.append(bytes).is_err() {
-            self.close(Departure::Memory);
+            self.close(Note::Memory);
         }
     }
 
@@ -297,7 +297,7 @@ impl<S: ReadyStream + Drop> Slot<S> {
             Err(StreamError) => {
                 self.kept.clear();
                 self.reception = Reception::Drops;
-                self.departure = Some(Departure::WriteFailed);
+                self.noted = Some(Note::WriteFailed);
                 true
             }
         }

@@ -4,7 +4,7 @@ ghost use Rattle.audit_base.specs.declared.limits.TheConstants.{SESSIONS};
 ghost use Rattle.audit_serve_passes.specs.Streams.{StreamCall};
 ghost use Rattle.audit_serve_passes.specs.Core.{bytes_for};
 ghost use Rattle.audit_serve_passes.specs.Transition.{AreEmpty};
-ghost use Rattle.audit_serve_ready.specs.declared.departure.Departure.TheVariants as departure;
+ghost use Rattle.audit_serve_ready.specs.declared.note.Note.TheVariants as note;
 ghost use Rattle.audit_serve_ready.specs.declared.turns.Pass.{Pass};
 ghost use Rattle.audit_serve_ready.specs.declared.turns.Turn.{Turn};
 ghost use Rattle.audit_serve_ready.specs.Backlog.{OwesNothing, OwesOnlyAfterTurns, AreWithinBacklog, IsTurnWithin};
@@ -15,9 +15,9 @@ ghost use Rattle.audit_serve_ready.specs.Door.{DoorCall};
 ghost use Rattle.audit_serve_ready.specs.Rounds.{IsJudgedByDoor, JudgesClients, ServesPass};
 ghost use Rattle.audit_serve_ready.specs.Slot.{client_of, closed, is_shut, is_mute, kept_of, unread_of, IsPushed};
 
-use crate::departure::Departure;
 use crate::door::Door;
 use crate::gathering::{Marks, gather};
+use crate::note::Note;
 use crate::ready_stream::ReadyStream;
 use crate::slot::{Look, Slot};
 use audit_serve_passes::{Allowance, SessionCore, Share};
@@ -289,14 +289,14 @@ pub(crate) fn dismiss<C: SessionCore, D: Door>(
 {
     for place in 0..slots.len() {
         if is_dismissed(&slots[place], place, door) {
-            slots[place].close(Departure::Dismissed);
+            slots[place].close(Note::Dismissed);
         }
     }
 }
 
 fn is_dismissed<D: Door>(slot: &Slot<D::Stream>, place: usize, door: &mut D) -> bool
     ensures { (told : List (DoorCall D.Stream)) × D.calls.DidCalls door.old door.new told
-        × IsJudgedByDoor place (client_of slot.now) told slot.now (if result then closed departure.Dismissed slot.now
+        × IsJudgedByDoor place (client_of slot.now) told slot.now (if result then closed note.Dismissed slot.now
         else slot.now) }
 {
     match slot.client() {

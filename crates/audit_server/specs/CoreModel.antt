@@ -64,6 +64,7 @@ module _ {D : Type 0} {g : sectors.Ghosts D} where
   abbrev pub core_model : CoreModel (Core D g)
   core_model = record {
     ended = ended_by;
+    cut_off = λ core k. (session_at k (sessions_of core)).cut_off;
     output = output_of;
     Idle = λ core. waiting_of (committer_of core) ≡ nothing_waits;
     Begins = IsBegunAnew;

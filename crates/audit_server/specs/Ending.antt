@@ -25,5 +25,5 @@ module _ {D : Type 0} {g : sectors.Ghosts D} where
   -- the session has ended, or on an error is unchanged
   pub record IsEnd (k : ℕ) (old new : SessionData) (before after : Committer D g)
       (result : Result (Unit {0}) StoreError) : Type 0 where
-    pub session : MatchResult result (λ done. new ≡ ended_session old.allowed) (λ error. new ≡ old)
+    pub session : MatchResult result (λ done. new ≡ ended_session old) (λ error. new ≡ old)
     pub frame : IsFrameEnd k old before after result

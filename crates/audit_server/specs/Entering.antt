@@ -10,7 +10,7 @@ use Rattle.audit_server_commit.specs.declared.question.Query.{Query}
 use Rattle.audit_server_commit.specs.declared.question.Query.TheVariants as query
 use Rattle.audit_server_commit.specs.Arrivals.{Arrival, a_question, arrival_of}
 use Rattle.audit_serve_passes.specs.declared.rights.Rights.{Rights}
-use Rattle.audit_server_model.specs.Heard.{allows, request_tag}
+use Rattle.audit_server_model.specs.Heard.{allows, request_tag, is_not_allowed}
 use Rattle.audit_store.specs.Store.{Holds}
 use Rattle.audit_store.specs.declared.store_error.StoreError.{StoreError}
 use Rattle.audit_store.specs.declared.store_error.StoreError.TheVariants.{Memory}
@@ -57,6 +57,7 @@ module _ {D : Type 0} {g : sectors.Ghosts D} where
   IsEnteredItem k found old new (Ok item.Request) = (asked : Request) × (found ≡ Ok asked)
       × Enters (arrival_of k asked) old new (Ok tt)
   IsEnteredItem k found old new (Ok (item.Last is_cut_off)) = (last : Query) × (found ≡ Err last)
+      × (is_cut_off ≡ is_not_allowed (Some last))
       × Enters (a_question (record { session = k; query = last })) old new (Ok tt)
   IsEnteredItem k found old new (Ok item.Withheld) = ⊥
   IsEnteredItem k found old new (Err error) = Enters (arrival_by k found) old new (Err error)

@@ -1,5 +1,5 @@
 -- The effect of a piece of its stream on a session.
-use Rattle.std.specs.Prelude.{◌≡◌, ◌≢◌, ℕ, ◌+◌, ◌<◌, ◌≤◌, Bool, false, if◌then◌else◌, Option, Some, None, Result, Ok}
+use Rattle.std.specs.Prelude.{◌≡◌, ◌≢◌, ℕ, ◌+◌, ◌<◌, ◌≤◌, Bool, false, ◌&&◌, if◌then◌else◌, Option, Some, None, Result, Ok}
 use Rattle.std.specs.Prelude.{Err, List, [], ◌∷◌, ◌++◌, length, take}
 use Rattle.audit_disk_model.specs.declared.sectors.Sectors as sectors
 use Rattle.audit_wire.specs.declared.request.Request.{Request}
@@ -15,16 +15,20 @@ use Rattle.audit_server_commit.specs.declared.committer.Committer.{Committer}
 use Rattle.audit_server.specs.declared.feed_fault.FeedFault.{FeedFault}
 use Rattle.audit_server.specs.declared.session.Front.{Front}
 use Rattle.audit_server.specs.declared.session.Front.TheVariants as front
-use Rattle.audit_server_model.specs.Sessions.{SessionData, ended_session, heard_after, with_piece, arrivals_by_piece}
+use Rattle.audit_server_model.specs.Sessions.{SessionData, session_after, heard_after, with_piece, arrivals_by_piece}
 use Rattle.audit_server.specs.declared.limit.Limit.{Limit}
 use Rattle.audit_server.specs.Limit.{IsNotAdmitted, AreAdmitted}
 use Rattle.audit_server.specs.Running.{HaveEntered, Run, IsRefusedAfter}
 use Rattle.audit_server.specs.Entering.{IsRequestEnd, Enters}
 
 -- a session as contracts see it, given its decoder; no bytes are kept of a session that has ended
-abbrev pub session_view : Rights → DecoderProgress → Bool → SessionData
-session_view allowed progress ended =
-    record { allowed = allowed; rest = if ended then [] else rest_of progress; ended = ended }
+abbrev pub session_view : Rights → DecoderProgress → Bool → Bool → SessionData
+session_view allowed progress ended cut_off = record {
+  allowed = allowed;
+  rest = if ended then [] else rest_of progress;
+  ended = ended;
+  cut_off = ended && cut_off;
+}
 
 -- a session that has not ended can continue its incomplete frame
 abbrev pub IsLive : DecoderProgress → Bool → Type 0
@@ -41,6 +45,7 @@ place_after (fed.Malformed taken) = Some taken
 pub record IsHeldBack (k : ℕ) (piece : List ℕ) (taken : ℕ) (arrival : Arrival) (old new : SessionData) : Type 0 where
   pub within : taken < length piece
   pub live : new.ended ≡ false
+  pub uncut : new.cut_off ≡ false
   pub rights : new.allowed ≡ old.allowed
   pub heard : (later : List ℕ) → heard_after old (take taken piece ++ later) ≡ heard_after new later
   pub partial : heard_after new [] ≡ heard_rest new.rest
@@ -58,6 +63,7 @@ module _ {D : Type 0} {g : sectors.Ghosts D} where
   pub record IsPart (piece : List ℕ) (old new : SessionData) (before after : Committer D g)
       (limit left : Limit) : Type 0 where
     pub live : new.ended ≡ false
+    pub uncut : new.cut_off ≡ false
     pub rights : new.allowed ≡ old.allowed
     pub heard : heard_after old piece ≡ heard_rest new.rest
     pub same : after ≡ before
@@ -79,8 +85,8 @@ module _ {D : Type 0} {g : sectors.Ghosts D} where
   -- or a malformed place or a request that isn't allowed, which ends the session,
   pub record IsLast (k : ℕ) (piece : List ℕ) (old new : SessionData) (before after : Committer D g)
       (limit left : Limit) : Type 0 where
-    pub ended : new ≡ ended_session old.allowed
     pub last : Query
+    pub ended : new ≡ session_after old.allowed (stops_with last)
     pub heard : heard_after old piece ≡ stops_with last
     pub enters : Enters (a_question (record { session = k; query = last })) before after (Ok tt)
     pub spent : AreAdmitted (a_question (record { session = k; query = last }) ∷ []) limit left

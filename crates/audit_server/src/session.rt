@@ -52,7 +52,7 @@ impl Model for Session {
 
     ghost Value = { SessionData };
 
-    ghost view = { λ session. session_view session.rights session.decoder session.ended };
+    ghost view = { λ session. session_view session.rights session.decoder session.ended session.cut_off };
 
     ghost invariant = { λ session. IsLive session.decoder session.ended };
 }
@@ -87,7 +87,8 @@ impl Session {
 
     /// Whether it has ended by a request that isn't allowed.
     pub(crate) fn is_cut_off(&self) -> bool
-        ensures { result ≡ true → self.now.ended ≡ true }
+        ensures by { result ≡ self.now.cut_off }
+        ensures over { result ≡ true → self.now.ended ≡ true }
     {
         self.ended && self.cut_off
     }
@@ -203,6 +204,7 @@ impl Session {
     {
         match self.end_frame(committer, session) {
             Ok(()) => {
+                self.cut_off = self.is_cut_off();
                 self.ended = true;
                 Ok(())
             }

@@ -91,6 +91,7 @@ none_recorded (byte ∷ bytes) none = absurd (cc none)
 abbrev pub recorder_model : CoreModel RecorderData
 recorder_model = record {
   ended = λ core steps k. has_ended core k || has_end k steps;
+  cut_off = λ core k. false;
   output = recorded_output;
   Idle = IsRecorderIdle;
   owed = recorded_owed;

@@ -1,6 +1,6 @@
 use Rattle.std.proofs.Common.{◌≡◌, ◌+◌, ◌<◌, length, refl, sym, ap, subst, ◌∙◌, rules, arith, true≢false}
 use Rattle.audit_serve_passes.proofs.Transitions.{in_any}
-use Rattle.audit_serve_ready.specs.Slot.{vacant, client_of, has_client, kept_of, IsReasonFor}
+use Rattle.audit_serve_ready.specs.Slot.{vacant, client_of, has_client, kept_of}
 use Rattle.audit_serve_ready.specs.Rounds.{is_done, ChangesPlaces, IsLetGo}
 use Rattle.audit_serve_ready.specs.Backlog.{AreWithinBacklog}
 use Rattle.audit_serve_ready.proofs.Bounds.{less_within}
@@ -30,8 +30,8 @@ loop-place-preserved g c =
           let told = w.part_with.ensures.told (sym (ap has_client there) ∙ had_client M N E l.place core _ done) in (
             subst (λ door. Leaving M N E core (l.place + 1) was door begun c.if-may_go.slots) (sym w.door-is)
                 (subst (λ slots. Leaving M N E core (l.place + 1) was w.part_with.new.door begun slots) (sym w.slots-is)
-                (leaving_goes M N E l.place core was l.door w.part_with.new.door told.0 told.1 begun l.slots w.part_with.new.slot within l.invariant.0 (subst (λ slot. IsReasonFor slot told.1) (sym there) told.3) done
-                (ap client_of there ∙ told.2) (c.requires.empty l.place below) told.4 w.part_with.ensures.left)),
+                (leaving_goes M N E l.place core was l.door w.part_with.new.door told.0 begun l.slots _ w.part_with.new.slot w.is_cut_off.result within l.invariant.0 (sym there) w.is_cut_off.ensures.by done
+                (ap client_of there ∙ told.1) (c.requires.empty l.place below) told.2 w.part_with.ensures.left)),
             (λ still. absurd (cc (w.moved-is, still))),
             (λ moving. subst (HasGone (l.place + 1) begun) (sym w.slots-is) (gone_here l.place begun l.slots w.part_with.new.slot within (sym (ap has_client (l.invariant.0.others l.place (omega arith))) ∙ had_client M N E l.place core _ done) w.part_with.ensures.left)),
             (λ backlog inside. subst (λ slots. AreWithinBacklog M backlog core slots) (sym w.slots-is)

@@ -1,6 +1,6 @@
-use Rattle.std.proofs.Common.{◌≡◌, ◌||◌, ◌+◌, ◌<◌, length, refl, sym, subst, ◌∙◌, ap, rules, arith}
+use Rattle.std.proofs.Common.{◌≡◌, ◌||◌, ◌+◌, ◌<◌, length, refl, sym, subst, ◌∙◌, ap, rules}
 use Rattle.audit_serve_passes.proofs.Transitions.{in_any}
-use Rattle.audit_serve_ready.specs.Slot.{vacant, has_client}
+use Rattle.audit_serve_ready.specs.Slot.{vacant}
 use Rattle.audit_serve_ready.specs.Places.{slot_at}
 use Rattle.audit_serve_ready.specs.Rounds.{is_free}
 use Rattle.audit_serve_ready.specs.Backlog.{AreWithinBacklog}

@@ -1,7 +1,7 @@
 use Rattle.std.proofs.Common.{◌≡◌, ◌⊎◌, inl, ◌<◌, ◌+◌, true, [], if◌then◌else◌, length, refl, sym, ap, subst, ◌∙◌, rules, arith}
 use Rattle.audit_serve_passes.proofs.Transitions.{in_any}
 use Rattle.audit_serve_ready.specs.Places.{slot_at}
-use Rattle.audit_serve_ready.specs.declared.departure.Departure.TheVariants.{Dismissed}
+use Rattle.audit_serve_ready.specs.declared.note.Note.TheVariants.{Dismissed}
 use Rattle.audit_serve_ready.specs.Slot.{vacant, client_of, closed, kept_of, is_mute}
 use Rattle.audit_serve_ready.specs.Rounds.{IsJudgedByDoor, JudgesClients}
 use Rattle.audit_serve_ready.specs.Backlog.{AreWithinBacklog}

@@ -6,4 +6,4 @@ use Rattle.audit_serve_ready.proofs.slot.Slot.close.Goals as goal
 pub returns : goal.returns
 returns g c =
     let i = c.self.inside in
-    closes c.args.departure i.client i.reception i.unread i.kept c.clear.new.self i.departure ∙ ap (closed c.args.departure) c.self.view_is
+    closes c.args.why i.client i.reception i.unread i.kept c.clear.new.self i.noted ∙ ap (closed c.args.why) c.self.view_is

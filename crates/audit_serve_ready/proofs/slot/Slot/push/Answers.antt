@@ -1,6 +1,6 @@
 use Rattle.std.proofs.Common.{◌≡◌, ◌≤◌, true, false, Some, ltb, length, [], ◌∷◌, take, drop, sym, ap, subst, ◌∙◌, rules}
 use Rattle.audit_serve_passes.specs.Streams.{a_write, a_failed_write}
-use Rattle.audit_serve_ready.specs.declared.departure.Departure.TheVariants.{WriteFailed}
+use Rattle.audit_serve_ready.specs.declared.note.Note.TheVariants.{WriteFailed}
 use Rattle.audit_serve_ready.specs.Slot.{slot_data, has_kept, is_mute, is_no_client, HasCalled, IsPushed}
 use Rattle.audit_serve_ready.specs.declared.reception.Reception.TheVariants as reception
 use Rattle.audit_serve_ready.proofs.Sending.{kept_heard, no_count, some_count, push_none, push_ok, push_err}
@@ -17,9 +17,9 @@ returns-in-Ok g c =
     let moved = ltb 0 c.in-Ok.count in
     let inside = c.self.inside in
     let after = c.write_some.new.client in
-    subst (λ slot. IsPushed N moved [] slot (slot_data after inside.unread c.remove.new.self inside.reception inside.departure)) c.self.view_is
-    (subst (λ kept. IsPushed N moved [] (slot_data inside.client inside.unread inside.kept inside.reception inside.departure) (slot_data after inside.unread kept inside.reception inside.departure)) (sym c.remove.ensures)
-    (push_ok N moved inside.client after inside.reception inside.unread inside.kept inside.departure c.in-Ok.count (ap is_mute c.self.view_is ∙ kept_heard c.args.self.now (search rules))
+    subst (λ slot. IsPushed N moved [] slot (slot_data after inside.unread c.remove.new.self inside.reception inside.noted)) c.self.view_is
+    (subst (λ kept. IsPushed N moved [] (slot_data inside.client inside.unread inside.kept inside.reception inside.noted) (slot_data after inside.unread kept inside.reception inside.noted)) (sym c.remove.ensures)
+    (push_ok N moved inside.client after inside.reception inside.unread inside.kept inside.noted c.in-Ok.count (ap is_mute c.self.view_is ∙ kept_heard c.args.self.now (search rules))
     (subst (λ bytes. is_no_client inside.client ≡ false → HasCalled N inside.client after (a_write (take c.in-Ok.count bytes) (drop c.in-Ok.count bytes) ∷ [])) c.as_slice.ensures c.in-Ok.ensures.did) (no_count c.in-Ok.count) (some_count c.in-Ok.count) (subst (λ bytes. c.in-Ok.count ≤ length bytes) c.as_slice.ensures c.in-Ok.ensures.within)))
 
 pub returns-in-Err : goal.returns-in-Err
@@ -28,5 +28,5 @@ returns-in-Err g c =
     let inside = c.self.inside in
     let after = c.write_some.new.client in
     subst (λ slot. IsPushed N true [] slot (slot_data after inside.unread c.clear.new.self reception.Drops (Some WriteFailed))) c.self.view_is
-    (push_err N inside.client after inside.reception inside.unread inside.kept c.clear.new.self inside.departure (ap is_mute c.self.view_is ∙ kept_heard c.args.self.now (search rules))
+    (push_err N inside.client after inside.reception inside.unread inside.kept c.clear.new.self inside.noted (ap is_mute c.self.view_is ∙ kept_heard c.args.self.now (search rules))
     (subst (λ bytes. is_no_client inside.client ≡ false → HasCalled N inside.client after (a_failed_write bytes ∷ [])) c.as_slice.ensures c.in-Err.ensures.did))
