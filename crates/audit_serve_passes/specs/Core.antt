@@ -1,5 +1,5 @@
 -- A core that serves sessions, as contracts see it.
-use Rattle.std.specs.Prelude.{◌≡◌, ℕ, ◌==◌, Bool, true, if◌then◌else◌, List, [], ◌∷◌, ◌++◌, length}
+use Rattle.std.specs.Prelude.{◌≡◌, ℕ, ◌+◌, ◌==◌, Bool, true, if◌then◌else◌, List, [], ◌∷◌, ◌++◌, length}
 use Rattle.std.specs.List.{AllByRecursion}
 use Rattle.audit_serve_passes.specs.declared.rights.Rights.{Rights}
 use Rattle.audit_serve_passes.specs.Steps.{StepData, IsAbout, IsPartOf}
@@ -15,8 +15,14 @@ bytes_for k bytes session = if session == k then bytes else []
 pub data RequestKind : Type 0 where
   -- to append an event or to close the log
   appending : RequestKind
-  -- an answer alone, or what is to be refused
-  asking : RequestKind
+  -- an answer alone, or what is to be refused: the longest reply of its kind has so many bytes
+  asking : ℕ → RequestKind
+
+-- the longest replies to the questions among requests, all of them
+abbrev pub asked_by : List RequestKind → ℕ
+asked_by [] = 0
+asked_by (appending ∷ requests) = asked_by requests
+asked_by (asking reply ∷ requests) = reply + asked_by requests
 
 pub record CoreModel (C : Type 0) : Type 1 where
   -- whether a session has ended after the core did these steps

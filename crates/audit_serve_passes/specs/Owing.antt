@@ -33,10 +33,10 @@ module _ {C : Type 0} (M : CoreModel C) where
     pub next : M.requests core k piece ≡ M.requests core k fed ++ kind ∷ later
 
   -- what taking a request of a kind may queue: an append has no share in what questions may ask for, and a question has
-  -- at most a longest reply
+  -- at most the longest reply of its kind
   abbrev pub IsDemandFor : RequestKind → Demand → Type 0
   IsDemandFor appending demand = (demand.reply ≤ M.acknowledgement) × (demand.question ≡ None)
-  IsDemandFor asking demand = (demand.reply ≤ M.longest) × IfSome demand.question (λ bytes. bytes ≤ M.longest)
+  IsDemandFor (asking reply) demand = (demand.reply ≤ reply) × IfSome demand.question (λ bytes. bytes ≤ reply)
 
   -- The next request isn't admitted by an allowance.
   pub record IsBeyondAllowance (k : ℕ) (core : C) (fed piece : List ℕ) (allowance : Allowance) : Type 0 where

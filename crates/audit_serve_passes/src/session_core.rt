@@ -1,7 +1,7 @@
 ghost use Rattle.std.specs.Prelude.{◌≡◌, ◌+◌, ◌<◌, ◌≤◌, ℕ, List, [], ◌∷◌, true, length, take, IfOk, IfErr, OnOk, OnErr};
 ghost use Rattle.audit_base.specs.declared.limits.TheConstants.{SESSIONS};
 ghost use Rattle.audit_serve_passes.specs.Steps.{StepData, a_piece, an_end, a_flush};
-ghost use Rattle.audit_serve_passes.specs.Core.{CoreModel, GoesBy, no_bytes, bytes_for};
+ghost use Rattle.audit_serve_passes.specs.Core.{CoreModel, GoesBy, asked_by, no_bytes, bytes_for};
 ghost use Rattle.audit_serve_passes.specs.Owing.{OwesNoMore, OwesWithin, OwesAtEnd, IsBeyondAllowance};
 ghost use Rattle.audit_serve_passes.specs.Ending.{EndsQuietly};
 
@@ -55,7 +55,7 @@ pub trait SessionCore {
         ensures spent { IfOk result (λ taken. allowance.old.session.left
             ≤ allowance.new.session.left + model.replies self.old session (take taken piece.now)) }
         ensures asked { IfOk result (λ taken. allowance.old.questions.left
-            ≤ allowance.new.questions.left + model.replies self.old session (take taken piece.now)) }
+            ≤ allowance.new.questions.left + asked_by (model.requests self.old session (take taken piece.now))) }
         ensures fewer { OnOk result (allowance.new.questions.left ≤ allowance.old.questions.left) }
         ensures refused { IfErr result (refuses self.old self.new) };
 

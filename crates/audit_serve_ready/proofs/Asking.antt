@@ -11,6 +11,7 @@ use Rattle.audit_serve_passes.specs.Allowance.{has_room, has_room_to_ask, admits
 use Rattle.audit_serve_passes.specs.Core.{CoreModel, RequestKind, appending, asking}
 use Rattle.audit_serve_passes.specs.Owing.{IsNextRequest, IsDemandFor, IsBeyondAllowance}
 use Rattle.audit_serve_ready.specs.Slot.{SlotData, vacant, serving, unheard, closing, unread_of, kept_of, with_unread, is_shut, is_mute}
+use Rattle.audit_serve_ready.specs.Reading.{IsShort}
 use Rattle.audit_serve_ready.specs.Backlog.{MayAsk, HasTakenRequest, LacksRoom, IsPutOff, TakesUp}
 use Rattle.audit_serve_ready.proofs.Accounts.{unread_put}
 
@@ -123,28 +124,30 @@ module _ {C S : Type 0} (M : CoreModel C) (backlog : ℕ) where
   }
 
   held_back : (k : ℕ) (core : C) (slot : SlotData S) (fed rest : List ℕ) (questions : Share) (left : Allowance) → unread_of slot ≡ fed ++ rest → IsBeyondAllowance M k core fed (unread_of slot) left
-      → (M.requests core k fed ≡ [] → left ≡ record { session = share_for slot; questions = questions }) → backlog - length (kept_of slot) ≤ left.session.left + M.replies core k fed → IsPutOff M backlog (left.questions.left < M.longest) k core fed rest slot
+      → (M.requests core k fed ≡ [] → left ≡ record { session = share_for slot; questions = questions }) → backlog - length (kept_of slot) ≤ left.session.left + M.replies core k fed → IsPutOff M backlog (IsShort left.questions.left) k core fed rest slot
   held_back k core slot fed rest questions left split held unspent spent = record {
     kind = held.kind;
     is = subst (λ (bytes : List ℕ). IsNextRequest M k core fed bytes held.kind) split held.is;
     appends = λ is. append_held held.kind is held.its;
-    asks = λ is. question_held held.kind is held.its;
+    asks = λ reply is. question_held held.kind reply is held.its;
   }
     where
       append_held : (kind : RequestKind) → kind ≡ appending → IsDemandFor M kind held.demand → LacksRoom M backlog k core fed slot M.acknowledgement
       append_held appending is its = lacks k core slot fed questions left held.demand.reply M.acknowledgement unspent spent its.0 (no_room left held.demand its.1 held.over)
-      append_held asking is its = absurd (cc is)
+      append_held (asking reply) is its = absurd (cc is)
 
-      question_held : (kind : RequestKind) → kind ≡ asking → IsDemandFor M kind held.demand → LacksRoom M backlog k core fed slot M.longest ⊎ (left.questions.left < M.longest)
-      question_held appending is its = absurd (cc is)
-      question_held asking is its = elim (neither_room left held.demand held.over) [
-        | inl own ↦ inl (lacks k core slot fed questions left held.demand.reply M.longest unspent spent its.0 own)
-        | inr all ↦ inr (short_of left.questions held.demand.question M.longest all its.1)
-      ]
+      question_held : (kind : RequestKind) (reply : ℕ) → kind ≡ asking reply → IsDemandFor M kind held.demand → LacksRoom M backlog k core fed slot reply ⊎ (left.questions.left < reply)
+      question_held appending reply is its = absurd (cc is)
+      question_held (asking most) reply is its =
+          let same : most ≡ reply = cc is in
+          elim (neither_room left held.demand held.over) [
+            | inl own ↦ inl (lacks k core slot fed questions left held.demand.reply reply unspent spent (omega (arith, its.0, same)) own)
+            | inr all ↦ inr (short_of left.questions held.demand.question reply all (subst (λ (n : ℕ). IfSome held.demand.question (λ bytes. bytes ≤ n)) same its.1))
+          ]
 
   pub put_off : (k : ℕ) (share questions : Share) (core : C) (slot : SlotData S) (taken : ℕ) (left : Allowance) → is_shut slot ≡ false → share ≡ share_for slot → (taken < length (unread_of slot) → IsBeyondAllowance M k core (take taken (unread_of slot)) (unread_of slot) left)
       → (M.requests core k (take taken (unread_of slot)) ≡ [] → left ≡ record { session = share; questions = questions }) → share.left ≤ left.session.left + M.replies core k (take taken (unread_of slot))
-      → (unread_of (with_unread (drop taken (unread_of slot)) slot) ≡ []) ⊎ IsPutOff M backlog (left.questions.left < M.longest) k core (take taken (unread_of slot)) (unread_of (with_unread (drop taken (unread_of slot)) slot)) slot
+      → (unread_of (with_unread (drop taken (unread_of slot)) slot) ≡ []) ⊎ IsPutOff M backlog (IsShort left.questions.left) k core (take taken (unread_of slot)) (unread_of (with_unread (drop taken (unread_of slot)) slot)) slot
   put_off k share questions core slot taken left live is stops unspent spent = by (less_or taken (length (unread_of slot)))
     where
       bytes : List ℕ
@@ -156,20 +159,20 @@ module _ {C S : Type 0} (M : CoreModel C) (backlog : ℕ) where
       less_or : (m n : ℕ) → (m < n) ⊎ (n ≤ m)
       less_or m n = search (arith)
 
-      by : (taken < length bytes) ⊎ (length bytes ≤ taken) → (unread_of (with_unread (drop taken bytes) slot) ≡ []) ⊎ IsPutOff M backlog (left.questions.left < M.longest) k core (take taken bytes) (unread_of (with_unread (drop taken bytes) slot)) slot
+      by : (taken < length bytes) ⊎ (length bytes ≤ taken) → (unread_of (with_unread (drop taken bytes) slot) ≡ []) ⊎ IsPutOff M backlog (IsShort left.questions.left) k core (take taken bytes) (unread_of (with_unread (drop taken bytes) slot)) slot
       by (inl less) = inr (held_back k core slot (take taken bytes) (unread_of (with_unread (drop taken bytes) slot)) questions left (sym (take-append-drop taken bytes) ∙ ap (λ (rest : List ℕ). take taken bytes ++ rest) (sym rest_is)) (stops less)
           (λ none. unspent none ∙ ap (λ (own : Share). record { session = own; questions = questions }) is) (omega (arith, spent, ap (λ (own : Share). own.left) is)))
       by (inr all) = inl (rest_is ∙ drop_all taken bytes all)
 
   -- the same of the place as it was before a look, and of a core in which others have had their turns
-  put_off_at : {AskNoMore : Type 0} (k : ℕ) (core old : C) (fed rest : List ℕ) (between before : SlotData S) → kept_of between ≡ kept_of before → ((bytes : List ℕ) → (M.requests core k bytes ≡ M.requests old k bytes) × (M.replies core k bytes ≡ M.replies old k bytes))
+  put_off_at : {AskNoMore : ℕ → Type 0} (k : ℕ) (core old : C) (fed rest : List ℕ) (between before : SlotData S) → kept_of between ≡ kept_of before → ((bytes : List ℕ) → (M.requests core k bytes ≡ M.requests old k bytes) × (M.replies core k bytes ≡ M.replies old k bytes))
       → IsPutOff M backlog AskNoMore k core fed rest between → IsPutOff M backlog AskNoMore k old fed rest before
   put_off_at k core old fed rest between before kept alone off = record {
     kind = off.kind;
     is = record { later = off.is.later; next = sym (alone (fed ++ rest)).0 ∙ off.is.next ∙ ap (λ (first : List RequestKind). first ++ off.kind ∷ off.is.later) (alone fed).0 };
     appends = λ is. same_room M.acknowledgement (off.appends is);
-    asks = λ is. elim (off.asks is) [
-      | inl own ↦ inl (same_room M.longest own)
+    asks = λ reply is. elim (off.asks reply is) [
+      | inl own ↦ inl (same_room reply own)
       | inr all ↦ inr all
     ];
   }
@@ -180,7 +183,7 @@ module _ {C S : Type 0} (M : CoreModel C) (backlog : ℕ) where
         first = λ asked empty. none.first ((alone fed).0 ∙ asked) (kept ∙ empty);
       }
 
-  pub off_before : {AskNoMore : Type 0} (k : ℕ) (core : C) (fed rest : List ℕ) (between before : SlotData S) → kept_of between ≡ kept_of before → (rest ≡ []) ⊎ IsPutOff M backlog AskNoMore k core fed rest between → (rest ≡ []) ⊎ IsPutOff M backlog AskNoMore k core fed rest before
+  pub off_before : {AskNoMore : ℕ → Type 0} (k : ℕ) (core : C) (fed rest : List ℕ) (between before : SlotData S) → kept_of between ≡ kept_of before → (rest ≡ []) ⊎ IsPutOff M backlog AskNoMore k core fed rest between → (rest ≡ []) ⊎ IsPutOff M backlog AskNoMore k core fed rest before
   off_before {AskNoMore} k core fed rest between before kept (inl none) = inl none
   off_before {AskNoMore} k core fed rest between before kept (inr off) = inr (put_off_at {AskNoMore = AskNoMore} k core core fed rest between before kept (λ bytes. (refl, refl)) off)
 
@@ -188,7 +191,7 @@ module _ {C S : Type 0} (M : CoreModel C) (backlog : ℕ) where
 
   -- whoever has had a turn isn't read again
   -- if questions may ask for no more, they may not later
-  pub takes_longer : {AskNoMore More : Type 0} (k : ℕ) (calls : List StreamCall) (core : C) (before after : SlotData S) → (AskNoMore → More) → TakesUp M backlog AskNoMore k calls core before after → TakesUp M backlog More k calls core before after
+  pub takes_longer : {AskNoMore More : ℕ → Type 0} (k : ℕ) (calls : List StreamCall) (core : C) (before after : SlotData S) → ((reply : ℕ) → AskNoMore reply → More reply) → TakesUp M backlog AskNoMore k calls core before after → TakesUp M backlog More k calls core before after
   takes_longer {AskNoMore} {More} k calls core before after more takes = record { fed = takes.fed; all = takes.all; left = by takes.left }
     where
       by : (unread_of after ≡ []) ⊎ IsPutOff M backlog AskNoMore k core takes.fed (unread_of after) before → (unread_of after ≡ []) ⊎ IsPutOff M backlog More k core takes.fed (unread_of after) before
@@ -197,13 +200,13 @@ module _ {C S : Type 0} (M : CoreModel C) (backlog : ℕ) where
         kind = off.kind;
         is = off.is;
         appends = off.appends;
-        asks = λ is. elim (off.asks is) [
+        asks = λ reply is. elim (off.asks reply is) [
           | inl own ↦ inl own
-          | inr all ↦ inr (more all)
+          | inr all ↦ inr (more reply all)
         ];
       })
 
-  pub taken_stays : {AskNoMore : Type 0} (k : ℕ) (calls later : List StreamCall) (core : C) (before between after : SlotData S) → bytes_read later ≡ [] → unread_of after ≡ unread_of between → TakesUp M backlog AskNoMore k calls core before between → TakesUp M backlog AskNoMore k (calls ++ later) core before after
+  pub taken_stays : {AskNoMore : ℕ → Type 0} (k : ℕ) (calls later : List StreamCall) (core : C) (before between after : SlotData S) → bytes_read later ≡ [] → unread_of after ≡ unread_of between → TakesUp M backlog AskNoMore k calls core before between → TakesUp M backlog AskNoMore k (calls ++ later) core before after
   taken_stays {AskNoMore} k calls later core before between after none same takes = record {
     fed = takes.fed;
     all = ap (λ (read : List ℕ). unread_of before ++ read) (bytes_read-append calls later ∙ ap (λ (read : List ℕ). bytes_read calls ++ read) none ∙ append-nil (bytes_read calls)) ∙ takes.all ∙ ap (λ (rest : List ℕ). takes.fed ++ rest) (sym same);
@@ -211,7 +214,7 @@ module _ {C S : Type 0} (M : CoreModel C) (backlog : ℕ) where
   }
 
   -- and nothing was read of whoever has had none
-  pub taken_later : {AskNoMore : Type 0} (k : ℕ) (calls later : List StreamCall) (core old : C) (before between after : SlotData S) → bytes_read calls ≡ [] → unread_of between ≡ unread_of before → kept_of between ≡ kept_of before
+  pub taken_later : {AskNoMore : ℕ → Type 0} (k : ℕ) (calls later : List StreamCall) (core old : C) (before between after : SlotData S) → bytes_read calls ≡ [] → unread_of between ≡ unread_of before → kept_of between ≡ kept_of before
       → ((bytes : List ℕ) → (M.requests core k bytes ≡ M.requests old k bytes) × (M.replies core k bytes ≡ M.replies old k bytes)) → TakesUp M backlog AskNoMore k later core between after → TakesUp M backlog AskNoMore k (calls ++ later) old before after
   taken_later {AskNoMore} k calls later core old before between after none same kept alone takes = record {
     fed = takes.fed;

@@ -125,7 +125,7 @@ module _ {C D S : Type 0} (M : CoreModel C) (N : CallModel S) (E : DoorModel D S
       still (inr asked) = inr asked
 
   -- whatever is taken of bytes that begin with an append begins with it
-  pub append_taken : {AskNoMore : Type 0} (k : ℕ) (calls : List StreamCall) (core : C) (before after : SlotData S) (later : List RequestKind) → TakesUp M backlog AskNoMore k calls core before after → M.requests core k (unread_of before ++ bytes_read calls) ≡ appending ∷ later
+  pub append_taken : {AskNoMore : ℕ → Type 0} (k : ℕ) (calls : List StreamCall) (core : C) (before after : SlotData S) (later : List RequestKind) → TakesUp M backlog AskNoMore k calls core before after → M.requests core k (unread_of before ++ bytes_read calls) ≡ appending ∷ later
       → (kept_of before ≡ []) ⊎ (length (kept_of before) + M.acknowledgement ≤ backlog) → (fed : List ℕ) × (more : List RequestKind) × (unread_of before ++ bytes_read calls ≡ fed ++ unread_of after) × (M.requests core k fed ≡ appending ∷ more)
   append_taken {AskNoMore} k calls core before after later takes asked room = by takes.left
     where

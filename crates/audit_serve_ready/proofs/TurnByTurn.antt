@@ -5,7 +5,7 @@ use Rattle.std.proofs.lemmas.List.{length-set, get_or-set_same, get_or-set_other
 use Rattle.std.specs.List.{AllByRecursion}
 use Rattle.audit_serve_passes.specs.Steps.{StepData, a_piece, an_end, a_flush, IsAbout, AreAbout}
 use Rattle.audit_serve_passes.specs.Streams.{StreamCall, CallModel, calls_for, bytes_read, bytes_sent}
-use Rattle.audit_serve_passes.specs.Core.{CoreModel, no_bytes}
+use Rattle.audit_serve_passes.specs.Core.{CoreModel, asked_by, no_bytes}
 use Rattle.audit_serve_passes.specs.CallLaws.{or_of_three, bytes_read-append, bytes_sent-append}
 use Rattle.audit_serve_passes.proofs.Calls.{calls_here, calls_there, or_left, or_right}
 use Rattle.audit_serve_passes.proofs.StreamSteps.{about_elsewhere}
@@ -13,7 +13,7 @@ use Rattle.audit_serve_passes.proofs.Transitions.{none_of_both}
 use Rattle.audit_serve_ready.specs.declared.note.Note.{Note}
 use Rattle.audit_serve_ready.specs.Slot.{SlotData, vacant, unread_of, noted_of, noted_after_call, noted_after_reading, is_read, has_read, is_shut, IsSamePlace}
 use Rattle.audit_serve_ready.specs.Places.{slot_at, has_last_read, IsServedAt, IsReadyPass, ServesPlaces}
-use Rattle.audit_serve_ready.specs.Reading.{IsWait, IsTurn, replies_to, IsShort, is_about, steps_about, mark, IsTurnTaken, IsAttended, HasTurn, IsTurnOfLive, IsLeftOut, TakesTurns, ReadsPlaces}
+use Rattle.audit_serve_ready.specs.Reading.{IsWait, IsTurn, asked_in, IsShort, is_about, steps_about, mark, IsTurnTaken, IsAttended, HasTurn, IsTurnOfLive, IsLeftOut, TakesTurns, ReadsPlaces}
 use Rattle.audit_serve_ready.specs.declared.limits.TheConstants.{MAX_ASKED}
 use Rattle.audit_serve_ready.specs.Backlog.{TakesUp}
 use Rattle.audit_serve_ready.proofs.Asking.{takes_longer, taken_stays, taken_later}
@@ -177,18 +177,18 @@ module _ {C S : Type 0} (M : CoreModel C) (N : CallModel S) (backlog : ℕ) wher
   }
 
   -- whoever is asked now wasn't asked before
-  replies_same : (marks : List Bool) (steps : List StepData) (old between : C) → ((k : ℕ) → steps_about k steps + mark marks k ≤ 1) → ((k : ℕ) (bytes : List ℕ) → get_or marks k true ≡ false → M.replies between k bytes ≡ M.replies old k bytes) → replies_to M between steps ≡ replies_to M old steps
-  replies_same marks [] old between once same = refl
-  replies_same marks (a_piece k piece ∷ steps) old between once same =
-      omega (arith, same k piece (unmarked_by marks k (omega (arith, once k, ap one_if (eq-eqb k k refl)))), replies_same marks steps old between (λ j. omega (arith, once j)) same)
-  replies_same marks (an_end k ∷ steps) old between once same = replies_same marks steps old between (λ j. omega (arith, once j)) same
-  replies_same marks (a_flush ∷ steps) old between once same = replies_same marks steps old between (λ j. omega (arith, once j)) same
+  asked_same : (marks : List Bool) (steps : List StepData) (old between : C) → ((k : ℕ) → steps_about k steps + mark marks k ≤ 1) → ((k : ℕ) (bytes : List ℕ) → get_or marks k true ≡ false → M.requests between k bytes ≡ M.requests old k bytes) → asked_in M between steps ≡ asked_in M old steps
+  asked_same marks [] old between once same = refl
+  asked_same marks (a_piece k piece ∷ steps) old between once same =
+      omega (arith, ap asked_by (same k piece (unmarked_by marks k (omega (arith, once k, ap one_if (eq-eqb k k refl))))), asked_same marks steps old between (λ j. omega (arith, once j)) same)
+  asked_same marks (an_end k ∷ steps) old between once same = asked_same marks steps old between (λ j. omega (arith, once j)) same
+  asked_same marks (a_flush ∷ steps) old between once same = asked_same marks steps old between (λ j. omega (arith, once j)) same
 
-  replies-append : (core : C) (steps later : List StepData) → replies_to M core (steps ++ later) ≡ replies_to M core steps + replies_to M core later
-  replies-append core [] later = omega arith
-  replies-append core (a_piece k piece ∷ steps) later = omega (arith, replies-append core steps later)
-  replies-append core (an_end k ∷ steps) later = replies-append core steps later
-  replies-append core (a_flush ∷ steps) later = replies-append core steps later
+  asked-append : (core : C) (steps later : List StepData) → asked_in M core (steps ++ later) ≡ asked_in M core steps + asked_in M core later
+  asked-append core [] later = omega arith
+  asked-append core (a_piece k piece ∷ steps) later = omega (arith, asked-append core steps later)
+  asked-append core (an_end k ∷ steps) later = asked-append core steps later
+  asked-append core (a_flush ∷ steps) later = asked-append core steps later
 
   left_out_then : (k : ℕ) (calls later : List StreamCall) (old between new : C) (before middle after : SlotData S) → IsLeftOut M k calls old between before middle → IsLeftOut M k later between new middle after → IsLeftOut M k (calls ++ later) old new before after
   left_out_then k calls later old between new before middle after first second = record {
@@ -230,7 +230,7 @@ module _ {C S : Type 0} (M : CoreModel C) (N : CallModel S) (backlog : ℕ) wher
     ];
     share = record {
       fewer = omega (arith, first.share.fewer, second.share.fewer);
-      spent = omega (arith, first.share.spent, second.share.spent, replies-append old first.steps second.steps, replies_same mid second.steps old between (λ k. omega (arith, second.once k, one_mark now k)) (λ k bytes unmarked. ((first.alone k unmarked).requests bytes).1));
+      spent = omega (arith, first.share.spent, second.share.spent, asked-append old first.steps second.steps, asked_same mid second.steps old between (λ k. omega (arith, second.once k, one_mark now k)) (λ k bytes unmarked. ((first.alone k unmarked).requests bytes).0));
     };
     alone = λ k unmarked. left_out_then k (first.calls k) (second.calls k) old between new (slot_at k before) (slot_at k middle) (slot_at k after) (first.alone k (before_too k unmarked)) (second.alone k unmarked);
     over = λ k marked.
@@ -238,8 +238,8 @@ module _ {C S : Type 0} (M : CoreModel C) (N : CallModel S) (backlog : ℕ) wher
         let then_ = second.over k (first.marks k marked) in (bytes_read-append (first.calls k) (second.calls k) ∙ none_of_both (bytes_read (first.calls k)) (bytes_read (second.calls k)) mine.0 then_.0, then_.1 ∙ mine.1);
   }
     where
-      shorter : (k : ℕ) → TakesUp M backlog (IsShort M midway) k (first.calls k) old (slot_at k before) (slot_at k middle) → TakesUp M backlog (IsShort M remains) k (first.calls k) old (slot_at k before) (slot_at k middle)
-      shorter k = takes_longer M backlog k (first.calls k) old (slot_at k before) (slot_at k middle) (λ short. omega (arith, short, second.share.fewer))
+      shorter : (k : ℕ) → TakesUp M backlog (IsShort midway) k (first.calls k) old (slot_at k before) (slot_at k middle) → TakesUp M backlog (IsShort remains) k (first.calls k) old (slot_at k before) (slot_at k middle)
+      shorter k = takes_longer M backlog k (first.calls k) old (slot_at k before) (slot_at k middle) (λ reply short. omega (arith, short, second.share.fewer))
 
       stays : (k : ℕ) → M.ended between [] k ≡ true → M.ended new [] k ≡ true
       stays k = ended_still M between new second.steps no_bytes k second.pass.did
@@ -269,13 +269,13 @@ module _ {C S : Type 0} (M : CoreModel C) (N : CallModel S) (backlog : ℕ) wher
         | inr is ↦ by_next k within live not_yet (inl is)
       ]
 
-      taken_next : (k : ℕ) → k < length before → M.ended old [] k ≡ false → is_shut (slot_at k before) ≡ false → get_or mid k true ≡ false → Next k ⊎ (get_or now k true ≡ true) → TakesUp M backlog (IsShort M remains) k (first.calls k ++ second.calls k) old (slot_at k before) (slot_at k after)
+      taken_next : (k : ℕ) → k < length before → M.ended old [] k ≡ false → is_shut (slot_at k before) ≡ false → get_or mid k true ≡ false → Next k ⊎ (get_or now k true ≡ true) → TakesUp M backlog (IsShort remains) k (first.calls k ++ second.calls k) old (slot_at k before) (slot_at k after)
       taken_next k within live unshut not_yet meant =
           let was = first.alone k not_yet in
           taken_later M backlog k (first.calls k) (second.calls k) between old (slot_at k before) (slot_at k middle) (slot_at k after) was.read was.unread (first.same k).kept was.requests
           (second.left k (omega (arith, within, first.pass.count)) not_yet (was.ended ∙ live) ((first.same k).shut ∙ unshut) meant)
 
-      left_later : (k : ℕ) → k < length before → get_or had k true ≡ false → M.ended old [] k ≡ false → is_shut (slot_at k before) ≡ false → get_or mid k true ≡ false → Both k ⊎ (get_or now k true ≡ true) → TakesUp M backlog (IsShort M remains) k (first.calls k ++ second.calls k) old (slot_at k before) (slot_at k after)
+      left_later : (k : ℕ) → k < length before → get_or had k true ≡ false → M.ended old [] k ≡ false → is_shut (slot_at k before) ≡ false → get_or mid k true ≡ false → Both k ⊎ (get_or now k true ≡ true) → TakesUp M backlog (IsShort remains) k (first.calls k ++ second.calls k) old (slot_at k before) (slot_at k after)
       left_later k within unmarked live unshut not_yet (inr marked) = taken_next k within live unshut not_yet (inr marked)
       left_later k within unmarked live unshut not_yet (inl meant) = elim (either k within meant) [
         | inr is ↦ taken_next k within live unshut not_yet (inl is)
@@ -380,9 +380,9 @@ module _ {C S : Type 0} (M : CoreModel C) (N : CallModel S) (backlog : ℕ) wher
       | inr apart ↦ ap bytes_sent (calls_there k other turn.calls apart)
     ];
     left = λ other inside unmarked alive unshut meant. elim (cases_eq other k) [
-      | inl same ↦ subst (λ (j : ℕ). TakesUp M backlog (IsShort M remains) j (calls_for k turn.calls j) old (slot_at j slots) (slot_at j (set slots k after))) (sym same)
-          (subst (λ (calls : List StreamCall). TakesUp M backlog (IsShort M remains) k calls old (slot_at k slots) (slot_at k (set slots k after))) (sym (calls_here k turn.calls))
-          (subst (TakesUp M backlog (IsShort M remains) k turn.calls old (slot_at k slots)) (sym (get_or-set_same slots k after vacant within)) (turn.left (sym (ap (λ (j : ℕ). is_shut (slot_at j slots)) same) ∙ unshut))))
+      | inl same ↦ subst (λ (j : ℕ). TakesUp M backlog (IsShort remains) j (calls_for k turn.calls j) old (slot_at j slots) (slot_at j (set slots k after))) (sym same)
+          (subst (λ (calls : List StreamCall). TakesUp M backlog (IsShort remains) k calls old (slot_at k slots) (slot_at k (set slots k after))) (sym (calls_here k turn.calls))
+          (subst (TakesUp M backlog (IsShort remains) k turn.calls old (slot_at k slots)) (sym (get_or-set_same slots k after vacant within)) (turn.left (sym (ap (λ (j : ℕ). is_shut (slot_at j slots)) same) ∙ unshut))))
       | inr apart ↦ absurd (not_meant other apart unmarked meant)
     ];
     share = turn.share;
@@ -464,7 +464,7 @@ module _ {C S : Type 0} (M : CoreModel C) (N : CallModel S) (backlog : ℕ) wher
     last = done.last;
     same = done.same;
     quiet = done.quiet;
-    left = λ k within live unshut. takes_longer M backlog k (done.calls k) old (slot_at k before) (slot_at k after) (λ short. omega (arith, short, done.share.spent))
+    left = λ k within live unshut. takes_longer M backlog k (done.calls k) old (slot_at k before) (slot_at k after) (λ reply short. omega (arith, short, done.share.spent))
         (done.left k within (unmarked 16 k (omega (arith, within, few))) live unshut (inl (all k within)));
   }
     where

@@ -176,7 +176,7 @@ piece_waits k piece waits = cc waits.1
 module _ {C S : Type 0} (M : CoreModel C) (N : CallModel S) (backlog : ℕ) where
   pub is_fed : {given remains : ℕ} (moved : Bool) (k : ℕ) (taken : ℕ) (old new : C) (slot : SlotData S) → is_shut slot ≡ false → length (unread_of slot) ≤ MAX_PIECE → M.DidSteps old new (a_piece k (take taken (unread_of slot)) ∷ []) no_bytes
       → (moved ≡ false → taken ≡ 0) → (moved ≡ true → 0 < taken) → taken ≤ length (unread_of slot)
-      → (unread_of (with_unread (drop taken (unread_of slot)) slot) ≡ []) ⊎ IsPutOff M backlog (IsShort M remains) k old (take taken (unread_of slot)) (unread_of (with_unread (drop taken (unread_of slot)) slot)) slot → SpendsShare M given remains old (a_piece k (take taken (unread_of slot)) ∷ [])
+      → (unread_of (with_unread (drop taken (unread_of slot)) slot) ≡ []) ⊎ IsPutOff M backlog (IsShort remains) k old (take taken (unread_of slot)) (unread_of (with_unread (drop taken (unread_of slot)) slot)) slot → SpendsShare M given remains old (a_piece k (take taken (unread_of slot)) ∷ [])
       → IsFedPiece M N backlog given remains moved k old new slot (with_unread (drop taken (unread_of slot)) slot)
   is_fed moved k taken old new slot live most did none some within left share = record {
     piece = take taken (unread_of slot);

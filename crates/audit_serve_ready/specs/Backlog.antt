@@ -69,16 +69,17 @@ module _ {C S : Type 0} (M : CoreModel C) (backlog : ℕ) where
     pub first : M.requests core k fed ≡ [] → kept_of slot ≢ []
 
   -- The bytes that a turn leaves begin with a request that has to wait: an append for whose reply the backlog has no
-  -- room; or a question, if the backlog has no room for a longest reply, or questions may ask for no more in the pass.
-  pub record IsPutOff (AskNoMore : Type 0) (k : ℕ) (core : C) (fed rest : List ℕ) (slot : SlotData S) : Type 0 where
+  -- room; or a question, if the backlog has no room for the longest reply of its kind, or the questions of the pass may
+  -- not ask for as much.
+  pub record IsPutOff (AskNoMore : ℕ → Type 0) (k : ℕ) (core : C) (fed rest : List ℕ) (slot : SlotData S) : Type 0 where
     pub kind : RequestKind
     pub is : IsNextRequest M k core fed (fed ++ rest) kind
     pub appends : kind ≡ appending → LacksRoom k core fed slot M.acknowledgement
-    pub asks : kind ≡ asking → LacksRoom k core fed slot M.longest ⊎ AskNoMore
+    pub asks : (reply : ℕ) → kind ≡ asking reply → LacksRoom k core fed slot reply ⊎ AskNoMore reply
 
   -- Of what was unread, and then of what was read in these calls, the session took the first bytes: all, or those up to
   -- a request that has to wait.
-  pub record TakesUp (AskNoMore : Type 0) (k : ℕ) (calls : List StreamCall) (core : C) (before after : SlotData S)
+  pub record TakesUp (AskNoMore : ℕ → Type 0) (k : ℕ) (calls : List StreamCall) (core : C) (before after : SlotData S)
       : Type 0 where
     pub fed : List ℕ
     pub all : unread_of before ++ bytes_read calls ≡ fed ++ unread_of after

@@ -7,7 +7,7 @@ use Rattle.audit_serve_ready.specs.declared.limits.TheConstants.{MAX_ASKED}
 use Rattle.audit_serve_passes.specs.Steps.{StepData, a_piece, an_end, a_flush}
 use Rattle.audit_serve_passes.specs.Rounds.{IsVisit}
 use Rattle.audit_serve_passes.specs.Streams.{StreamCall, CallModel, bytes_read, bytes_sent}
-use Rattle.audit_serve_passes.specs.Core.{CoreModel, no_bytes}
+use Rattle.audit_serve_passes.specs.Core.{CoreModel, asked_by, no_bytes}
 use Rattle.audit_serve_ready.specs.declared.slot.Look.{Look}
 use Rattle.audit_serve_ready.specs.declared.slot.Look.TheVariants as look
 use Rattle.audit_serve_ready.specs.declared.turns.Turn.{Turn}
@@ -83,26 +83,26 @@ module _ {C S : Type 0} (M : CoreModel C) (N : CallModel S) where
   abbrev pub IsTurnOfLive : ℕ → C → StepData → Type 0
   IsTurnOfLive count core step = (k : ℕ) × (k < count) × (M.ended core [] k ≡ false) × IsTurn k step
 
--- the longest replies to what these steps feed to a core, if each session is fed once
-abbrev pub replies_to : {C : Type 0} → CoreModel C → C → List StepData → ℕ
-replies_to M core [] = 0
-replies_to M core (a_piece k piece ∷ steps) = M.replies core k piece + replies_to M core steps
-replies_to M core (an_end k ∷ steps) = replies_to M core steps
-replies_to M core (a_flush ∷ steps) = replies_to M core steps
+-- the longest replies to the questions that these steps feed to a core, if each session is fed once
+abbrev pub asked_in : {C : Type 0} → CoreModel C → C → List StepData → ℕ
+asked_in M core [] = 0
+asked_in M core (a_piece k piece ∷ steps) = asked_by (M.requests core k piece) + asked_in M core steps
+asked_in M core (an_end k ∷ steps) = asked_in M core steps
+asked_in M core (a_flush ∷ steps) = asked_in M core steps
 
--- With one more longest reply, those to what these steps feed are more than the questions of a pass may ask for.
-abbrev pub HasAskedMost : {C : Type 0} → CoreModel C → C → List StepData → Type 0
-HasAskedMost M core steps = MAX_ASKED < replies_to M core steps + M.longest
+-- With a reply of this length, those to the questions in these steps are more than the questions of a pass may ask for.
+abbrev pub HasAskedMost : {C : Type 0} → CoreModel C → C → List StepData → ℕ → Type 0
+HasAskedMost M core steps reply = MAX_ASKED < asked_in M core steps + reply
 
 -- Of what questions might ask for before these steps, in bytes of replies, this remains: the rest are replies to them.
 pub record SpendsShare {C : Type 0} (M : CoreModel C) (given remains : ℕ) (core : C) (steps : List StepData)
     : Type 0 where
   pub fewer : remains ≤ given
-  pub spent : given ≤ remains + replies_to M core steps
+  pub spent : given ≤ remains + asked_in M core steps
 
--- what remains may have no room for a longest reply
-abbrev pub IsShort : {C : Type 0} → CoreModel C → ℕ → Type 0
-IsShort M remains = remains < M.longest
+-- what remains has no room for a reply of this length
+abbrev pub IsShort : ℕ → ℕ → Type 0
+IsShort remains reply = remains < reply
 
 module _ {C S : Type 0} (M : CoreModel C) (N : CallModel S) (backlog given remains : ℕ) where
   -- A session was fed the first of what is unread, or had to wait.
@@ -113,7 +113,7 @@ module _ {C S : Type 0} (M : CoreModel C) (N : CallModel S) (backlog given remai
     pub moves : moved ≡ true → piece ≢ []
     pub did : M.DidSteps old new (a_piece k piece ∷ []) no_bytes
     pub served : IsServedAt N k (a_piece k piece ∷ []) [] [] [] before after
-    pub left : (unread_of after ≡ []) ⊎ IsPutOff M backlog (IsShort M remains) k old piece (unread_of after) before
+    pub left : (unread_of after ≡ []) ⊎ IsPutOff M backlog (IsShort remains) k old piece (unread_of after) before
     pub same : IsSamePlace [] before after
     pub share : SpendsShare M given remains old (a_piece k piece ∷ [])
 
@@ -130,7 +130,7 @@ module _ {C S : Type 0} (M : CoreModel C) (N : CallModel S) (backlog given remai
     pub last : has_last_read calls ≡ true → M.ended new [] k ≡ true
     pub same : IsSamePlace calls before after
     pub quiet : bytes_sent calls ≡ []
-    pub left : is_shut before ≡ false → TakesUp M backlog (IsShort M remains) k calls old before after
+    pub left : is_shut before ≡ false → TakesUp M backlog (IsShort remains) k calls old before after
     pub share : SpendsShare M given remains old steps
     pub none : had ≡ false → (unread_of after ≡ unread_of before) × (bytes_read calls ≡ [])
 
@@ -153,7 +153,7 @@ module _ {C S : Type 0} (M : CoreModel C) (N : CallModel S) (backlog given remai
     pub quiet : (k : ℕ) → bytes_sent (calls k) ≡ []
     pub left : (k : ℕ) → k < length before → slice_index_or had k true ≡ false → M.ended old [] k ≡ false
         → is_shut (slot_at k before) ≡ false → (Meant k ⊎ (slice_index_or now k true ≡ true))
-        → TakesUp M backlog (IsShort M remains) k (calls k) old (slot_at k before) (slot_at k after)
+        → TakesUp M backlog (IsShort remains) k (calls k) old (slot_at k before) (slot_at k after)
     pub share : SpendsShare M given remains old steps
     pub alone : (k : ℕ) → slice_index_or now k true ≡ false
         → IsLeftOut M k (calls k) old new (slot_at k before) (slot_at k after)

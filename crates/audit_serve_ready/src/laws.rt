@@ -51,9 +51,10 @@ pub fn rounds_are_changes<C: SessionCore, D: Door>()
 
 /// Each session that is live is heard in each pass whose replies leave, whatever the clients of the others do: its
 /// client is asked for bytes, unless some are unread or the door dismissed it; its session takes them all, up to a
-/// request that has to wait: one for whose reply its backlog has no room, or a question, if those to what was taken in
-/// the pass and one more may have more than [`MAX_ASKED`](crate::MAX_ASKED) bytes; whatever is taken in the pass is
-/// answered in it, so that each append is committed or refused; and what is kept for the client is offered to it.
+/// request that has to wait: one for whose reply its backlog has no room, or a question, if the longest replies to the
+/// questions that were taken in the pass, and to itself, have more than [`MAX_ASKED`](crate::MAX_ASKED) bytes; whatever
+/// is taken in the pass is answered in it, so that each append is committed or refused; and what is kept for the client
+/// is offered to it.
 pub fn each_pass_hears_each_client<C: SessionCore, D: Door>()
     ensures { (backlog first k : ℕ) (was now : D) (old new : C) (before after : List (SlotData D.Stream))
         (pass : ServesPass C.model D.Stream.calls D.calls backlog true first was now old new before after)

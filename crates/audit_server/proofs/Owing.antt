@@ -22,6 +22,7 @@ use Rattle.audit_serve_passes.specs.declared.allowance.Demand.{Demand}
 use Rattle.audit_serve_passes.specs.declared.allowance.Share.{Share}
 use Rattle.audit_serve_passes.specs.declared.allowance.Allowance.{Allowance}
 use Rattle.audit_serve_passes.specs.Allowance.{has_room, has_room_to_ask, share_after_asking, spent}
+use Rattle.audit_serve_passes.specs.Core.{RequestKind, appending, asking, asked_by}
 use Rattle.audit_serve_passes.specs.Owing.{GrowsWithin, OwesNoMore, OwesWithin, OwesAtEnd, IsDemandFor, IsBeyondAllowance}
 use Rattle.audit_server_model.specs.Sessions.{SessionData, arrivals_by_piece, arrivals_of_rest, arrivals_by_end, heard_after}
 use Rattle.audit_server_model.specs.Heard.{Heard, last_arrival, arrivals_heard}
@@ -165,13 +166,17 @@ admitted_spent [] old new taken = omega (arith, ap (λ (allowance : Allowance). 
 admitted_spent (arrival ∷ arrivals) old new taken = omega (arith, taken.1.reply, admitted_spent arrivals (spent taken.0 old) new taken.3)
 
 -- a question spends at most its longest reply of what questions may ask for, and an append nothing
-spent_asking : (arrival : Arrival) (price : Option ℕ) (share : Share) → IsPriceOf arrival price → ((share_after_asking price share).left ≤ share.left) × (share.left ≤ (share_after_asking price share).left + longest_reply arrival)
+spent_asking : (arrival : Arrival) (price : Option ℕ) (share : Share) → IsPriceOf arrival price → ((share_after_asking price share).left ≤ share.left) × (share.left ≤ (share_after_asking price share).left + asked_by (kind_of arrival ∷ []))
 spent_asking (an_append append) None share is = (omega arith, omega arith)
 spent_asking (an_append append) (Some bytes) share is = absurd (cc is)
 spent_asking (a_question question) None share is = absurd is
 spent_asking (a_question question) (Some bytes) share is = (omega arith, omega (arith, is))
 
-admitted_asked : (arrivals : List Arrival) (old new : Allowance) → AreAdmitted arrivals (limit.Within old) (limit.Within new) → (new.questions.left ≤ old.questions.left) × (old.questions.left ≤ new.questions.left + longest_replies arrivals)
+asked-cons : (kind : RequestKind) (kinds : List RequestKind) → asked_by (kind ∷ kinds) ≡ asked_by (kind ∷ []) + asked_by kinds
+asked-cons appending kinds = omega arith
+asked-cons (asking reply) kinds = omega arith
+
+admitted_asked : (arrivals : List Arrival) (old new : Allowance) → AreAdmitted arrivals (limit.Within old) (limit.Within new) → (new.questions.left ≤ old.questions.left) × (old.questions.left ≤ new.questions.left + asked_by (map kind_of arrivals))
 admitted_asked [] old new taken = (omega (arith, same), omega (arith, same))
   where
     of_within : limit.Within new ≡ limit.Within old → new ≡ old
@@ -180,9 +185,10 @@ admitted_asked [] old new taken = (omega (arith, same), omega (arith, same))
     same : new.questions.left ≡ old.questions.left
     same = ap (λ (allowance : Allowance). allowance.questions.left) (of_within taken)
 admitted_asked (arrival ∷ arrivals) old new taken =
+    let both = asked-cons (kind_of arrival) (map kind_of arrivals) in
     let here = spent_asking arrival taken.0.question old.questions taken.1.price in
     let later = admitted_asked arrivals (spent taken.0 old) new taken.3 in
-    (omega (arith, here.0, later.0), omega (arith, here.1, later.1))
+    (omega (arith, here.0, later.0), omega (arith, here.1, later.1, both))
 
 grows : (share : Share) (old new total owed : ℕ) → new ≤ old + owed → owed ≤ total → TotalWithin share total → GrowsWithin share MAX_MEMBERSHIP_FRAME old new
 grows share old new total owed grown most (inl within) = inl (omega (arith, grown, most, within))
@@ -216,13 +222,13 @@ module _ {D : Type 0} {g : sectors.Ghosts D} where
         over = stops.over.over;
       }
     where
-      price_within : (question : Question) (price : Option ℕ) → IsPriceOf (a_question question) price → IfSome price (λ bytes. bytes ≤ MAX_MEMBERSHIP_FRAME)
+      price_within : (question : Question) (price : Option ℕ) → IsPriceOf (a_question question) price → IfSome price (λ bytes. bytes ≤ longest_answer question.query)
       price_within question None is = tt
-      price_within question (Some bytes) is = omega (arith, is, longest_query question.query)
+      price_within question (Some bytes) is = is
 
       wanted : (arrival : Arrival) (over : IsNotAdmitted arrival (limit.Within left)) → IsDemandFor (core_model {D = D} {g = g}) (kind_of arrival) over.demand
       wanted (an_append append) over = (omega (arith, over.its.reply), over.its.price)
-      wanted (a_question question) over = (omega (arith, over.its.reply, longest_arrival (a_question question)), price_within question over.demand.question over.its.price)
+      wanted (a_question question) over = (omega (arith, over.its.reply), price_within question over.demand.question over.its.price)
 
   pub within_unspent : (k : ℕ) (piece : List ℕ) (taken : ℕ) (old new : Core D g) (allowance left : Allowance) → AllowedOutcome k piece old new allowance left (Ok taken) → map kind_of (arrivals_by_piece k (take taken piece) (session_of k old)) ≡ [] → left ≡ allowance
   within_unspent k piece taken old new allowance left end none = by (arrivals_by_piece k (take taken piece) (session_of k old)) none end.fed.spent
@@ -234,7 +240,7 @@ module _ {D : Type 0} {g : sectors.Ghosts D} where
   pub within_spent : (k : ℕ) (piece : List ℕ) (taken : ℕ) (old new : Core D g) (allowance left : Allowance) → AllowedOutcome k piece old new allowance left (Ok taken) → allowance.session.left ≤ left.session.left + longest_replies (arrivals_by_piece k (take taken piece) (session_of k old))
   within_spent k piece taken old new allowance left end = admitted_spent (arrivals_by_piece k (take taken piece) (session_of k old)) allowance left end.fed.spent
 
-  pub within_asked : (k : ℕ) (piece : List ℕ) (taken : ℕ) (old new : Core D g) (allowance left : Allowance) → AllowedOutcome k piece old new allowance left (Ok taken) → allowance.questions.left ≤ left.questions.left + longest_replies (arrivals_by_piece k (take taken piece) (session_of k old))
+  pub within_asked : (k : ℕ) (piece : List ℕ) (taken : ℕ) (old new : Core D g) (allowance left : Allowance) → AllowedOutcome k piece old new allowance left (Ok taken) → allowance.questions.left ≤ left.questions.left + asked_by (map kind_of (arrivals_by_piece k (take taken piece) (session_of k old)))
   within_asked k piece taken old new allowance left end = (admitted_asked (arrivals_by_piece k (take taken piece) (session_of k old)) allowance left end.fed.spent).1
 
   pub within_fewer : (k : ℕ) (piece : List ℕ) (taken : ℕ) (old new : Core D g) (allowance left : Allowance) → AllowedOutcome k piece old new allowance left (Ok taken) → left.questions.left ≤ allowance.questions.left

@@ -8,7 +8,7 @@ use Rattle.audit_store.specs.declared.store_error.StoreError.{StoreError}
 use Rattle.audit_wire.specs.declared.limits.TheConstants.{ACKNOWLEDGEMENT_FRAME, MAX_MEMBERSHIP_FRAME, REFUSAL_FRAME}
 use Rattle.audit_server_commit.specs.Arrivals.{Arrival, an_append, a_question}
 use Rattle.audit_server_commit.specs.Waiting.{Waiting, nothing_waits, items_waiting}
-use Rattle.audit_server_commit.specs.LongestReplies.{longest_reply, owed_for_waiting}
+use Rattle.audit_server_commit.specs.LongestReplies.{longest_answer, longest_reply, owed_for_waiting}
 use Rattle.audit_server_commit.specs.Owing.{owed_of}
 use Rattle.audit_server_commit.specs.Committer.{waiting_of, outputs_of}
 use Rattle.audit_serve_passes.specs.Steps.{StepData, IsAbout}
@@ -29,7 +29,7 @@ nothing_more bytes = omega arith
 -- A close is an append too. What ends a session is answered as a question.
 abbrev pub kind_of : Arrival → RequestKind
 kind_of (an_append append) = appending
-kind_of (a_question question) = asking
+kind_of (a_question question) = asking (longest_answer question.query)
 
 -- the longest replies to arrivals, all of them
 abbrev pub longest_replies : List Arrival → ℕ

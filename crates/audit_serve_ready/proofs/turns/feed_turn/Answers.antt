@@ -1,7 +1,7 @@
 use Rattle.std.proofs.Common.{◌≡◌, ◌+◌, ◌<◌, ◌≤◌, ℕ, List, ◌∷◌, [], length, take, drop, sym, ap, subst, ◌∙◌, arith, true≢false}
 use Rattle.audit_serve_passes.specs.declared.limits.TheConstants.{MAX_PIECE}
 use Rattle.audit_serve_passes.specs.Steps.{a_piece}
-use Rattle.audit_serve_passes.specs.Core.{GoesBy, no_bytes}
+use Rattle.audit_serve_passes.specs.Core.{GoesBy, asked_by, no_bytes}
 use Rattle.audit_serve_ready.specs.Slot.{unread_of}
 use Rattle.audit_serve_ready.specs.Reading.{has_moved, IsFedPiece}
 use Rattle.audit_serve_ready.specs.Places.{StopsAtPlace}
@@ -47,7 +47,7 @@ returns-after-taken-gt0-clause-done g c =
     (subst (λ (all : List ℕ). c.share.result.left ≤ c.feed_within.new.allowance.session.left + M.replies old k (take taken all)) bytes c.in-Ok.ensures.spent))
     (record {
       fewer = c.in-Ok.ensures.fewer;
-      spent = omega (arith, subst (λ (all : List ℕ). c.args.questions.now.left ≤ c.feed_within.new.allowance.questions.left + M.replies old k (take taken all)) bytes c.in-Ok.ensures.asked);
+      spent = omega (arith, subst (λ (all : List ℕ). c.args.questions.now.left ≤ c.feed_within.new.allowance.questions.left + asked_by (M.requests old k (take taken all))) bytes c.in-Ok.ensures.asked);
     }))
 
 pub returns-in-Err-clause-stopped : goal.returns-in-Err-clause-stopped
