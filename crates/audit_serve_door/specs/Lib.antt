@@ -5,3 +5,4 @@ pub mod Orders
 pub mod Choice
 pub mod Nonblocking
 pub mod Waits
+pub mod Comings

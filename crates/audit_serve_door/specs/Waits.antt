@@ -1,5 +1,5 @@
 -- The connections that wait for a place, by their numbers.
-use Rattle.std.specs.Prelude.{◌≡◌, ℕ, Option, Some, None}
+use Rattle.std.specs.Prelude.{◌≡◌, ◌⊎◌, ℕ, Option, Some, None}
 use Rattle.std.specs.Ordering.{nat_cmp}
 use Rattle.std.specs.BTreeMap.{get}
 use Rattle.audit_serve_passes.specs.declared.rights.Rights.{Rights}
@@ -30,3 +30,23 @@ pub record KeepsOthers (number : ℕ) (old new : Waiting) : Type 0 where
   pub silent : (other : ℕ) → (other ≡ number → ⊥) → silent_at new other ≡ silent_at old other
   pub heard : (allowed : Rights) (other : ℕ) → (other ≡ number → ⊥)
       → heard_with allowed new other ≡ heard_with allowed old other
+
+-- a connection waits with this number
+abbrev pub WaitsWith : Waiting → ℕ → Arrival → Type 0
+WaitsWith waiting number arrival = (silent_at waiting number ≡ Some arrival)
+    ⊎ ((allowed : Rights) × (heard_with allowed waiting number ≡ Some arrival))
+
+-- nobody has come: whoever waits now waited before with the same number
+pub record NobodyCame (old new : Waiting) : Type 0 where
+  pub each : (number : ℕ) (arrival : Arrival) → WaitsWith new number arrival → WaitsWith old number arrival
+
+-- this one has come, or nobody
+pub record HasCome (came : Arrival) (old new : Waiting) : Type 0 where
+  pub each : (number : ℕ) (arrival : Arrival) → WaitsWith new number arrival
+      → WaitsWith old number arrival ⊎ (arrival ≡ came)
+
+-- A connection that had sent something was taken out. If two had the same number, it was the one that doesn't only read.
+pub record IsTakenOut (number : ℕ) (old new : Waiting) : Type 0 where
+  pub nobody : NobodyCame old new
+  pub other : heard_with rights.Close new number ≡ None
+  pub reader : heard_with rights.Close old number ≡ None → heard_with rights.Read new number ≡ None

@@ -1,6 +1,5 @@
 ghost use Rattle.std.specs.Prelude.{◌≡◌, map};
 ghost use Rattle.audit_serve_door.specs.Entrances.{rights_of, mode_of};
-ghost use Rattle.audit_serve_ready.specs.Door.{unknown_door};
 
 use crate::choice::next_entry;
 use crate::client::Client;
@@ -81,6 +80,8 @@ impl<'a, C: Clock, J: Journal + Drop, W: Watch + Drop> SocketDoor<'a, C, J, W> {
     ghost use Rattle.std.specs.Prelude.{◌≡◌, map, IfOk, IfSome};
     ghost use Rattle.audit_serve_door.specs.Entrances.{rights_of, rights_at_arrival, rights_of_door, idle_of_door};
     ghost use Rattle.audit_serve_door.specs.Entrances.{mode_of, modes_of_door};
+    ghost use Rattle.std.specs.Prelude.{IsSome};
+    ghost use Rattle.audit_serve_door.specs.Waits.{NobodyCame};
 
     /// Makes a door with these entrances: those of clients that only read come before the others. A client that moves
     /// no byte for the time `idle` is dismissed when another one waits; without that time no client is. No reply leaves
@@ -249,7 +250,9 @@ impl<'a, C: Clock, J: Journal + Drop, W: Watch + Drop> SocketDoor<'a, C, J, W> {
         number: usize,
         mut arrival: Arrival,
     ) -> Option<Newcomer<Client>>
-        ensures { IfSome result (λ newcomer. newcomer.rights ≡ rights_at_arrival arrival) }
+        ensures rights { IfSome result (λ newcomer. newcomer.rights ≡ rights_at_arrival arrival) }
+        ensures nobody { NobodyCame self.old.waiting self.new.waiting }
+        ensures waiting { IsSome result → self.new.waiting ≡ self.old.waiting }
     {
         let registry = self.poll.registry();
         if arrival.reregister(registry, Token(number)).is_err() {
@@ -380,9 +383,11 @@ fn register_all(
     Ok(())
 }
 
-/// Nothing is known of its calls: who comes, and when, is the system's.
+/// Of its calls is known who waits, and who is given a place. Who comes, and when, is the system's.
 impl<C: Clock, J: Journal + Drop, W: Watch + Drop> Door for SocketDoor<'_, C, J, W> {
-    ghost calls = { unknown_door };
+    ghost use Rattle.audit_serve_door.specs.Comings.{socket_door_calls};
+
+    ghost calls = { socket_door_calls };
 
     type Stream = Client;
 

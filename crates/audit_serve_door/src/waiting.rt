@@ -21,6 +21,7 @@ impl Waiting {
     ghost use Rattle.audit_serve_door.specs.declared.entrance.Arrival.{Arrival};
     ghost use Rattle.audit_serve_door.specs.Entrances.{rights_at_arrival};
     ghost use Rattle.audit_serve_door.specs.Waits.{silent_at, heard_with, heard_at, KeepsOthers};
+    ghost use Rattle.audit_serve_door.specs.Waits.{NobodyCame, HasCome, IsTakenOut};
 
     /// Nobody.
     pub(crate) fn new(alloc: Global) -> Waiting {
@@ -36,6 +37,7 @@ impl Waiting {
     pub(crate) fn admit(&mut self, number: usize, arrival: Arrival) -> bool
         ensures waits { result ≡ true → silent_at self.new number ≡ Some arrival }
         ensures others { KeepsOthers number self.old self.new }
+        ensures came { HasCome arrival self.old self.new }
     {
         self.silent.insert(number, arrival).is_ok()
     }
@@ -46,6 +48,7 @@ impl Waiting {
         ensures heard { result ≡ true → (arrival : Arrival) → silent_at self.old number ≡ Some arrival
             → heard_with (rights_at_arrival arrival) self.new number ≡ Some arrival }
         ensures others { KeepsOthers number self.old self.new }
+        ensures nobody { NobodyCame self.old self.new }
     {
         let Some(arrival) = self.silent.remove(&number) else {
             return true;
@@ -63,17 +66,23 @@ impl Waiting {
     }
 
     /// Notes that a connection that doesn't only read has hung up.
-    pub(crate) fn close(&mut self, number: usize) {
+    pub(crate) fn close(&mut self, number: usize)
+        ensures { NobodyCame self.old self.new }
+    {
         let _ = self.closing.insert(number);
     }
 
     /// Notes that a client has left, or that it was dropped.
-    pub(crate) fn forget(&mut self, number: usize) {
+    pub(crate) fn forget(&mut self, number: usize)
+        ensures { NobodyCame self.old self.new }
+    {
         let _ = self.closing.remove(&number);
     }
 
     /// Drops the oldest connection that has sent nothing. Returns whether there was one.
-    pub(crate) fn drop_silent(&mut self) -> bool {
+    pub(crate) fn drop_silent(&mut self) -> bool
+        ensures { NobodyCame self.old self.new }
+    {
         self.silent.pop_first().is_some()
     }
 
@@ -105,6 +114,7 @@ impl Waiting {
     pub(crate) fn take(&mut self, number: usize) -> Option<Arrival>
         ensures given { result ≡ heard_at self.old number }
         ensures others { KeepsOthers number self.old self.new }
+        ensures out { IsTakenOut number self.old self.new }
     {
         match self.others.remove(&number) {
             Some(arrival) => Some(arrival),

@@ -3,7 +3,7 @@ use Rattle.std.proofs.Common.{◌∙◌, map, sym, ap, subst}
 use Rattle.audit_serve_door.specs.Entrances.{rights_of, rights_of_door, mode_of, modes_of_door, idle_of_door}
 use Rattle.audit_serve_door.specs.Metered.{metered_calls}
 use Rattle.audit_serve_door.specs.Nonblocking.{nonblocking_calls, unknown_prompt}
-use Rattle.audit_serve_ready.specs.Door.{unknown_door}
+use Rattle.audit_serve_door.specs.Comings.{socket_door_calls}
 use Rattle.audit_cli_daemon.specs.Carried.{ServesAtDoor}
 use Rattle.audit_cli_daemon.specs.Gauged.{gauged_calls}
 use Rattle.audit_cli_daemon.specs.Rights.{IsIdleTime, IsDoorFor}
@@ -13,7 +13,7 @@ use Rattle.audit_cli_daemon.proofs.request.serve_listening.Goals as goal
 pub returns-clause-served : goal.returns-clause-served
 returns-clause-served g c =
     let N = metered_calls (nonblocking_calls unknown_prompt) in
-    let doors = gauged_calls unknown_door in
+    let doors = gauged_calls socket_door_calls in
     let opens = IsDoorFor (map rights_of c.args.listening.entrances.items) (map mode_of c.args.listening.entrances.items) c.args.judged.idle in
     let first : opens c.new-gauged.result = record {
       rights_are = ap rights_of_door c.new-gauged.ensures ∙ c.in-Ok.ensures.rights;

@@ -1,0 +1,8 @@
+use Rattle.std.proofs.Common.{refl}
+use Rattle.audit_serve_door.proofs.socket_door.SocketDoorDoor.asks_again.Goals as goal
+
+pub returns-in_default : goal.returns-in_default
+returns-in_default g c = (_, tt, refl)
+
+pub returns : goal.returns
+returns g c = (_, tt, refl)

@@ -1,0 +1,8 @@
+use Rattle.std.proofs.Common.{refl}
+use Rattle.audit_serve_door.proofs.socket_door.SocketDoorDoor.dismisses.Goals as goal
+
+pub returns-then-is_idle : goal.returns-then-is_idle
+returns-then-is_idle g c = (_, tt, refl)
+
+pub returns-else-is_idle : goal.returns-else-is_idle
+returns-else-is_idle g c = (_, tt, refl)
