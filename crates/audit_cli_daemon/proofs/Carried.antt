@@ -58,12 +58,12 @@ pub others_by : (may_close : Bool) (others : Rights) → (may_close ≡ true →
 others_by true others closing appending = closing refl
 others_by false others closing appending = appending refl
 
-module _ {D : Type 0} (g : sectors.Ghosts D) {S C J W F T : Type 0} (N : CallModel S) (doors : DoorModel (GaugedDoor (SocketDoor C J W) F T) S) where
+module _ {D : Type 0} (g : sectors.Ghosts D) (At : List ℕ → Store D g → Type 0) {S C J W F T : Type 0} (N : CallModel S) (doors : DoorModel (GaugedDoor (SocketDoor C J W) F T) S) where
   pub performed : (settings : Settings) (readers : Option (Bor (List ℕ))) (others : Rights) (idle reserve backlog mode : ℕ) (opened : Store D g) (before after : Option (List ℕ)) (done : Ending) → readers ≡ settings.reader → others ≡ rights_of_others settings.may_close
-      → number_asked settings.idle DEFAULT_IDLE ≡ Ok idle → number_asked settings.reserve DEFAULT_RESERVE ≡ Ok reserve → backlog_asked settings.backlog ≡ Ok backlog → (settings.socket_mode ≡ None → mode ≡ OWNER_ONLY) → IfSome settings.socket_mode (λ word. IsMode word.now mode)
-      → OnOk done (ServesBetween N doors (IsDoorFor (rights_at readers others) (modes_at readers mode) idle) reserve backlog opened before after) → IsDaemonDone g N doors settings before after done
-  performed settings readers others idle reserve backlog mode opened before after (Err fault) readers_are others_are idle_is reserve_is backlog_is owner mode_is served = tt
-  performed settings readers others idle reserve backlog mode opened before after (Ok done) readers_are others_are idle_is reserve_is backlog_is owner mode_is served = record {
+      → number_asked settings.idle DEFAULT_IDLE ≡ Ok idle → number_asked settings.reserve DEFAULT_RESERVE ≡ Ok reserve → backlog_asked settings.backlog ≡ Ok backlog → (settings.socket_mode ≡ None → mode ≡ OWNER_ONLY) → IfSome settings.socket_mode (λ word. IsMode word.now mode) → At settings.file.now opened
+      → OnOk done (ServesBetween N doors (IsDoorFor (rights_at readers others) (modes_at readers mode) idle) reserve backlog opened before after) → IsDaemonDone g At N doors settings before after done
+  performed settings readers others idle reserve backlog mode opened before after (Err fault) readers_are others_are idle_is reserve_is backlog_is owner mode_is at served = tt
+  performed settings readers others idle reserve backlog mode opened before after (Ok done) readers_are others_are idle_is reserve_is backlog_is owner mode_is at served = record {
     reserve = reserve;
     reserve_is = reserve_is;
     backlog = backlog;
@@ -74,6 +74,7 @@ module _ {D : Type 0} (g : sectors.Ghosts D) {S C J W F T : Type 0} (N : CallMod
     owner = owner;
     mode_is = mode_is;
     opened = opened;
+    at = at;
     served =
         subst (λ (there : Option (Bor (List ℕ))). ServesBetween N doors (IsDoorFor (rights_at there (rights_of_others settings.may_close)) (modes_at there mode) idle) reserve backlog opened before after) readers_are
         (subst (λ (allowed : Rights). ServesBetween N doors (IsDoorFor (rights_at readers allowed) (modes_at readers mode) idle) reserve backlog opened before after) others_are served);

@@ -1,4 +1,4 @@
--- What running a daemon comes to, apart from its files and its sockets.
+-- What running a daemon comes to, apart from its sockets.
 use Rattle.std.specs.Prelude.{◌≡◌, ◌⊎◌, ℕ, Option, None, Result, Ok, Err, List, ◌++◌, IfSome}
 use Rattle.std.specs.Io.KnownBytes.{Appends, Keeps}
 use Rattle.audit_disk_model.specs.declared.sectors.Sectors as sectors
@@ -37,10 +37,12 @@ module _ {D : Type 0} {g : sectors.Ghosts D} {S E : Type 0} (N : CallModel S) (d
     pub served : ServesAtDoor reserve backlog opened left
     pub lines : Appends before after (ready_line (active_header opened) ++ stopped_line (active_header left))
 
-module _ {D : Type 0} (g : sectors.Ghosts D) {S C J W F T : Type 0} (N : CallModel S)
-    (doors : DoorModel (GaugedDoor (SocketDoor C J W) F T) S) where
-  -- So were they over the store that was opened, with the reserve and the backlog that were asked for, and came in by
-  -- sockets with the rights, the permissions and the time for idle clients that were asked for.
+-- `At` says at which path a store was opened.
+module _ {D : Type 0} (g : sectors.Ghosts D) (At : List ℕ → Store D g → Type 0) {S C J W F T : Type 0}
+    (N : CallModel S) (doors : DoorModel (GaugedDoor (SocketDoor C J W) F T) S) where
+  -- So were they over the store that was opened in the file that was named, with the reserve and the backlog that were
+  -- asked for, and came in by sockets with the rights, the permissions and the time for idle clients that were asked
+  -- for.
   pub record ServesClientsAsked (settings : Settings) (before after : Option (List ℕ)) : Type 0 where
     pub reserve : ℕ
     pub reserve_is : number_asked settings.reserve DEFAULT_RESERVE ≡ Ok reserve
@@ -52,6 +54,7 @@ module _ {D : Type 0} (g : sectors.Ghosts D) {S C J W F T : Type 0} (N : CallMod
     pub owner : settings.socket_mode ≡ None → mode ≡ OWNER_ONLY
     pub mode_is : IfSome settings.socket_mode (λ word. IsMode word.now mode)
     pub opened : Store D g
+    pub at : At settings.file.now opened
     pub served : ServesBetween N doors
         (IsDoorFor (rights_at settings.reader (rights_of_others settings.may_close)) (modes_at settings.reader mode)
         idle) reserve backlog opened before after

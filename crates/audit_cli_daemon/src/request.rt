@@ -6,6 +6,7 @@ ghost use Rattle.audit_serve_ready.specs.declared.limits.TheConstants.{MAX_BACKL
 ghost use Rattle.audit_cli_base.specs.Arguments.{number_asked};
 ghost use Rattle.audit_cli_base.specs.Faults.{IsNoWordFault};
 ghost use Rattle.audit_cli_base.specs.Mode.{IsMode};
+ghost use Rattle.audit_cli_base.specs.OpenedStore.{IsStoreAt};
 ghost use Rattle.audit_cli_daemon.specs.declared.request.Settings.{Settings};
 ghost use Rattle.audit_disk.specs.declared.files.TheConstants.{OWNER_ONLY};
 ghost use Rattle.audit_cli_daemon.specs.declared.arguments.TheConstants.{DEFAULT_IDLE, DEFAULT_RESERVE};
@@ -111,10 +112,11 @@ where
     ensures only { (settings : Settings) → request.entry ≡ Request.Run settings → result ≡ Status.Usage
         → HasBadSetting settings }
     ensures unwritten { HasBadWord request.entry → Keeps (W.contents output.old) (W.contents output.new) }
-    // The status is that of the result. On success clients were served over the store, with the reserve and the backlog
-    // that were asked for, and its first and last state were written.
+    // The status is that of the result. On success clients were served over the store that was opened in the file that
+    // was named, with the reserve and the backlog that were asked for, and its first and last state were written.
     ensures carried { (settings : Settings) → request.entry ≡ Request.Run settings
-        → IsDaemonCarriedOut ⟦<FileDevice<F::File> as Sectors>⟧ ⟦<Client as ReadyStream>⟧.calls
+        → IsDaemonCarriedOut ⟦<FileDevice<F::File> as Sectors>⟧
+        (IsStoreAt F.File.facts F.File.positioned) ⟦<Client as ReadyStream>⟧.calls
         ⟦<DaemonDoor<F, F::File, Sparing<'static, M>> as Door>⟧.calls settings
         (W.contents output.old) (W.contents output.new) result }
 {
@@ -141,7 +143,8 @@ where
     ensures words { HasBadSetting settings.entry → (result ≡ Status.Usage) ⊎ (result ≡ Status.Device) }
     ensures only { result ≡ Status.Usage → HasBadSetting settings.entry }
     ensures unwritten { HasBadSetting settings.entry → Keeps (W.contents output.old) (W.contents output.new) }
-    ensures carried { IsDaemonCarriedOut ⟦<FileDevice<F::File> as Sectors>⟧ ⟦<Client as ReadyStream>⟧.calls
+    ensures carried { IsDaemonCarriedOut ⟦<FileDevice<F::File> as Sectors>⟧
+        (IsStoreAt F.File.facts F.File.positioned) ⟦<Client as ReadyStream>⟧.calls
         ⟦<DaemonDoor<F, F::File, Sparing<'static, M>> as Door>⟧.calls settings.entry
         (W.contents output.old) (W.contents output.new) result }
 {
@@ -165,7 +168,8 @@ where
     ensures words { HasBadSetting settings.entry → (result ≡ Status.Usage) ⊎ (result ≡ Status.Device) }
     ensures only { result ≡ Status.Usage → HasBadSetting settings.entry }
     ensures unwritten { HasBadSetting settings.entry → Keeps (W.contents output.old) (W.contents output.new) }
-    ensures carried { IsDaemonCarriedOut ⟦<FileDevice<F::File> as Sectors>⟧ ⟦<Client as ReadyStream>⟧.calls
+    ensures carried { IsDaemonCarriedOut ⟦<FileDevice<F::File> as Sectors>⟧
+        (IsStoreAt F.File.facts F.File.positioned) ⟦<Client as ReadyStream>⟧.calls
         ⟦<DaemonDoor<F, F::File, Sparing<'static, M>> as Door>⟧.calls settings.entry
         (W.contents output.old) (W.contents output.new) result }
 {
@@ -193,7 +197,8 @@ where
     ensures words { HasBadSetting settings.entry → result ≡ Err CommandError.BadArgument }
     ensures only { result ≡ Err CommandError.BadArgument → HasBadSetting settings.entry }
     ensures unwritten { HasBadSetting settings.entry → Keeps (W.contents output.old) (W.contents output.new) }
-    ensures served { IsDaemonDone ⟦<FileDevice<F::File> as Sectors>⟧ ⟦<Client as ReadyStream>⟧.calls
+    ensures served { IsDaemonDone ⟦<FileDevice<F::File> as Sectors>⟧
+        (IsStoreAt F.File.facts F.File.positioned) ⟦<Client as ReadyStream>⟧.calls
         ⟦<DaemonDoor<F, F::File, Sparing<'static, M>> as Door>⟧.calls settings.entry
         (W.contents output.old) (W.contents output.new) result }
 {
