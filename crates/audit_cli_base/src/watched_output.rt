@@ -30,7 +30,8 @@ impl<'a, 'b, R: Files + Clock, W: Write> WatchedOutput<'a, 'b, R, W> {
     /// An output of a command whose store is watched.
     pub fn new(watch: StoreWatch<'a, R>, output: &'b mut W) -> WatchedOutput<'a, 'b, R, W>
         ensures same_reference { result.output.ghost_name ≡ output.entry.ghost_name }
-        ensures bytes { watched_bytes W.contents result ≡ after_reference output.entry.ghost_name (W.contents output.old) }
+        ensures bytes { watched_bytes W.contents result
+            ≡ after_reference output.entry.ghost_name (W.contents output.old) }
     {
         let StoreWatch {
             rt,

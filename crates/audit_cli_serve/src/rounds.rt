@@ -51,7 +51,8 @@ where
         × ReachesByRounds T.calls L.model sessions turns store result.0 socket.old socket.new) }
     // The error states why serving stopped, and what a refusal states about the store holds. Each round that was served
     // has its line, except that the last one may be cut off: then nothing more is written.
-    ensures fault { IfErr result.1 (λ fault. (text : List ℕ) × Appends (W.contents writer.old) (W.contents writer.new) text
+    ensures fault { IfErr result.1 (λ fault. (text : List ℕ)
+        × Appends (W.contents writer.old) (W.contents writer.new) text
         × StopsRounds T.calls L.model sessions store result.0 socket.old socket.new text fault) }
 {
     let mut store = store;

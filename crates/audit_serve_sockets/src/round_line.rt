@@ -17,7 +17,8 @@ pub fn write_round<W: Write>(
     writer: &mut W,
 ) -> Result<(), LinesError>
     ensures written { OnOk result (Appends (W.contents writer.old) (W.contents writer.new) (round_line round turns)) }
-    ensures part { OnErr result (WritesInPart (W.contents writer.old) (W.contents writer.new) (round_line round turns)) }
+    ensures part { OnErr result (WritesInPart (W.contents writer.old) (W.contents writer.new)
+        (round_line round turns)) }
     ensures fault { IfErr result (λ cause. (cause ≡ fault.Write) ⊎ (cause ≡ fault.Memory)) }
 {
     let line = line_of(alloc, round, turns)?;
