@@ -26,7 +26,7 @@ _audit() {
     loop) options="$options --socket-mode" ;;
     daemon) options="$options --reader --allow-close --idle --backlog --reserve --socket-mode" ;;
     send) options="$options --text --long --window --timeout" ;;
-    ask) options="$options --timeout" ;;
+    ask) options="$options --from --timeout" ;;
     watch) options="$options --every --timeout --quiet" ;;
     read) options="$options --first --under --text --numbers --json --kind --every --timeout" ;;
     help) options= ;;

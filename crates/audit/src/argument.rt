@@ -45,8 +45,8 @@ pub(crate) fn explain_argument<F: Files, M: Write>(
         return writeln!(messages, "audit: {wrong}");
     }
     match asked {
-        Asked::Remote(Remote::Ask { question, .. }) => {
-            writeln!(messages, "audit: {}", bad_question(question))
+        Asked::Remote(Remote::Ask { question, from, .. }) => {
+            writeln!(messages, "audit: {}", bad_question(question, from))
         }
         Asked::Plain(Request::Check { proof, newer, .. }) => {
             let (kind, number) = match newer {

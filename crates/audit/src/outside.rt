@@ -73,6 +73,12 @@ pub(crate) fn explain_outside<F: Files, M: Write>(
         }
         Asked::Remote(
             Remote::Ask {
+                from: Some(from),
+                ..
+            },
+        ) => ("--from", Some(from), None, notes.count()),
+        Asked::Remote(
+            Remote::Ask {
                 question: (name, first, second, _),
                 ..
             },

@@ -18,6 +18,8 @@ pub(crate) enum BadQuestion<'a> {
     Word(Wrong<'a>),
     /// What an export is written to isn't a regular file.
     Out(&'a str),
+    /// It is no export, and has the index of the first entry of one.
+    From(&'a str),
 }
 
 impl Display for BadQuestion<'_> {
@@ -32,16 +34,20 @@ impl Display for BadQuestion<'_> {
             BadQuestion::Words(name, words) => write!(f, "{}: it takes {words}", Shown(name)),
             BadQuestion::Word(wrong) => write!(f, "{wrong}"),
             BadQuestion::Out(out) => write!(f, "{}: OUT is a regular file, or is made", Shown(out)),
+            BadQuestion::From(name) => write!(f, "{}: --from is for an export", Shown(name)),
         }
     }
 }
 
 /// What is wrong with a question whose words were refused, but for the path of the socket and the time.
-pub(crate) fn bad_question<'a>(words: Words<'a>) -> BadQuestion<'a> {
+pub(crate) fn bad_question<'a>(words: Words<'a>, from: Option<&'a str>) -> BadQuestion<'a> {
     let (name, first, second, third) = words;
     let Some(wanted) = wanted_words(name) else {
         return BadQuestion::Name(name);
     };
+    if from.is_some() && name != "export" {
+        return BadQuestion::From(name);
+    }
     let bad_words = BadQuestion::Words(name, wanted);
     match (first, second, third) {
         (Some(out), None, None) if name == "export" => BadQuestion::Out(out),

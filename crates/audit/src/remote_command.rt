@@ -16,6 +16,7 @@ pub fn remote_request<'a>(name: &str, given: &ArgMatches<'a>) -> Option<Remote<'
                 given.get_str("B"),
                 given.get_str("C"),
             ),
+            from: given.get_str("from"),
             timeout,
         }),
         "send" => Some(Remote::Send {

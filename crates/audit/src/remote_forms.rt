@@ -75,13 +75,22 @@ static ASK: Form = Form {
             is_required: false,
         },
     ],
-    options: &[Choice {
-        name: "timeout",
-        value: Some("SECONDS"),
-        help: "How long the server has for each reply, 1 to 86400 [default: 30]",
-        needs: None,
-        excludes: None,
-    }],
+    options: &[
+        Choice {
+            name: "from",
+            value: Some("INDEX"),
+            help: "Writes the entries of an export from this index on alone",
+            needs: None,
+            excludes: None,
+        },
+        Choice {
+            name: "timeout",
+            value: Some("SECONDS"),
+            help: "How long the server has for each reply, 1 to 86400 [default: 30]",
+            needs: None,
+            excludes: None,
+        },
+    ],
 };
 
 static WATCH: Form = Form {

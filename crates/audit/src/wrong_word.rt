@@ -143,10 +143,13 @@ fn wrong_in_remote<'a>(request: Remote<'a>) -> Option<Wrong<'a>> {
     match request {
         Remote::Ask {
             socket,
+            from,
             timeout,
             ..
         } => {
-            judge("SOCKET", Some(socket), Form::Socket).or(judge("--timeout", timeout, SECONDS))
+            judge("SOCKET", Some(socket), Form::Socket)
+                .or(judge("--from", from, Form::ANY))
+                .or(judge("--timeout", timeout, SECONDS))
         }
         Remote::Send {
             socket,

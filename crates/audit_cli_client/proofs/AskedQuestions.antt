@@ -1,7 +1,7 @@
 -- Questions that were asked, and their answers put and printed.
-use Rattle.std.specs.Prelude.{◌≡◌, ◌⊎◌, ℕ, Option, List, Result, Ok, Err, IfOk, IfErr, OnOk, length}
+use Rattle.std.specs.Prelude.{◌≡◌, ◌⊎◌, ℕ, Option, Some, None, List, Result, Ok, Err, IfOk, IfErr, OnOk, length}
 use Rattle.std.specs.List.{concat}
-use Rattle.std.proofs.Common.{inl, inr, refl, sym, subst}
+use Rattle.std.proofs.Common.{inl, inr, refl, sym, ap, subst}
 use Rattle.audit_proof.specs.declared.commitment.Commitment.{Commitment}
 use Rattle.audit_client.specs.declared.exporting.Export.{Export}
 use Rattle.audit_client.specs.declared.fault.ClientError.{ClientError}
@@ -17,6 +17,7 @@ use Rattle.audit_cli_client.specs.declared.arguments.Question.TheVariants as que
 use Rattle.audit_cli_client.specs.declared.fault.RemoteError.{RemoteError}
 use Rattle.audit_cli_client.specs.declared.fault.RemoteError.TheVariants.{Server}
 use Rattle.audit_cli_client.specs.Asked.{AsksOnly, AnswersQuestion, GivesLast, IsGivenEvidence, FailsEvidence}
+use Rattle.audit_cli_client.specs.Arguments.{judged_question}
 use Rattle.audit_cli_client.specs.Faults.{of_asking}
 use denote.Ref.{Bor}
 
@@ -25,11 +26,11 @@ pub given_of : {E : Type 0} (put : Result ℕ E) (IsPut IsGiven : List ℕ → T
 given_of (Ok size) IsPut IsGiven h = (h.0, h.3)
 given_of (Err error) IsPut IsGiven h = tt
 
-pub entries_of : {E : Type 0} (put : Result Export E) (file : Option (Option (List ℕ))) (w0 w1 r0 r1 : Option (List ℕ))
-    → IfOk put (λ export. (entries : List (List ℕ)) × (export.count ≡ length entries) × (export.size ≡ length (concat entries)) × IsFile file (concat entries) × GivesExport w0 w1 r0 r1 entries)
-    → OnOk put ((bytes : List ℕ) × AreGivenEntries w0 w1 r0 r1 bytes)
-entries_of (Ok export) file w0 w1 r0 r1 h = (concat h.0, (h.0, h.4, refl))
-entries_of (Err error) file w0 w1 r0 r1 h = tt
+pub entries_of : {E : Type 0} (put : Result Export E) (file : Option (Option (List ℕ))) (w0 w1 r0 r1 : Option (List ℕ)) (first : ℕ)
+    → IfOk put (λ export. (entries : List (List ℕ)) × (export.count ≡ length entries) × (export.size ≡ length (concat entries)) × IsFile file (concat entries) × GivesExport w0 w1 r0 r1 first entries)
+    → OnOk put ((bytes : List ℕ) × AreGivenEntries w0 w1 r0 r1 first bytes)
+entries_of (Ok export) file w0 w1 r0 r1 first h = (concat h.0, (h.0, h.4, refl))
+entries_of (Err error) file w0 w1 r0 r1 first h = tt
 
 -- an answer that couldn't be printed
 answered : (w0 w1 r0 r1 : Option (List ℕ)) (asked : Question) (result : Result (Unit {0}) RemoteError) → AnswersQuestion w0 w1 r0 r1 asked → AsksOnly w0 w1 r0 r1 asked result
@@ -54,12 +55,17 @@ evidence_asked (Err (asking.Client error)) result w0 w1 r0 r1 asked out given (i
 evidence_asked (Err (asking.Client error)) result w0 w1 r0 r1 asked out given (inr had) passes = answered w0 w1 r0 r1 (question.Evidence asked out) result had.1
 evidence_asked (Err (asking.Out error)) result w0 w1 r0 r1 asked out given had passes = answered w0 w1 r0 r1 (question.Evidence asked out) result had
 
-pub export_asked : (put : Result Export (AskError RemoteError)) (result : Result (Unit {0}) RemoteError) (w0 w1 r0 r1 : Option (List ℕ)) (out : Bor (List ℕ)) → OnOk put ((bytes : List ℕ) × AreGivenEntries w0 w1 r0 r1 bytes)
-    → IfErr put (FailsPutting ⊥ (IsUnasked w0 w1 r0 r1 ⊎ ((bytes : List ℕ) × AreGivenEntries w0 w1 r0 r1 bytes)) (λ error. (old new : Option (List ℕ)) × FailsExport w0 w1 r0 r1 old new error))
-    → ((error : AskError RemoteError) → put ≡ Err error → result ≡ Err (of_asking error)) → AsksOnly w0 w1 r0 r1 (question.Export out) result
-export_asked (Ok export) result w0 w1 r0 r1 out given fails passes = answered w0 w1 r0 r1 (question.Export out) result given
-export_asked (Err (asking.Client error)) result w0 w1 r0 r1 out given (inl fails) passes =
-    subst (AsksOnly w0 w1 r0 r1 (question.Export out)) (sym (passes (asking.Client error) refl)) (inl (error, refl, fails))
-export_asked (Err (asking.Client error)) result w0 w1 r0 r1 out given (inr none) passes = absurd none.1
-export_asked (Err (asking.Out error)) result w0 w1 r0 r1 out given (inl unasked) passes = subst (AsksOnly w0 w1 r0 r1 (question.Export out)) (sym (passes (asking.Out error) refl)) (inr (inr unasked))
-export_asked (Err (asking.Out error)) result w0 w1 r0 r1 out given (inr had) passes = answered w0 w1 r0 r1 (question.Export out) result had
+pub export_asked : (put : Result Export (AskError RemoteError)) (result : Result (Unit {0}) RemoteError) (w0 w1 r0 r1 : Option (List ℕ)) (out : Bor (List ℕ)) (first : ℕ) → OnOk put ((bytes : List ℕ) × AreGivenEntries w0 w1 r0 r1 first bytes)
+    → IfErr put (FailsPutting ⊥ (IsUnasked w0 w1 r0 r1 ⊎ ((bytes : List ℕ) × AreGivenEntries w0 w1 r0 r1 first bytes)) (λ error. (old new : Option (List ℕ)) × FailsExport w0 w1 r0 r1 first old new error))
+    → ((error : AskError RemoteError) → put ≡ Err error → result ≡ Err (of_asking error)) → AsksOnly w0 w1 r0 r1 (question.Export out first) result
+export_asked (Ok export) result w0 w1 r0 r1 out first given fails passes = answered w0 w1 r0 r1 (question.Export out first) result given
+export_asked (Err (asking.Client error)) result w0 w1 r0 r1 out first given (inl fails) passes =
+    subst (AsksOnly w0 w1 r0 r1 (question.Export out first)) (sym (passes (asking.Client error) refl)) (inl (error, refl, fails))
+export_asked (Err (asking.Client error)) result w0 w1 r0 r1 out first given (inr none) passes = absurd none.1
+export_asked (Err (asking.Out error)) result w0 w1 r0 r1 out first given (inl unasked) passes = subst (AsksOnly w0 w1 r0 r1 (question.Export out first)) (sym (passes (asking.Out error) refl)) (inr (inr unasked))
+export_asked (Err (asking.Out error)) result w0 w1 r0 r1 out first given (inr had) passes = answered w0 w1 r0 r1 (question.Export out first) result had
+
+-- the question of words that are right
+pub asked_of : (words : Option Question) (asked : Question) → judged_question words ≡ Ok asked → words ≡ Some asked
+asked_of None asked same = absurd (cc same)
+asked_of (Some question) asked same = ap Some (let e : question ≡ asked = cc same in e)

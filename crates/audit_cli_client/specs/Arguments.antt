@@ -74,7 +74,7 @@ abbrev pub question_in : List ℕ → Option (Bor (List ℕ)) → Option (Bor (L
 question_in name None None None =
     if bytes_eq name (codes "commitment") then Some question.Commitment
     else if bytes_eq name (codes "close") then Some question.Close else None
-question_in name (Some out) None None = if bytes_eq name (codes "export") then Some (question.Export out) else None
+question_in name (Some out) None None = if bytes_eq name (codes "export") then Some (question.Export out 0) else None
 question_in name (Some index) (Some out) None =
     if bytes_eq name (codes "entry") then entry_question out (number_in_text index.now) else None
 question_in name (Some first) (Some second) (Some out) =
@@ -82,6 +82,17 @@ question_in name (Some first) (Some second) (Some out) =
 question_in name None (Some second) third = None
 question_in name None None (Some third) = None
 question_in name (Some first) None (Some third) = None
+
+-- an export from an index on
+abbrev pub export_question : Bor (List ℕ) → Option ℕ → Option Question
+export_question out None = None
+export_question out (Some first) = Some (question.Export out first)
+
+-- the question with the index that an export begins at, if there is a word for it; no other question has one
+abbrev pub question_from : Option (Bor (List ℕ)) → Option Question → Option Question
+question_from None asked = asked
+question_from (Some word) (Some (question.Export out first)) = export_question out (number_in_text word.now)
+question_from (Some word) _ = None
 
 -- another name or number of words, or a number of another form, is a wrong argument
 abbrev pub judged_question : Option Question → Result Question CommandError
@@ -96,8 +107,8 @@ IsNoTask text long window timeout =
 
 -- one of the words that are checked before the socket is opened is wrong
 abbrev pub HasRefusedWord : Request → Type 0
-HasRefusedWord (Ask socket words timeout) =
-    IsNoSocketPath socket.now 0 ⊎ ((question_in words.0.now words.1 words.2 words.3 ≡ None) ⊎ AreNoSeconds timeout)
+HasRefusedWord (Ask socket words first timeout) = IsNoSocketPath socket.now 0
+    ⊎ ((question_from first (question_in words.0.now words.1 words.2 words.3) ≡ None) ⊎ AreNoSeconds timeout)
 HasRefusedWord (Send socket text long window timeout) =
     IsNoSocketPath socket.now 0 ⊎ IsNoTask text long window timeout
 HasRefusedWord (Watch socket state every timeout is_quiet) =
@@ -124,8 +135,9 @@ pub record IsTaskOf (socket state : Bor (List ℕ)) (first under : Option (Bor (
 
 -- what is ordered has the paths, the question and the numbers of the words
 abbrev pub IsOrderOf : Request → Order → Type 0
-IsOrderOf (Ask socket words timeout) (order.Ask path asked seconds) = (path ≡ socket)
-    × (question_in words.0.now words.1 words.2 words.3 ≡ Some asked) × (seconds_or_default timeout ≡ Ok seconds)
+IsOrderOf (Ask socket words first timeout) (order.Ask path asked seconds) = (path ≡ socket)
+    × (question_from first (question_in words.0.now words.1 words.2 words.3) ≡ Some asked)
+    × (seconds_or_default timeout ≡ Ok seconds)
 IsOrderOf (Send socket text long window timeout) (order.Send path task) =
     (path ≡ socket) × HasTaskNumbers text long window timeout task
 IsOrderOf (Watch socket state every timeout is_quiet) (order.Watch post pause) = (post.socket ≡ socket)

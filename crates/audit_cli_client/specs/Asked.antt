@@ -54,8 +54,8 @@ AnswersQuestion written_old written_new read_old read_new question.Close =
     (last : Commitment) × GivesLast written_old written_new read_old read_new last
 AnswersQuestion written_old written_new read_old read_new (question.Evidence asked out) =
     (bytes : List ℕ) × IsGivenEvidence written_old written_new read_old read_new asked bytes
-AnswersQuestion written_old written_new read_old read_new (question.Export out) =
-    (bytes : List ℕ) × AreGivenEntries written_old written_new read_old read_new bytes
+AnswersQuestion written_old written_new read_old read_new (question.Export out first) =
+    (bytes : List ℕ) × AreGivenEntries written_old written_new read_old read_new first bytes
 
 -- It was asked, and this is why it wasn't answered; nothing else was asked.
 abbrev pub FailsQuestion : Option (List ℕ) → Option (List ℕ) → Option (List ℕ) → Option (List ℕ) → Question
@@ -66,12 +66,12 @@ FailsQuestion written_old written_new read_old read_new question.Close error =
     FailsClosing written_old written_new read_old read_new error
 FailsQuestion written_old written_new read_old read_new (question.Evidence asked out) error =
     FailsEvidence written_old written_new read_old read_new asked error
-FailsQuestion written_old written_new read_old read_new (question.Export out) error =
-    (old new : Option (List ℕ)) × FailsExport written_old written_new read_old read_new old new error
+FailsQuestion written_old written_new read_old read_new (question.Export out first) error =
+    (old new : Option (List ℕ)) × FailsExport written_old written_new read_old read_new first old new error
 
 -- a question for which nothing may be asked: the file for an export can't be begun
 abbrev pub IsUnaskedFor : Option (List ℕ) → Option (List ℕ) → Option (List ℕ) → Option (List ℕ) → Question → Type 0
-IsUnaskedFor written_old written_new read_old read_new (question.Export out) =
+IsUnaskedFor written_old written_new read_old read_new (question.Export out first) =
     IsUnasked written_old written_new read_old read_new
 IsUnaskedFor written_old written_new read_old read_new _ = ⊥
 

@@ -1,7 +1,7 @@
 //! Arguments that are checked here, not by the command line's parser.
 ghost use Rattle.std.specs.Prelude.{◌≡◌, Err, None, IfErr};
 ghost use Rattle.audit_cli_client.specs.Arguments.{judged_number, seconds_asked, window_asked};
-ghost use Rattle.audit_cli_client.specs.Arguments.{question_in, judged_question};
+ghost use Rattle.audit_cli_client.specs.Arguments.{question_in, question_from, judged_question};
 ghost use Rattle.audit_text.specs.Number.{number_in_text};
 
 use audit_cli_base::{CommandError, ProofRequest, proof_request};
@@ -20,8 +20,8 @@ pub enum Question<'a> {
     Commitment,
     /// An entry or a proof, and the file for it.
     Evidence(Evidence, &'a str),
-    /// All entries, and the file for them.
-    Export(&'a str),
+    /// All entries from an index on, and the file for them.
+    Export(&'a str, u64),
     /// To close the log.
     Close,
 }
@@ -38,18 +38,37 @@ pub enum Evidence {
 /// The words of a question: its name, and up to three more.
 pub type QuestionWords<'a> = (&'a str, Option<&'a str>, Option<&'a str>, Option<&'a str>);
 
-/// Parses a question. If its name or the number of its words is another, or a number has another form, the error is
-/// `BadArgument`. The numbers themselves are judged by the server.
-pub fn question_asked<'a>(words: QuestionWords<'a>) -> Result<Question<'a>, CommandError>
-    ensures asked { result ≡ judged_question (question_in words.entry.0.now words.entry.1 words.entry.2 words.entry.3) }
-    ensures wrong { question_in words.entry.0.now words.entry.1 words.entry.2 words.entry.3 ≡ None
+/// Parses a question, and the index that an export begins at, 0 if absent. If its name or the number of its words is
+/// another, a number has another form, or another question has an index, the error is `BadArgument`. The numbers
+/// themselves are judged by the server.
+pub fn question_asked<'a>(
+    words: QuestionWords<'a>,
+    from: Option<&'a str>,
+) -> Result<Question<'a>, CommandError>
+    ensures asked { result ≡ judged_question (question_from from.entry
+        (question_in words.entry.0.now words.entry.1 words.entry.2 words.entry.3)) }
+    ensures wrong { question_from from.entry
+        (question_in words.entry.0.now words.entry.1 words.entry.2 words.entry.3) ≡ None
         → result ≡ Err CommandError.BadArgument }
-    ensures fault { IfErr result (λ fault. (fault ≡ CommandError.BadArgument)
-        × (question_in words.entry.0.now words.entry.1 words.entry.2 words.entry.3 ≡ None)) }
+    ensures fault { IfErr result (λ fault. (fault ≡ CommandError.BadArgument) × (question_from from.entry
+        (question_in words.entry.0.now words.entry.1 words.entry.2 words.entry.3) ≡ None)) }
 {
-    match question_in(words) {
+    match question_from(from, question_in(words)) {
         Some(question) => Ok(question),
         None => Err(CommandError::BadArgument),
+    }
+}
+
+fn question_from<'a>(from: Option<&'a str>, asked: Option<Question<'a>>) -> Option<Question<'a>>
+    ensures { result ≡ question_from from.entry asked.entry }
+{
+    match (from, asked) {
+        (None, asked) => asked,
+        (Some(from), Some(Question::Export(out, _))) => {
+            let first = number_in_text(from.as_bytes())?;
+            Some(Question::Export(out, first))
+        }
+        (Some(_), _) => None,
     }
 }
 
@@ -60,7 +79,7 @@ fn question_in<'a>(words: QuestionWords<'a>) -> Option<Question<'a>>
     match (first, second, third) {
         (None, None, None) if name == "commitment" => Some(Question::Commitment),
         (None, None, None) if name == "close" => Some(Question::Close),
-        (Some(out), None, None) if name == "export" => Some(Question::Export(out)),
+        (Some(out), None, None) if name == "export" => Some(Question::Export(out, 0)),
         (Some(index), Some(out), None) if name == "entry" => {
             let index = number_in_text(index.as_bytes())?;
             Some(Question::Evidence(Evidence::Entry(index), out))

@@ -85,8 +85,8 @@ pub fn answer<F: Files, A: Write, B: Read, W: Write>(
             let put = put_evidence(alloc, to, from, evidence, &mut file);
             print_evidence(alloc, evidence, put, &file, output)
         }
-        Question::Export(out) => {
-            let export = export_to(rt, alloc, socket, to, from, out);
+        Question::Export(out, first) => {
+            let export = export_to(rt, alloc, socket, to, from, first, out);
             print_export(alloc, export, output)
         }
     }
@@ -175,29 +175,30 @@ fn print_evidence<F: Files, W: Write>(
     Ok(())
 }
 
-// Writes all entries to a temporary file, which replaces `out` once they are accepted. Anything but a regular file
-// couldn't be replaced, and is refused.
+// Writes all entries from the first one on to a temporary file, which replaces `out` once they are accepted. Anything
+// but a regular file couldn't be replaced, and is refused.
 fn export_to<F: Files, A: Write, B: Read>(
     rt: &F,
     alloc: Global,
     socket: FileIdentity,
     to: &mut A,
     from: &mut B,
+    first: u64,
     out: &str,
 ) -> Result<Export, AskError<RemoteError>>
     ensures given { OnOk result ((bytes : List ℕ) × AreGivenEntries (A.contents to.old) (A.contents to.new)
-        (B.remaining from.old) (B.remaining from.new) bytes) }
+        (B.remaining from.old) (B.remaining from.new) first bytes) }
     ensures fault { IfErr result (FailsPutting ⊥ (IsUnasked (A.contents to.old) (A.contents to.new)
         (B.remaining from.old) (B.remaining from.new) ⊎ ((bytes : List ℕ) × AreGivenEntries (A.contents to.old)
-        (A.contents to.new) (B.remaining from.old) (B.remaining from.new) bytes)) (λ error. (old new : Option (List ℕ))
-        × FailsExport (A.contents to.old) (A.contents to.new) (B.remaining from.old) (B.remaining from.new)
-        old new error)) }
+        (A.contents to.new) (B.remaining from.old) (B.remaining from.new) first bytes)) (λ error.
+        (old new : Option (List ℕ)) × FailsExport (A.contents to.old) (A.contents to.new) (B.remaining from.old)
+        (B.remaining from.new) first old new error)) }
 {
     if is_standard_output(out) || !can_be_replaced(rt, out) {
         return Err(AskError::Out(RemoteError::Command(CommandError::BadArgument)));
     }
     let mut file = OutFile::new(rt, alloc, socket, out);
-    put_export(alloc, to, from, &mut file)
+    put_export(alloc, to, from, first, &mut file)
 }
 
 // Prints the line of an export that was put.

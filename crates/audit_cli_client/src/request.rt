@@ -40,6 +40,8 @@ pub enum Request<'a> {
         socket: &'a str,
         /// The question.
         question: QuestionWords<'a>,
+        /// The index of the first entry of an export; 0 if absent.
+        from: Option<&'a str>,
         /// How many seconds a reply is waited for; 30 if absent.
         timeout: Option<&'a str>,
     },
@@ -230,12 +232,13 @@ fn judge<'a>(request: Request<'a>) -> Result<Order<'a>, CommandError>
         Request::Ask {
             socket,
             question,
+            from,
             timeout,
         } => {
             socket_path_asked(socket, 0)?;
             Ok(Order::Ask {
                 socket,
-                question: question_asked(question)?,
+                question: question_asked(question, from)?,
                 seconds: seconds_or_default(timeout)?,
             })
         }

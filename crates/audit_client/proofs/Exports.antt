@@ -2,13 +2,19 @@
 use Rattle.std.specs.Prelude.{map}
 use Rattle.std.specs.List.{flat_map, concat, filter}
 use Rattle.std.specs.Io.KnownBytes.{Appends, Consumes}
-use Rattle.std.proofs.Common.{◌≡◌, ◌∙◌, ℕ, suc, ◌+◌, Option, Some, List, [], ◌∷◌, ◌++◌, length, length-append, append-nil, sym, ap, subst, refl, arith, add-one, append_assoc}
+use Rattle.std.proofs.Common.{◌≡◌, ◌≢◌, ◌∙◌, ℕ, zero, suc, ◌+◌, ◌-◌, ◌≤◌, Option, Some, List, [], ◌∷◌, ◌++◌, length, length-append, append-nil, sym, ap, subst, refl, arith, add-one, append_assoc}
 use Rattle.std.proofs.lemmas.Grind.{flat_map-append}
 use Rattle.std.proofs.lemmas.List.Elements.{filter-append}
 use Rattle.std.proofs.lemmas.List.{map-append, length-map}
 use Rattle.std.proofs.lemmas.List.Folds.{concat-append}
-use Rattle.audit_tree.specs.Subtree.{leaf_hash_of, root_of}
-use Rattle.audit_tree.specs.Frontier.{FrontierData, IsFrontierOf}
+use Rattle.audit_base.specs.declared.limits.TheConstants.{MAX_COUNT}
+use Rattle.audit_tree.specs.Subtree.{leaf_hash_of}
+use Rattle.audit_tree.specs.Frontier.{FrontierData, IsSized}
+use Rattle.audit_tree.specs.Continued.{root_after, frontier_after, empty_frontier}
+use Rattle.audit_tree.proofs.ContinuedTrees.{root_further, frontier_further, root_of_leaves, none_of_leaves, after_none}
+use Rattle.audit_verify.proofs.Commitments.{same_commitment}
+use Rattle.sha2.specs.Sha256.{sha256}
+use Rattle.audit_proof.specs.Acceptance.{commitment_to, AcceptsIncrement}
 use Rattle.audit_wire.specs.declared.request.Request.{Request}
 use Rattle.audit_wire.specs.declared.request.Request.TheVariants as request
 use Rattle.audit_wire.specs.declared.reply.Reply.{Reply}
@@ -17,11 +23,10 @@ use Rattle.audit_wire.specs.Frame.{frame}
 use Rattle.audit_wire.specs.Reply.{reply_in}
 use Rattle.audit_wire.specs.Stream.{request_frame}
 use Rattle.audit_client.specs.Conversation.{ReadsReply, ReadsReplies, Converses}
-use Rattle.sha2.specs.Sha256.{sha256}
 use Rattle.audit_proof.specs.declared.commitment.Commitment.{Commitment}
-use Rattle.audit_client.specs.declared.asking.TheConstants.{NEWEST_TAG}
-use Rattle.audit_client.specs.Exporting.{entry_tag, entry_requests, entry_replies, asks_no_increment, gives_no_increment, AreForEntries, AsksEntries, AsksIncrements, ReceivesEntry, ReceivesEntries, GivesExport, WritesExport}
-use Rattle.audit_client.proofs.Conversations.{consumes_none, consumes_more, appends_none, appends_more, converses_none, converses_more}
+use Rattle.audit_client.specs.declared.asking.TheConstants.{NEWEST_TAG, ASKED_TAG}
+use Rattle.audit_client.specs.Exporting.{entry_tag, entry_requests, entry_replies, asks_no_increment, gives_no_increment, AreForEntries, AsksEntries, AsksIncrements, ReceivesEntry, ReceivesEntries, IsBegunBy, Begins, commitment_from, first_requests, first_replies, opening_requests, opening_replies, GivesExport, WritesExport}
+use Rattle.audit_client.proofs.Conversations.{consumes_more, appends_none, appends_more, converses_none, converses_more}
 
 entry_requests-more : (n : ℕ) → entry_requests (n + 1) ≡ entry_requests n ++ request.Entry (entry_tag n) n ∷ []
 entry_requests-more n = ap entry_requests (add-one n)
@@ -66,15 +71,16 @@ frames_more wanted requests frames next so_far more =
     ∙ ap (λ (l : List ℕ). flat_map request_frame requests ++ l) (sym (append-nil last))
     ∙ sym (flat_map-append request_frame requests (request.Entry (entry_tag wanted) wanted ∷ []))
 
-pub received_none : (written read : Option (List ℕ)) (frontier : FrontierData) (known : Option (List ℕ)) → IsFrontierOf frontier [] → ReceivesEntries written written read read frontier known known 0 0 0
-received_none written read frontier known empty = record {
+pub received_none : (written read : Option (List ℕ)) (begun : FrontierData) (known : Option (List ℕ)) → IsSized begun.count begun.hashes
+    → ReceivesEntries written written read read begun begun known known begun.count begun.count 0
+received_none written read begun known sized = record {
   entries = [];
-  counted = refl;
+  counted = omega arith;
   asked = [];
   given = [];
-  about = record { requests = refl; replies = refl };
+  about = record { requests = sym (append-nil (entry_requests begun.count)); replies = refl };
   conversation = converses_none written read;
-  leaves = empty;
+  leaves = sym (after_none begun sized);
   written = appends_none known;
   size_is = refl;
 }
@@ -88,65 +94,68 @@ converses_on w0 w1 w2 r0 r1 asked later given so_far sent = record {
 }
 
 -- the reply with the next entry was read
-pub reads_entry : {w0 w1 r0 r1 r2 : Option (List ℕ)} {asked : List Request} {given : List Reply} {ahead : ℕ} {entries : List (List ℕ)} {entry : List ℕ} → Converses w0 w1 r0 r1 asked given → AreForEntries asked given ahead entries
-    → ReadsReply r1 r2 (reply.Entry (entry_tag (length entries)) entry)
-    → Converses w0 w1 r0 r2 asked (given ++ reply.Entry (entry_tag (length entries)) entry ∷ []) × AreForEntries asked (given ++ reply.Entry (entry_tag (length entries)) entry ∷ []) ahead (entries ++ entry ∷ [])
-reads_entry {r0 = r0} {r1 = r1} {r2 = r2} {given = given} {entries = entries} {entry = entry} on about read =
-    let last : Reply = reply.Entry (entry_tag (length entries)) entry in
-    let same : 0 + length entries ≡ length entries = omega arith in (
+pub reads_entry : {w0 w1 r0 r1 r2 : Option (List ℕ)} {asked : List Request} {given : List Reply} {first ahead : ℕ} {entries : List (List ℕ)} {entry : List ℕ} → Converses w0 w1 r0 r1 asked given → AreForEntries asked given first ahead entries
+    → ReadsReply r1 r2 (reply.Entry (entry_tag (first + length entries)) entry)
+    → Converses w0 w1 r0 r2 asked (given ++ reply.Entry (entry_tag (first + length entries)) entry ∷ []) × AreForEntries asked (given ++ reply.Entry (entry_tag (first + length entries)) entry ∷ []) first ahead (entries ++ entry ∷ [])
+reads_entry {r0 = r0} {r1 = r1} {r2 = r2} {given = given} {first = first} {entries = entries} {entry = entry} on about read =
+    let last : Reply = reply.Entry (entry_tag (first + length entries)) entry in (
       record { sent = on.sent; replies = replies_more r0 r1 r2 given last on.replies read },
       record {
         requests = about.requests;
         replies =
             filter-append gives_no_increment given (last ∷ []) ∙ ap (λ (l : List Reply). l ++ last ∷ []) about.replies
-            ∙ ap (λ (n : ℕ). entry_replies 0 entries ++ reply.Entry (entry_tag n) entry ∷ []) (sym same)
-            ∙ sym (entry_replies-more 0 entries entry);
+            ∙ sym (entry_replies-more first entries entry);
       },
     )
 
-module _ {w0 w1 w2 r0 r1 r2 o0 o1 o2 : Option (List ℕ)} {f1 f2 : FrontierData} {ahead next count size more : ℕ} (so_far : ReceivesEntries w0 w1 r0 r1 f1 o0 o1 ahead count size) (asks : AsksEntries w1 w2 ahead next) (one : ReceivesEntry r1 r2 f1 f2 o1 o2 count more) where
-  pub received_more : (sum : ℕ) → sum ≡ size + more → ReceivesEntries w0 w2 r0 r2 f2 o0 o2 next (count + 1) sum
+-- requests after others, about the same entries
+pub about_more : {asked later : List Request} {given : List Reply} {first ahead next : ℕ} {entries : List (List ℕ)} → AreForEntries asked given first ahead entries → filter asks_no_increment later ≡ later
+    → entry_requests next ≡ entry_requests ahead ++ later → AreForEntries (asked ++ later) given first next entries
+about_more {asked = asked} {later = later} {first = first} about plain all = record {
+  requests =
+      all ∙ ap (λ (l : List Request). l ++ later) about.requests
+      ∙ append_assoc (entry_requests first) (filter asks_no_increment asked) later
+      ∙ ap (λ (l : List Request). entry_requests first ++ l)
+      (ap (λ (l : List Request). filter asks_no_increment asked ++ l) (sym plain) ∙ sym (filter-append asks_no_increment asked later));
+  replies = about.replies;
+}
+
+module _ {w0 w1 w2 r0 r1 r2 o0 o1 o2 : Option (List ℕ)} {begun f1 f2 : FrontierData} {ahead next count size more : ℕ} (so_far : ReceivesEntries w0 w1 r0 r1 begun f1 o0 o1 ahead count size) (asks : AsksEntries w1 w2 ahead next) (one : ReceivesEntry r1 r2 f1 f2 o1 o2 count more) where
+  pub received_more : (sum : ℕ) → sum ≡ size + more → ReceivesEntries w0 w2 r0 r2 begun f2 o0 o2 next (count + 1) sum
   received_more sum sum_is =
       let entries = so_far.entries in
       let entry = one.entry in
-      let last : Reply = reply.Entry (entry_tag (0 + length entries)) entry in
+      let leaf = leaf_hash_of entry in
       let all : concat entries ++ entry ≡ concat (entries ++ entry ∷ []) = ap (λ (e : List ℕ). concat entries ++ e) (sym (append-nil entry)) ∙ sym (concat-append entries (entry ∷ [])) in
       let on = converses_on w0 w1 w2 r0 r1 so_far.asked asks.requests so_far.given so_far.conversation asks.sent in
+      let both = reads_entry on (about_more so_far.about asks.plain asks.all) (subst (λ (n : ℕ). ReadsReply r1 r2 (reply.Entry (entry_tag n) entry)) (sym so_far.counted) one.read) in
       record {
         entries = entries ++ entry ∷ [];
         counted = omega (arith, so_far.counted, length-append entries (entry ∷ []));
         asked = so_far.asked ++ asks.requests;
-        given = so_far.given ++ last ∷ [];
-        about = record {
-          requests =
-              filter-append asks_no_increment so_far.asked asks.requests ∙ ap (λ (l : List Request). l ++ filter asks_no_increment asks.requests) so_far.about.requests
-              ∙ ap (λ (l : List Request). entry_requests ahead ++ l) asks.plain ∙ sym asks.all;
-          replies =
-              filter-append gives_no_increment so_far.given (last ∷ []) ∙ ap (λ (l : List Reply). l ++ last ∷ []) so_far.about.replies
-              ∙ sym (entry_replies-more 0 entries entry);
-        };
-        conversation = record {
-          sent = on.sent;
-          replies = replies_more r0 r1 r2 so_far.given last on.replies
-              (subst (λ (n : ℕ). ReadsReply r1 r2 (reply.Entry (entry_tag n) entry)) (omega (arith, so_far.counted)) one.read);
-        };
-        leaves = subst (IsFrontierOf f2) (sym (map-append leaf_hash_of entries (entry ∷ []))) (one.leaves (map leaf_hash_of entries) so_far.leaves);
+        given = _;
+        about = both.1;
+        conversation = both.0;
+        leaves = one.leaf ∙ ap (λ (f : FrontierData). frontier_after f (leaf ∷ [])) so_far.leaves
+            ∙ frontier_further begun (map leaf_hash_of entries) (leaf ∷ [])
+            ∙ ap (frontier_after begun) (sym (map-append leaf_hash_of entries (entry ∷ [])));
         written = subst (Appends o0 o2) all (appends_more o0 o1 o2 (concat entries) entry so_far.written one.written);
         size_is = sum_is ∙ omega (arith, so_far.size_is, one.size_is, ap length all, length-append (concat entries) entry);
       }
 
 -- increments were asked for, or none
-pub received_judged : {w0 w1 w2 r0 r1 r2 o0 o1 : Option (List ℕ)} {f : FrontierData} {ahead count size : ℕ} → ReceivesEntries w0 w1 r0 r1 f o0 o1 ahead count size → AsksIncrements w1 w2 r1 r2
-    → ReceivesEntries w0 w2 r0 r2 f o0 o1 ahead count size
-received_judged {w0 = w0} {w1 = w1} {w2 = w2} {r0 = r0} {r1 = r1} {r2 = r2} {ahead = ahead} so_far asks = record {
+pub received_judged : {w0 w1 w2 r0 r1 r2 o0 o1 : Option (List ℕ)} {begun f : FrontierData} {ahead count size : ℕ} → ReceivesEntries w0 w1 r0 r1 begun f o0 o1 ahead count size → AsksIncrements w1 w2 r1 r2
+    → ReceivesEntries w0 w2 r0 r2 begun f o0 o1 ahead count size
+received_judged {w0 = w0} {w1 = w1} {w2 = w2} {r0 = r0} {r1 = r1} {r2 = r2} {begun = begun} so_far asks = record {
   entries = so_far.entries;
   counted = so_far.counted;
   asked = so_far.asked ++ asks.asked;
   given = so_far.given ++ asks.given;
   about = record {
     requests =
-        filter-append asks_no_increment so_far.asked asks.asked ∙ ap (λ (l : List Request). filter asks_no_increment so_far.asked ++ l) asks.requests
-        ∙ append-nil (filter asks_no_increment so_far.asked) ∙ so_far.about.requests;
+        so_far.about.requests ∙ ap (λ (l : List Request). entry_requests begun.count ++ l)
+        (sym (filter-append asks_no_increment so_far.asked asks.asked ∙ ap (λ (l : List Request). filter asks_no_increment so_far.asked ++ l) asks.requests
+        ∙ append-nil (filter asks_no_increment so_far.asked)));
     replies =
         filter-append gives_no_increment so_far.given asks.given ∙ ap (λ (l : List Reply). filter gives_no_increment so_far.given ++ l) asks.replies
         ∙ append-nil (filter gives_no_increment so_far.given) ∙ so_far.about.replies;
@@ -166,25 +175,68 @@ pub one_increment : {w0 w1 r0 r1 : Option (List ℕ)} {tag older newer : ℕ} {h
     → AsksIncrements w0 w1 r0 r1
 one_increment h = record { asked = _; given = _; conversation = h; requests = refl; replies = refl }
 
--- the frontier has as many leaves as entries were read
-pub as_many_leaves : {w0 w1 r0 r1 o0 o1 : Option (List ℕ)} {f : FrontierData} {asked count size : ℕ} → ReceivesEntries w0 w1 r0 r1 f o0 o1 asked count size → f.count ≡ count
-as_many_leaves so_far = so_far.leaves.count ∙ length-map so_far.entries leaf_hash_of ∙ so_far.counted
+-- the frontier has as many leaves as entries were read, after those before
+pub as_many_leaves : {w0 w1 r0 r1 o0 o1 : Option (List ℕ)} {begun f : FrontierData} {asked count size : ℕ} → ReceivesEntries w0 w1 r0 r1 begun f o0 o1 asked count size → f.count ≡ count
+as_many_leaves {begun = begun} so_far =
+    ap (λ (f : FrontierData). f.count) so_far.leaves ∙ ap (λ (n : ℕ). begun.count + n) (length-map so_far.entries leaf_hash_of) ∙ so_far.counted
+
+-- the commitment of the frontier is that to what came before and to the entries
+pub root_received : {w0 w1 r0 r1 o0 o1 : Option (List ℕ)} {begun f : FrontierData} {asked count size : ℕ} (so_far : ReceivesEntries w0 w1 r0 r1 begun f o0 o1 asked count size) → count ≤ MAX_COUNT
+    → root_after f [] ≡ root_after begun (map leaf_hash_of so_far.entries)
+root_received {begun = begun} so_far small =
+    let leaves = map leaf_hash_of so_far.entries in
+    let few : begun.count + length (leaves ++ []) ≤ MAX_COUNT = omega (arith, so_far.counted, small, length-map so_far.entries leaf_hash_of, length-append leaves []) in
+    ap (λ (f : FrontierData). root_after f []) so_far.leaves ∙ root_further begun leaves [] few ∙ ap (root_after begun) (append-nil leaves)
+
+-- what begins is a frontier of as many entries
+pub begun_count : (first : ℕ) (newest : Commitment) (hashes : List (List ℕ)) (begun : FrontierData) → Begins first newest hashes begun → begun.count ≡ first
+begun_count zero newest hashes begun is = ap (λ (f : FrontierData). f.count) is
+begun_count (suc before) newest hashes begun is = is.count
+
+-- from the first entry on the commitment is that to the entries alone
+begun_whole : (first : ℕ) (newest : Commitment) (hashes : List (List ℕ)) (begun : FrontierData) (entries : List (List ℕ)) → Begins first newest hashes begun → newest ≡ commitment_from begun entries
+    → first ≡ 0 → newest ≡ commitment_to entries
+begun_whole zero newest hashes begun entries is same none =
+    let leaves = map leaf_hash_of entries in
+    same ∙ ap (λ (f : FrontierData). commitment_from f entries) is
+    ∙ same_commitment (0 + length entries) (length entries) _ _ (omega arith) (root_of_leaves empty_frontier [] leaves (none_of_leaves empty_frontier refl))
+begun_whole (suc before) newest hashes begun entries is same none = absurd (omega (arith, none))
 
 -- all entries were received, and the root over them is that of the newest commitment
-pub exported : {w0 w1 w2 r0 r1 r2 o0 o1 : Option (List ℕ)} {f : FrontierData} {newest : Commitment} {size : ℕ}
-    → Converses w0 w1 r0 r1 (request.Commitment NEWEST_TAG ∷ []) (reply.Commitment NEWEST_TAG newest.count newest.root ∷ []) → (all : ReceivesEntries w1 w2 r1 r2 f o0 o1 newest.count newest.count size)
-    → {root : List ℕ} → root ≡ root_of sha256 (map leaf_hash_of all.entries) → root ≡ newest.root
-    → (entries : List (List ℕ)) × GivesExport w0 w2 r0 r2 entries × WritesExport o0 o1 entries (record { count = newest.count; size = size })
-exported {w0 = w0} {w1 = w1} {w2 = w2} {r0 = r0} {r1 = r1} {r2 = r2} {newest = newest} first all root same = (
-  all.entries,
-  record {
-    newest = newest;
-    asked = all.asked;
-    given = all.given;
-    about = subst (λ (n : ℕ). AreForEntries all.asked all.given n all.entries) (sym all.counted) all.about;
-    conversation = converses_more w0 w1 w2 r0 r1 r2 (request.Commitment NEWEST_TAG ∷ []) all.asked (reply.Commitment NEWEST_TAG newest.count newest.root ∷ []) all.given first all.conversation;
-    count = sym all.counted;
-    root = sym same ∙ root;
-  },
-  record { written = all.written; count = sym all.counted; size = all.size_is },
-)
+pub exported : {w0 w1 w2 w3 r0 r1 r2 r3 o0 o1 : Option (List ℕ)} {begun f : FrontierData} {newest : Commitment} {first size : ℕ} (hashes : List (List ℕ))
+    → Converses w0 w1 r0 r1 (request.Commitment NEWEST_TAG ∷ []) (reply.Commitment NEWEST_TAG newest.count newest.root ∷ []) → Converses w1 w2 r1 r2 (first_requests first newest) (first_replies first hashes)
+    → Begins first newest hashes begun → (all : ReceivesEntries w2 w3 r2 r3 begun f o0 o1 newest.count newest.count size) → newest.count ≤ MAX_COUNT
+    → root_after f [] ≡ newest.root → {count : ℕ} → count ≡ newest.count - first
+    → (entries : List (List ℕ)) × GivesExport w0 w3 r0 r3 first entries × WritesExport o0 o1 entries (record { count = count; size = size })
+exported {w0 = w0} {w1 = w1} {w2 = w2} {w3 = w3} {r0 = r0} {r1 = r1} {r2 = r2} {r3 = r3} {begun = begun} {newest = newest} {first = first} hashes opened begins_by begins all small same count_is =
+    let newest_is : newest ≡ commitment_from begun all.entries =
+    same_commitment newest.count (begun.count + length all.entries) newest.root _ (sym all.counted) (sym same ∙ root_received all small) in (
+      all.entries,
+      record {
+        newest = newest;
+        hashes = hashes;
+        begun = begun;
+        begins = begins;
+        asked = all.asked;
+        given = all.given;
+        about = all.about;
+        conversation = converses_more w0 w2 w3 r0 r2 r3 (opening_requests first newest) all.asked (opening_replies first newest hashes) all.given
+            (converses_more w0 w1 w2 r0 r1 r2 (request.Commitment NEWEST_TAG ∷ []) (first_requests first newest) (reply.Commitment NEWEST_TAG newest.count newest.root ∷ []) (first_replies first hashes) opened begins_by) all.conversation;
+        newest_is = newest_is;
+        whole = begun_whole first newest hashes begun all.entries begins newest_is;
+      },
+      record { written = all.written; count = omega (arith, count_is, all.counted, begun_count first newest hashes begun begins); size = all.size_is },
+    )
+
+-- the increment from the entries before was given, and the frontier is in it
+pub begun_by : (first : ℕ) (newest : Commitment) (hashes : List (List ℕ)) (begun : FrontierData) {w0 w1 r0 r1 : Option (List ℕ)} → first ≢ 0 → IsBegunBy first newest hashes begun
+    → Converses w0 w1 r0 r1 (request.Incremental ASKED_TAG first newest.count ∷ []) (reply.Incremental ASKED_TAG hashes ∷ [])
+    → Begins first newest hashes begun × Converses w0 w1 r0 r1 (first_requests first newest) (first_replies first hashes)
+begun_by zero newest hashes begun some is asked = absurd (some refl)
+begun_by (suc before) newest hashes begun some is asked = (is, asked)
+
+-- a root that is the frontier's own
+pub accepted_from : (first : ℕ) (newest : Commitment) (hashes : List (List ℕ)) (begun : FrontierData) → begun.count ≡ first
+    → AcceptsIncrement sha256 (record { count = first; root = root_after begun [] }) newest hashes → AcceptsIncrement sha256 (commitment_from begun []) newest hashes
+accepted_from first newest hashes begun count accepted =
+    subst (λ (c : Commitment). AcceptsIncrement sha256 c newest hashes) (same_commitment first (begun.count + 0) (root_after begun []) (root_after begun []) (omega (arith, count)) refl) accepted

@@ -12,3 +12,4 @@ mod OutputFailures
 pub mod LongLines
 pub mod ReadWhole
 mod OneEntry
+mod OlderNodes

@@ -1,6 +1,6 @@
 -- Only an output that failed gives the error of the output.
 use Rattle.std.specs.Prelude.{Result, Ok, Err, IfErr, cond}
-use Rattle.std.proofs.Common.{◌≡◌, ◌==◌, inl, inr, ℕ, Bool, true, false, Option, Some, None, List, sym, subst}
+use Rattle.std.proofs.Common.{◌≡◌, ◌==◌, inl, inr, ℕ, Bool, true, false, Option, Some, None, List, [], sym, subst}
 use Rattle.audit_proof.specs.declared.commitment.Commitment.{Commitment}
 use Rattle.audit_wire.specs.declared.refusal.Refusal.{Refusal}
 use Rattle.audit_wire.specs.declared.request.Request.{Request}
@@ -9,7 +9,7 @@ use Rattle.audit_wire.specs.declared.reply.Reply.TheVariants as reply
 use Rattle.audit_client.specs.declared.fault.ClientError.{ClientError}
 use Rattle.audit_client.specs.declared.fault.ClientError.TheVariants.{Refused, BadReply, Ended, TimedOut, NotAccepted, Shorter, OtherRoot, Output, Memory}
 use Rattle.audit_client.specs.Asking.{not_due}
-use Rattle.audit_client.specs.Failing.{IsLost, FailsToRead, error_for, HasNoAnswer, FailsJoiningBy, FailsEntry, FailsMember, FailsIncrement, WritingBreaksOnlyIf}
+use Rattle.audit_client.specs.Failing.{IsLost, FailsToRead, error_for, HasNoAnswer, FailsBeginning, FailsJoiningBy, FailsEntry, FailsMember, FailsIncrement, WritingBreaksOnlyIf}
 
 pub lost_only : (Cause : Type 0) (error : ClientError) → IsLost error → WritingBreaksOnlyIf Cause error
 lost_only Cause (Refused code) lost = tt
@@ -58,6 +58,10 @@ module _ {w0 w1 r0 r1 : Option (List ℕ)} (Cause : Type 0) (error : ClientError
   pub joined_only : (tag : ℕ) (older newer : Commitment) → FailsJoiningBy tag w0 w1 r0 r1 older newer error → WritingBreaksOnlyIf Cause error
   joined_only tag older newer (inl none) = unanswered_only none
   joined_only tag older newer (inr refused) = same_only Cause error NotAccepted refused.0 tt
+
+  pub beginning_only : (first : ℕ) (newest : Commitment) → FailsBeginning w0 w1 r0 r1 [] [] first newest error → WritingBreaksOnlyIf Cause error
+  beginning_only first newest (some, inl none) = unanswered_only none
+  beginning_only first newest (some, inr refused) = same_only Cause error NotAccepted refused.0 tt
 
   pub entry_only : {index : ℕ} → FailsEntry w0 w1 r0 r1 index error → WritingBreaksOnlyIf Cause error
   entry_only (inl none) = unanswered_only none

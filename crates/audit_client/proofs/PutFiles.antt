@@ -32,12 +32,12 @@ draft_written Draft contents old new bytes (inl empty) h =
 draft_written Draft contents old new bytes (inr unknown) h = subst (λ known. IsFile (Some known) bytes) (sym (unknown new)) tt
 
 -- a file with the entries of an export was put, if one was
-pub puts_export : (Draft : Type 0) (contents : Draft → Option (List ℕ)) (empty full : Draft) (old mid new : Option (Option (List ℕ))) (written_old written_new read_old read_new : Option (List ℕ)) (export : Export)
+pub puts_export : (Draft : Type 0) (contents : Draft → Option (List ℕ)) (empty full : Draft) (old mid new : Option (Option (List ℕ))) (written_old written_new read_old read_new : Option (List ℕ)) (first : ℕ) (export : Export)
     → (contents empty ≡ Some []) ⊎ ((other : Draft) → contents other ≡ None)
-    → ((entries : List (List ℕ)) × GivesExport written_old written_new read_old read_new entries × WritesExport (contents empty) (contents full) entries export)
+    → ((entries : List (List ℕ)) × GivesExport written_old written_new read_old read_new first entries × WritesExport (contents empty) (contents full) entries export)
     → mid ≡ old → (new ≡ mid) ⊎ (new ≡ Some (contents full))
-    → PutsOnly old new (AreGivenEntries written_old written_new read_old read_new)
-puts_export Draft contents empty full old mid new written_old written_new read_old read_new export fresh all same (inl kept) = inl (kept ∙ same)
-puts_export Draft contents empty full old mid new written_old written_new read_old read_new export fresh all same (inr put) =
+    → PutsOnly old new (AreGivenEntries written_old written_new read_old read_new first)
+puts_export Draft contents empty full old mid new written_old written_new read_old read_new first export fresh all same (inl kept) = inl (kept ∙ same)
+puts_export Draft contents empty full old mid new written_old written_new read_old read_new first export fresh all same (inr put) =
     let bytes = concat all.0 in
     inr (bytes, (all.0, all.1, refl), subst (λ file. IsFile file bytes) (sym put) (draft_written Draft contents empty full bytes fresh all.2.written))

@@ -1,12 +1,12 @@
 -- When each error of a question comes, by what was written and read.
-use Rattle.std.specs.Prelude.{◌≡◌, ◌⊎◌, ◌<◌, ◌≤◌, ℕ, Option, Some, None, List, [], ◌∷◌, ◌++◌, map, length, IfSome}
+use Rattle.std.specs.Prelude.{◌≡◌, ◌⊎◌, ◌<◌, ◌≤◌, ◌+◌, ℕ, Option, Some, None, List, [], ◌∷◌, ◌++◌, map, length, IfSome}
 use Rattle.std.specs.List.{flat_map, concat}
 use Rattle.std.specs.Io.KnownBytes.{Appends, Consumes, Keeps}
 use Rattle.sha2.specs.Sha256.{sha256}
 use Rattle.audit_base.specs.declared.limits.TheConstants.{MAX_COUNT}
-use Rattle.audit_tree.specs.Subtree.{leaf_hash_of, root_of}
+use Rattle.audit_tree.specs.Frontier.{FrontierData}
 use Rattle.audit_proof.specs.declared.commitment.Commitment.{Commitment}
-use Rattle.audit_proof.specs.Acceptance.{commitment_to, AcceptsMembership, AcceptsIncrement}
+use Rattle.audit_proof.specs.Acceptance.{AcceptsMembership, AcceptsIncrement}
 use Rattle.audit_proof.specs.ProofBytes.{Member, Increment}
 use Rattle.audit_wire.specs.declared.request.Request.{Request}
 use Rattle.audit_wire.specs.declared.request.Request.TheVariants as request
@@ -25,7 +25,8 @@ use Rattle.audit_client.specs.declared.keeping.WatchError.TheVariants as watchin
 use Rattle.audit_client.specs.declared.watching.Unseen.{Unseen}
 use Rattle.audit_client.specs.Asking.{not_due, newest_reply, IsOneEntry, AnswersMember, AnswersIncrement}
 use Rattle.audit_client.specs.Conversation.{ReadsReply, ReadsPart, Converses, BreaksOff}
-use Rattle.audit_client.specs.Exporting.{entry_tag, piece_tag, AreForEntries, WritesFront}
+use Rattle.audit_client.specs.Exporting.{entry_tag, piece_tag, AreForEntries, WritesFront, commitment_from, IsMadeFrom}
+use Rattle.audit_client.specs.Exporting.{Begins, opening_requests, opening_replies}
 
 -- the connection ended or was silent, or memory ran out
 abbrev pub IsLost : ClientError → Type 0
@@ -223,33 +224,34 @@ FailsReceiving read_old read_new old new index error = FailsToRead read_old read
     ⊎ (IsNotTheEntry read_old read_new index error
     ⊎ ((error ≡ client.Output) × TearsEntry read_old read_new old new index))
 
--- After this conversation entries were asked for, up to a number of them; some came, and the next one didn't.
+-- After this conversation the entries after those of a frontier were asked for, up to an index; some came, and the next
+-- one didn't.
 pub record LacksEntry (written_old written_new read_old read_new : Option (List ℕ)) (asked : List Request)
-    (given : List Reply) (count : ℕ) (error : ClientError) : Type 0 where
+    (given : List Reply) (begun : FrontierData) (count : ℕ) (error : ClientError) : Type 0 where
   pub entries : List (List ℕ)
   pub ahead : ℕ
-  pub wanted : length entries < ahead
+  pub wanted : begun.count + length entries < ahead
   pub within : ahead ≤ count
   pub requests : List Request
   pub replies : List Reply
-  pub about : AreForEntries requests replies ahead entries
+  pub about : AreForEntries requests replies begun.count ahead entries
   pub fails : HasNoAnswer written_old written_new read_old read_new (asked ++ requests)
-      (given ++ replies) (entry_tag (length entries)) (IsEntryReply (length entries)) error
+      (given ++ replies) (entry_tag (begun.count + length entries)) (IsEntryReply (begun.count + length entries)) error
 
--- After this conversation some entries came, and the commitment to them isn't joined to the newest.
+-- After this conversation some entries came, and the commitment up to them isn't joined to the newest.
 pub record DoubtsEntries (written_old written_new read_old read_new : Option (List ℕ)) (asked : List Request)
-    (given : List Reply) (newest : Commitment) (error : ClientError) : Type 0 where
+    (given : List Reply) (begun : FrontierData) (newest : Commitment) (error : ClientError) : Type 0 where
   pub entries : List (List ℕ)
-  pub fewer : length entries < newest.count
+  pub fewer : begun.count + length entries < newest.count
   pub requests : List Request
   pub replies : List Reply
-  pub about : AreForEntries requests replies (length entries) entries
-  pub doubted : IsNotJoinedBy (piece_tag (length entries)) written_old written_new read_old read_new
-      (asked ++ requests) (given ++ replies) (commitment_to entries) newest error
+  pub about : AreForEntries requests replies begun.count (begun.count + length entries) entries
+  pub doubted : IsNotJoinedBy (piece_tag (begun.count + length entries)) written_old written_new read_old read_new
+      (asked ++ requests) (given ++ replies) (commitment_from begun entries) newest error
 
 -- After this conversation some entries came, and not all of the last one was written.
 pub record CannotWrite (written_old written_new read_old read_new old new : Option (List ℕ)) (asked : List Request)
-    (given : List Reply) (count : ℕ) (error : ClientError) : Type 0 where
+    (given : List Reply) (begun : FrontierData) (count : ℕ) (error : ClientError) : Type 0 where
   pub output : error ≡ client.Output
   pub entries : List (List ℕ)
   pub last : List ℕ
@@ -257,7 +259,7 @@ pub record CannotWrite (written_old written_new read_old read_new old new : Opti
   pub within : ahead ≤ count
   pub requests : List Request
   pub replies : List Reply
-  pub about : AreForEntries requests replies ahead (entries ++ last ∷ [])
+  pub about : AreForEntries requests replies begun.count ahead (entries ++ last ∷ [])
   pub conversation : Converses written_old written_new read_old read_new (asked ++ requests) (given ++ replies)
   pub mid : Option (List ℕ)
   pub written : Appends old mid (concat entries)
@@ -265,33 +267,62 @@ pub record CannotWrite (written_old written_new read_old read_new old new : Opti
 
 -- An entry didn't come, or couldn't be written; or the entries up to one aren't joined to the newest commitment.
 abbrev pub LacksEntries : Option (List ℕ) → Option (List ℕ) → Option (List ℕ) → Option (List ℕ) → Option (List ℕ)
-    → Option (List ℕ) → List Request → List Reply → Commitment → ClientError → Type 0
-LacksEntries written_old written_new read_old read_new old new asked given newest error =
-    LacksEntry written_old written_new read_old read_new asked given newest.count error
-    ⊎ (DoubtsEntries written_old written_new read_old read_new asked given newest error
-    ⊎ CannotWrite written_old written_new read_old read_new old new asked given newest.count error)
+    → Option (List ℕ) → List Request → List Reply → FrontierData → Commitment → ClientError → Type 0
+LacksEntries written_old written_new read_old read_new old new asked given begun newest error =
+    LacksEntry written_old written_new read_old read_new asked given begun newest.count error
+    ⊎ (DoubtsEntries written_old written_new read_old read_new asked given begun newest error
+    ⊎ CannotWrite written_old written_new read_old read_new old new asked given begun newest.count error)
 
--- The newest commitment is one of more entries than a log has; or entries lack, aren't joined or can't be written; or
--- all came, and the newest isn't the commitment to them.
+-- After this conversation all entries came, and the newest commitment isn't the one to them.
+pub record DeniesEntries (written_old written_new read_old read_new : Option (List ℕ)) (asked : List Request)
+    (given : List Reply) (begun : FrontierData) (newest : Commitment) : Type 0 where
+  pub entries : List (List ℕ)
+  pub count : newest.count ≡ begun.count + length entries
+  pub requests : List Request
+  pub replies : List Reply
+  pub about : AreForEntries requests replies begun.count newest.count entries
+  pub conversation : Converses written_old written_new read_old read_new (asked ++ requests) (given ++ replies)
+  pub other : newest ≡ commitment_from begun entries → ⊥
+
+-- After this conversation the increment from the entries before an export was asked for, and didn't come; or it came,
+-- and no tree with the newest commitment makes it.
+abbrev pub FailsBeginning : Option (List ℕ) → Option (List ℕ) → Option (List ℕ) → Option (List ℕ) → List Request
+    → List Reply → ℕ → Commitment → ClientError → Type 0
+FailsBeginning written_old written_new read_old read_new asked given first newest error =
+    (0 < first) × (HasNoAnswer written_old written_new read_old read_new
+    (asked ++ request.Incremental ASKED_TAG first newest.count ∷ []) given ASKED_TAG (IsIncrementReply ASKED_TAG) error
+    ⊎ ((error ≡ client.NotAccepted) × (hashes : List (List ℕ)) × Converses written_old written_new read_old read_new
+    (asked ++ request.Incremental ASKED_TAG first newest.count ∷ []) (given ++ reply.Incremental ASKED_TAG hashes ∷ [])
+    × ((leaves : List (List ℕ)) → IsMadeFrom leaves first newest hashes → ⊥)))
+
+-- After a beginning the entries lack, aren't joined or can't be written; or all came, and the newest isn't the
+-- commitment to them.
+abbrev pub FailsAfterBeginning : Option (List ℕ) → Option (List ℕ) → Option (List ℕ) → Option (List ℕ)
+    → Option (List ℕ) → Option (List ℕ) → ℕ → Commitment → List (List ℕ) → FrontierData → ClientError → Type 0
+FailsAfterBeginning written_old written_new read_old read_new old new first newest hashes begun error =
+    LacksEntries written_old written_new read_old read_new old new (opening_requests first newest)
+    (opening_replies first newest hashes) begun newest error
+    ⊎ ((error ≡ client.NotAccepted) × DeniesEntries written_old written_new read_old read_new
+    (opening_requests first newest) (opening_replies first newest hashes) begun newest)
+
+-- The newest commitment is one of more entries than a log has; or the export couldn't be begun; or it was, and failed.
 abbrev pub IsNoExport : Option (List ℕ) → Option (List ℕ) → Option (List ℕ) → Option (List ℕ) → Option (List ℕ)
-    → Option (List ℕ) → Commitment → ClientError → Type 0
-IsNoExport written_old written_new read_old read_new old new newest error =
+    → Option (List ℕ) → ℕ → Commitment → ClientError → Type 0
+IsNoExport written_old written_new read_old read_new old new first newest error =
     ((error ≡ client.BadReply) × (MAX_COUNT < newest.count) × Converses written_old written_new read_old read_new
     (request.Commitment NEWEST_TAG ∷ []) (newest_reply newest ∷ []))
-    ⊎ (LacksEntries written_old written_new read_old read_new old new (request.Commitment NEWEST_TAG ∷ [])
-    (newest_reply newest ∷ []) newest error
-    ⊎ ((error ≡ client.NotAccepted) × (entries : List (List ℕ)) × (newest.count ≡ length entries)
-    × (requests : List Request) × (replies : List Reply) × AreForEntries requests replies (length entries) entries
-    × Converses written_old written_new read_old read_new
-    (request.Commitment NEWEST_TAG ∷ requests) (newest_reply newest ∷ replies)
-    × ((newest.root ≡ root_of sha256 (map leaf_hash_of entries)) → ⊥)))
+    ⊎ (FailsBeginning written_old written_new read_old read_new (request.Commitment NEWEST_TAG ∷ [])
+    (newest_reply newest ∷ []) first newest error
+    ⊎ ((hashes : List (List ℕ)) × (begun : FrontierData) × Begins first newest hashes begun
+    × FailsAfterBeginning written_old written_new read_old read_new old new first newest hashes begun error))
 
--- All entries were asked for, and the newest commitment didn't come; or it came, and the entries to it didn't.
-abbrev pub FailsExport : Option (List ℕ) → Option (List ℕ) → Option (List ℕ) → Option (List ℕ) → Option (List ℕ)
+-- All entries from one index on were asked for, and the newest commitment didn't come; or it came, and the entries to
+-- it didn't.
+abbrev pub FailsExport : Option (List ℕ) → Option (List ℕ) → Option (List ℕ) → Option (List ℕ) → ℕ → Option (List ℕ)
     → Option (List ℕ) → ClientError → Type 0
-FailsExport written_old written_new read_old read_new old new error =
+FailsExport written_old written_new read_old read_new first old new error =
     FailsNewest written_old written_new read_old read_new error
-    ⊎ ((newest : Commitment) × IsNoExport written_old written_new read_old read_new old new newest error)
+    ⊎ ((newest : Commitment) × IsNoExport written_old written_new read_old read_new old new first newest error)
 
 -- ---- answers that are put
 

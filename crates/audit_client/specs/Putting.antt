@@ -37,7 +37,8 @@ IsGivenIncrement written_old written_new read_old read_new older newer bytes =
     × (proof.older ≡ older) × (proof.newer ≡ newer) × (bytes ≡ increment_bytes proof)
     × AnswersIncrement written_old written_new read_old read_new newest proof
 
--- the bytes of all entries, to which the commitment that the server gave is the commitment
-abbrev pub AreGivenEntries : Option (List ℕ) → Option (List ℕ) → Option (List ℕ) → Option (List ℕ) → List ℕ → Type 0
-AreGivenEntries written_old written_new read_old read_new bytes = (entries : List (List ℕ))
-    × GivesExport written_old written_new read_old read_new entries × (bytes ≡ concat entries)
+-- the bytes of all entries from one index on, to which, after what came before, the commitment that the server gave is
+-- the commitment
+abbrev pub AreGivenEntries : Option (List ℕ) → Option (List ℕ) → Option (List ℕ) → Option (List ℕ) → ℕ → List ℕ → Type 0
+AreGivenEntries written_old written_new read_old read_new first bytes = (entries : List (List ℕ))
+    × GivesExport written_old written_new read_old read_new first entries × (bytes ≡ concat entries)

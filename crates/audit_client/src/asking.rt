@@ -311,7 +311,7 @@ fn member_in(given: Reply) -> Result<(Vec<Hash>, Vec<u8>), ClientError>
 }
 
 // Asks for an incremental proof, which isn't judged.
-fn ask_increment<W: Write, R: Read>(
+pub(crate) fn ask_increment<W: Write, R: Read>(
     alloc: Global,
     to: &mut W,
     from: &mut R,

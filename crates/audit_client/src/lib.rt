@@ -10,6 +10,7 @@ mod fallible_write;
 mod fault;
 mod keeping;
 pub mod laws;
+mod older;
 mod putting;
 mod refusal_word;
 mod send_error;

@@ -156,23 +156,25 @@ fn put_bytes<O: Out>(bytes: &[u8], out: &mut O) -> Result<u64, AskError<O::Error
     }
 }
 
-/// Asks for all entries, as [`export_entries`](crate::export_entries) does, and puts them.
+/// Asks for all entries from `first` on, as [`export_entries`](crate::export_entries) does, and puts them.
 pub fn put_export<W: Write, R: Read, O: Out>(
     alloc: Global,
     to: &mut W,
     from: &mut R,
+    first: u64,
     out: &mut O,
 ) -> Result<Export, AskError<O::Error>>
     ensures only { PutsOnly (O.file out.old) (O.file out.new) (AreGivenEntries (W.contents to.old) (W.contents to.new)
-        (R.remaining from.old) (R.remaining from.new)) }
+        (R.remaining from.old) (R.remaining from.new) first) }
     ensures done { IfOk result (λ export. (entries : List (List ℕ)) × (export.count ≡ length entries)
         × (export.size ≡ length (concat entries)) × IsFile (O.file out.new) (concat entries)
-        × GivesExport (W.contents to.old) (W.contents to.new) (R.remaining from.old) (R.remaining from.new) entries) }
+        × GivesExport (W.contents to.old) (W.contents to.new) (R.remaining from.old) (R.remaining from.new) first
+        entries) }
     ensures fault { IfErr result (FailsPutting ⊥ (IsUnasked (W.contents to.old) (W.contents to.new)
         (R.remaining from.old) (R.remaining from.new) ⊎ ((bytes : List ℕ) × AreGivenEntries (W.contents to.old)
-        (W.contents to.new) (R.remaining from.old) (R.remaining from.new) bytes)) (λ error. (begun left : O.Draft)
+        (W.contents to.new) (R.remaining from.old) (R.remaining from.new) first bytes)) (λ error. (begun left : O.Draft)
         × FailsExport (W.contents to.old) (W.contents to.new) (R.remaining from.old) (R.remaining from.new)
-        (O.Draft.contents begun) (O.Draft.contents left) error)) }
+        first (O.Draft.contents begun) (O.Draft.contents left) error)) }
     ensures untouched { (error : ClientError) → result ≡ Err (AskError.Client error) → O.file out.new ≡ O.file out.old }
     ensures broken { IfErr result (PuttingBreaksOnlyIf ((draft : O.Draft) × O.Draft.failed draft)) }
 {
@@ -180,7 +182,7 @@ pub fn put_export<W: Write, R: Read, O: Out>(
         Ok(draft) => draft,
         Err(error) => return Err(AskError::Out(error)),
     };
-    let export = match export_entries(alloc, to, from, &mut draft) {
+    let export = match export_entries(alloc, to, from, first, &mut draft) {
         Ok(export) => export,
         Err(error) => {
             out.discard(draft);

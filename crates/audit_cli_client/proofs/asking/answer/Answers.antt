@@ -11,4 +11,4 @@ pub returns-in-Evidence-clause-asked : goal.returns-in-Evidence-clause-asked
 returns-in-Evidence-clause-asked g c = rw c.in-Evidence.is (evidence_asked c.put_evidence-put.result c.print_evidence.result _ _ _ _ c.in-Evidence.evidence c.in-Evidence.out c.put_evidence-put.ensures.given c.put_evidence-put.ensures.fault c.print_evidence.ensures.fault)
 
 pub returns-in-Export-clause-asked : goal.returns-in-Export-clause-asked
-returns-in-Export-clause-asked g c = rw c.in-Export.is (export_asked c.export_to-export.result c.print_export.result _ _ _ _ c.in-Export.out c.export_to-export.ensures.given c.export_to-export.ensures.fault c.print_export.ensures.fault)
+returns-in-Export-clause-asked g c = rw c.in-Export.is (export_asked c.export_to-export.result c.print_export.result _ _ _ _ c.in-Export.out c.in-Export.first c.export_to-export.ensures.given c.export_to-export.ensures.fault c.print_export.ensures.fault)

@@ -4,10 +4,10 @@ use Rattle.audit_client.proofs.OutputFailures.{writer_broke}
 use Rattle.audit_client.proofs.putting.put_export.Goals as goal
 
 pub returns-in-Ok-put-clause-only : goal.returns-in-Ok-put-clause-only
-returns-in-Ok-put-clause-only g c = puts_export _ g.O.Draft.Write.contents _ _ _ _ _ _ _ _ _ _ c.in-Ok.ensures.empty c.in-Ok-export_entries.ensures.done c.in-Ok.ensures.kept (inr c.in-Ok-put.ensures.done)
+returns-in-Ok-put-clause-only g c = puts_export _ g.O.Draft.Write.contents _ _ _ _ _ _ _ _ _ _ _ c.in-Ok.ensures.empty c.in-Ok-export_entries.ensures.done c.in-Ok.ensures.kept (inr c.in-Ok-put.ensures.done)
 
 pub returns-in-Err-put-clause-only : goal.returns-in-Err-put-clause-only
-returns-in-Err-put-clause-only g c = puts_export _ g.O.Draft.Write.contents _ _ _ _ _ _ _ _ _ _ c.in-Ok.ensures.empty c.in-Ok-export_entries.ensures.done c.in-Ok.ensures.kept c.in-Err-put.ensures.part
+returns-in-Err-put-clause-only g c = puts_export _ g.O.Draft.Write.contents _ _ _ _ _ _ _ _ _ _ _ c.in-Ok.ensures.empty c.in-Ok-export_entries.ensures.done c.in-Ok.ensures.kept c.in-Err-put.ensures.part
 
 pub returns-in-Err-put-clause-fault : goal.returns-in-Err-put-clause-fault
 returns-in-Err-put-clause-fault g c = let all = c.in-Ok-export_entries.ensures.done in inr (_, (all.0, all.1, refl))
