@@ -60,6 +60,7 @@ class State(typing.NamedTuple):
         except (IndexError, StopIteration, ValueError):
             raise BadArgument from None
         fits = count <= MAX_ENTRIES and (not state.closed or count > 0 and state.key == bytes(32))
+        fits = fits and all(len(value) == 32 for value in (state.key, state.link, *nodes.values()))
         if not fits or count == 0 and any(state.link) or state.text(newest) != text:
             raise BadArgument
         return state, newest

@@ -1,5 +1,5 @@
 //! A log that is read on, by the bookmark in a file.
-ghost use Rattle.std.specs.Prelude.{◌≡◌, List, [], ◌∷◌, Option, Some, false, Result, Unit, IfErr, IfSome, OnOk, OnErr};
+ghost use Rattle.std.specs.Prelude.{◌≡◌, List, [], ◌∷◌, Option, Some, false, Result, IfErr, IfSome, OnOk, OnErr};
 ghost use Rattle.audit_cli_client.specs.declared.fault.RemoteError.{RemoteError};
 ghost use Rattle.audit_cli_client.specs.Faults.{is_passing_fault};
 ghost use Rattle.audit_cli_client.specs.ReadingTask.{ReadsToTheEnd, FollowsReading};
