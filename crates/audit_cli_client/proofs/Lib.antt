@@ -3,3 +3,4 @@ pub mod StateLines
 pub mod AskedQuestions
 pub mod SaidMessages
 mod Looks
+mod Readings
