@@ -45,7 +45,8 @@ pub record HasCome (came : Arrival) (old new : Waiting) : Type 0 where
   pub each : (number : ℕ) (arrival : Arrival) → WaitsWith new number arrival
       → WaitsWith old number arrival ⊎ (arrival ≡ came)
 
--- A connection that had sent something was taken out. If two had the same number, it was the one that doesn't only read.
+-- A connection that had sent something was taken out. If two had the same number, it is the one that doesn't only
+-- read.
 pub record IsTakenOut (number : ℕ) (old new : Waiting) : Type 0 where
   pub nobody : NobodyCame old new
   pub other : heard_with rights.Close new number ≡ None

@@ -22,8 +22,8 @@ pub enum Departure {
     Memory,
 }
 
-/// Why a client leaves: its session was cut off, or else this was noted in its place. If nothing was noted, what it sent
-/// has ended its session.
+/// Why a client leaves: its session was cut off, or else this was noted in its place. If nothing was noted, what it
+/// sent has ended its session.
 pub(crate) fn departure_for(is_cut_off: bool, noted: Option<Note>) -> Departure
     ensures { result ≡ departure_for is_cut_off noted }
 {

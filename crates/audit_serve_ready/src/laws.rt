@@ -1,5 +1,6 @@
 //! Laws of serving, each the contract of a function that does nothing.
-ghost use Rattle.std.specs.Prelude.{◌≡◌, ◌⊎◌, ◌↔◌, ℕ, ◌+◌, ◌*◌, ◌<◌, ◌≤◌, None, List, [], ◌∷◌, ◌++◌, true, false, length};
+ghost use Rattle.std.specs.Prelude.{◌≡◌, ◌⊎◌, ℕ, ◌+◌, ◌*◌, ◌<◌, ◌≤◌, None, List, [], ◌∷◌, ◌++◌, true, false, length};
+ghost use Rattle.std.specs.Prelude.{◌↔◌};
 ghost use Rattle.audit_base.specs.declared.limits.TheConstants.{SESSIONS};
 ghost use Rattle.audit_serve_passes.specs.Streams.{bytes_read};
 ghost use Rattle.audit_serve_passes.specs.Core.{RequestKind, appending};
@@ -83,8 +84,8 @@ pub fn appends_in_front_are_taken<C: SessionCore, D: Door>()
 
 /// Whoever is still there after the goings of a round has a session that goes on, or something is kept for it. Whoever
 /// went was handed back as [`CutOff`](crate::Departure::CutOff) exactly if its session had ended by a request that its
-/// rights don't allow, and else for what was noted in its place. And each place that was free after them was offered: it
-/// has a client now, or nobody came, or memory was refused for whoever came.
+/// rights don't allow, and else for what was noted in its place. And each place that was free after them was offered:
+/// it has a client now, or nobody came, or memory was refused for whoever came.
 pub fn whoever_is_done_goes<C: SessionCore, D: Door>()
     ensures goes { (backlog first k : ℕ) (was now : D) (old new : C) (before after : List (SlotData D.Stream))
         (once : ServesPlacesOnce C.model D.Stream.calls D.calls backlog first was now old new before after)
