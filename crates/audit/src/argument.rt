@@ -34,7 +34,10 @@ pub(crate) fn explain_argument<F: Files, M: Write>(
         && let Some(StateText::Damaged) = state_or_other(rt, alloc, state)
     {
         let shown = Shown(state);
-        return writeln!(messages, "audit: {shown}: no state, or one that was changed or cut off");
+        return writeln!(
+            messages,
+            "audit: {shown}: no state, or one that was changed or cut off"
+        );
     }
     if let Some(file) = key_file_of(asked)
         && notes.key_text().is_no_key()

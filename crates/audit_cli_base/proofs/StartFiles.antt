@@ -82,13 +82,13 @@ length-state state = omega (arith, length-append (state_lines state) (field_line
 
 length-newest : (newest : Commitment) → IsSoundNewest newest → length (newest_lines newest) ≤ 200
 length-newest newest is = omega (
-    arith,
-    length-append (field_line (codes "newest") (decimal newest.count)) (field_line (codes "root") (encode_lower newest.root)),
-    length-field (codes "newest") (decimal newest.count),
-    length-decimal-le 20 newest.count (lit< tt) (below-digits newest.count is.count) is.count,
-    length-field (codes "root") (encode_lower newest.root),
-    length-digits newest.root is.root,
-  )
+  arith,
+  length-append (field_line (codes "newest") (decimal newest.count)) (field_line (codes "root") (encode_lower newest.root)),
+  length-field (codes "newest") (decimal newest.count),
+  length-decimal-le 20 newest.count (lit< tt) (below-digits newest.count is.count) is.count,
+  length-field (codes "root") (encode_lower newest.root),
+  length-digits newest.root is.root,
+)
 
 -- a bookmark's text is no longer than an input may be
 length-text : (state : StateData) (newest : Option Commitment) → AreSoundParts state newest → length (bookmark_text state newest) ≤ INPUT_LIMIT

@@ -26,15 +26,16 @@ pub fn fault_of_unseen(held: Commitment, unseen: Unseen) -> RemoteError
     ensures { result ≡ fault_of_unseen held unseen }
 {
     match (unseen.error, unseen.given) {
-        (
-            ClientError::Shorter | ClientError::OtherRoot | ClientError::NotAccepted,
-            Some(given),
-        ) => RemoteError::NotLed(unseen.error, Some(Contradiction {
-            error: unseen.error,
-            held,
-            given,
-            is_kept: false,
-        })),
+        (ClientError::Shorter | ClientError::OtherRoot | ClientError::NotAccepted, Some(given)) =>
+            RemoteError::NotLed(
+                unseen.error,
+                Some(Contradiction {
+                    error: unseen.error,
+                    held,
+                    given,
+                    is_kept: false,
+                }),
+            ),
         _ => fault_of_client(unseen.error),
     }
 }

@@ -10,9 +10,7 @@ use crate::state_lock::{Locked, lock_state, metadata_if_any, remove_made};
 use crate::state_text::StateAt;
 use audit_cli_base::{CommandError, OutputFile, read_key};
 use audit_cli_host::Dial;
-use audit_cli_offline::{
-    Printing, VerifiedEnd, kinds_in_word, write_end_message, write_last_line,
-};
+use audit_cli_offline::{Printing, VerifiedEnd, kinds_in_word, write_end_message, write_last_line};
 use audit_cli_read::{BookmarkFile, EventOutlet};
 use audit_client::{FallibleWrite, Kept};
 use audit_client_read::{newest_under, read_on};

@@ -153,7 +153,8 @@ fn report_alarm<M: Write>(
     done: Result<Status, RemoteError>,
     messages: &mut M,
 ) {
-    let (Request::Watch { socket, state, .. } | Request::Read { socket, state, .. }) = request else {
+    let (Request::Watch { socket, state, .. } | Request::Read { socket, state, .. }) = request
+    else {
         return;
     };
     if let Err(RemoteError::Contradicted(found) | RemoteError::NotLed(_, Some(found))) = done {

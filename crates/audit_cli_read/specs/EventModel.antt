@@ -51,11 +51,11 @@ event_calls bytes contents = record {
   more_called = λ old mid new calls later first second.
       let lines = lines_of_calls old.printing.now calls in
       let same = ap (λ (p : PrintingData). lines_of_calls p later) first.printing in record {
-    printing = second.printing ∙ first.printing;
-    printed = subst (Appends (contents old.output) (contents new.output))
-        (ap (λ rest. lines ++ rest) same ∙ sym (lines_more old.printing.now calls later))
-        (Appends-trans (contents old.output) (contents mid.output) (contents new.output) lines
-        (lines_of_calls mid.printing.now later) first.printed second.printed);
-    kept = kept_more (bytes old.file) (bytes mid.file) (bytes new.file) calls later first.kept second.kept;
-  };
+        printing = second.printing ∙ first.printing;
+        printed = subst (Appends (contents old.output) (contents new.output))
+            (ap (λ rest. lines ++ rest) same ∙ sym (lines_more old.printing.now calls later))
+            (Appends-trans (contents old.output) (contents mid.output) (contents new.output) lines
+            (lines_of_calls mid.printing.now later) first.printed second.printed);
+        kept = kept_more (bytes old.file) (bytes mid.file) (bytes new.file) calls later first.kept second.kept;
+      };
 }

@@ -3,8 +3,8 @@
 use crate::tests::{Log, add_bytes, closed_log, counted_log, counting_key, hash, turn};
 use audit_chain::Key;
 use audit_verify::{
-    State, StateError, advance, bookmark_text, check_from, collect, read_bookmark, state_text, verify,
-    verify_from,
+    State, StateError, advance, bookmark_text, check_from, collect, read_bookmark, state_text,
+    verify, verify_from,
 };
 use sha2::{Digest, Sha256};
 use std::alloc::Global;
@@ -156,7 +156,10 @@ fn each_change_damages(rt: &impl Abort, alloc: Global, text: &mut Vec<u8>) {
             assert!(rt; is_damaged(alloc, text), "byte {place}");
             turn(text, place, mask);
         }
-        assert!(rt; is_damaged(alloc, &text[..place]), "the first {place} bytes");
+        assert!(rt;
+            is_damaged(alloc, &text[..place]),
+            "the first {place} bytes"
+        );
     }
     assert!(rt; !is_damaged(alloc, text));
     text.push(b'\n').expect(rt, "memory");
