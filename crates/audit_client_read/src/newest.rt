@@ -8,7 +8,7 @@ use audit_proof::Commitment;
 use std::alloc::Global;
 use std::io::{Read, Write};
 
-/// Asks for the newest commitment, which has to extend the one that is held, as [`watch`] judges it.
+/// Asks for the newest commitment, and returns it if it extends the one that is held. That is judged by [`watch`].
 pub(crate) fn newest_after<W: Write, R: Read>(
     alloc: Global,
     to: &mut W,

@@ -15,7 +15,7 @@ bytes_for k bytes session = if session == k then bytes else []
 pub data RequestKind : Type 0 where
   -- to append an event or to close the log
   appending : RequestKind
-  -- an answer alone, or what is to be refused: the longest reply of its kind has so many bytes
+  -- it only asks, or is refused: this is the length in bytes of the longest reply to requests of its kind
   asking : ℕ → RequestKind
 
 -- the longest replies to the questions among requests, all of them
