@@ -14,9 +14,9 @@ use audit_verify::{State, StateError, read_bookmark};
 use std::alloc::Global;
 use std::io::Read;
 
-/// Reads what a verification starts from: the state before the first entry of the log, if the file holds its first key,
-/// or the state of the bookmark whose text it holds. The error is `BadArgument` if it holds neither. Otherwise it fails only if a read
-/// failed or memory was refused.
+/// Reads what a verification starts from: the state before the first entry of the log, if the file holds its first
+/// key, or the state of the bookmark whose text it holds. The error is `BadArgument` if it holds neither. Otherwise it
+/// fails only if a read failed or memory was refused.
 pub fn read_start<R: Read>(alloc: Global, reader: &mut R) -> Result<State, CommandError>
     ensures start { IfOk result (λ state. IfSome (R.remaining reader.old) (λ text. IsStart text state)) }
     ensures fault { IfErr result (IsStartFault (R.remaining reader.old)) }

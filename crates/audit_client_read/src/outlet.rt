@@ -21,8 +21,8 @@ pub trait Outlet {
         ensures done { OnOk result (calls.DidCalls self.old self.new (a_keeping state.now newest.now ∷ [])) }
         ensures failed { OnErr result (calls.Tried self.old self.new (a_keeping state.now newest.now)) };
 
-    /// Prints events, of which the first has this index in its log, and flushes. An index is at most `MAX_COUNT`. After an error some of them may have
-    /// been printed.
+    /// Prints events, of which the first has this index in its log, and flushes. An index is at most `MAX_COUNT`.
+    /// After an error some of them may have been printed.
     fn print(&mut self, first: u64, events: &[Event]) -> Result<(), Self::Error>
         requires most { first ≤ MAX_COUNT }
         ensures done { OnOk result (calls.DidCalls self.old self.new (a_printing first events.now ∷ [])) }

@@ -16,7 +16,8 @@ const KEPT_TAG: u32 = 1;
 /// Asks for the newest commitment, which has to extend the one that a witness saw and the one that a reader kept. So
 /// both are of one log, and what is read on from it is the log that the witness saw.
 ///
-/// Errors: as [`watch`](audit_client::watch), by either of the two, with the commitment that the server gave if it was judged.
+/// Errors: as [`watch`](audit_client::watch), by either of the two, with the commitment that the server gave if it was
+/// judged.
 pub fn newest_under<W: Write, R: Read>(
     alloc: Global,
     to: &mut W,
