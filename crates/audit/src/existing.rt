@@ -9,6 +9,9 @@ use std::fs::{self, Files, Metadata};
 use std::io::{self, Write};
 use std::os::unix::fs::FileTypeExt;
 
+// The most bytes of a key file: hex digits and a line feed.
+const MAX_KEY_FILE: u64 = 65;
+
 /// Prints what is at the path at which a command was to write, so that it wrote nothing.
 pub(crate) fn explain_existing<F: Files, M: Write>(
     rt: &F,
@@ -23,7 +26,11 @@ pub(crate) fn explain_existing<F: Files, M: Write>(
             let Some(out) = asked.save else {
                 return Ok(());
             };
-            return explain_output(rt, "STATE", out, (asked.export, "EXPORT"), messages);
+            if is_key_at(rt, asked.start, out) {
+                (out, "STATE is KEYFILE, which has the first key")
+            } else {
+                return explain_output(rt, "STATE", out, (asked.export, "EXPORT"), messages);
+            }
         }
         Asked::Remote(
             Remote::Ask {
@@ -51,6 +58,16 @@ pub(crate) fn explain_existing<F: Files, M: Write>(
         _ => return Ok(()),
     };
     writeln!(messages, "audit: {}: {cause}", Shown(path))
+}
+
+// Whether two paths lead to one file that is short enough for a key.
+fn is_key_at<F: Files>(rt: &F, path: &str, other: &str) -> bool {
+    match (fs::metadata(rt, path), fs::metadata(rt, other)) {
+        (Ok(found), Ok(same)) => {
+            FileIdentity::of(&found) == FileIdentity::of(&same) && found.len() <= MAX_KEY_FILE
+        }
+        _ => false,
+    }
 }
 
 // Prints why an output isn't written to a path. `read` is the path of what is read, and its name.

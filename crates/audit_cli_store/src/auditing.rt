@@ -11,7 +11,7 @@ ghost use Rattle.audit_cli_store.specs.Verifications.{AreKindsAsked, IsKindsFaul
 use crate::checking::check_proof;
 use audit_cli_base::{
     CommandError, OutputFile, commitment_asked, commitments_asked, judge_start, number_asked,
-    read_start,
+    read_key, read_start,
 };
 use audit_cli_offline::{
     CheckForm, Printing, ReportForm, VerifiedEnd, kinds_in_word, verify_export,
@@ -100,6 +100,7 @@ fn verify_file<F: Files, W: Write>(
     let commitment = commitment_asked(asked.commitment)?;
     judge_start(&start, &commitment)?;
     let printing = printing_asked(alloc, asked.form, asked.kinds, asked.from)?;
+    judge_saved(rt, alloc, asked)?;
     verify_further(
         rt,
         alloc,
@@ -115,6 +116,29 @@ fn verify_file<F: Files, W: Write>(
 fn start_in<F: Files>(rt: &F, alloc: Global, file: &str) -> Result<State, CommandError> {
     let mut file = fs::open(rt, file)?;
     read_start(alloc, &mut file)
+}
+
+// A state doesn't replace the first key that it follows from: without that key nobody can read the log.
+fn judge_saved<F: Files>(
+    rt: &F,
+    alloc: Global,
+    asked: Verification<'_>,
+) -> Result<(), CommandError> {
+    let Some(out) = asked.save else {
+        return Ok(());
+    };
+    let Ok(found) = fs::metadata(rt, out) else {
+        return Ok(());
+    };
+    let start = fs::metadata(rt, asked.start)?;
+    if !found.is_file() || FileIdentity::of(&found) != FileIdentity::of(&start) {
+        return Ok(());
+    }
+    match read_key(alloc, &mut fs::open(rt, asked.start)?) {
+        Ok(_) => Err(CommandError::FileExists),
+        Err(CommandError::BadArgument) => Ok(()),
+        Err(fault) => Err(fault),
+    }
 }
 
 // What is printed, by the words for it.
