@@ -1,6 +1,8 @@
 //! What the system uses a file or a block device for, as far as it lists that.
 use crate::fault::CommandError;
-use audit_disk::{DeviceNumber, FileIdentity, backing_file, system_text, whole_disk};
+use audit_disk::{
+    DeviceNumber, FileFault, FileIdentity, SystemFile, SystemFiles, backing_file, whole_disk,
+};
 use std::alloc::Global;
 use std::fs::{self, Files};
 use std::io::{self, ErrorKind};
@@ -23,7 +25,10 @@ struct Place {
 }
 
 impl Place {
-    fn of<F: Files>(rt: &F, alloc: Global, device: DeviceNumber) -> io::Result<Place> {
+    fn of<F: SystemFiles>(rt: &F, alloc: Global, device: DeviceNumber) -> Result<Place, FileFault>
+    where
+        F::File: SystemFile,
+    {
         Ok(Place {
             device,
             disk: whole_disk(rt, alloc, device)?,
@@ -41,11 +46,14 @@ impl Place {
 /// Whether the system uses a file or a block device: a device, its disk or one of its partitions is mounted, is swapped
 /// to, or is part of another device; or a file is swapped to, or is behind a loop device that is used so. Mounts of other
 /// namespaces aren't seen. It is an error if the list of mounts can't be read.
-pub(crate) fn is_used_by_system<F: Files>(
+pub(crate) fn is_used_by_system<F: SystemFiles>(
     rt: &F,
     alloc: Global,
     identity: FileIdentity,
-) -> Result<bool, CommandError> {
+) -> Result<bool, CommandError>
+where
+    F::File: SystemFile,
+{
     match identity {
         FileIdentity::Block { number } => {
             let place = Place::of(rt, alloc, DeviceNumber::of(number))?;
@@ -55,7 +63,10 @@ pub(crate) fn is_used_by_system<F: Files>(
     }
 }
 
-fn is_device_used<F: Files>(rt: &F, alloc: Global, place: Place) -> Result<bool, CommandError> {
+fn is_device_used<F: SystemFiles>(rt: &F, alloc: Global, place: Place) -> Result<bool, CommandError>
+where
+    F::File: SystemFile,
+{
     Ok(
         is_mounted(rt, alloc, place)?
             || is_device_swap(rt, alloc, place)?
@@ -63,8 +74,11 @@ fn is_device_used<F: Files>(rt: &F, alloc: Global, place: Place) -> Result<bool,
     )
 }
 
-fn is_mounted<F: Files>(rt: &F, alloc: Global, place: Place) -> Result<bool, CommandError> {
-    let Some(mounts) = system_text(rt, alloc, MOUNTS)? else {
+fn is_mounted<F: SystemFiles>(rt: &F, alloc: Global, place: Place) -> Result<bool, CommandError>
+where
+    F::File: SystemFile,
+{
+    let Some(mounts) = rt.text_if_any(alloc, MOUNTS)? else {
         return Err(CommandError::File);
     };
     for line in mounts.lines() {
@@ -76,7 +90,15 @@ fn is_mounted<F: Files>(rt: &F, alloc: Global, place: Place) -> Result<bool, Com
 }
 
 // Whether a line of the mounts is about a device. Some file systems have a number of their own, and only name the device.
-fn is_mount_of<F: Files>(rt: &F, alloc: Global, line: &str, place: Place) -> io::Result<bool> {
+fn is_mount_of<F: SystemFiles>(
+    rt: &F,
+    alloc: Global,
+    line: &str,
+    place: Place,
+) -> Result<bool, CommandError>
+where
+    F::File: SystemFile,
+{
     let (own, source) = line.split_once(" - ").unwrap_or((line, ""));
     if let Some(device) = own.split_whitespace().nth(2).and_then(DeviceNumber::named) {
         if place.overlaps(Place::of(rt, alloc, device)?) {
@@ -90,7 +112,15 @@ fn is_mount_of<F: Files>(rt: &F, alloc: Global, line: &str, place: Place) -> io:
 }
 
 // Whether a path leads to a device that overlaps this one.
-fn leads_to<F: Files>(rt: &F, alloc: Global, path: &str, place: Place) -> io::Result<bool> {
+fn leads_to<F: SystemFiles>(
+    rt: &F,
+    alloc: Global,
+    path: &str,
+    place: Place,
+) -> Result<bool, CommandError>
+where
+    F::File: SystemFile,
+{
     match identity_at(rt, path) {
         Some(FileIdentity::Block { number }) => {
             let other = Place::of(rt, alloc, DeviceNumber::of(number))?;
@@ -105,8 +135,11 @@ fn identity_at<F: Files>(rt: &F, path: &str) -> Option<FileIdentity> {
     Some(FileIdentity::of(&found))
 }
 
-fn is_device_swap<F: Files>(rt: &F, alloc: Global, place: Place) -> io::Result<bool> {
-    let swaps = system_text(rt, alloc, SWAPS)?;
+fn is_device_swap<F: SystemFiles>(rt: &F, alloc: Global, place: Place) -> Result<bool, CommandError>
+where
+    F::File: SystemFile,
+{
+    let swaps = rt.text_if_any(alloc, SWAPS)?;
     for line in swaps.iter().flat_map(|text| text.lines()) {
         let path = line.split_whitespace().next().unwrap_or("");
         if path.starts_with('/') && leads_to(rt, alloc, path, place)? {
@@ -160,12 +193,15 @@ fn names_in<F: Files>(rt: &F, alloc: Global, path: &str) -> io::Result<String> {
     }
 }
 
-fn is_file_used<F: Files>(
+fn is_file_used<F: SystemFiles>(
     rt: &F,
     alloc: Global,
     identity: FileIdentity,
-) -> Result<bool, CommandError> {
-    let swaps = system_text(rt, alloc, SWAPS)?;
+) -> Result<bool, CommandError>
+where
+    F::File: SystemFile,
+{
+    let swaps = rt.text_if_any(alloc, SWAPS)?;
     for line in swaps.iter().flat_map(|text| text.lines()) {
         let path = line.split_whitespace().next().unwrap_or("");
         if path.starts_with('/') && identity_at(rt, path) == Some(identity) {
@@ -176,11 +212,14 @@ fn is_file_used<F: Files>(
 }
 
 // Whether a loop device over a file is used.
-fn is_loop_used<F: Files>(
+fn is_loop_used<F: SystemFiles>(
     rt: &F,
     alloc: Global,
     identity: FileIdentity,
-) -> Result<bool, CommandError> {
+) -> Result<bool, CommandError>
+where
+    F::File: SystemFile,
+{
     for name in names_in(rt, alloc, DEVICES)?.split('\0') {
         let device = match DeviceNumber::named(name) {
             Some(device) if name.starts_with(LOOP) => device,
@@ -195,12 +234,15 @@ fn is_loop_used<F: Files>(
 }
 
 // Whether a loop device is over this file.
-fn is_over<F: Files>(
+fn is_over<F: SystemFiles>(
     rt: &F,
     alloc: Global,
     device: DeviceNumber,
     identity: FileIdentity,
-) -> io::Result<bool> {
+) -> Result<bool, CommandError>
+where
+    F::File: SystemFile,
+{
     match backing_file(rt, alloc, device)? {
         Some(path) => Ok(identity_at(rt, path.as_str()) == Some(identity)),
         None => Ok(false),

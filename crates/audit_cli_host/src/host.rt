@@ -3,7 +3,7 @@ use crate::noted_file::NotedFile;
 use crate::notes::Notes;
 use audit_disk::{SystemFile, SystemFiles};
 use mio::net::UnixStream as Dialed;
-use std::alloc::Allocator;
+use std::alloc::{Allocator, Global};
 use std::fs::{Files, Metadata, OpenFile, OpenOptions, Permissions, TryLockError};
 use std::io::{self, ErrorKind};
 use std::net::{Net, SocketAddr};
@@ -64,6 +64,23 @@ where
     ghost synced = { λ host folder. R.synced host.rt.now folder };
 
     ghost failed = { λ host. R.failed host.rt.now };
+
+    fn look(&self, path: &str) -> io::Result<Metadata> {
+        self.noted(path, self.rt.look(path))
+    }
+
+    fn look_if_any(&self, path: &str) -> io::Result<Option<Metadata>> {
+        self.noted(path, self.rt.look_if_any(path))
+    }
+
+    // That what is there can't be a device is no failure of a call.
+    fn judge(&self, found: &Metadata, to_write: bool) -> io::Result<()> {
+        self.rt.judge(found, to_write)
+    }
+
+    fn text_if_any(&self, alloc: Global, path: &str) -> io::Result<Option<String>> {
+        self.noted(path, self.rt.text_if_any(alloc, path))
+    }
 
     fn open_to_write(&self, path: &str) -> io::Result<Self::File> {
         self.opened(path, self.rt.open_to_write(path))

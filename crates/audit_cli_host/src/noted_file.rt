@@ -186,6 +186,11 @@ impl<F: SystemFile> SystemFile for NotedFile<'_, '_, F> {
         taken
     }
 
+    // That it is another file is no failure of a call.
+    fn is_same(&self, found: &Metadata) -> io::Result<()> {
+        self.inner.is_same(found)
+    }
+
     fn set_mode(&self, mode: u32) -> io::Result<()> {
         let changed = self.inner.set_mode(mode);
         self.notes.watch(self.subject, &changed);

@@ -15,14 +15,20 @@ abbrev pub of_lock : TryLockError → FileFault
 of_lock lock.WouldBlock = InUse
 of_lock (lock.Error error) = Io
 
+-- a call of the system failed, or memory was refused
+abbrev pub IsSystemFault : (failed : Type 0) → FileFault → Type 0
+IsSystemFault failed Io = failed
+IsSystemFault failed Memory = Unit {0}
+IsSystemFault failed _ = ⊥
+
 module _ {F : Type 0} (facts : F → FileFacts) where
-  -- Why a file couldn't be opened and locked: a call failed, another open holds the lock of a file whose lock was asked
-  -- for, or memory was refused.
-  abbrev pub IsLockingFault : FileFault → Type 0
-  IsLockingFault Io = Unit {0}
-  IsLockingFault InUse = (file : F) × (facts file).failed
-  IsLockingFault Memory = Unit {0}
-  IsLockingFault _ = ⊥
+  -- Why a file couldn't be opened and locked: a call of the system or of a file failed, another open holds the lock of
+  -- a file whose lock was asked for, or memory was refused.
+  abbrev pub IsLockingFault : (failed : Type 0) → FileFault → Type 0
+  IsLockingFault failed Io = failed ⊎ ((file : F) × (facts file).failed)
+  IsLockingFault failed InUse = (file : F) × (facts file).failed
+  IsLockingFault failed Memory = Unit {0}
+  IsLockingFault failed _ = ⊥
 
   -- a call of a file that was made at this path failed
   pub record FailsNewFile (path : List ℕ) : Type 0 where
@@ -75,20 +81,22 @@ module _ {F : Type 0} (facts : F → FileFacts) (positioned : F → PositionedVi
     pub opened : IsOpenedAs hold path (facts file)
     pub reason : Reason file
 
-  -- Why what is at a path couldn't be opened as a device: a call failed, or it is no file and no block device; another
-  -- open holds a lock; its length is no whole number of sectors; or memory was refused.
-  abbrev pub IsOpeningFault : Hold → List ℕ → FileFault → Type 0
-  IsOpeningFault hold path Io = Unit {0}
-  IsOpeningFault hold path InUse = (file : F) × (facts file).failed
-  IsOpeningFault hold path Length = IsNoDevice hold path (λ file. IsMeasuringFault positioned file Length)
-  IsOpeningFault hold path Memory = Unit {0}
-  IsOpeningFault hold path (TooSmall sectors) = ⊥
+  -- Why what is at a path couldn't be opened as a device: a call of the system, of a file that was to be locked, or of
+  -- the one that was opened and locked failed; another open holds a lock; its length is no whole number of sectors; or
+  -- memory was refused.
+  abbrev pub IsOpeningFault : (failed : Type 0) → Hold → List ℕ → FileFault → Type 0
+  IsOpeningFault failed hold path Io = IsLockingFault facts failed Io ⊎ IsNoDevice hold path (FailsToMeasure positioned)
+  IsOpeningFault failed hold path InUse = (file : F) × (facts file).failed
+  IsOpeningFault failed hold path Length = IsNoDevice hold path (λ file. IsMeasuringFault positioned file Length)
+  IsOpeningFault failed hold path Memory = Unit {0}
+  IsOpeningFault failed hold path (TooSmall sectors) = ⊥
 
   -- the same if this many sectors are asked for
-  abbrev pub IsFrontOpeningFault : Hold → List ℕ → ℕ → FileFault → Type 0
-  IsFrontOpeningFault hold path sectors Io = Unit {0}
-  IsFrontOpeningFault hold path sectors InUse = (file : F) × (facts file).failed
-  IsFrontOpeningFault hold path sectors (TooSmall held) =
+  abbrev pub IsFrontOpeningFault : (failed : Type 0) → Hold → List ℕ → ℕ → FileFault → Type 0
+  IsFrontOpeningFault failed hold path sectors Io =
+      IsLockingFault facts failed Io ⊎ IsNoDevice hold path (FailsToMeasure positioned)
+  IsFrontOpeningFault failed hold path sectors InUse = (file : F) × (facts file).failed
+  IsFrontOpeningFault failed hold path sectors (TooSmall held) =
       IsNoDevice hold path (λ file. IsFrontFault positioned file sectors (TooSmall held))
-  IsFrontOpeningFault hold path sectors Memory = Unit {0}
-  IsFrontOpeningFault hold path sectors Length = ⊥
+  IsFrontOpeningFault failed hold path sectors Memory = Unit {0}
+  IsFrontOpeningFault failed hold path sectors Length = ⊥

@@ -25,10 +25,8 @@ use crate::{
     SystemFiles,
 };
 use std::alloc::{AllocError, Global};
-use std::fs::{self, Metadata, OpenFile};
-use std::io;
-use std::os::unix::fs::{FileTypeExt, MetadataExt};
 use std::path::Path;
+use std::{fs, io};
 
 /// The permissions of a file that only its owner may read and write.
 pub const OWNER_ONLY: u32 = 0o600;
@@ -93,7 +91,7 @@ impl<F: SystemFile> FileDisk<OsFile<F>> {
         ensures fresh { IfOk result IsFreshFile }
         ensures opened { IfOk result (λ disk. IsWholeOpened F.facts F.positioned
             Alone path.now (file_disk_view disk)) }
-        ensures fault { IfErr result (IsOpeningFault F.facts F.positioned Alone path.now) }
+        ensures fault { IfErr result (IsOpeningFault F.facts F.positioned (R.failed rt.now) Alone path.now) }
     {
         FileDisk::over_whole_of(alloc, open_locked(rt, alloc, path, Hold::Alone)?)
     }
@@ -111,7 +109,8 @@ impl<F: SystemFile> FileDisk<OsFile<F>> {
         ensures opened { IfOk result (λ disk. IsFrontOfOpened F.facts F.positioned
             Alone path.now (file_disk_view disk)) }
         ensures small { IfErr result (λ fault. (held : _) → fault ≡ FileFault.TooSmall held → held < sectors) }
-        ensures fault { IfErr result (IsFrontOpeningFault F.facts F.positioned Alone path.now sectors) }
+        ensures fault { IfErr result (IsFrontOpeningFault F.facts F.positioned (R.failed rt.now) Alone path.now
+            sectors) }
     {
         FileDisk::over_front_of(alloc, open_locked(rt, alloc, path, Hold::Alone)?, sectors)
     }
@@ -126,7 +125,7 @@ impl<F: SystemFile> FileDisk<OsFile<F>> {
         ensures fresh { IfOk result IsFreshFile }
         ensures opened { IfOk result (λ disk. IsWholeOpened F.facts F.positioned
             Shared path.now (file_disk_view disk)) }
-        ensures fault { IfErr result (IsOpeningFault F.facts F.positioned Shared path.now) }
+        ensures fault { IfErr result (IsOpeningFault F.facts F.positioned (R.failed rt.now) Shared path.now) }
     {
         FileDisk::over_whole_of(alloc, open_locked(rt, alloc, path, Hold::Shared)?)
     }
@@ -253,35 +252,21 @@ fn open_locked<R: SystemFiles<File = F>, F: SystemFile>(
 ) -> Result<Locked<F>, FileFault>
     ensures opened { IfOk result (λ locked. IsOpenedAs hold path.now (F.facts locked.file)) }
     ensures uncalled { IfOk result (λ locked. IsUncalled (F.positioned locked.file)) }
-    ensures fault { IfErr result (IsLockingFault F.facts) }
+    ensures fault { IfErr result (IsLockingFault F.facts (R.failed rt.now)) }
 {
-    let found = fs::metadata(rt, path)?;
-    let kind = found.file_type();
-    if kind.is_fifo()
-        || kind.is_char_device()
-        || kind.is_socket()
-        || hold == Hold::Shared && kind.is_dir()
-    {
-        return Err(FileFault::Io);
-    }
+    let found = rt.look(path)?;
+    rt.judge(&found, hold == Hold::Alone)?;
     let guards = Guards::of(rt, alloc, &found, hold)?;
     let file = match hold {
         Hold::Alone => rt.open_to_write(path)?,
         Hold::Shared => rt.open_to_read(path)?,
     };
     hold.take(&file)?;
-    if !is_same_inode(&file.metadata()?, &found) {
-        return Err(FileFault::Io);
-    }
+    file.is_same(&found)?;
     Ok(Locked {
         file,
         guards: Some(guards),
     })
-}
-
-/// Whether two metadata are of one inode, and of one device if that is a device's node.
-fn is_same_inode(one: &Metadata, other: &Metadata) -> bool {
-    one.dev() == other.dev() && one.ino() == other.ino() && one.rdev() == other.rdev()
 }
 
 /// Locks a new file, sets its mode and length, and syncs the file and its name.

@@ -50,6 +50,6 @@ pub use read_only::ReadOnly;
 pub use reading::Reading;
 pub use sector_file::SectorFile;
 pub use sector_source::SectorSource;
-pub use sysfs::{backing_file, system_text, whole_disk};
+pub use sysfs::{backing_file, whole_disk};
 pub use system_file::SystemFile;
 pub use system_files::SystemFiles;

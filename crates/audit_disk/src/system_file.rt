@@ -4,9 +4,9 @@ ghost use Rattle.audit_disk.specs.FileFacts.{FileFacts, KeepsFacts, IsLaidOut, f
 ghost use Rattle.audit_disk.specs.Positioned.{unknown_positioned};
 
 use crate::{PositionedFile, SECTOR_SIZE};
-use std::fs::{File, OpenFile, Permissions, TryLockError};
-use std::io::{self, Seek, SeekFrom};
-use std::os::unix::fs::{FileExt, PermissionsExt};
+use std::fs::{File, Metadata, OpenFile, Permissions, TryLockError};
+use std::io::{self, ErrorKind, Seek, SeekFrom};
+use std::os::unix::fs::{FileExt, MetadataExt, PermissionsExt};
 
 /// An open file of the operating system, or a program's own type that passes each call on to one.
 ///
@@ -24,6 +24,11 @@ pub trait SystemFile: PositionedFile + OpenFile + Drop {
     /// Takes the shared lock, which any number of opens can hold while none holds the exclusive one.
     fn try_lock_shared(&self) -> Result<(), TryLockError>
         ensures locked { OnOk result (facts self.now).locked_shared }
+        ensures failed { OnErr result (facts self.now).failed };
+
+    /// Judges whether this is the file that was seen at its path, by the inode, and by the device if it is a device's
+    /// node. It fails if it is another one.
+    fn is_same(&self, found: &Metadata) -> io::Result<()>
         ensures failed { OnErr result (facts self.now).failed };
 
     /// Gives the file these permission bits, whatever the umask is.
@@ -71,6 +76,10 @@ impl SystemFile for File {
         File::try_lock_shared(self)
     }
 
+    fn is_same(&self, found: &Metadata) -> io::Result<()> {
+        judge_same(&OpenFile::metadata(self)?, found)
+    }
+
     fn set_mode(&self, mode: u32) -> io::Result<()> {
         self.set_permissions(Permissions::from_mode(mode))
     }
@@ -79,4 +88,12 @@ impl SystemFile for File {
         self.set_len(length)?;
         self.sync_all()
     }
+}
+
+/// Whether two metadata are of one inode, and of one device if that is a device's node.
+pub(crate) fn judge_same(one: &Metadata, other: &Metadata) -> io::Result<()> {
+    if one.dev() == other.dev() && one.ino() == other.ino() && one.rdev() == other.rdev() {
+        return Ok(());
+    }
+    Err(io::Error::from(ErrorKind::Other))
 }

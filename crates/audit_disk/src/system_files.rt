@@ -1,12 +1,13 @@
 //! What opens and makes the files of the operating system.
-ghost use Rattle.std.specs.Prelude.{ℕ, List, IfOk, OnOk, OnErr};
+ghost use Rattle.std.specs.Prelude.{ℕ, List, IfOk, OnOk, OnErr, IsErr};
 ghost use Rattle.audit_disk.specs.FileFacts.{IsNewFile};
 ghost use Rattle.audit_disk.specs.Positioned.{IsUncalled};
 
 use crate::SystemFile;
-use std::fs::{self, File, Files, OpenFile, OpenOptions};
-use std::io;
-use std::os::unix::fs::OpenOptionsExt;
+use std::alloc::Global;
+use std::fs::{self, File, FileType, Files, Metadata, OpenFile, OpenOptions};
+use std::io::{self, ErrorKind};
+use std::os::unix::fs::{FileTypeExt, OpenOptionsExt};
 use std::rt::HostRuntime;
 
 /// The calls that open and make the files of devices. Contracts know of a file what the call promises that gave it.
@@ -17,16 +18,34 @@ where
     /// This folder was synced.
     ghost synced: { Self → List ℕ → Type 0 };
 
-    /// A call that makes a file or syncs a folder failed.
+    /// A call of the system failed.
     ghost failed: { Self → Type 0 };
+
+    /// Looks at what is at a path.
+    fn look(&self, path: &str) -> io::Result<Metadata>
+        ensures failed { OnErr result (failed self.now) };
+
+    /// Looks at what is at a path, if anything is.
+    fn look_if_any(&self, path: &str) -> io::Result<Option<Metadata>>
+        ensures failed { OnErr result (failed self.now) };
+
+    /// Judges what was seen at a path: it fails if that can't be a device, or opening it might wait.
+    fn judge(&self, found: &Metadata, to_write: bool) -> io::Result<()>
+        ensures failed { OnErr result (failed self.now) };
+
+    /// Reads the text of a file of the system, if there is one at the path.
+    fn text_if_any(&self, alloc: Global, path: &str) -> io::Result<Option<String>>
+        ensures failed { OnErr result (failed self.now) };
 
     /// Opens what is at a path, for reading and writing. No call of the file was made.
     fn open_to_write(&self, path: &str) -> io::Result<Self::File>
+        ensures failed { OnErr result (failed self.now) }
         ensures opened { IfOk result (λ file. (Self.File.facts file).opened path.now) }
         ensures uncalled { IfOk result (λ file. IsUncalled (Self.File.positioned file)) };
 
     /// Opens what is at a path, for reading. No call of the file was made.
     fn open_to_read(&self, path: &str) -> io::Result<Self::File>
+        ensures failed { OnErr result (failed self.now) }
         ensures opened { IfOk result (λ file. (Self.File.facts file).opened_to_read path.now) }
         ensures uncalled { IfOk result (λ file. IsUncalled (Self.File.positioned file)) };
 
@@ -46,6 +65,25 @@ impl SystemFiles for HostRuntime {
     ghost synced = { λ _ _. Unit {0} };
 
     ghost failed = { λ _. Unit {0} };
+
+    fn look(&self, path: &str) -> io::Result<Metadata> {
+        fs::metadata(self, path)
+    }
+
+    fn look_if_any(&self, path: &str) -> io::Result<Option<Metadata>> {
+        if_any(fs::metadata(self, path))
+    }
+
+    fn judge(&self, found: &Metadata, to_write: bool) -> io::Result<()> {
+        judge_kind(found.file_type(), to_write)
+    }
+
+    fn text_if_any(&self, alloc: Global, path: &str) -> io::Result<Option<String>> {
+        match if_any(fs::open(self, path))? {
+            Some(file) => Ok(Some(io::read_to_string(alloc, file)?)),
+            None => Ok(None),
+        }
+    }
 
     fn open_to_write(&self, path: &str) -> io::Result<File> {
         OpenOptions::new().read(true).write(true).open(self, path)
@@ -67,4 +105,24 @@ impl SystemFiles for HostRuntime {
             Err(_) => Ok(()),
         }
     }
+}
+
+/// What a call gave, or nothing if nothing is at its path.
+pub(crate) fn if_any<T>(given: io::Result<T>) -> io::Result<Option<T>>
+    ensures failed { IsErr result → IsErr given }
+{
+    match given {
+        Ok(found) => Ok(Some(found)),
+        Err(error) if error.kind() == ErrorKind::NotFound => Ok(None),
+        Err(error) => Err(error),
+    }
+}
+
+/// Whether a file of this kind can be opened as a device. A pipe, a terminal or a socket isn't, since that might wait,
+/// and a folder isn't opened to be read.
+pub(crate) fn judge_kind(kind: FileType, to_write: bool) -> io::Result<()> {
+    if kind.is_fifo() || kind.is_char_device() || kind.is_socket() || !to_write && kind.is_dir() {
+        return Err(io::Error::from(ErrorKind::Other));
+    }
+    Ok(())
 }

@@ -11,7 +11,7 @@ use audit_disk::{
     FileDisk, FileFault, MemDisk, MemFile, OsFile, PositionedFile, SECTOR_SIZE, SystemFile,
     SystemFiles,
 };
-use std::alloc::Allocator;
+use std::alloc::{Allocator, Global};
 use std::fs::{self, File, Files, Metadata, OpenFile, OpenOptions, TryLockError};
 use std::io::{self, ErrorKind, Read, Seek, SeekFrom, Write};
 
@@ -107,6 +107,10 @@ impl SystemFile for ImaginedFile {
         Ok(())
     }
 
+    fn is_same(&self, _found: &Metadata) -> io::Result<()> {
+        Ok(())
+    }
+
     fn set_mode(&self, _mode: u32) -> io::Result<()> {
         unsupported()
     }
@@ -166,6 +170,22 @@ impl SystemFiles for Imagined<'_> {
     ghost synced = { λ _ _. Unit {0} };
 
     ghost failed = { λ _. Unit {0} };
+
+    fn look(&self, path: &str) -> io::Result<Metadata> {
+        Files::metadata(self.rt, path)
+    }
+
+    fn look_if_any(&self, _path: &str) -> io::Result<Option<Metadata>> {
+        Ok(None)
+    }
+
+    fn judge(&self, _found: &Metadata, _to_write: bool) -> io::Result<()> {
+        Ok(())
+    }
+
+    fn text_if_any(&self, _alloc: Global, _path: &str) -> io::Result<Option<String>> {
+        Ok(None)
+    }
 
     fn open_to_write(&self, path: &str) -> io::Result<ImaginedFile> {
         Ok(ImaginedFile {
