@@ -1,6 +1,6 @@
 -- Arguments that are checked here, not by the command line's parser.
 use denote.Ref.{Bor}
-use Rattle.std.specs.Prelude.{◌≡◌, ◌⊎◌, ℕ, nat_lt, ◌||◌, Option, Some, None, Result, Ok, Err, List, codes}
+use Rattle.std.specs.Prelude.{◌≡◌, ◌⊎◌, ℕ, Bool, nat_lt, ◌||◌, Option, Some, None, Result, Ok, Err, List, codes}
 use Rattle.std.specs.Prelude.{if◌then◌else◌}
 use Rattle.std.specs.Str.{bytes_eq}
 use Rattle.std.specs.Io.KnownBytes.{Keeps}
@@ -14,6 +14,10 @@ use Rattle.audit_cli_base.specs.declared.fault.CommandError.{CommandError}
 use Rattle.audit_cli_base.specs.declared.fault.CommandError.TheVariants.{BadArgument, Refused}
 use Rattle.audit_cli_base.specs.declared.arguments.ProofRequest.{ProofRequest}
 use Rattle.audit_cli_base.specs.declared.arguments.ProofRequest.TheVariants.{Member, Increment}
+
+-- OUT is standard output
+abbrev pub selects_output : List ℕ → Bool
+selects_output out = bytes_eq out (codes "-") || bytes_eq out (codes "/dev/stdout")
 
 -- any number
 abbrev pub number_or_fault : Option ℕ → Result ℕ CommandError

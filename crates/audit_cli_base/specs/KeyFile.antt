@@ -1,8 +1,10 @@
 -- The contents of a key file.
-use Rattle.std.specs.Prelude.{◌≡◌, ◌⊎◌, ℕ, ◌-◌, nat_eq, Option, None, List, length, take, codes, if◌then◌else◌, IfSome}
+use Rattle.std.specs.Prelude.{◌≡◌, ◌⊎◌, ℕ, ◌-◌, nat_eq, Option, Some, None, List, length, take, codes}
+use Rattle.std.specs.Prelude.{if◌then◌else◌, IfSome}
 use Rattle.std.specs.List.{ends_with}
 use Rattle.std.specs.Result.{result_ok}
 use Rattle.hex.specs.Hex.{decode_sized}
+use Rattle.audit_disk.specs.FileFacts.{FileFacts}
 use Rattle.audit_text.specs.declared.fault.LinesError.TheVariants.{Read, Memory}
 use Rattle.audit_cli_base.specs.declared.fault.CommandError.{CommandError}
 use Rattle.audit_cli_base.specs.declared.fault.CommandError.TheVariants.{BadArgument}
@@ -21,3 +23,10 @@ abbrev pub IsKeyFault : Option (List ℕ) → CommandError → Type 0
 IsKeyFault known BadArgument = IfSome known (λ text. key_of_file text ≡ None)
 IsKeyFault known (Lines cause) = (cause ≡ Read) ⊎ (cause ≡ Memory)
 IsKeyFault known _ = ⊥
+
+module _ {F : Type 0} (facts : F → FileFacts) (remaining : F → Option (List ℕ)) where
+  -- a file that was opened at this path, to read, has this key
+  pub record IsKeyAt (path key : List ℕ) : Type 0 where
+    pub file : F
+    pub opened : (facts file).opened_to_read path
+    pub key_is : IfSome (remaining file) (λ text. key_of_file text ≡ Some key)

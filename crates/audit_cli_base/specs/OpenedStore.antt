@@ -5,9 +5,11 @@ use Rattle.audit_disk_model.specs.View.{View}
 use Rattle.audit_disk_model.specs.declared.sectors.Sectors as sectors
 use Rattle.audit_disk.specs.FileFacts.{FileFacts}
 use Rattle.audit_disk.specs.Positioned.{PositionedView, ShowsFront}
+use Rattle.audit_log.specs.declared.header.Header.{Header}
 use Rattle.audit_store_layout.specs.Layout.{IsRecoverable}
 use Rattle.audit_store_layout.specs.Origin.{Origin}
-use Rattle.audit_store.specs.Recovered.{IsOpened}
+use Rattle.audit_store_layout.specs.Recovery.{restored_header}
+use Rattle.audit_store.specs.Recovered.{CanBeOpened, IsOpened}
 use Rattle.audit_store.specs.Store.{device, active_header, index_of, Holds}
 use Rattle.audit_store.specs.declared.store.Store.{Store}
 
@@ -18,6 +20,12 @@ module _ {D : Type 0} {g : sectors.Ghosts D} where
     pub opened : IsOpened disk (device store) (active_header store) (index_of store)
     pub holds : (origin : Origin) (events : List EventData) → disk.honest → IsRecoverable origin events disk.content
         → Holds store origin events
+
+-- Opening the device finds this header: it was chosen from two sectors, and there is a whole log that belongs to it. An
+-- honest device has this header and log.
+pub record FindsHeader (view : View) (header : Header) : Type 0 where
+  pub sound : CanBeOpened view
+  pub header_is : header ≡ restored_header sound.chosen
 
 module _ {F : Type 0} (facts : F → FileFacts) (positioned : F → PositionedView) where
   -- The device has the first sectors of a file that was opened at this path, for reading and writing, and then locked
@@ -33,3 +41,11 @@ module _ {F : Type 0} (facts : F → FileFacts) (positioned : F → PositionedVi
     pub disk : D
     pub file : IsDeviceAt path (g.view disk)
     pub found : IsStoreOn (g.view disk) store
+
+  -- The device has the first sectors of a file that was opened at this path, to read, and then locked against whoever
+  -- writes it, before any other call of it.
+  pub record IsReadDeviceAt (path : List ℕ) (view : View) : Type 0 where
+    pub file : F
+    pub opened : (facts file).opened_to_read path
+    pub locked : (facts file).locked_shared
+    pub front : ShowsFront (positioned file) view

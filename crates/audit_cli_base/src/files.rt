@@ -1,10 +1,13 @@
 //! Stores in files.
-ghost use Rattle.std.specs.Prelude.{◌≡◌, true, false, Ok, Err, IfOk, IfErr, IsTrue};
+ghost use Rattle.std.specs.Prelude.{◌≡◌, ◌≤◌, ℕ, List, true, false, Ok, Err, IfOk, IfErr, OnOk, IsTrue};
 ghost use Rattle.audit_cli_base.specs.Blank.{IsBlankUpTo};
 ghost use Rattle.audit_cli_base.specs.Faults.{IsNoWordFault};
-ghost use Rattle.audit_cli_base.specs.OpenedStore.{IsStoreOn, IsStoreAt, IsDeviceAt};
+ghost use Rattle.audit_cli_base.specs.OpenedStore.{IsStoreOn, IsStoreAt, IsDeviceAt, IsReadDeviceAt};
 ghost use Rattle.audit_disk.specs.FileDisk.{file_disk_view};
+ghost use Rattle.audit_disk.specs.FileFacts.{IsMadeDevice};
 ghost use Rattle.audit_disk.specs.Positioned.{IsUncalled, ShowsFront};
+ghost use Rattle.audit_log.specs.Reads.{OnlyReads};
+ghost use Rattle.audit_store.specs.ReadOnlyOpening.{at_rest};
 
 use crate::fault::CommandError;
 use crate::system_use::is_used_by_system;
@@ -86,6 +89,8 @@ pub fn open_device_to_read<F: SystemFiles>(
 ) -> Result<Opened<FileDevice<F::File>>, CommandError>
 where
     F::File: SystemFile,
+    ensures at { IfOk result (λ opened. IsReadDeviceAt F.File.facts F.File.positioned file.now
+        (file_disk_view opened.content)) }
 {
     identified(FileDisk::open_read_only(rt, alloc, file)?)
 }
@@ -99,6 +104,8 @@ pub fn open_device_to_salvage<F: SystemFiles>(
 ) -> Result<Opened<FileDevice<F::File>>, CommandError>
 where
     F::File: SystemFile,
+    ensures at { IfOk result (λ opened. IsReadDeviceAt F.File.facts F.File.positioned file.now
+        (file_disk_view opened.content)) }
 {
     let found = fs::metadata(rt, file)?;
     if !found.is_file() || found.len() % SECTOR_SIZE as u64 == 0 {
@@ -113,10 +120,10 @@ fn whole_sectors_of<F: SystemFile + Drop>(
     file: F,
 ) -> Result<Opened<FileDevice<F>>, CommandError>
     requires { IsUncalled (F.positioned file) }
+    ensures at { (path : List ℕ) → (F.facts file).opened_to_read path
+        → IfOk result (λ opened. IsReadDeviceAt F.facts F.positioned path (file_disk_view opened.content)) }
 {
-    if let Err(error) = file.try_lock_shared() {
-        return Err(CommandError::from(FileFault::from(error)));
-    }
+    lock_to_read(&file)?;
     let found = file.metadata()?;
     if !found.is_file() {
         return Err(CommandError::File);
@@ -125,11 +132,21 @@ fn whole_sectors_of<F: SystemFile + Drop>(
     identified(FileDisk::over_front(alloc, file, sectors)?)
 }
 
+// Locks a file against whoever writes it.
+fn lock_to_read<F: SystemFile>(file: &F) -> Result<(), FileFault>
+    ensures { OnOk result (F.facts file.now).locked_shared }
+{
+    file.try_lock_shared()?;
+    Ok(())
+}
+
 /// Opens the store on a device that is only read. Repairs are made only in memory.
 pub fn store_to_read<S: SectorSource>(
     alloc: Global,
     source: &mut S,
-) -> Result<Store<ReadOnly<'_, S>>, CommandError> {
+) -> Result<Store<ReadOnly<'_, S>>, CommandError>
+    ensures on { IfOk result (IsStoreOn (at_rest (S.source source.old))) }
+{
     match Store::open_read_only(alloc, source) {
         Ok(store) => Ok(store),
         Err(failed) => Err(CommandError::Refused(failed.error)),
@@ -147,6 +164,9 @@ pub fn make_device<F: SystemFiles>(
 ) -> Result<FileDevice<F::File>, CommandError>
 where
     F::File: SystemFile,
+    ensures made { IfOk result (λ disk. IsMadeDevice F.File.facts F.File.positioned file.now mode sectors
+        (file_disk_view disk)) }
+    ensures size { IfOk result (λ disk. (file_disk_view disk).size ≡ sectors) }
 {
     if fs::metadata(rt, file).is_ok() {
         return Err(CommandError::FileExists);
@@ -166,6 +186,10 @@ pub fn device_in_place<F: SystemFiles>(
 ) -> Result<FileDevice<F::File>, CommandError>
 where
     F::File: SystemFile,
+    ensures at { IfOk result (λ disk. IsDeviceAt F.File.facts F.File.positioned file.now (file_disk_view disk)) }
+    ensures size { IfOk result (λ disk. sectors ≤ (file_disk_view disk).size) }
+    ensures blank { erase ≡ false → IfOk result (λ disk. (file_disk_view disk).honest
+        → IsBlankUpTo (file_disk_view disk) FRONT) }
 {
     let Opened { content, identity } = open_bounded(rt, alloc, file)?;
     let used = is_used_by_system(rt, alloc, identity);
@@ -181,6 +205,8 @@ fn free_device<D: Sectors + Drop>(
 ) -> Result<D, CommandError>
     ensures blank { erase ≡ false → (D.view disk).honest → IfOk result (λ _. IsBlankUpTo (D.view disk) FRONT) }
     ensures used { used ≡ Ok true → result ≡ Err CommandError.InUse }
+    ensures reads { IfOk result (λ free. OnlyReads (D.view disk) (D.view free)) }
+    ensures size { IfOk result (λ free. sectors ≤ (D.view free).size) }
 {
     if used? {
         return Err(CommandError::InUse);
@@ -239,7 +265,9 @@ fn bounded<F: SystemFile>(disk: FileDevice<F>, identity: FileIdentity) -> FileDe
 
 // Whether the front of a device is zeros.
 fn is_blank<D: Sectors>(disk: &mut D) -> Result<bool, DeviceFault>
-    ensures { (D.view disk.old).honest → IfOk result (λ blank. IsTrue blank → IsBlankUpTo (D.view disk.old) FRONT) }
+    ensures blank { (D.view disk.old).honest
+        → IfOk result (λ blank. IsTrue blank → IsBlankUpTo (D.view disk.old) FRONT) }
+    ensures reads { OnlyReads (D.view disk.old) (D.view disk.new) }
 {
     let mut sector = [0; SECTOR_SIZE];
     for at in 0..FRONT {

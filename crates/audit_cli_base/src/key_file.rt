@@ -1,10 +1,11 @@
 //! Key files.
 ghost use Rattle.std.specs.Prelude.{◌≡◌, Some, None, IfOk, IfErr, IfSome};
 ghost use Rattle.audit_text.specs.Reading.{TakesAtMost};
-ghost use Rattle.audit_cli_base.specs.KeyFile.{key_of_file, without_line_feed, IsKeyFault};
+ghost use Rattle.audit_cli_base.specs.KeyFile.{key_of_file, without_line_feed, IsKeyAt, IsKeyFault};
 
 use crate::fault::CommandError;
 use audit_chain::{KEY_LEN, Key};
+use audit_disk::{SystemFile, SystemFiles};
 use audit_text::{INPUT_LIMIT, LinesError, read_input};
 use hex::FromHex;
 use std::alloc::Global;
@@ -41,4 +42,14 @@ pub fn read_key<R: Read>(alloc: Global, reader: &mut R) -> Result<Key, CommandEr
         Err(LinesError::InputTooLong) => Err(CommandError::BadArgument),
         Err(fault) => Err(CommandError::Lines(fault)),
     }
+}
+
+/// Reads the key in the key file at a path. The error is `File` if it can't be opened, or that of `read_key`.
+pub fn key_at<F: SystemFiles>(rt: &F, alloc: Global, path: &str) -> Result<Key, CommandError>
+where
+    F::File: SystemFile,
+    ensures { IfOk result (IsKeyAt F.File.facts F.File.remaining path.now) }
+{
+    let mut file = rt.open_to_read(path)?;
+    read_key(alloc, &mut file)
 }

@@ -27,7 +27,7 @@ pub use files::{
     FileDevice, FileStore, Opened, device_in_place, make_device, open_device_to_read,
     open_device_to_salvage, open_store, store_to_read,
 };
-pub use key_file::{key_of_file, read_key};
+pub use key_file::{key_at, key_of_file, read_key};
 pub use mode::mode_asked;
 pub use output_file::OutputFile;
 pub use reporting::{report, report_end, report_flush};

@@ -1,4 +1,6 @@
 //! The words that select standard output.
+ghost use Rattle.std.specs.Prelude.{◌≡◌};
+ghost use Rattle.audit_cli_base.specs.Arguments.{selects_output};
 
 /// The word that selects standard output instead of a file. Nothing else is then written there.
 pub const STANDARD_OUTPUT: &str = "-";
@@ -7,6 +9,8 @@ pub const STANDARD_OUTPUT: &str = "-";
 const OUTPUT_DEVICE: &str = "/dev/stdout";
 
 /// Whether a path selects standard output.
-pub fn is_standard_output(path: &str) -> bool {
+pub fn is_standard_output(path: &str) -> bool
+    ensures { result ≡ selects_output path.now }
+{
     path == STANDARD_OUTPUT || path == OUTPUT_DEVICE
 }
