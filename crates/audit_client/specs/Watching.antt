@@ -1,6 +1,7 @@
 -- What a witness sees of a log.
 use Rattle.std.specs.Prelude.{◌≡◌, ◌⊎◌, ℕ, ◌<◌, Option, Some, None, List, [], ◌∷◌}
 use Rattle.sha2.specs.Sha256.{sha256}
+use Rattle.audit_base.specs.Hashes.{AreHashes}
 use Rattle.audit_proof.specs.declared.commitment.Commitment.{Commitment}
 use Rattle.audit_proof.specs.Acceptance.{AcceptsIncrement}
 use Rattle.audit_wire.specs.declared.request.Request.TheVariants as request
@@ -23,7 +24,7 @@ GivesJoined written_old written_new read_old read_new older newest = (hashes : L
     × Converses written_old written_new read_old read_new
     (request.Commitment NEWEST_TAG ∷ request.Incremental JOIN_TAG older.count newest.count ∷ [])
     (newest_reply newest ∷ reply.Incremental JOIN_TAG hashes ∷ [])
-    × AcceptsIncrement sha256 older newest hashes
+    × AcceptsIncrement sha256 older newest hashes × AreHashes hashes
 
 -- What is seen after the commitment that was kept, if any: the newest commitment, the first or the one that was kept;
 -- or one of more entries, to which that one is joined. To the empty log's every other one is.

@@ -1,6 +1,7 @@
 //! Questions to a server, each answer checked under the commitment that the server gave before it.
 ghost use Rattle.std.specs.Prelude.{◌≡◌, ◌≤◌, ◌⊎◌, ◌↔◌, ◌∷◌, [], ℕ, List, IsTrue, IfOk, IfErr, OnOk, OnErr, vec_len};
 ghost use Rattle.audit_base.specs.declared.limits.TheConstants.{MAX_ENTRY, MAX_MEMBER_HASHES, MAX_INCREMENT_HASHES};
+ghost use Rattle.audit_base.specs.Hashes.{AreHashes};
 ghost use Rattle.sha2.specs.Sha256.{sha256};
 ghost use Rattle.audit_proof.specs.Acceptance.{AcceptsMembership, AcceptsIncrement};
 ghost use Rattle.audit_proof.specs.ProofBytes.{Member, Increment, member_bytes, increment_bytes};
@@ -225,7 +226,8 @@ pub fn join<W: Write, R: Read>(
     ensures done { OnOk result ((hashes : List (List ℕ)) × Converses (W.contents to.old) (W.contents to.new)
         (R.remaining from.old) (R.remaining from.new)
         (request.Incremental JOIN_TAG older.now.count newer.now.count ∷ [])
-        (reply.Incremental JOIN_TAG hashes ∷ []) × AcceptsIncrement sha256 older.now newer.now hashes) }
+        (reply.Incremental JOIN_TAG hashes ∷ []) × AcceptsIncrement sha256 older.now newer.now hashes
+        × AreHashes hashes) }
     ensures fault { IfErr result (FailsJoining (W.contents to.old) (W.contents to.new) (R.remaining from.old)
         (R.remaining from.new) older.now newer.now) }
 {
@@ -244,16 +246,25 @@ pub fn join_by<W: Write, R: Read>(
     ensures done { OnOk result ((hashes : List (List ℕ)) × Converses (W.contents to.old) (W.contents to.new)
         (R.remaining from.old) (R.remaining from.new)
         (request.Incremental own_tag older.now.count newer.now.count ∷ [])
-        (reply.Incremental own_tag hashes ∷ []) × AcceptsIncrement sha256 older.now newer.now hashes) }
+        (reply.Incremental own_tag hashes ∷ []) × AcceptsIncrement sha256 older.now newer.now hashes
+        × AreHashes hashes) }
     ensures fault { IfErr result (FailsJoiningBy own_tag (W.contents to.old) (W.contents to.new)
         (R.remaining from.old) (R.remaining from.new) older.now newer.now) }
 {
     let proof = ask_increment(alloc, to, from, own_tag, older.count, newer.count)?;
-    if accepts_increment(older, newer, &proof.hashes) {
+    if is_increment(older, newer, &proof.hashes) {
         Ok(())
     } else {
         Err(ClientError::NotAccepted)
     }
+}
+
+// Whether an increment is accepted. Its hashes have their length.
+fn is_increment(older: &Commitment, newer: &Commitment, hashes: &[Hash]) -> bool
+    ensures exact { IsTrue result ↔ AcceptsIncrement sha256 older.now newer.now hashes.now }
+    ensures whole { AreHashes hashes.now }
+{
+    accepts_increment(older, newer, hashes)
 }
 
 // Asks for a membership proof, which isn't judged.

@@ -9,7 +9,7 @@ returns-in-Ok-clause-seen g c =
     let j = c.in-Ok.ensures.done in
     rw c.in-Some.is (
       omega (arith, c.if-newest-kept.false, c.if-newest-kept-2.false),
-      inr (omega arith, (j.0, converses_more _ _ _ _ _ _ _ _ _ _ c.in_ok-newest.ensures.done j.1, j.2)),
+      inr (omega arith, (j.0, converses_more _ _ _ _ _ _ _ _ _ _ c.in_ok-newest.ensures.done j.1, j.2, j.3)),
     )
 
 pub returns-in_err-newest-clause-fault : goal.returns-in_err-newest-clause-fault
