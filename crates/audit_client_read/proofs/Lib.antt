@@ -4,3 +4,8 @@ mod Fronts
 mod Asked
 mod Doubted
 mod CallsSoFar
+mod SameClimbs
+mod OlderLogs
+mod RunLines
+mod StartStates
+mod LeftRuns

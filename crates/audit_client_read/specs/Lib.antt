@@ -6,3 +6,5 @@ pub mod Questions
 pub mod ReadingOn
 pub mod FailedReading
 pub mod Front
+pub mod Increments
+pub mod Runs

@@ -16,7 +16,8 @@ pub record IsPiece (state : StateData) (newest : Commitment) (events : List Even
 -- each piece follows those before it
 abbrev pub AreReadPieces : StateData → Commitment → List (List EventData) → Type 0
 AreReadPieces state newest [] = Unit {0}
-AreReadPieces state newest (piece ∷ pieces) = IsPiece state newest piece × AreReadPieces (next_state state piece) newest pieces
+AreReadPieces state newest (piece ∷ pieces) =
+    IsPiece state newest piece × AreReadPieces (next_state state piece) newest pieces
 
 -- the state after the pieces
 abbrev pub state_of_pieces : StateData → List (List EventData) → StateData
