@@ -58,7 +58,7 @@ pub others_by : (may_close : Bool) (others : Rights) → (may_close ≡ true →
 others_by true others closing appending = closing refl
 others_by false others closing appending = appending refl
 
-module _ {D : Type 0} (g : sectors.Ghosts D) (At : List ℕ → Store D g → Type 0) {S C J W F T : Type 0} (N : CallModel S) (doors : DoorModel (GaugedDoor (SocketDoor C J W) F T) S) where
+module _ {D : Type 0} (g : sectors.Ghosts D) (At : List ℕ → Store D g → Type 0) {S C J W L Q F T : Type 0} (N : CallModel S) (doors : DoorModel (GaugedDoor (SocketDoor C J W L Q) F T) S) where
   pub performed : (settings : Settings) (readers : Option (Bor (List ℕ))) (others : Rights) (idle reserve backlog mode : ℕ) (opened : Store D g) (before after : Option (List ℕ)) (done : Ending) → readers ≡ settings.reader → others ≡ rights_of_others settings.may_close
       → number_asked settings.idle DEFAULT_IDLE ≡ Ok idle → number_asked settings.reserve DEFAULT_RESERVE ≡ Ok reserve → backlog_asked settings.backlog ≡ Ok backlog → (settings.socket_mode ≡ None → mode ≡ OWNER_ONLY) → IfSome settings.socket_mode (λ word. IsMode word.now mode) → At settings.file.now opened
       → OnOk done (ServesBetween N doors (IsDoorFor (rights_at readers others) (modes_at readers mode) idle) reserve backlog opened before after) → IsDaemonDone g At N doors settings before after done

@@ -38,8 +38,8 @@ module _ {D : Type 0} {g : sectors.Ghosts D} {S E : Type 0} (N : CallModel S) (d
     pub lines : Appends before after (ready_line (active_header opened) ++ stopped_line (active_header left))
 
 -- `At` says at which path a store was opened.
-module _ {D : Type 0} (g : sectors.Ghosts D) (At : List ℕ → Store D g → Type 0) {S C J W F T : Type 0}
-    (N : CallModel S) (doors : DoorModel (GaugedDoor (SocketDoor C J W) F T) S) where
+module _ {D : Type 0} (g : sectors.Ghosts D) (At : List ℕ → Store D g → Type 0) {S C J W L Q F T : Type 0}
+    (N : CallModel S) (doors : DoorModel (GaugedDoor (SocketDoor C J W L Q) F T) S) where
   -- So were they over the store that was opened in the file that was named, with the reserve and the backlog that were
   -- asked for, and came in by sockets with the rights, the permissions and the time for idle clients that were asked
   -- for.

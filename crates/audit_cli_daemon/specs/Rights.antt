@@ -5,6 +5,8 @@ use Rattle.std.specs.declared.time.Duration.{Duration}
 use Rattle.audit_serve_passes.specs.declared.rights.Rights.{Rights}
 use Rattle.audit_serve_passes.specs.declared.rights.Rights.TheVariants as rights
 use Rattle.audit_serve_door.specs.Entrances.{rights_of_door, modes_of_door, idle_of_door}
+use Rattle.audit_serve_door.specs.Comings.{who_waits}
+use Rattle.audit_serve_door.specs.Waits.{NobodyWaits}
 use Rattle.audit_serve_door.specs.declared.socket_door.SocketDoor.{SocketDoor}
 use Rattle.audit_cli_daemon.specs.declared.gauge.GaugedDoor.{GaugedDoor}
 
@@ -28,10 +30,11 @@ abbrev pub IsIdleTime : ℕ → Option Duration → Type 0
 IsIdleTime seconds None = seconds ≡ 0
 IsIdleTime seconds (Some time) = (0 < seconds) × (as_nanos time ≡ seconds * 1_000_000_000)
 
--- a door with sockets for clients of these rights, whose files have these permissions, and which dismisses clients that
--- are idle for so long
-pub record IsDoorFor {C J W F M : Type 0} (allowed : List Rights) (modes : List ℕ) (seconds : ℕ)
-    (door : GaugedDoor (SocketDoor C J W) F M) : Type 0 where
+-- a door with sockets for clients of these rights, whose files have these permissions, which dismisses clients that are
+-- idle for so long, and at which nobody waits yet
+pub record IsDoorFor {C J W L S F M : Type 0} (allowed : List Rights) (modes : List ℕ) (seconds : ℕ)
+    (door : GaugedDoor (SocketDoor C J W L S) F M) : Type 0 where
   pub rights_are : rights_of_door door.door ≡ allowed
   pub modes_are : modes_of_door door.door ≡ modes
   pub idle : IsIdleTime seconds (idle_of_door door.door)
+  pub nobody : NobodyWaits (who_waits door.door)

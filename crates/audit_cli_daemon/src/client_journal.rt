@@ -1,3 +1,6 @@
+ghost use Rattle.std.specs.Prelude.{[], ◌∷◌};
+ghost use Rattle.audit_serve_door.specs.Notes.{a_note, a_silent_note, unknown_notes};
+
 use audit_serve_door::Journal;
 use audit_serve_ready::Departure;
 use std::cell::RefCell;
@@ -52,6 +55,8 @@ impl<'a, 'b, M: Write> ClientJournal<'a, 'b, M> {
 }
 
 impl<M: Write> Journal for ClientJournal<'_, '_, M> {
+    ghost notes = { unknown_notes };
+
     fn note(&mut self, departure: Departure) {
         if departure == Departure::CutOff {
             self.cut_off = self.cut_off.saturating_add(1);

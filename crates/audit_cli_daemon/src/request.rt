@@ -15,6 +15,8 @@ ghost use Rattle.audit_cli_daemon.specs.Carried.{ServesAtDoor, ServesBetween, Is
 ghost use Rattle.audit_cli_daemon.specs.Rights.{rights_at, modes_at, IsIdleTime, IsDoorFor};
 ghost use Rattle.audit_cli_daemon.specs.State.{ready_line};
 ghost use Rattle.audit_serve_door.specs.Entrances.{rights_of, rights_of_door, mode_of, modes_of_door, idle_of_door};
+ghost use Rattle.audit_serve_door.specs.Comings.{who_waits};
+ghost use Rattle.audit_serve_door.specs.Waits.{NobodyWaits};
 ghost use Rattle.audit_store.specs.Store.{active_header};
 ghost use Rattle.audit_text.specs.NumberedLine.{numbered_line};
 
@@ -35,7 +37,7 @@ use audit_cli_host::Dial;
 use audit_disk::{SystemFile, SystemFiles};
 use audit_disk_model::Sectors;
 use audit_proof::Commitment;
-use audit_serve_door::{Client, Room, SocketDoor, StopOrders};
+use audit_serve_door::{Client, ClientDoor, Room, SocketDoor, StopOrders};
 use audit_serve_passes::Rights;
 use audit_serve_ready::{Door, ReadyStream};
 use audit_store::{Store, StoreError};
@@ -407,7 +409,7 @@ type DaemonDoor<F, G, M> = GaugedDoor<
 >;
 
 // The door of a daemon.
-type ServedDoor<'a, 'b, 'c, F, M> = SocketDoor<
+type ServedDoor<'a, 'b, 'c, F, M> = ClientDoor<
     'a,
     F,
     ClientJournal<'b, 'c, M>,
@@ -426,6 +428,7 @@ fn open_door<'a, 'b, 'c, F: Files + Net + Clock, M: Write>(
     ensures rights { IfOk result (λ door. rights_of_door door ≡ map rights_of listening.entrances.items) }
     ensures modes { IfOk result (λ door. modes_of_door door ≡ map mode_of listening.entrances.items) }
     ensures idle { IfOk result (λ door. idle_of_door door ≡ idle) }
+    ensures nobody { IfOk result (λ door. NobodyWaits (who_waits door)) }
 {
     let Listening { entrances, orders } = listening;
     match SocketDoor::new(rt, rt, alloc, entrances, orders, idle, journal, watch) {

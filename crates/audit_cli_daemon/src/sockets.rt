@@ -3,7 +3,7 @@ ghost use Rattle.audit_serve_door.specs.Entrances.{rights_of, mode_of};
 ghost use Rattle.audit_cli_daemon.specs.Rights.{rights_at, modes_at};
 
 use audit_disk::{OWNER_ONLY, SystemFile};
-use audit_serve_door::{Entrance, StopOrders};
+use audit_serve_door::{ClientEntrance, Entrance, StopOrders};
 use audit_serve_passes::Rights;
 use audit_serve_sockets::{SocketFile, SocketLock, SocketName};
 use std::alloc::{AllocError, Global};
@@ -30,7 +30,7 @@ pub struct Sockets<'a> {
 #[derive(Drop)]
 pub struct Listening {
     /// Where clients come in.
-    pub entrances: Vec<Entrance>,
+    pub entrances: Vec<ClientEntrance>,
     /// Where orders to stop come in.
     pub orders: StopOrders,
 }

@@ -1,3 +1,5 @@
+pub mod Accepting
+pub mod Notes
 pub mod Entrances
 pub mod Moves
 pub mod Metered
@@ -5,4 +7,5 @@ pub mod Orders
 pub mod Choice
 pub mod Nonblocking
 pub mod Waits
+pub mod Finishing
 pub mod Comings

@@ -29,6 +29,10 @@ pub record PromptModel (T : Type 0) : Type 1 where
   -- writing nothing is no call
   pub nothing_written : (value : T) → calls.DidCalls value value (a_write [] [] ∷ [])
 
+-- the value below
+abbrev pub inner_of_nonblocking : {T : Type 0} → Nonblocking T → T
+inner_of_nonblocking stream = stream.inner
+
 -- the calls were those of the value
 abbrev pub nonblocking_calls : {T : Type 0} → PromptModel T → CallModel (Nonblocking T)
 nonblocking_calls N = record {

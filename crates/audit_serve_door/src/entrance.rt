@@ -1,36 +1,41 @@
-use crate::client::Client;
+use crate::accepts::{Accepts, Watched};
 use crate::incoming::{Accepted, Incoming};
 use crate::metered::Metered;
 use crate::nonblocking::Nonblocking;
+use crate::prompt::Prompt;
 use audit_serve_passes::Rights;
 use audit_serve_ready::Newcomer;
-use mio::net::UnixStream;
+use mio::net::UnixListener;
 use mio::{Interest, Registry, Token};
 use std::io;
-use std::os::unix::net::UnixListener;
+use std::os::unix::net;
 
 /// A socket on which clients come in, what they may ask for, and the permission bits of its file, which say who may
 /// come.
 #[derive(Drop)]
-pub struct Entrance {
-    pub(crate) incoming: Incoming,
+pub struct Entrance<L> {
+    pub(crate) incoming: Incoming<L>,
     rights: Rights,
     mode: u32,
 }
 
 /// A connection that came in by an entrance, and what its client may ask for. Only entrances make them.
 #[derive(Drop)]
-pub(crate) struct Arrival {
-    stream: UnixStream,
+pub(crate) struct Arrival<S> {
+    stream: S,
     rights: Rights,
 }
 
-impl Entrance {
+impl Entrance<UnixListener> {
     ghost use Rattle.std.specs.Prelude.{◌≡◌, IfOk};
-    ghost use Rattle.audit_serve_door.specs.Entrances.{rights_of, mode_of, ComesWith};
+    ghost use Rattle.audit_serve_door.specs.Entrances.{rights_of, mode_of};
 
     /// Makes an entrance of a socket that listens, whose file has these permission bits.
-    pub fn new(listener: UnixListener, rights: Rights, mode: u32) -> io::Result<Entrance>
+    pub fn new(
+        listener: net::UnixListener,
+        rights: Rights,
+        mode: u32,
+    ) -> io::Result<Entrance<UnixListener>>
         ensures rights { IfOk result (λ entrance. rights_of entrance ≡ rights) }
         ensures mode { IfOk result (λ entrance. mode_of entrance ≡ mode) }
     {
@@ -40,19 +45,33 @@ impl Entrance {
             mode,
         })
     }
+}
+
+impl<L> Entrance<L> {
+    ghost use Rattle.std.specs.Prelude.{◌≡◌};
+    ghost use Rattle.audit_serve_door.specs.Entrances.{IsQuiet, ComesIn, arrived_in};
 
     /// Has the system report on the socket.
     pub(crate) fn register(&mut self, registry: &Registry, token: Token) -> io::Result<()>
-        ensures rights { rights_of self.new ≡ rights_of self.old }
-        ensures mode { mode_of self.new ≡ mode_of self.old }
+    where
+        L: Watched,
+        ensures { IsQuiet self.old self.new }
     {
         self.incoming.register(registry, token)
     }
 
+    /// Notes that the system has reported a connection.
+    pub(crate) fn announce(&mut self)
+        ensures { IsQuiet self.old self.new }
+    {
+        self.incoming.announce();
+    }
+
     /// Accepts a connection, if one is there. Its client has the rights of the entrance.
-    pub(crate) fn accept(&mut self) -> Accepted<Arrival>
-        ensures rights { ComesWith (rights_of self.old) result }
-        ensures same { rights_of self.new ≡ rights_of self.old }
+    pub(crate) fn accept<S>(&mut self) -> Accepted<Arrival<S>>
+    where
+        L: Accepts<S>,
+        ensures { ComesIn L.model (arrived_in result) self.old self.new }
     {
         match self.incoming.accept() {
             Accepted::One(stream) => Accepted::One(Arrival {
@@ -65,9 +84,10 @@ impl Entrance {
     }
 }
 
-impl Arrival {
+impl<S> Arrival<S> {
     ghost use Rattle.std.specs.Prelude.{◌≡◌};
     ghost use Rattle.audit_serve_door.specs.Entrances.{rights_at_arrival};
+    ghost use Rattle.audit_serve_door.specs.Comings.{IsClientOf};
 
     /// What the client may ask for.
     pub(crate) fn rights(&self) -> Rights
@@ -78,22 +98,28 @@ impl Arrival {
 
     /// Has the system report that the connection has bytes.
     pub(crate) fn register(&mut self, registry: &Registry, token: Token) -> io::Result<()>
-        ensures { rights_at_arrival self.new ≡ rights_at_arrival self.old }
+    where
+        S: Watched,
+        ensures { self.new ≡ self.old }
     {
-        registry.register(&mut self.stream, token, Interest::READABLE)
+        self.stream.watch(registry, token, Interest::READABLE)
     }
 
     /// Has the system report also that it takes bytes.
     pub(crate) fn reregister(&mut self, registry: &Registry, token: Token) -> io::Result<()>
-        ensures { rights_at_arrival self.new ≡ rights_at_arrival self.old }
+    where
+        S: Watched,
+        ensures { self.new ≡ self.old }
     {
         let both = Interest::READABLE | Interest::WRITABLE;
-        registry.reregister(&mut self.stream, token, both)
+        self.stream.watch_again(registry, token, both)
     }
 
     /// The client for a place. It has the rights with which it came.
-    pub(crate) fn into_newcomer(self) -> Newcomer<Client>
-        ensures { result.rights ≡ rights_at_arrival self }
+    pub(crate) fn into_newcomer(self) -> Newcomer<Metered<Nonblocking<S>>>
+    where
+        S: Prompt,
+        ensures { IsClientOf self result }
     {
         Newcomer {
             stream: Metered::new(Nonblocking::new(self.stream)),

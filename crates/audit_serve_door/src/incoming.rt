@@ -1,12 +1,13 @@
-use mio::net::{UnixListener, UnixStream};
+use crate::accepts::{Accepts, Watched};
+use mio::net::UnixListener;
 use mio::{Interest, Registry, Token};
 use std::io::{self, ErrorKind};
 use std::os::unix::net;
 
 /// A socket on which connections come in, without waiting for them.
 #[derive(Drop)]
-pub(crate) struct Incoming {
-    listener: UnixListener,
+pub(crate) struct Incoming<L> {
+    listener: L,
     // Whether a connection may be there: the system reports each change once, and not that some are left.
     may_have_some: bool,
 }
@@ -22,22 +23,34 @@ pub(crate) enum Accepted<T> {
     Failed,
 }
 
-impl Incoming {
+impl Incoming<UnixListener> {
     /// Takes connections from a socket that listens.
-    pub(crate) fn new(listener: net::UnixListener) -> io::Result<Incoming> {
+    pub(crate) fn new(listener: net::UnixListener) -> io::Result<Incoming<UnixListener>> {
         listener.set_nonblocking(true)?;
         Ok(Incoming {
             listener: UnixListener::from_std(listener),
             may_have_some: true,
         })
     }
+}
 
-    pub(crate) fn register(&mut self, registry: &Registry, token: Token) -> io::Result<()> {
-        registry.register(&mut self.listener, token, Interest::READABLE)
+impl<L> Incoming<L> {
+    ghost use Rattle.std.specs.Prelude.{◌≡◌, []};
+    ghost use Rattle.audit_serve_door.specs.Entrances.{listener_of, arrived_in};
+
+    /// Has the system report on the socket.
+    pub(crate) fn register(&mut self, registry: &Registry, token: Token) -> io::Result<()>
+    where
+        L: Watched,
+        ensures { listener_of self.new ≡ listener_of self.old }
+    {
+        self.listener.watch(registry, token, Interest::READABLE)
     }
 
     /// Notes that the system has reported a connection.
-    pub(crate) fn announce(&mut self) {
+    pub(crate) fn announce(&mut self)
+        ensures { listener_of self.new ≡ listener_of self.old }
+    {
         self.may_have_some = true;
     }
 
@@ -47,18 +60,25 @@ impl Incoming {
     }
 
     /// Accepts a connection, if one is there.
-    pub(crate) fn accept(&mut self) -> Accepted<UnixStream> {
+    pub(crate) fn accept<S>(&mut self) -> Accepted<S>
+    where
+        L: Accepts<S>,
+        ensures { L.model.DidAccept (listener_of self.old) (listener_of self.new) (arrived_in result) }
+    {
         if !self.may_have_some {
             return Accepted::NoneLeft;
         }
-        match self.listener.accept() {
-            Ok((stream, _)) => Accepted::One(stream),
+        match self.listener.try_accept() {
+            Ok(stream) => Accepted::One(stream),
             Err(error) => self.judge(error.kind()),
         }
     }
 
     // A connection that was given up before it was accepted, or an interrupted call, isn't a lack.
-    fn judge(&mut self, kind: ErrorKind) -> Accepted<UnixStream> {
+    fn judge<S>(&mut self, kind: ErrorKind) -> Accepted<S>
+        ensures none { arrived_in result ≡ [] }
+        ensures same { listener_of self.new ≡ listener_of self.old }
+    {
         if kind == ErrorKind::WouldBlock {
             self.may_have_some = false;
         }

@@ -4,11 +4,13 @@
 //! no processor time. What a client may ask for depends on the socket that it came by ([`Entrance`]).
 #![tactic(auto)]
 
+mod accepts;
 mod choice;
 mod client;
 mod entrance;
 mod incoming;
 mod journal;
+pub mod laws;
 mod limits;
 mod metered;
 mod nonblocking;
@@ -21,8 +23,9 @@ mod stop_orders;
 mod waiting;
 mod watch;
 
+pub use accepts::{Accepts, Watched};
 pub use choice::{Heads, Taken, next_entry};
-pub use client::Client;
+pub use client::{Client, ClientDoor, ClientEntrance};
 pub use entrance::Entrance;
 pub use journal::Journal;
 pub use limits::MOST_OF_A_SIDE;

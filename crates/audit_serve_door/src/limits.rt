@@ -1,4 +1,7 @@
 //! The limits of a daemon.
+ghost use Rattle.std.specs.Prelude.{◌≡◌};
+ghost use Rattle.std.specs.Duration.{as_nanos};
+
 use std::time::Duration;
 
 /// How many connections for stop orders are kept, and how many orders are answered.
@@ -11,7 +14,9 @@ pub const MOST_OF_A_SIDE: usize = 15;
 pub const MAX_ACCEPTED: usize = 1 << 10;
 
 /// How long clients may take replies after the order to stop.
-pub fn finishing_time() -> Duration {
+pub fn finishing_time() -> Duration
+    ensures { as_nanos result ≡ 5_000_000_000 }
+{
     Duration::from_secs(5)
 }
 

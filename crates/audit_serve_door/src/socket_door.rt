@@ -1,8 +1,13 @@
-ghost use Rattle.std.specs.Prelude.{◌≡◌, map};
-ghost use Rattle.audit_serve_door.specs.Entrances.{rights_of, mode_of};
+ghost use Rattle.std.specs.Prelude.{◌≡◌, map, Some, None};
+ghost use Rattle.std.specs.declared.time.Instant.{Instant};
+ghost use Rattle.audit_serve_ready.specs.declared.next.Next.TheVariants as next;
+ghost use Rattle.audit_serve_door.specs.Finishing.{IsFinishingTime, IsOver};
+ghost use Rattle.audit_serve_door.specs.Entrances.{rights_of, mode_of, socket_of};
+ghost use Rattle.audit_serve_door.specs.Waits.{NoArrival, ChangesWaiters};
+ghost use Rattle.audit_serve_door.specs.Comings.{Receives};
 
+use crate::accepts::{Accepts, Watched};
 use crate::choice::next_entry;
-use crate::client::Client;
 use crate::entrance::{Arrival, Entrance};
 use crate::incoming::Accepted;
 use crate::journal::Journal;
@@ -10,7 +15,10 @@ use crate::limits::{
     MAX_ACCEPTED, MAX_ORDERS, MOST_OF_A_SIDE, finishing_time, gathering_time, looking_time,
     retry_time,
 };
+use crate::metered::Metered;
+use crate::nonblocking::Nonblocking;
 use crate::places::{Candidates, Places};
+use crate::prompt::Prompt;
 use crate::stop_orders::StopOrders;
 use crate::waiting::Waiting;
 use crate::watch::Watch;
@@ -44,17 +52,17 @@ const MAX_EVENTS: usize = 256;
 /// the longest time is dismissed, if that time is over the limit. If the system gives no further descriptor, the oldest
 /// connection that has sent nothing is dropped. A pause takes no processor time while nothing happens.
 #[derive(Drop)]
-pub struct SocketDoor<'a, C, J, W> {
+pub struct SocketDoor<'a, C, J, W, L, S> {
     clock: &'a C,
     journal: J,
     watch: W,
     poll: Poll,
     events: Events,
-    entrances: Vec<Entrance>,
+    entrances: Vec<Entrance<L>>,
     orders: StopOrders,
     // A descriptor for an order to stop when there is no other.
     spare: Option<Registry>,
-    waiting: Waiting,
+    waiting: Waiting<S>,
     places: Places,
     // The number of the next connection for orders, and that of the next client.
     next_order: usize,
@@ -76,12 +84,21 @@ pub struct SocketDoor<'a, C, J, W> {
     is_replaced: bool,
 }
 
-impl<'a, C: Clock, J: Journal + Drop, W: Watch + Drop> SocketDoor<'a, C, J, W> {
-    ghost use Rattle.std.specs.Prelude.{◌≡◌, map, IfOk, IfSome};
-    ghost use Rattle.audit_serve_door.specs.Entrances.{rights_of, rights_at_arrival, rights_of_door, idle_of_door};
-    ghost use Rattle.audit_serve_door.specs.Entrances.{mode_of, modes_of_door};
-    ghost use Rattle.std.specs.Prelude.{IsSome};
-    ghost use Rattle.audit_serve_door.specs.Waits.{NobodyCame};
+impl<'a, C, J, W, L, S> SocketDoor<'a, C, J, W, L, S>
+where
+    C: Clock,
+    J: Journal + Drop,
+    W: Watch + Drop,
+    L: Accepts<S> + Watched + Drop,
+    S: Prompt + Watched + Drop,
+{
+    ghost use Rattle.std.specs.Prelude.{◌≡◌, [], ◌∷◌, map, IfOk, IfSome, IfNone, IsSome};
+    ghost use Rattle.audit_serve_ready.specs.declared.departure.Departure.TheVariants.{Memory};
+    ghost use Rattle.audit_serve_door.specs.Entrances.{rights_of, rights_of_door, idle_of_door};
+    ghost use Rattle.audit_serve_door.specs.Entrances.{mode_of, modes_of_door, socket_of, sockets_of_door};
+    ghost use Rattle.audit_serve_door.specs.Notes.{a_note};
+    ghost use Rattle.audit_serve_door.specs.Waits.{NobodyWaits, NoArrival, Passes, ChangesWaiters};
+    ghost use Rattle.audit_serve_door.specs.Comings.{IsClientOf, Receives, KeepsWaiters, who_waits};
 
     /// Makes a door with these entrances: those of clients that only read come before the others. A client that moves
     /// no byte for the time `idle` is dismissed when another one waits; without that time no client is. No reply leaves
@@ -91,15 +108,17 @@ impl<'a, C: Clock, J: Journal + Drop, W: Watch + Drop> SocketDoor<'a, C, J, W> {
         net: &impl Net,
         clock: &'a C,
         alloc: Global,
-        entrances: Vec<Entrance>,
+        entrances: Vec<Entrance<L>>,
         orders: StopOrders,
         idle: Option<Duration>,
         journal: J,
         watch: W,
-    ) -> io::Result<SocketDoor<'a, C, J, W>>
+    ) -> io::Result<SocketDoor<'a, C, J, W, L, S>>
         ensures rights { IfOk result (λ door. rights_of_door door ≡ map rights_of entrances.items) }
         ensures modes { IfOk result (λ door. modes_of_door door ≡ map mode_of entrances.items) }
         ensures idle { IfOk result (λ door. idle_of_door door ≡ idle) }
+        ensures sockets { IfOk result (λ door. sockets_of_door door ≡ map socket_of entrances.items) }
+        ensures nobody { IfOk result (λ door. NobodyWaits (who_waits door)) }
     {
         let mut entrances = entrances;
         let mut orders = orders;
@@ -155,39 +174,81 @@ impl<'a, C: Clock, J: Journal + Drop, W: Watch + Drop> SocketDoor<'a, C, J, W> {
     }
 
     // Looks whether what is served is in its place.
-    fn look(&mut self) -> bool {
+    fn look(&mut self) -> bool
+        ensures { KeepsWaiters self.old self.new }
+    {
         let is_in_place = self.watch.is_in_place();
         self.is_replaced |= !is_in_place;
         is_in_place
     }
 
     // Accepts the connections that may bring an order. One that can't be accepted takes the spare descriptor.
-    fn accept_orders(&mut self) {
-        if self.spare.is_none() {
-            self.spare = self.poll.registry().try_clone().ok();
-        }
+    fn accept_orders(&mut self)
+        ensures entrances { self.new.entrances ≡ self.old.entrances }
+        ensures turned { ChangesWaiters J.notes NoArrival self.old.waiting self.new.waiting
+            self.old.journal self.new.journal }
+        ensures until { self.new.until ≡ self.old.until }
+    {
+        self.keep_spare();
         for _ in 0..MAX_ORDERS {
-            match self.orders.incoming.accept() {
-                Accepted::One(stream) => {
-                    self.next_order = self.next_order.wrapping_add(1);
-                    self.orders
-                        .admit(stream, self.next_order, self.poll.registry());
-                }
-                Accepted::NoneLeft => return,
-                Accepted::Failed => {
-                    let had_spare = self.spare.take().is_some();
-                    if !had_spare && !self.drop_silent() {
-                        self.is_short = true;
-                        return;
-                    }
-                }
+            if !self.accept_order() {
+                return;
             }
         }
     }
 
+    fn keep_spare(&mut self)
+        ensures { KeepsWaiters self.old self.new }
+    {
+        if self.spare.is_none() {
+            self.spare = self.poll.registry().try_clone().ok();
+        }
+    }
+
+    // Accepts a connection that may bring an order, or makes room for it. Returns whether there may be a further one.
+    fn accept_order(&mut self) -> bool
+        ensures entrances { self.new.entrances ≡ self.old.entrances }
+        ensures turned { ChangesWaiters J.notes NoArrival self.old.waiting self.new.waiting
+            self.old.journal self.new.journal }
+        ensures until { self.new.until ≡ self.old.until }
+    {
+        match self.orders.incoming.accept() {
+            Accepted::One(stream) => {
+                self.next_order = self.next_order.wrapping_add(1);
+                self.orders
+                    .admit(stream, self.next_order, self.poll.registry());
+                true
+            }
+            Accepted::NoneLeft => false,
+            Accepted::Failed => self.make_room(),
+        }
+    }
+
+    // Gives a descriptor back: the spare one, or that of the oldest connection that has sent nothing. Returns whether
+    // there was one.
+    fn make_room(&mut self) -> bool
+        ensures entrances { self.new.entrances ≡ self.old.entrances }
+        ensures turned { ChangesWaiters J.notes NoArrival self.old.waiting self.new.waiting
+            self.old.journal self.new.journal }
+        ensures until { self.new.until ≡ self.old.until }
+    {
+        if self.spare.take().is_some() {
+            return true;
+        }
+        if self.drop_silent() {
+            return true;
+        }
+        self.is_short = true;
+        false
+    }
+
     // Accepts whoever has come. What came by a later entrance gets the lower numbers, since somebody may have come
     // there, left, and come again by an earlier one.
-    fn accept_clients(&mut self) {
+    fn accept_clients(&mut self)
+        ensures received { Receives L.model J.notes self.old.entrances.items self.new.entrances.items
+            self.old.waiting self.new.waiting self.old.journal self.new.journal }
+        ensures until { self.new.until ≡ self.old.until }
+    {
         let entrances = self.entrances.len();
         for place in 0..entrances {
             let later = entrances - 1 - place;
@@ -203,31 +264,53 @@ impl<'a, C: Clock, J: Journal + Drop, W: Watch + Drop> SocketDoor<'a, C, J, W> {
     }
 
     // Accepts who has come by an entrance, and numbers them from here.
-    fn accept_at(&mut self, place: usize, first: usize) {
+    fn accept_at(&mut self, place: usize, first: usize)
+        ensures received { Receives L.model J.notes self.old.entrances.items self.new.entrances.items
+            self.old.waiting self.new.waiting self.old.journal self.new.journal }
+        ensures until { self.new.until ≡ self.old.until }
+    {
         for at in 0..MAX_ACCEPTED {
-            let Some(arrival) = self.accept_one(place) else {
+            if !self.accept_one(place, first.wrapping_add(at)) {
                 return;
-            };
-            self.admit(first.wrapping_add(at), arrival);
+            }
         }
     }
 
-    fn accept_one(&mut self, place: usize) -> Option<Arrival> {
+    // Accepts a connection that has come by an entrance. Returns whether there was one; it waits under this number.
+    fn accept_one(&mut self, place: usize, number: usize) -> bool
+        ensures received { Receives L.model J.notes self.old.entrances.items self.new.entrances.items
+            self.old.waiting self.new.waiting self.old.journal self.new.journal }
+        ensures until { self.new.until ≡ self.old.until }
+    {
         for _ in 0..2 {
-            let entrance = self.entrances.get_mut(place)?;
-            match entrance.accept() {
-                Accepted::One(arrival) => return Some(arrival),
-                Accepted::NoneLeft => return None,
-                Accepted::Failed if self.drop_silent() => {}
-                Accepted::Failed => break,
+            if place >= self.entrances.len() {
+                return false;
+            }
+            match self.entrances[place].accept() {
+                Accepted::One(arrival) => {
+                    self.admit(number, arrival);
+                    return true;
+                }
+                Accepted::NoneLeft => return false,
+                Accepted::Failed => {
+                    if !self.drop_silent() {
+                        self.is_short = true;
+                        return false;
+                    }
+                }
             }
         }
         self.is_short = true;
-        None
+        false
     }
 
     // Drops the oldest connection that has sent nothing. Returns whether there was one.
-    fn drop_silent(&mut self) -> bool {
+    fn drop_silent(&mut self) -> bool
+        ensures entrances { self.new.entrances ≡ self.old.entrances }
+        ensures turned { ChangesWaiters J.notes NoArrival self.old.waiting self.new.waiting
+            self.old.journal self.new.journal }
+        ensures until { self.new.until ≡ self.old.until }
+    {
         let is_dropped = self.waiting.drop_silent();
         if is_dropped {
             self.journal.note_silent();
@@ -235,12 +318,33 @@ impl<'a, C: Clock, J: Journal + Drop, W: Watch + Drop> SocketDoor<'a, C, J, W> {
         is_dropped
     }
 
-    fn admit(&mut self, number: usize, mut arrival: Arrival) {
+    fn admit(&mut self, number: usize, mut arrival: Arrival<S>)
+        ensures entrances { self.new.entrances ≡ self.old.entrances }
+        ensures waits { ChangesWaiters J.notes (λ one. one ≡ arrival) self.old.waiting self.new.waiting
+            self.old.journal self.new.journal }
+        ensures until { self.new.until ≡ self.old.until }
+    {
         let registry = self.poll.registry();
-        let is_watched = arrival.register(registry, Token(number)).is_ok();
-        if !is_watched || !self.waiting.admit(number, arrival) {
+        if arrival.register(registry, Token(number)).is_err() {
+            self.journal.note(Departure::Memory);
+            return;
+        }
+        if !self.waiting.admit(number, arrival) {
             self.journal.note(Departure::Memory);
         }
+    }
+
+    // Notes that the client of a place has left it.
+    fn leave(&mut self, place: usize)
+        ensures entrances { self.new.entrances ≡ self.old.entrances }
+        ensures journal { self.new.journal ≡ self.old.journal }
+        ensures until { self.new.until ≡ self.old.until }
+        ensures stay { Passes NoArrival [] self.old.waiting self.new.waiting }
+    {
+        let Some(number) = self.places.leave(place) else {
+            return;
+        };
+        self.waiting.forget(number);
     }
 
     // Gives a place to a connection, unless the system refuses to report on it.
@@ -248,11 +352,15 @@ impl<'a, C: Clock, J: Journal + Drop, W: Watch + Drop> SocketDoor<'a, C, J, W> {
         &mut self,
         place: usize,
         number: usize,
-        mut arrival: Arrival,
-    ) -> Option<Newcomer<Client>>
-        ensures rights { IfSome result (λ newcomer. newcomer.rights ≡ rights_at_arrival arrival) }
-        ensures nobody { NobodyCame self.old.waiting self.new.waiting }
+        mut arrival: Arrival<S>,
+    ) -> Option<Newcomer<Metered<Nonblocking<S>>>>
+        ensures client { IfSome result (λ newcomer. IsClientOf arrival newcomer) }
+        ensures entrances { self.new.entrances ≡ self.old.entrances }
         ensures waiting { IsSome result → self.new.waiting ≡ self.old.waiting }
+        ensures journal { IsSome result → self.new.journal ≡ self.old.journal }
+        ensures stay { Passes NoArrival [] self.old.waiting self.new.waiting }
+        ensures until { self.new.until ≡ self.old.until }
+        ensures noted { IfNone result (J.notes.DidNote self.old.journal self.new.journal (a_note Memory ∷ [])) }
     {
         let registry = self.poll.registry();
         if arrival.reregister(registry, Token(number)).is_err() {
@@ -311,7 +419,11 @@ impl<'a, C: Clock, J: Journal + Drop, W: Watch + Drop> SocketDoor<'a, C, J, W> {
     }
 
     // Waits for the system to report that something is ready.
-    fn wait(&mut self, moved: bool) -> io::Result<()> {
+    fn wait(&mut self, moved: bool) -> io::Result<()>
+        ensures received { Receives L.model J.notes self.old.entrances.items self.new.entrances.items
+            self.old.waiting self.new.waiting self.old.journal self.new.journal }
+        ensures until { self.new.until ≡ self.old.until }
+    {
         let limit = if moved {
             Some(Duration::ZERO)
         } else {
@@ -319,30 +431,21 @@ impl<'a, C: Clock, J: Journal + Drop, W: Watch + Drop> SocketDoor<'a, C, J, W> {
         };
         self.poll.poll(&mut self.events, limit)?;
         self.now = Instant::now(self.clock)?;
-        for event in self.events.iter() {
-            let Token(number) = event.token();
-            if number >= FIRST_ORDER {
-                self.orders.announce(number);
-            } else if number >= FIRST_CLIENT {
-                let is_heard = self.waiting.hear(number);
-                if !is_heard {
-                    self.journal.note(Departure::Memory);
-                }
-                let is_other = self.places.is_other(number) || self.waiting.is_other(number);
-                if is_other && event.is_write_closed() {
-                    self.waiting.close(number);
-                }
-            } else if number == STOP {
-                self.orders.incoming.announce();
-            } else if let Some(entrance) = self.entrances.get_mut(number - FIRST_ENTRANCE) {
-                entrance.incoming.announce();
-            }
-        }
+        announce_all(
+            &self.events,
+            &mut self.orders,
+            &self.places,
+            &mut self.entrances,
+            &mut self.waiting,
+            &mut self.journal,
+        );
         Ok(())
     }
 
     // Chooses the client that is to be dismissed.
-    fn choose_idle(&mut self) {
+    fn choose_idle(&mut self)
+        ensures { KeepsWaiters self.old self.new }
+    {
         self.due = None;
         let found = self.places.longest_idle(self.candidates());
         if let (Some(idle), Some((place, since))) = (self.idle, found) {
@@ -351,29 +454,106 @@ impl<'a, C: Clock, J: Journal + Drop, W: Watch + Drop> SocketDoor<'a, C, J, W> {
             }
         }
     }
+}
 
-    // What is to be done after the order to stop.
-    fn finish(&mut self) -> Next {
-        let Some(until) = self.until else {
-            self.until = self.now.checked_add(finishing_time());
-            return Next::Stop;
-        };
-        if self.now < until {
-            Next::Again
-        } else {
-            Next::Stop
-        }
+// What is to be done after the order to stop, and until when clients may take their replies: that time begins when the
+// order is noticed.
+fn finish(until: Option<Instant>, now: Instant) -> (Option<Instant>, Next)
+    ensures begins { until ≡ None → (result.1 ≡ next.Stop) × IsFinishingTime now result.0 }
+    ensures kept { (last : Instant) → until ≡ Some last → result.0 ≡ Some last }
+    ensures over { (last : Instant) → until ≡ Some last → result.1 ≡ next.Stop → IsOver now last }
+    ensures on { (last : Instant) → until ≡ Some last → result.1 ≡ next.Again → IsOver now last → ⊥ }
+{
+    let Some(last) = until else {
+        return (now.checked_add(finishing_time()), Next::Stop);
+    };
+    let is_over = last.duration_since(now).is_zero();
+    (until, if is_over { Next::Stop } else { Next::Again })
+}
+
+// Notes what the system has reported.
+fn announce_all<J: Journal, L: Accepts<S>, S: Drop>(
+    events: &Events<Global>,
+    orders: &mut StopOrders,
+    places: &Places,
+    entrances: &mut [Entrance<L>],
+    waiting: &mut Waiting<S>,
+    journal: &mut J,
+)
+    ensures { Receives L.model J.notes entrances.old entrances.new waiting.old waiting.new journal.old journal.new }
+{
+    for event in events.iter() {
+        let Token(number) = event.token();
+        let is_write_closed = event.is_write_closed();
+        announce(
+            number,
+            is_write_closed,
+            orders,
+            places,
+            entrances,
+            waiting,
+            journal,
+        );
+    }
+}
+
+// Notes that the system has reported on this number, and whether it says that the other side has hung up.
+fn announce<J: Journal, L: Accepts<S>, S: Drop>(
+    number: usize,
+    is_write_closed: bool,
+    orders: &mut StopOrders,
+    places: &Places,
+    entrances: &mut [Entrance<L>],
+    waiting: &mut Waiting<S>,
+    journal: &mut J,
+)
+    ensures { Receives L.model J.notes entrances.old entrances.new waiting.old waiting.new journal.old journal.new }
+{
+    if number >= FIRST_ORDER {
+        orders.announce(number);
+    } else if number >= FIRST_CLIENT {
+        hear(number, is_write_closed, places, waiting, journal);
+    } else if number == STOP {
+        orders.incoming.announce();
+    } else if number - FIRST_ENTRANCE < entrances.len() {
+        entrances[number - FIRST_ENTRANCE].announce();
+    }
+}
+
+// Notes that a client's connection has sent something, or has hung up.
+fn hear<J: Journal, S: Drop>(
+    number: usize,
+    is_write_closed: bool,
+    places: &Places,
+    waiting: &mut Waiting<S>,
+    journal: &mut J,
+)
+    ensures { ChangesWaiters J.notes NoArrival waiting.old waiting.new journal.old journal.new }
+{
+    note_heard(number, waiting, journal);
+    let is_other = places.is_other(number) || waiting.is_other(number);
+    if is_other && is_write_closed {
+        waiting.close(number);
+    }
+}
+
+fn note_heard<J: Journal, S: Drop>(number: usize, waiting: &mut Waiting<S>, journal: &mut J)
+    ensures { ChangesWaiters J.notes NoArrival waiting.old waiting.new journal.old journal.new }
+{
+    if !waiting.hear(number) {
+        journal.note(Departure::Memory);
     }
 }
 
 // Has the system report on the sockets of a door.
-fn register_all(
+fn register_all<L: Watched>(
     registry: &Registry,
     orders: &mut StopOrders,
-    entrances: &mut [Entrance],
+    entrances: &mut [Entrance<L>],
 ) -> io::Result<()>
     ensures rights { map rights_of entrances.new ≡ map rights_of entrances.old }
     ensures modes { map mode_of entrances.new ≡ map mode_of entrances.old }
+    ensures sockets { map socket_of entrances.new ≡ map socket_of entrances.old }
 {
     orders.incoming.register(registry, Token(STOP))?;
     for number in 0..entrances.len() {
@@ -383,15 +563,22 @@ fn register_all(
     Ok(())
 }
 
-/// Of its calls is known who waits, and who is given a place. Who comes, and when, is the system's.
-impl<C: Clock, J: Journal + Drop, W: Watch + Drop> Door for SocketDoor<'_, C, J, W> {
+/// Of its calls is known who came in, who waits, and who is given a place. When somebody comes is the system's.
+impl<C, J, W, L, S> Door for SocketDoor<'_, C, J, W, L, S>
+where
+    C: Clock,
+    J: Journal + Drop,
+    W: Watch + Drop,
+    L: Accepts<S> + Watched + Drop,
+    S: Prompt + Watched + Drop,
+{
     ghost use Rattle.audit_serve_door.specs.Comings.{socket_door_calls};
 
-    ghost calls = { socket_door_calls };
+    ghost calls = { socket_door_calls L.model J.notes };
 
-    type Stream = Client;
+    type Stream = Metered<Nonblocking<S>>;
 
-    fn next_client(&mut self, place: usize) -> Option<Newcomer<Client>> {
+    fn next_client(&mut self, place: usize) -> Option<Newcomer<Metered<Nonblocking<S>>>> {
         for _ in 0..SESSIONS {
             // Each free place is offered in each round, and mostly nobody waits.
             if !self.waiting.has_reader() && !self.waiting.has_other() {
@@ -406,7 +593,7 @@ impl<C: Clock, J: Journal + Drop, W: Watch + Drop> Door for SocketDoor<'_, C, J,
         None
     }
 
-    fn dismisses(&mut self, place: usize, client: &Client) -> bool {
+    fn dismisses(&mut self, place: usize, client: &Metered<Nonblocking<S>>) -> bool {
         let is_idle = self.places.note(place, client.moves(), self.now);
         is_idle && self.due == Some(place)
     }
@@ -415,9 +602,7 @@ impl<C: Clock, J: Journal + Drop, W: Watch + Drop> Door for SocketDoor<'_, C, J,
         let Ok(now) = Instant::now(self.clock) else {
             return false;
         };
-        if found {
-            self.found = now;
-        }
+        self.found = if found { now } else { self.found };
         now.duration_since(self.found) < gathering_time()
     }
 
@@ -435,10 +620,8 @@ impl<C: Clock, J: Journal + Drop, W: Watch + Drop> Door for SocketDoor<'_, C, J,
         self.look()
     }
 
-    fn gone(&mut self, place: usize, _client: Client, departure: Departure) {
-        if let Some(number) = self.places.leave(place) {
-            self.waiting.forget(number);
-        }
+    fn gone(&mut self, place: usize, _client: Metered<Nonblocking<S>>, departure: Departure) {
+        self.leave(place);
         self.journal.note(departure);
     }
 
@@ -452,8 +635,10 @@ impl<C: Clock, J: Journal + Drop, W: Watch + Drop> Door for SocketDoor<'_, C, J,
         }
         self.is_short = false;
         self.accept_orders();
-        if self.orders.has_come() {
-            return self.finish();
+        if self.until.is_some() || self.orders.has_come() {
+            let (until, next) = finish(self.until, self.now);
+            self.until = until;
+            return next;
         }
         self.accept_clients();
         self.choose_idle();

@@ -65,7 +65,7 @@ fn is_passing(kind: ErrorKind) -> bool {
 /// ordered it waits for the answer: one byte, the status with which the daemon exits.
 #[derive(Drop)]
 pub struct StopOrders {
-    pub(crate) incoming: Incoming,
+    pub(crate) incoming: Incoming<mio::net::UnixListener>,
     // Connections that have sent no whole order, the oldest first.
     pending: Vec<Pending>,
     // Those that have.
@@ -73,6 +73,9 @@ pub struct StopOrders {
 }
 
 impl StopOrders {
+    ghost use Rattle.std.specs.Prelude.{◌≡◌};
+    ghost use Rattle.audit_serve_door.specs.Finishing.{has_order};
+
     /// Takes orders from a socket that listens.
     pub fn new(alloc: Global, listener: UnixListener) -> io::Result<StopOrders> {
         Ok(StopOrders {
@@ -83,7 +86,9 @@ impl StopOrders {
     }
 
     /// Whether an order has come.
-    pub(crate) fn has_come(&self) -> bool {
+    pub(crate) fn has_come(&self) -> bool
+        ensures { result ≡ has_order self.now }
+    {
         !self.given.is_empty()
     }
 

@@ -1,3 +1,5 @@
+ghost use Rattle.audit_serve_door.specs.Waits.{IsPut};
+
 use crate::choice::Heads;
 use crate::entrance::Arrival;
 use audit_serve_passes::Rights;
@@ -6,25 +8,27 @@ use std::collections::{BTreeMap, BTreeSet};
 
 /// The connections that wait for a place, by the numbers in whose order they were accepted.
 #[derive(Drop)]
-pub(crate) struct Waiting {
+pub(crate) struct Waiting<S> {
     // Those that have sent nothing.
-    silent: BTreeMap<usize, Arrival>,
+    silent: BTreeMap<usize, Arrival<S>>,
     // Those that have sent something, or have ended: those that only read, and the others.
-    readers: BTreeMap<usize, Arrival>,
-    others: BTreeMap<usize, Arrival>,
+    readers: BTreeMap<usize, Arrival<S>>,
+    others: BTreeMap<usize, Arrival<S>>,
     // The numbers of those that don't only read, have hung up and haven't left, whether they wait or have a place.
     closing: BTreeSet<usize>,
 }
 
-impl Waiting {
-    ghost use Rattle.std.specs.Prelude.{◌≡◌, true, Some, None};
+impl<S: Drop> Waiting<S> {
+    ghost use Rattle.std.specs.Prelude.{◌≡◌, List, [], ◌∷◌, length, true, Some, None, if◌then◌else◌};
     ghost use Rattle.audit_serve_door.specs.declared.entrance.Arrival.{Arrival};
     ghost use Rattle.audit_serve_door.specs.Entrances.{rights_at_arrival};
     ghost use Rattle.audit_serve_door.specs.Waits.{silent_at, heard_with, heard_at, KeepsOthers};
-    ghost use Rattle.audit_serve_door.specs.Waits.{NobodyCame, HasCome, IsTakenOut};
+    ghost use Rattle.audit_serve_door.specs.Waits.{NobodyWaits, NoArrival, Passes, IsTakenOut};
 
     /// Nobody.
-    pub(crate) fn new(alloc: Global) -> Waiting {
+    pub(crate) fn new(alloc: Global) -> Waiting<S>
+        ensures { NobodyWaits result }
+    {
         Waiting {
             silent: BTreeMap::new(alloc),
             readers: BTreeMap::new(alloc),
@@ -33,30 +37,33 @@ impl Waiting {
         }
     }
 
-    /// Takes a connection that has sent nothing. Returns whether there was memory for it.
-    pub(crate) fn admit(&mut self, number: usize, arrival: Arrival) -> bool
+    /// Takes a connection that has sent nothing. Returns whether there was memory for it, and nobody waited with this
+    /// number. If not, it or the other one is dropped.
+    pub(crate) fn admit(&mut self, number: usize, arrival: Arrival<S>) -> bool
         ensures waits { result ≡ true → silent_at self.new number ≡ Some arrival }
         ensures others { KeepsOthers number self.old self.new }
-        ensures came { HasCome arrival self.old self.new }
+        ensures passes { (gone : List (Arrival S)) × Passes (λ one. one ≡ arrival) gone self.old self.new
+            × (length gone ≡ (if result then 0 else 1)) }
     {
-        self.silent.insert(number, arrival).is_ok()
+        put(&mut self.silent, number, arrival)
     }
 
-    /// Notes that a connection has sent something, if it waits. Returns whether there was memory for that; if not, it
-    /// is dropped.
+    /// Notes that a connection has sent something, if it waits. Returns whether there was memory for that, and nobody
+    /// else had this number. If not, it or the other one is dropped.
     pub(crate) fn hear(&mut self, number: usize) -> bool
-        ensures heard { result ≡ true → (arrival : Arrival) → silent_at self.old number ≡ Some arrival
+        ensures heard { result ≡ true → (arrival : Arrival S) → silent_at self.old number ≡ Some arrival
             → heard_with (rights_at_arrival arrival) self.new number ≡ Some arrival }
         ensures others { KeepsOthers number self.old self.new }
-        ensures nobody { NobodyCame self.old self.new }
+        ensures passes { (gone : List (Arrival S)) × Passes NoArrival gone self.old self.new
+            × (length gone ≡ (if result then 0 else 1)) }
     {
         let Some(arrival) = self.silent.remove(&number) else {
             return true;
         };
         if arrival.rights() == Rights::Read {
-            self.readers.insert(number, arrival).is_ok()
+            put(&mut self.readers, number, arrival)
         } else {
-            self.others.insert(number, arrival).is_ok()
+            put(&mut self.others, number, arrival)
         }
     }
 
@@ -67,23 +74,27 @@ impl Waiting {
 
     /// Notes that a connection that doesn't only read has hung up.
     pub(crate) fn close(&mut self, number: usize)
-        ensures { NobodyCame self.old self.new }
+        ensures { Passes NoArrival [] self.old self.new }
     {
         let _ = self.closing.insert(number);
     }
 
     /// Notes that a client has left, or that it was dropped.
     pub(crate) fn forget(&mut self, number: usize)
-        ensures { NobodyCame self.old self.new }
+        ensures { Passes NoArrival [] self.old self.new }
     {
         let _ = self.closing.remove(&number);
     }
 
     /// Drops the oldest connection that has sent nothing. Returns whether there was one.
     pub(crate) fn drop_silent(&mut self) -> bool
-        ensures { NobodyCame self.old self.new }
+        ensures { (gone : List (Arrival S)) × Passes NoArrival gone self.old self.new
+            × (length gone ≡ (if result then 1 else 0)) }
     {
-        self.silent.pop_first().is_some()
+        match self.silent.pop_first() {
+            Some(_) => true,
+            None => false,
+        }
     }
 
     /// Whether one waits that has sent something and only reads.
@@ -111,7 +122,7 @@ impl Waiting {
     }
 
     /// Gives away a connection that has sent something.
-    pub(crate) fn take(&mut self, number: usize) -> Option<Arrival>
+    pub(crate) fn take(&mut self, number: usize) -> Option<Arrival<S>>
         ensures given { result ≡ heard_at self.old number }
         ensures others { KeepsOthers number self.old self.new }
         ensures out { IsTakenOut number self.old self.new }
@@ -123,7 +134,23 @@ impl Waiting {
     }
 }
 
-fn first_of(connections: &BTreeMap<usize, Arrival>) -> Option<usize> {
+// Puts a connection among others. Returns whether there was memory for it, and none of them had its number. If not, it
+// or the other one is dropped.
+fn put<S: Drop>(
+    connections: &mut BTreeMap<usize, Arrival<S>>,
+    number: usize,
+    arrival: Arrival<S>,
+) -> bool
+    ensures { IsPut number arrival result connections.old connections.new }
+{
+    match connections.insert(number, arrival) {
+        Ok(None) => true,
+        Ok(Some(_)) => false,
+        Err(_) => false,
+    }
+}
+
+fn first_of<S>(connections: &BTreeMap<usize, Arrival<S>>) -> Option<usize> {
     match connections.first_key_value() {
         Some((number, _)) => Some(*number),
         None => None,

@@ -3,7 +3,10 @@ use Rattle.std.proofs.Common.{◌∙◌, map, sym, ap, subst}
 use Rattle.audit_serve_door.specs.Entrances.{rights_of, rights_of_door, mode_of, modes_of_door, idle_of_door}
 use Rattle.audit_serve_door.specs.Metered.{metered_calls}
 use Rattle.audit_serve_door.specs.Nonblocking.{nonblocking_calls, unknown_prompt}
-use Rattle.audit_serve_door.specs.Comings.{socket_door_calls}
+use Rattle.audit_serve_door.specs.Accepting.{unknown_accepting}
+use Rattle.audit_serve_door.specs.Notes.{unknown_notes}
+use Rattle.audit_serve_door.specs.Comings.{who_waits, socket_door_calls}
+use Rattle.audit_serve_door.specs.Waits.{NobodyWaits}
 use Rattle.audit_cli_daemon.specs.Carried.{ServesAtDoor}
 use Rattle.audit_cli_daemon.specs.Gauged.{gauged_calls}
 use Rattle.audit_cli_daemon.specs.Rights.{IsIdleTime, IsDoorFor}
@@ -13,12 +16,13 @@ use Rattle.audit_cli_daemon.proofs.request.serve_listening.Goals as goal
 pub returns-clause-served : goal.returns-clause-served
 returns-clause-served g c =
     let N = metered_calls (nonblocking_calls unknown_prompt) in
-    let doors = gauged_calls socket_door_calls in
+    let doors = gauged_calls (socket_door_calls unknown_accepting unknown_notes) in
     let opens = IsDoorFor (map rights_of c.args.listening.entrances.items) (map mode_of c.args.listening.entrances.items) c.args.judged.idle in
     let first : opens c.new-gauged.result = record {
       rights_are = ap rights_of_door c.new-gauged.ensures ∙ c.in-Ok.ensures.rights;
       modes_are = ap modes_of_door c.new-gauged.ensures ∙ c.in-Ok.ensures.modes;
       idle = subst (IsIdleTime c.args.judged.idle) (sym (ap idle_of_door c.new-gauged.ensures ∙ c.in-Ok.ensures.idle)) c.time_of.ensures;
+      nobody = subst (λ door. NobodyWaits (who_waits door)) (sym c.new-gauged.ensures) c.in-Ok.ensures.nobody;
     } in
     subst (λ ending. OnOk ending (ServesAtDoor N doors opens c.args.judged.reserve c.args.judged.most c.args.store c.serve_until_stopped-store.result.0)) (sym c.and.ensures)
     (serves_at_door N doors opens c.args.judged.reserve c.args.judged.most c.new-gauged.result c.serve_until_stopped-store.new.door c.args.store c.serve_until_stopped-store.result.0 c.serve_until_stopped-store.result.1 _ first

@@ -5,6 +5,8 @@ use Rattle.audit_store.specs.Store.{active_header}
 use Rattle.audit_serve_door.specs.Entrances.{mode_of}
 use Rattle.audit_serve_door.specs.Metered.{metered_calls}
 use Rattle.audit_serve_door.specs.Nonblocking.{nonblocking_calls, unknown_prompt}
+use Rattle.audit_serve_door.specs.Accepting.{unknown_accepting}
+use Rattle.audit_serve_door.specs.Notes.{unknown_notes}
 use Rattle.audit_serve_door.specs.Comings.{socket_door_calls}
 use Rattle.audit_cli_daemon.specs.Gauged.{gauged_calls}
 use Rattle.audit_cli_daemon.specs.Carried.{ServesAtDoor}
@@ -17,7 +19,7 @@ use Rattle.audit_cli_daemon.proofs.request.serve_store.Goals as goal
 pub returns-clause-served : goal.returns-clause-served
 returns-clause-served g c =
     let N = metered_calls (nonblocking_calls unknown_prompt) in
-    let doors = gauged_calls socket_door_calls in
+    let doors = gauged_calls (socket_door_calls unknown_accepting unknown_notes) in
     let opens = IsDoorFor (rights_at c.args.sockets.now.readers c.args.judged.rights) (modes_at c.args.sockets.now.readers c.args.judged.mode) c.args.judged.idle in
     let begun = g.W.Write.contents c.args.output.now in
     let pair = c.match-bind.store in

@@ -1,6 +1,7 @@
-use Rattle.audit_serve_door.specs.Waits.{NobodyCame}
+use Rattle.std.specs.Prelude.{◌≡◌}
+use Rattle.audit_serve_door.specs.Waits.{NoArrival, ChangesWaiters}
 use Rattle.audit_serve_door.proofs.socket_door.SocketDoorDoor.next_client.Given as goal
 
--- those that the system refused to report on were dropped
+-- those that the system refused to report on were turned away
 abbrev pub invariant-loop : goal.invariant-loop
-invariant-loop g l = NobodyCame l.fn.self.waiting l.self.waiting
+invariant-loop g l = ChangesWaiters g.J.Journal.notes NoArrival l.fn.self.waiting l.self.waiting l.fn.self.journal l.self.journal × (l.self.entrances ≡ l.fn.self.entrances) × (l.self.until ≡ l.fn.self.until)

@@ -1,14 +1,39 @@
-use Rattle.std.proofs.Common.{refl}
+use Rattle.std.proofs.Common.{◌≡◌, ◌∙◌, inl, inr, true, false, is_some, refl, sym, ap, rules}
+use Rattle.audit_serve_ready.specs.declared.next.Next.TheVariants as next
+use Rattle.audit_serve_door.proofs.Arriving.{receives_refl, receives_then, receives_on, receives_kept, received_nobody}
+use Rattle.audit_serve_door.proofs.Calls.{says_stop_kept, says_again_kept, says_finish_kept, none_here, pause_call}
+use Rattle.audit_serve_door.proofs.socket_door.SocketDoorDoor.pause.Goals.{then-is_some-via-then-is_some, then-is_some-via-else-is_some+then-has_come}
 use Rattle.audit_serve_door.proofs.socket_door.SocketDoorDoor.pause.Goals as goal
 
 pub returns-then-self : goal.returns-then-self
-returns-then-self g c = (_, tt, refl)
+returns-then-self g c = pause_call g.L.Accepts.model g.J.Journal.notes next.Stop c.args.self.now c.args.self.now
+    (receives_refl g.L.Accepts.model g.J.Journal.notes c.args.self.now.entrances.items c.args.self.now.waiting c.args.self.now.journal)
+    (says_stop_kept c.args.self.now.is_replaced _ _ c.args.self.now.now c.args.self.now.until c.args.self.now.until refl (inl c.if-self.true))
 
 pub returns-then-is_err : goal.returns-then-is_err
-returns-then-is_err g c = (_, tt, refl)
+returns-then-is_err g c = pause_call g.L.Accepts.model g.J.Journal.notes next.Stop c.args.self.now _ c.wait.ensures.received
+    (says_stop_kept c.args.self.now.is_replaced true _ c.wait.new.self.now c.args.self.now.until c.wait.new.self.until c.wait.ensures.until (inr refl))
 
-pub returns-then-has_come : goal.returns-then-has_come
-returns-then-has_come g c = (_, tt, refl)
+pub returns-then-is_some : goal.returns-then-is_some
+returns-then-is_some g c = pause_call g.L.Accepts.model g.J.Journal.notes c.finish-until.result.1 c.args.self.now _
+    (receives_then g.L.Accepts.model g.J.Journal.notes _ _ _ _ _ _ _ _ _ c.wait.ensures.received
+    (receives_on g.L.Accepts.model g.J.Journal.notes _ _ _ _ _ _ _ (ap (λ entrances. entrances.items) c.accept_orders.ensures.entrances)
+    (received_nobody g.L.Accepts.model g.J.Journal.notes _ _ _ _ _ c.accept_orders.ensures.turned)))
+    (says_finish_kept c.finish-until.result.1 c.args.self.now.is_replaced _ _ c.accept_orders.new.self.now c.args.self.now.until c.accept_orders.new.self.until c.finish-until.result.0 (c.accept_orders.ensures.until ∙ c.wait.ensures.until)
+    (elim c.then-is_some.branch [
+      | then-is_some-via-then-is_some w ↦ inl (search rules)
+      | then-is_some-via-else-is_some+then-has_come w ↦ inr (sym w.has_come.ensures ∙ w.if-has_come.true)
+    ])
+    c.finish-until.ensures.begins c.finish-until.ensures.kept c.finish-until.ensures.over c.finish-until.ensures.on)
 
 pub returns : goal.returns
-returns g c = (_, tt, refl)
+returns g c =
+    let none : is_some c.accept_orders.new.self.until ≡ false = search rules in
+    let same = c.accept_orders.ensures.until ∙ c.wait.ensures.until in
+    pause_call g.L.Accepts.model g.J.Journal.notes next.Again c.args.self.now c.choose_idle.new.self
+    (receives_kept g.L.Accepts.model g.J.Journal.notes _ _ _ _ _ _ _ _ _ (ap (λ entrances. entrances.items) c.choose_idle.ensures.entrances) c.choose_idle.ensures.waiting c.choose_idle.ensures.journal
+    (receives_then g.L.Accepts.model g.J.Journal.notes _ _ _ _ _ _ _ _ _ c.wait.ensures.received
+    (receives_then g.L.Accepts.model g.J.Journal.notes _ _ _ _ _ _ _ _ _
+    (receives_on g.L.Accepts.model g.J.Journal.notes _ _ _ _ _ _ _ (ap (λ entrances. entrances.items) c.accept_orders.ensures.entrances)
+    (received_nobody g.L.Accepts.model g.J.Journal.notes _ _ _ _ _ c.accept_orders.ensures.turned)) c.accept_clients.ensures.received)))
+    (says_again_kept c.args.self.now.is_replaced _ _ c.choose_idle.new.self.now c.args.self.now.until c.choose_idle.new.self.until (c.choose_idle.ensures.until ∙ c.accept_clients.ensures.until ∙ same) (sym same ∙ none_here c.accept_orders.new.self.until none))
