@@ -13,6 +13,7 @@ mod frames;
 pub mod laws;
 mod line;
 mod out;
+mod printed_file;
 mod read_error;
 mod read_file;
 mod reading;

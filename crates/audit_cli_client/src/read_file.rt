@@ -3,6 +3,7 @@ use crate::alarm_file::keep_alarm;
 use crate::connection::{connect, socket_identity};
 use crate::fault::RemoteError;
 use crate::line::{LineEnd, Pace};
+use crate::printed_file::PrintedFile;
 use crate::read_error::{fault_of_reading, fault_of_unseen};
 use crate::reading::ReadTask;
 use crate::state_file::StateFile;
@@ -121,6 +122,7 @@ where
         alloc,
         socket,
         path: task.state,
+        printed: PrintedFile::open(rt),
     };
     let mut outlet = EventOutlet::new(alloc, file, output, printing);
     match read_on(alloc, &mut to, &mut from, state, &kept, &mut outlet) {
@@ -178,12 +180,14 @@ fn witnessed_in<F: Files>(rt: &F, alloc: Global, path: &str) -> Result<Commitmen
 
 // The file of a bookmark at a path. Only its owner can read it.
 #[derive(Drop)]
-struct BookmarkAt<'a, R> {
+struct BookmarkAt<'a, R: Files> {
     rt: &'a R,
     alloc: Global,
     // The server's socket, which it doesn't replace.
     socket: FileIdentity,
     path: &'a str,
+    // Where the events stand that it counts. They are synced first, so that a loss of power leaves out none.
+    printed: PrintedFile<R::File>,
 }
 
 /// Nothing is known of its bytes.
@@ -193,6 +197,7 @@ impl<R: Files> BookmarkFile for BookmarkAt<'_, R> {
     ghost bytes = { λ _. None };
 
     fn replace(&mut self, text: &[u8]) -> Result<(), CommandError> {
+        self.printed.sync()?;
         let mut made = OutputFile::create_private(self.rt, self.alloc, self.socket, self.path)?;
         match write_whole(&mut made, text) {
             Ok(()) => made.publish(self.rt),
