@@ -57,7 +57,7 @@ pub record ComeIn {L S : Type 0} (A : AcceptModel L S) (came : ℕ → List (Arr
   pub same : length new ≡ length old
   pub at : (k : ℕ) (none : Entrance L) → k < length old → ComesIn A (came k) (get_or old k none) (get_or new k none)
 
--- one of those that came in by the first sockets, of which there are so many
+-- a connection that came in by one of the first `count` sockets
 abbrev pub IsOneOf : {S : Type 0} → ℕ → (ℕ → List (Arrival S)) → Arrival S → Type 0
 IsOneOf count came arrival = (k : ℕ) × (k < count) × Contains (came k) arrival
 
