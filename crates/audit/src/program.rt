@@ -2,11 +2,13 @@ use crate::command::{Asked, CommandLine, request_of};
 use crate::ending::{End, explain_end};
 use crate::heard::Heard;
 use crate::places::key_file_of;
+use audit_cli_append::Request as Lines;
 use audit_cli_base::{CommandError, Status, report};
 use audit_cli_client::{Request as Remote, SystemServers};
 use audit_cli_daemon::{Request as Daemon, Settings};
 use audit_cli_host::{Dial, Extent, Notes, Screen, Subject};
 use audit_cli_offline::ReportForm;
+use audit_cli_rotate::Request as Rotation;
 use audit_cli_serve::Request as Serving;
 use audit_cli_store::Request;
 use audit_disk::{SystemFile, SystemFiles};
@@ -116,7 +118,8 @@ fn only_answers(asked: Asked<'_>) -> bool {
     }
 }
 
-// Carries out what a command line asks for.
+// Carries out what a command line asks for. Each command has a stack frame of its own, so that a small one doesn't take
+// the memory of the largest.
 fn carry_out<F: SystemFiles + Net + Clock + Dial, R: Read, W: Write, M: Write>(
     rt: &F,
     alloc: Global,
@@ -130,22 +133,103 @@ where
     F::File: SystemFile,
 {
     match asked {
-        Asked::Plain(request) => audit_cli_store::run(rt, alloc, request, input, output, messages),
-        Asked::Lines(request) => {
-            audit_cli_append::run(rt, alloc, request, input, output, messages)
-        }
-        Asked::Rotation(request) => audit_cli_rotate::run(rt, alloc, request, output, messages),
-        Asked::Remote(request) => {
-            let mut servers = SystemServers::new(rt);
-            audit_cli_client::run(&mut servers, alloc, request, input, output, messages)
-        }
-        Asked::Serving(request) => audit_cli_serve::run(
-            rt, alloc, request, input, output, messages,
-        ),
-        Asked::Daemon(request) => {
-            audit_cli_daemon::run(rt, alloc, request, explains, output, messages)
-        }
+        Asked::Plain(request) => answer(rt, alloc, request, input, output, messages),
+        Asked::Lines(request) => append(rt, alloc, request, input, output, messages),
+        Asked::Rotation(request) => rotate(rt, alloc, request, output, messages),
+        Asked::Remote(request) => ask(rt, alloc, request, input, output, messages),
+        Asked::Serving(request) => serve(rt, alloc, request, input, output, messages),
+        Asked::Daemon(request) => attend(rt, alloc, request, explains, output, messages),
     }
+}
+
+#[inline(never)]
+fn answer<F: SystemFiles, R: Read, W: Write, M: Write>(
+    rt: &F,
+    alloc: Global,
+    request: Request<'_>,
+    input: &mut R,
+    output: &mut W,
+    messages: &mut M,
+) -> Status
+where
+    F::File: SystemFile,
+{
+    audit_cli_store::run(rt, alloc, request, input, output, messages)
+}
+
+#[inline(never)]
+fn append<F: SystemFiles + Clock, R: Read, W: Write, M: Write>(
+    rt: &F,
+    alloc: Global,
+    request: Lines<'_>,
+    input: &mut R,
+    output: &mut W,
+    messages: &mut M,
+) -> Status
+where
+    F::File: SystemFile,
+{
+    audit_cli_append::run(rt, alloc, request, input, output, messages)
+}
+
+#[inline(never)]
+fn rotate<F: SystemFiles, W: Write, M: Write>(
+    rt: &F,
+    alloc: Global,
+    request: Rotation<'_>,
+    output: &mut W,
+    messages: &mut M,
+) -> Status
+where
+    F::File: SystemFile,
+{
+    audit_cli_rotate::run(rt, alloc, request, output, messages)
+}
+
+#[inline(never)]
+fn ask<F: SystemFiles + Net + Clock + Dial, R: Read, W: Write, M: Write>(
+    rt: &F,
+    alloc: Global,
+    request: Remote<'_>,
+    input: &mut R,
+    output: &mut W,
+    messages: &mut M,
+) -> Status
+where
+    F::File: SystemFile,
+{
+    let mut servers = SystemServers::new(rt);
+    audit_cli_client::run(&mut servers, alloc, request, input, output, messages)
+}
+
+#[inline(never)]
+fn serve<F: SystemFiles + Net + Clock, R: Read, W: Write, M: Write>(
+    rt: &F,
+    alloc: Global,
+    request: Serving<'_>,
+    input: &mut R,
+    output: &mut W,
+    messages: &mut M,
+) -> Status
+where
+    F::File: SystemFile,
+{
+    audit_cli_serve::run(rt, alloc, request, input, output, messages)
+}
+
+#[inline(never)]
+fn attend<F: SystemFiles + Net + Dial + Clock, W: Write, M: Write>(
+    rt: &F,
+    alloc: Global,
+    request: Daemon<'_>,
+    explains: bool,
+    output: &mut W,
+    messages: &mut M,
+) -> Status
+where
+    F::File: SystemFile,
+{
+    audit_cli_daemon::run(rt, alloc, request, explains, output, messages)
 }
 
 // Whether payloads are printed as text.

@@ -1,12 +1,11 @@
 -- Calls of an outlet that prints events as lines, and keeps a bookmark in a file.
 use Rattle.std.specs.Prelude.{◌≡◌, ◌⊎◌, ℕ, Option, Some, List, [], ◌∷◌, ◌++◌, IfSome}
 use Rattle.std.specs.Io.KnownBytes.{Appends}
-use Rattle.audit_chain.specs.EventData.{EventData}
 use Rattle.audit_text.specs.Writing.{WritesInPart}
 use Rattle.audit_verify.specs.Bookmark.{bookmark_text}
 use Rattle.audit_cli_offline.specs.Printing.{PrintingData}
 use Rattle.audit_cli_offline.specs.ReportLines.{event_lines}
-use Rattle.audit_client_read.specs.Outlet.{OutletCall, a_keeping, a_printing, OutletModel}
+use Rattle.audit_client_read.specs.Outlet.{OutletCall, a_keeping, a_printing}
 use Rattle.audit_cli_read.specs.declared.event_outlet.EventOutlet.{EventOutlet}
 
 -- the lines that were printed
@@ -34,5 +33,5 @@ module _ {K W : Type 0} (bytes : K → Option (List ℕ)) (contents : W → Opti
   TriedOutlet old new (a_keeping state newest) = (contents new.output ≡ contents old.output)
       × IfSome (bytes old.file)
       (λ before. (bytes new.file ≡ Some before) ⊎ (bytes new.file ≡ Some (bookmark_text state (Some newest))))
-  TriedOutlet old new (a_printing first events) = (bytes new.file ≡ bytes old.file)
+  TriedOutlet old new (a_printing first events) = IfSome (bytes old.file) (λ before. bytes new.file ≡ Some before)
       × WritesInPart (contents old.output) (contents new.output) (event_lines old.printing.now first events)

@@ -1,10 +1,12 @@
 -- Calls one after another of an outlet that prints events as lines, and keeps a bookmark in a file.
 use Rattle.std.specs.Prelude.{IfSome}
 use Rattle.std.specs.Io.KnownBytes.{Appends}
-use Rattle.std.proofs.Common.{◌≡◌, ℕ, Option, Some, None, List, [], ◌∷◌, ◌++◌, refl, sym, ap, ◌∙◌, subst, append_assoc}
+use Rattle.std.proofs.Common.{◌≡◌, ℕ, ◌+◌, Option, Some, None, List, [], ◌∷◌, ◌++◌, length, refl, sym, ap, ◌∙◌, subst, arith, append_assoc, append-nil}
 use Rattle.std.proofs.KnownBytes.{Appends-nil, Appends-trans}
+use Rattle.audit_chain.specs.EventData.{EventData}
+use Rattle.audit_text.specs.Writing.{WritesInPart}
 use Rattle.audit_cli_offline.specs.Printing.{PrintingData}
-use Rattle.audit_cli_offline.specs.ReportLines.{event_lines}
+use Rattle.audit_cli_offline.specs.ReportLines.{event_lines, printed_event}
 use Rattle.audit_verify.specs.Bookmark.{bookmark_text}
 use Rattle.audit_client_read.specs.Outlet.{OutletCall, a_keeping, a_printing, OutletModel}
 use Rattle.audit_cli_read.specs.declared.event_outlet.EventOutlet.{EventOutlet}
@@ -38,6 +40,43 @@ pub kept_none : (known : Option (List ℕ)) → IfSome known (λ before. known �
 kept_none None = tt
 kept_none (Some before) = refl
 
+pub file_stays : (old mid new : Option (List ℕ)) → IfSome old (λ before. mid ≡ Some before)
+    → IfSome mid (λ before. new ≡ Some before) → IfSome old (λ before. new ≡ Some before)
+file_stays None mid new first second = tt
+file_stays (Some before) mid new first second =
+    subst (λ (m : Option (List ℕ)). IfSome m (λ held. new ≡ Some held)) first second
+
+pub events_more : (printing : PrintingData) (first : ℕ) (events later : List EventData)
+    → event_lines printing first (events ++ later)
+    ≡ event_lines printing first events ++ event_lines printing (first + length events) later
+unfolding event_lines
+events_more printing first [] later = ap (λ (n : ℕ). event_lines printing n later) (omega arith)
+events_more printing first (event ∷ events) later =
+    let line = printed_event printing first event in
+    ap (λ (rest : List ℕ). line ++ rest) (events_more printing (first + 1) events later
+    ∙ ap (λ (n : ℕ). event_lines printing (first + 1) events ++ event_lines printing n later) (omega arith))
+    ∙ sym (append_assoc line (event_lines printing (first + 1) events)
+    (event_lines printing (first + length (event ∷ events)) later))
+
+pub both_lines : (printing : PrintingData) (first : ℕ) (events later : List EventData)
+    → lines_of_calls printing (a_printing first events ∷ [])
+    ++ lines_of_calls printing (a_printing (first + length events) later ∷ [])
+    ≡ lines_of_calls printing (a_printing first (events ++ later) ∷ [])
+both_lines printing first events later =
+    let lines = event_lines printing first events in
+    let more = event_lines printing (first + length events) later in
+    append_assoc lines [] (more ++ []) ∙ sym (append_assoc lines more [])
+    ∙ ap (λ (l : List ℕ). l ++ []) (sym (events_more printing first events later))
+
+pub part_more : (old mid new : Option (List ℕ)) (front text : List ℕ) → Appends old mid front
+    → WritesInPart mid new text → WritesInPart old new (front ++ text)
+part_more old mid new front text appended part = record {
+  written = front ++ part.written;
+  rest = part.rest;
+  split = ap (λ (t : List ℕ). front ++ t) part.split ∙ sym (append_assoc front part.written part.rest);
+  appended = Appends-trans old mid new front part.written appended part.appended;
+}
+
 -- how contracts see such an outlet
 abbrev pub event_calls : {K W : Type 0} → (K → Option (List ℕ)) → (W → Option (List ℕ)) → OutletModel (EventOutlet K W)
 event_calls bytes contents = record {
@@ -58,4 +97,27 @@ event_calls bytes contents = record {
             (lines_of_calls mid.printing.now later) first.printed second.printed);
         kept = kept_more (bytes old.file) (bytes mid.file) (bytes new.file) calls later first.kept second.kept;
       };
+  printed_on = λ old mid new first events later before after.
+      let lines = event_lines old.printing.now first events in
+      let next = first + length events in
+      let same = ap (λ (p : PrintingData). lines_of_calls p (a_printing next later ∷ [])) before.printing in record {
+        printing = after.printing ∙ before.printing;
+        printed = subst (Appends (contents old.output) (contents new.output))
+            (ap (λ (rest : List ℕ). lines_of_calls old.printing.now (a_printing first events ∷ []) ++ rest) same
+            ∙ both_lines old.printing.now first events later)
+            (Appends-trans (contents old.output) (contents mid.output) (contents new.output)
+            (lines_of_calls old.printing.now (a_printing first events ∷ []))
+            (lines_of_calls mid.printing.now (a_printing next later ∷ [])) before.printed after.printed);
+        kept = file_stays (bytes old.file) (bytes mid.file) (bytes new.file) before.kept after.kept;
+      };
+  tried_on = λ old mid new first events later before tried.
+      let lines = event_lines old.printing.now first events in
+      let next = first + length events in (
+        file_stays (bytes old.file) (bytes mid.file) (bytes new.file) before.kept tried.0,
+        subst (WritesInPart (contents old.output) (contents new.output)) (sym (events_more old.printing.now first events later))
+            (part_more (contents old.output) (contents mid.output) (contents new.output) lines
+            (event_lines old.printing.now next later)
+            (subst (Appends (contents old.output) (contents mid.output)) (append-nil lines) before.printed)
+            (subst (λ (p : PrintingData). WritesInPart (contents mid.output) (contents new.output) (event_lines p next later)) before.printing tried.1)),
+      );
 }

@@ -1,5 +1,6 @@
 mod ReadPieces
 mod PieceEntries
+mod PieceParts
 mod Fronts
 mod Asked
 mod Doubted

@@ -4,6 +4,7 @@ pub mod Under
 pub mod Pieces
 pub mod Questions
 pub mod ReadingOn
+pub mod PrintedPiece
 pub mod FailedReading
 pub mod Front
 pub mod Increments

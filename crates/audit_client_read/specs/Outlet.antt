@@ -1,5 +1,5 @@
 -- The calls of an outlet, by which verified events go out, and by which it is kept from what reading continues.
-use Rattle.std.specs.Prelude.{ℕ, List, [], ◌++◌}
+use Rattle.std.specs.Prelude.{ℕ, ◌+◌, List, [], ◌∷◌, ◌++◌, length}
 use Rattle.audit_chain.specs.EventData.{EventData}
 use Rattle.audit_proof.specs.declared.commitment.Commitment.{Commitment}
 use Rattle.audit_verify.specs.State.{StateData}
@@ -19,3 +19,12 @@ pub record OutletModel (O : Type 0) : Type 1 where
   pub nothing_called : (outlet : O) → DidCalls outlet outlet []
   pub more_called : (old mid new : O) (calls later : List OutletCall) → DidCalls old mid calls
       → DidCalls mid new later → DidCalls old new (calls ++ later)
+  -- events that were printed by two calls were printed
+  pub printed_on : (old mid new : O) (first : ℕ) (events later : List EventData)
+      → DidCalls old mid (a_printing first events ∷ [])
+      → DidCalls mid new (a_printing (first + length events) later ∷ [])
+      → DidCalls old new (a_printing first (events ++ later) ∷ [])
+  -- and if the second one failed, they were tried to be printed
+  pub tried_on : (old mid new : O) (first : ℕ) (events later : List EventData)
+      → DidCalls old mid (a_printing first events ∷ []) → Tried mid new (a_printing (first + length events) later)
+      → Tried old new (a_printing first (events ++ later))

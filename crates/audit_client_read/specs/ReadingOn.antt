@@ -1,16 +1,18 @@
 -- Reading a log on: pieces of verified events, each of which leads to the newest commitment, are printed one after
 -- another, and what reading continues from is kept before the first of them and after each.
-use Rattle.std.specs.Prelude.{◌≡◌, ◌⊎◌, List, [], ◌∷◌, ◌++◌}
+use Rattle.std.specs.Prelude.{◌≡◌, ◌⊎◌, ◌≤◌, List, [], ◌∷◌, ◌++◌, length}
 use Rattle.audit_chain.specs.EventData.{EventData}
 use Rattle.audit_proof.specs.declared.commitment.Commitment.{Commitment}
 use Rattle.audit_verify.specs.State.{StateData, bytes_from_state, next_state, commitment_after}
 use Rattle.audit_verify.specs.Continuing.{IsContinuation}
 use Rattle.audit_client.specs.Joined.{IsVouchedFor}
 use Rattle.audit_client_read.specs.Outlet.{OutletCall, a_keeping, a_printing, OutletModel}
+use Rattle.audit_client_read.specs.declared.piece.TheConstants.{PIECE_ENTRIES}
 
--- the events follow the state, and the newest commitment vouches for the log with them
+-- the events follow the state, they are few, and the newest commitment vouches for the log with them
 pub record IsPiece (state : StateData) (newest : Commitment) (events : List EventData) : Type 0 where
   pub follows : IsContinuation state (bytes_from_state state events) events
+  pub few : length events ≤ PIECE_ENTRIES
   pub leads : IsVouchedFor (commitment_after (next_state state events) []) newest
 
 -- each piece follows those before it
@@ -36,30 +38,6 @@ module _ {O : Type 0} (E : OutletModel O) where
   abbrev pub TriesFirst : List OutletCall → O → O → Type 0
   TriesFirst [] old new = ⊥
   TriesFirst (call ∷ calls) old new = E.Tried old new call
-
-  -- these events after a state were printed, and the next state kept
-  abbrev pub PutsPiece : StateData → List EventData → StateData → Commitment → O → O → Type 0
-  PutsPiece state events next newest old new =
-      E.DidCalls old new (a_printing state.frontier.count events ∷ a_keeping next newest ∷ [])
-
-  -- they were tried to be printed, and no more; or they were printed, and the next state tried to be kept
-  abbrev pub TriesPutting : StateData → List EventData → StateData → Commitment → O → O → Type 0
-  TriesPutting state events next newest old new = E.Tried old new (a_printing state.frontier.count events)
-      ⊎ ((mid : O) × E.DidCalls old mid (a_printing state.frontier.count events ∷ [])
-      × E.Tried mid new (a_keeping next newest))
-
-  -- the next piece was printed, and the state after it kept, which is this
-  pub record ReadsPiece (state : StateData) (newest : Commitment) (old new : O) (reached : StateData) : Type 0 where
-    pub piece : List EventData
-    pub is : IsPiece state newest piece
-    pub did : PutsPiece state piece (next_state state piece) newest old new
-    pub reached_is : reached ≡ next_state state piece
-
-  -- the next piece was tried to be printed and the state after it to be kept
-  pub record TriesPiece (state : StateData) (newest : Commitment) (old new : O) : Type 0 where
-    pub piece : List EventData
-    pub is : IsPiece state newest piece
-    pub tried : TriesPutting state piece (next_state state piece) newest old new
 
   -- The calls of some pieces were made from the first one on; the next one may have been tried, and no other was. None
   -- is made before a piece is verified and leads to the newest commitment, if there are entries after the state.

@@ -5,12 +5,14 @@
 pub mod laws;
 mod newest;
 mod outlet;
+mod part;
 mod piece;
 mod read_error;
 mod reading;
 mod under;
 
 pub use outlet::Outlet;
+pub use part::{PART_BYTES, PART_ENTRIES};
 pub use piece::{PIECE_BYTES, PIECE_ENTRIES};
 pub use read_error::ReadError;
 pub use reading::read_on;
