@@ -56,23 +56,23 @@ fn push_contradiction(line: &mut Vec<u8>, found: &Contradiction) -> Result<(), A
     push_commitment(line, &found.given)
 }
 
-/// Prints a contradiction: the server's socket, what it is, what the witness's file holds, and what the server gave. A
-/// second line says where that is kept, or that it isn't.
+/// Prints a contradiction: the server's socket, what it is, what the file of a witness or a reader holds, or that of the
+/// witness under which it reads, and what the server gave. A second line says where that is kept, or that it isn't.
 pub fn print_contradiction<M: Write>(
     alloc: Global,
     socket: &str,
     state: &str,
+    under: Option<&str>,
     found: &Contradiction,
     messages: &mut M,
 ) -> io::Result<()> {
     let word = judgment_word(found.error);
     let mut line = Vec::new(alloc);
-    write!(
-        line,
-        "audit: {}: {word}: {} holds ",
-        Shown(socket),
-        Shown(state)
-    )?;
+    write!(line, "audit: {}: {word}: {}", Shown(socket), Shown(state))?;
+    if let Some(under) = under {
+        write!(line, " or {}", Shown(under))?;
+    }
+    write!(line, " holds ")?;
     push_commitment(&mut line, &found.held)?;
     write!(line, ", the server gave ")?;
     push_commitment(&mut line, &found.given)?;

@@ -153,12 +153,18 @@ fn report_alarm<M: Write>(
     done: Result<Status, RemoteError>,
     messages: &mut M,
 ) {
-    let (Request::Watch { socket, state, .. } | Request::Read { socket, state, .. }) = request
-    else {
-        return;
+    let (socket, state, under) = match request {
+        Request::Watch { socket, state, .. } => (socket, state, None),
+        Request::Read {
+            socket,
+            state,
+            under,
+            ..
+        } => (socket, state, under),
+        _ => return,
     };
     if let Err(RemoteError::Contradicted(found) | RemoteError::NotLed(_, Some(found))) = done {
-        let _ = print_contradiction(alloc, socket, state, &found, messages);
+        let _ = print_contradiction(alloc, socket, state, under, &found, messages);
     }
 }
 

@@ -3,8 +3,8 @@ use Rattle.std.specs.Prelude.{◌≡◌, ◌≢◌, ◌⊎◌, ◌<◌, ℕ, Opt
 use Rattle.audit_proof.specs.declared.commitment.Commitment.{Commitment}
 use Rattle.audit_client.specs.declared.fault.ClientError.{ClientError}
 use Rattle.audit_client.specs.declared.fault.ClientError.TheVariants as client
-use Rattle.audit_client.specs.declared.watching.Unseen.{Unseen}
 use Rattle.audit_client.specs.Failing.{FailsWatch, FailsJoiningBy}
+use Rattle.audit_client_read.specs.declared.not_under.NotUnder.{NotUnder}
 use Rattle.audit_client_read.specs.declared.under.TheConstants.{KEPT_TAG}
 use Rattle.audit_client_read.specs.Newest.{SeesNewest}
 
@@ -18,11 +18,12 @@ IsNotAfter written_old written_new read_old read_new kept newest error =
     ⊎ ((kept.count < newest.count)
     × FailsJoiningBy KEPT_TAG written_old written_new read_old read_new kept newest error))
 
--- it didn't come, or isn't believed after the one that the witness saw; or it isn't after the one that was kept
+-- It didn't come, or isn't believed after the one that the witness saw; or it isn't after the one that was kept. The
+-- fault has the one of the two by which it was judged.
 abbrev pub FailsUnder : Option (List ℕ) → Option (List ℕ) → Option (List ℕ) → Option (List ℕ) → Commitment → Commitment
-    → Unseen → Type 0
-FailsUnder written_old written_new read_old read_new kept witnessed unseen =
-    FailsWatch written_old written_new read_old read_new (Some witnessed) unseen
-    ⊎ ((newest : Commitment) × (unseen.given ≡ Some newest) × (written read : Option (List ℕ))
-    × SeesNewest written_old written read_old read witnessed newest
-    × IsNotAfter written written_new read read_new kept newest unseen.error)
+    → NotUnder → Type 0
+FailsUnder written_old written_new read_old read_new kept witnessed fault =
+    ((fault.held ≡ witnessed) × FailsWatch written_old written_new read_old read_new (Some witnessed) fault.unseen)
+    ⊎ ((fault.held ≡ kept) × (newest : Commitment) × (fault.unseen.given ≡ Some newest)
+    × (written read : Option (List ℕ)) × SeesNewest written_old written read_old read witnessed newest
+    × IsNotAfter written written_new read read_new kept newest fault.unseen.error)

@@ -4,6 +4,7 @@
 
 pub mod laws;
 mod newest;
+mod not_under;
 mod outlet;
 mod part;
 mod piece;
@@ -11,6 +12,7 @@ mod read_error;
 mod reading;
 mod under;
 
+pub use not_under::NotUnder;
 pub use outlet::Outlet;
 pub use part::{PART_BYTES, PART_ENTRIES};
 pub use piece::{PIECE_BYTES, PIECE_ENTRIES};

@@ -5,6 +5,7 @@ ghost use Rattle.audit_client_read.specs.Questions.{AsksToRead};
 ghost use Rattle.audit_client_read.specs.Under.{IsNotAfter, FailsUnder};
 
 use crate::newest::newest_after;
+use crate::not_under::NotUnder;
 use audit_client::{ClientError, Unseen, join_by};
 use audit_proof::Commitment;
 use std::alloc::Global;
@@ -16,15 +17,15 @@ const KEPT_TAG: u32 = 1;
 /// Asks for the newest commitment, which has to extend the one that a witness saw and the one that a reader kept. So
 /// both are of one log, and what is read on from it is the log that the witness saw.
 ///
-/// Errors: as [`watch`](audit_client::watch), by either of the two, with the commitment that the server gave if it was
-/// judged.
+/// Errors: as [`watch`](audit_client::watch), by either of the two, with that one and the commitment that the server gave
+/// if it was judged: so the two contradict each other.
 pub fn newest_under<W: Write, R: Read>(
     alloc: Global,
     to: &mut W,
     from: &mut R,
     kept: &Commitment,
     witnessed: &Commitment,
-) -> Result<Commitment, Unseen>
+) -> Result<Commitment, NotUnder>
     ensures witnessed { IfOk result (Extends witnessed.now) }
     ensures kept { IfOk result (Extends kept.now) }
     ensures asked { OnOk result (AsksToRead (W.contents to.old) (W.contents to.new) (R.remaining from.old)
@@ -32,12 +33,21 @@ pub fn newest_under<W: Write, R: Read>(
     ensures fault { IfErr result (FailsUnder (W.contents to.old) (W.contents to.new) (R.remaining from.old)
         (R.remaining from.new) kept.now witnessed.now) }
 {
-    let newest = newest_after(alloc, to, from, witnessed)?;
+    let newest = match newest_after(alloc, to, from, witnessed) {
+        Ok(seen) => seen,
+        Err(unseen) => return Err(NotUnder {
+            held: *witnessed,
+            unseen,
+        }),
+    };
     match lead_kept(alloc, to, from, kept, &newest) {
         Ok(()) => Ok(newest),
-        Err(error) => Err(Unseen {
-            error,
-            given: Some(newest),
+        Err(error) => Err(NotUnder {
+            held: *kept,
+            unseen: Unseen {
+                error,
+                given: Some(newest),
+            },
         }),
     }
 }
