@@ -1,6 +1,7 @@
 //! What a file holds that was given in the place of another.
 use audit_base::{ENTRY_OVERHEAD, MAX_PAYLOAD, u32_at};
 use audit_cli_offline::read_proof;
+use audit_cli_store::STATE_WORD;
 use audit_disk::SECTOR_SIZE;
 use audit_log::Header;
 use audit_text::read_input;
@@ -56,7 +57,7 @@ pub(crate) fn state_in<F: Files>(rt: &F, alloc: Global, path: &str) -> Option<St
     metadata_of(rt, path)?;
     let mut file = fs::open(rt, path).ok()?;
     let text = read_input(alloc, &mut file).ok()?;
-    if !text.starts_with(b"audit-state") {
+    if !text.starts_with(&STATE_WORD) {
         return None;
     }
     match read_bookmark(alloc, &text) {

@@ -1,20 +1,20 @@
 //! Why a file isn't replaced.
+use crate::argument::is_same;
 use crate::command::Asked;
-use crate::contents::store_head;
+use crate::contents::{state_in, store_head};
 use audit_cli_client::Request as Remote;
-use audit_cli_store::{Request, Site};
+use audit_cli_store::{Request, Site, Verification};
 use audit_disk::FileIdentity;
 use audit_text::Shown;
+use std::alloc::Global;
 use std::fs::{self, Files, Metadata};
 use std::io::{self, Write};
 use std::os::unix::fs::FileTypeExt;
 
-// The most bytes of a key file: hex digits and a line feed.
-const MAX_KEY_FILE: u64 = 65;
-
 /// Prints what is at the path at which a command was to write, so that it wrote nothing.
 pub(crate) fn explain_existing<F: Files, M: Write>(
     rt: &F,
+    alloc: Global,
     asked: Asked<'_>,
     messages: &mut M,
 ) -> io::Result<()> {
@@ -26,11 +26,7 @@ pub(crate) fn explain_existing<F: Files, M: Write>(
             let Some(out) = asked.save else {
                 return Ok(());
             };
-            if is_key_at(rt, asked.start, out) {
-                (out, "STATE is KEYFILE, which has the first key")
-            } else {
-                return explain_output(rt, "STATE", out, (asked.export, "EXPORT"), messages);
-            }
+            return explain_saved(rt, alloc, asked, out, messages);
         }
         Asked::Remote(
             Remote::Ask {
@@ -60,14 +56,27 @@ pub(crate) fn explain_existing<F: Files, M: Write>(
     writeln!(messages, "audit: {}: {cause}", Shown(path))
 }
 
-// Whether two paths lead to one file that is short enough for a key.
-fn is_key_at<F: Files>(rt: &F, path: &str, other: &str) -> bool {
-    match (fs::metadata(rt, path), fs::metadata(rt, other)) {
-        (Ok(found), Ok(same)) => {
-            FileIdentity::of(&found) == FileIdentity::of(&same) && found.len() <= MAX_KEY_FILE
-        }
-        _ => false,
+// Prints why a state isn't written to a path.
+fn explain_saved<F: Files, M: Write>(
+    rt: &F,
+    alloc: Global,
+    asked: Verification<'_>,
+    out: &str,
+    messages: &mut M,
+) -> io::Result<()> {
+    let is_plain = fs::metadata(rt, out).is_ok_and(|found| found.is_file());
+    if is_plain
+        && state_in(rt, alloc, out).is_none()
+        && store_head(rt, out).is_none()
+        && !is_same(rt, asked.export, out)
+    {
+        return writeln!(
+            messages,
+            "audit: {}: STATE is a file that has no state",
+            Shown(out)
+        );
     }
+    explain_output(rt, "STATE", out, (asked.export, "EXPORT"), messages)
 }
 
 // Prints why an output isn't written to a path. `read` is the path of what is read, and its name.

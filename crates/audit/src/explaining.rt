@@ -34,7 +34,7 @@ pub(crate) fn explain_fault<F: Files, M: Write>(
         Some(Said::BadEntry) if status == Status::Device => {
             print_cause(rt, alloc, asked, notes, messages)
         }
-        Some(Said::FileExists) => explain_existing(rt, asked, messages),
+        Some(Said::FileExists) => explain_existing(rt, alloc, asked, messages),
         Some(Said::InUse) => explain_use(asked, notes, messages),
         Some(Said::NoSuchVersion) => explain_outside(rt, asked, notes, messages),
         Some(Said::BadSize) => match wrong_word(asked) {

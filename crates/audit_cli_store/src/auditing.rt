@@ -11,7 +11,7 @@ ghost use Rattle.audit_cli_store.specs.Verifications.{AreKindsAsked, IsKindsFaul
 use crate::checking::check_proof;
 use audit_cli_base::{
     CommandError, OutputFile, commitment_asked, commitments_asked, judge_start, number_asked,
-    read_key, read_start,
+    read_start,
 };
 use audit_cli_offline::{
     CheckForm, Printing, ReportForm, VerifiedEnd, kinds_in_word, verify_export,
@@ -23,7 +23,10 @@ use audit_text::write_whole;
 use audit_verify::{State, state_text};
 use std::alloc::Global;
 use std::fs::{self, Files, OpenFile};
-use std::io::{self, Write};
+use std::io::{self, ErrorKind, Read, Write};
+
+/// The first word of a file with a state.
+pub const STATE_WORD: [u8; 11] = *b"audit-state";
 
 /// What is asked of a verification, with the words of the command line as given.
 #[derive(Clone, Copy)]
@@ -40,7 +43,7 @@ pub struct Verification<'a> {
     pub kinds: Option<&'a str>,
     /// The index of the first event that may be written.
     pub from: Option<&'a str>,
-    /// The file for the state after the export, which is replaced. It can't be the export's.
+    /// The file for the state after the export, which is replaced if it has a state.
     pub save: Option<&'a str>,
 }
 
@@ -100,7 +103,7 @@ fn verify_file<F: Files, W: Write>(
     let commitment = commitment_asked(asked.commitment)?;
     judge_start(&start, &commitment)?;
     let printing = printing_asked(alloc, asked.form, asked.kinds, asked.from)?;
-    judge_saved(rt, alloc, asked)?;
+    judge_saved(rt, asked)?;
     verify_further(
         rt,
         alloc,
@@ -118,26 +121,24 @@ fn start_in<F: Files>(rt: &F, alloc: Global, file: &str) -> Result<State, Comman
     read_start(alloc, &mut file)
 }
 
-// A state doesn't replace the first key that it follows from: without that key nobody can read the log.
-fn judge_saved<F: Files>(
-    rt: &F,
-    alloc: Global,
-    asked: Verification<'_>,
-) -> Result<(), CommandError> {
+// A state replaces a state or nothing: what else is there may be a key, without which nobody can read a log.
+fn judge_saved<F: Files>(rt: &F, asked: Verification<'_>) -> Result<(), CommandError> {
     let Some(out) = asked.save else {
         return Ok(());
     };
-    let Ok(found) = fs::metadata(rt, out) else {
-        return Ok(());
-    };
-    let start = fs::metadata(rt, asked.start)?;
-    if !found.is_file() || FileIdentity::of(&found) != FileIdentity::of(&start) {
-        return Ok(());
+    match fs::metadata(rt, out) {
+        Ok(found) if found.is_file() && found.len() > 0 => judge_replaced(&mut fs::open(rt, out)?),
+        _ => Ok(()),
     }
-    match read_key(alloc, &mut fs::open(rt, asked.start)?) {
-        Ok(_) => Err(CommandError::FileExists),
-        Err(CommandError::BadArgument) => Ok(()),
-        Err(fault) => Err(fault),
+}
+
+fn judge_replaced<R: Read>(file: &mut R) -> Result<(), CommandError> {
+    let mut word = [0; STATE_WORD.len()];
+    match file.read_exact(&mut word) {
+        Ok(()) if word == STATE_WORD => Ok(()),
+        Ok(()) => Err(CommandError::FileExists),
+        Err(error) if error.kind() == ErrorKind::UnexpectedEof => Err(CommandError::FileExists),
+        Err(error) => Err(error.into()),
     }
 }
 

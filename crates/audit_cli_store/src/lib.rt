@@ -16,7 +16,7 @@ mod salvaging;
 mod show_form;
 mod showing;
 
-pub use auditing::{Verification, write_state};
+pub use auditing::{STATE_WORD, Verification, write_state};
 pub use checking::check_proof;
 pub use closing::close_log;
 pub use exporting::write_entries;
