@@ -31,6 +31,7 @@ pub(crate) fn explain_argument<F: Files, M: Write>(
         return explain_start(asked, state, messages);
     }
     if let Asked::Remote(Remote::Read { state, .. }) = asked
+        && wrong_word(asked).is_none()
         && let Some(StateText::Damaged) = state_or_other(rt, alloc, state)
     {
         let shown = Shown(state);
@@ -39,7 +40,7 @@ pub(crate) fn explain_argument<F: Files, M: Write>(
             "audit: {shown}: no state, or one that was changed or cut off"
         );
     }
-    if let Some(file) = key_file_of(asked)
+    if let Some(file) = key_file_read(rt, asked)
         && notes.key_text().is_no_key()
     {
         return explain_key(file, notes, messages);
@@ -69,14 +70,27 @@ pub(crate) fn explain_argument<F: Files, M: Write>(
     }
 }
 
+// The file from which a key was read. `read` judges its words first, and reads a key only where there is no state.
+fn key_file_read<'a, F: Files>(rt: &F, asked: Asked<'a>) -> Option<&'a str> {
+    match asked {
+        Asked::Remote(Remote::Read { state, first, .. }) => {
+            if wrong_word(asked).is_some() || fs::metadata(rt, state).is_ok() {
+                return None;
+            }
+            first
+        }
+        _ => key_file_of(asked),
+    }
+}
+
 // Whether what was read in the place of a key file may be a state, whose first word has `u` as its second letter. Nothing
 // else is read again, since its length is noted.
 fn may_be_state(notes: &Notes<'_>) -> bool {
     matches!(notes.key_text().odd(), Some((2, b'u')))
 }
 
-// Whether two paths lead to one file.
-fn is_same<F: Files>(rt: &F, one: &str, other: &str) -> bool {
+/// Whether two paths lead to one file.
+pub(crate) fn is_same<F: Files>(rt: &F, one: &str, other: &str) -> bool {
     match (fs::metadata(rt, one), fs::metadata(rt, other)) {
         (Ok(one), Ok(other)) => FileIdentity::of(&one) == FileIdentity::of(&other),
         _ => false,

@@ -25,6 +25,11 @@ pub(crate) fn print_cause<F: Files, M: Write>(
     notes: &Notes<'_>,
     messages: &mut M,
 ) -> io::Result<()> {
+    if let Asked::Remote(request) = asked
+        && let Some(kept) = kept_by(request)
+    {
+        return print_kept_cause(rt, alloc, kept, notes, messages);
+    }
     if let Some((name, error)) = notes.last() {
         return writeln!(messages, "audit: {}: {error}", Shown(name));
     }
@@ -36,33 +41,63 @@ pub(crate) fn print_cause<F: Files, M: Write>(
                 "audit: {shown}: the daemon didn't answer within 30 seconds that it ended"
             )
         }
-        Asked::Remote(Remote::Watch { state, .. } | Remote::Read { state, .. }) => {
-            print_kind(rt, alloc, state, true, messages)
-        }
         _ => match store_of(asked) {
-            Some(store) => print_kind(rt, alloc, store, false, messages),
+            Some(store) => print_kind(rt, alloc, store, messages),
             None => Ok(()),
         },
     }
 }
 
-// What is wrong with the kind or the length of a file, which is a witness's or to be a store.
+// The file that a witness or a reader keeps, and that of the witness under which a reader reads.
+fn kept_by<'a>(request: Remote<'a>) -> Option<(&'a str, Option<&'a str>)> {
+    match request {
+        Remote::Watch { state, .. } => Some((state, None)),
+        Remote::Read { state, under, .. } => Some((state, under)),
+        _ => None,
+    }
+}
+
+// A file that isn't opened since it is none, or else the last call of the system that failed. Looking whether there is
+// a file is such a call too.
+fn print_kept_cause<F: Files, M: Write>(
+    rt: &F,
+    alloc: Global,
+    kept: (&str, Option<&str>),
+    notes: &Notes<'_>,
+    messages: &mut M,
+) -> io::Result<()> {
+    let (state, under) = kept;
+    let lock = format!(in alloc; "{state}.lock");
+    let lock = match &lock {
+        Ok(lock) => lock.as_str(),
+        Err(_) => state,
+    };
+    for file in [state, under.unwrap_or(state), lock] {
+        if fs::metadata(rt, file).is_ok_and(|found| !found.is_file()) {
+            return writeln!(messages, "audit: {}: it is no regular file", Shown(file));
+        }
+    }
+    match notes.last() {
+        Some((name, error)) => writeln!(messages, "audit: {}: {error}", Shown(name)),
+        None => Ok(()),
+    }
+}
+
+// What is wrong with the kind or the length of a file that was to be a store.
 fn print_kind<F: Files, M: Write>(
     rt: &F,
     alloc: Global,
     file: &str,
-    is_state: bool,
     messages: &mut M,
 ) -> io::Result<()> {
     let shown = Shown(file);
     let Ok(found) = fs::metadata(rt, file) else {
         return Ok(());
     };
-    let is_file = found.is_file();
-    if !is_file && (is_state || !found.file_type().is_block_device()) {
+    if !found.is_file() && !found.file_type().is_block_device() {
         return writeln!(messages, "audit: {shown}: it is no regular file");
     }
-    if !is_file || is_state || found.len() % SECTOR_LEN == 0 {
+    if !found.is_file() || found.len() % SECTOR_LEN == 0 {
         return Ok(());
     }
     match contents_of(rt, alloc, file) {

@@ -391,7 +391,7 @@ static VERIFY: Form = Form {
             value: None,
             help: "With --text: index and kind before each payload, with a tab after each",
             needs: Some("text"),
-            excludes: None,
+            excludes: Some("json"),
         },
         Choice {
             name: "json",

@@ -179,7 +179,7 @@ static READ: Form = Form {
             value: None,
             help: "With --text, puts the index and the kind before each payload",
             needs: Some("text"),
-            excludes: None,
+            excludes: Some("json"),
         },
         Choice {
             name: "json",

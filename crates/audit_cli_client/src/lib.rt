@@ -11,6 +11,7 @@ mod draft;
 mod fault;
 mod frames;
 pub mod laws;
+mod left_files;
 mod line;
 mod out;
 mod printed_file;

@@ -2,6 +2,7 @@
 use crate::alarm_file::keep_alarm;
 use crate::connection::{connect, socket_identity};
 use crate::fault::RemoteError;
+use crate::left_files::remove_left;
 use crate::line::{LineEnd, Pace};
 use crate::printed_file::PrintedFile;
 use crate::read_error::{fault_of_reading, fault_of_unseen};
@@ -14,13 +15,13 @@ use audit_cli_host::Dial;
 use audit_cli_offline::{Printing, VerifiedEnd, kinds_in_word, write_end_message, write_last_line};
 use audit_cli_read::{BookmarkFile, EventOutlet};
 use audit_client::{FallibleWrite, Kept};
-use audit_client_read::{newest_under, read_on};
+use audit_client_read::{Outlet, newest_under, read_on};
 use audit_disk::{FileIdentity, SystemFile};
 use audit_proof::Commitment;
 use audit_text::{read_input, write_whole};
 use audit_verify::{Bookmark, State, StateError, read_bookmark};
 use std::alloc::Global;
-use std::fs::{self, Files};
+use std::fs::{self, Files, Metadata};
 use std::io::{BufReader, Read, Write};
 use std::time::{Clock, Duration};
 
@@ -41,6 +42,7 @@ where
     let socket = socket_identity(rt, task.socket)?;
     let name = format!(in alloc; "{}.lock", task.state)?;
     let locked = lock_reader(rt, &name, task.seconds)?;
+    remove_left(rt, alloc, task.state)?;
     let done = read_alone(rt, alloc, socket, task, &printing, output);
     remove_made(rt, &name);
     drop(locked);
@@ -100,7 +102,8 @@ fn read_alone<F: Files + Dial + Clock, W: FallibleWrite>(
 where
     F::File: SystemFile,
 {
-    let Bookmark { state, newest } = bookmark_of(rt, alloc, task)?;
+    let found = metadata_if_any(rt, task.state)?;
+    let Bookmark { state, newest } = bookmark_of(rt, alloc, task, found.as_ref())?;
     let held = newest.unwrap_or(state.commitment());
     let witnessed = match task.under {
         Some(path) => Some(witnessed_in(rt, alloc, path)?),
@@ -109,25 +112,44 @@ where
     let line = connect(rt, task.socket, task.seconds, Pace::Question)?;
     let mut to = LineEnd::of(&line);
     let mut from = BufReader::new(alloc, LineEnd::of(&line))?;
-    let kept = match witnessed {
-        Some(witnessed) => match newest_under(alloc, &mut to, &mut from, &held, &witnessed) {
-            Ok(newest) => newest,
-            Err(unseen) => return Err(fault_of_unseen(held, unseen)),
-        },
-        None => held,
-    };
-    let first = state.count();
+    let kept = kept_under(alloc, &mut to, &mut from, held, witnessed)?;
+    let mut printed = PrintedFile::open(rt);
+    printed.end_line(output)?;
     let file = BookmarkAt {
         rt,
         alloc,
         socket,
         path: task.state,
-        printed: PrintedFile::open(rt),
+        printed,
     };
+    let first = state.count();
     let mut outlet = EventOutlet::new(alloc, file, output, printing);
     match read_on(alloc, &mut to, &mut from, state, &kept, &mut outlet) {
-        Ok(state) => Ok(reading_to(first, &state)),
-        Err(error) => Err(fault_of_reading(held, error)),
+        Ok(state) => {
+            // Of a log without an entry nothing was kept, and the next run has STATE alone.
+            if found.is_none() && state.count() == first {
+                outlet.keep(&state, &kept)?;
+            }
+            Ok(reading_to(first, &state))
+        }
+        Err(error) => Err(fault_of_reading(kept, error)),
+    }
+}
+
+// The commitment that the newest one has to extend: that of the reader, or the newest under a witness.
+fn kept_under<W: Write, R: Read>(
+    alloc: Global,
+    to: &mut W,
+    from: &mut R,
+    held: Commitment,
+    witnessed: Option<Commitment>,
+) -> Result<Commitment, RemoteError> {
+    let Some(witnessed) = witnessed else {
+        return Ok(held);
+    };
+    match newest_under(alloc, to, from, &held, &witnessed) {
+        Ok(newest) => Ok(newest),
+        Err(fault) => Err(fault_of_unseen(fault.held, fault.unseen)),
     }
 }
 
@@ -141,13 +163,16 @@ fn reading_to(first: u64, state: &State) -> Reading {
     }
 }
 
-// The bookmark from which it is read; where there is none, the start of the log with the first key in a file.
+// The bookmark from which it is read; where there is none, the start of the log with the first key in a file. A pipe or
+// a device isn't opened: that might wait.
 fn bookmark_of<F: Files>(
     rt: &F,
     alloc: Global,
     task: ReadTask<'_>,
+    found: Option<&Metadata>,
 ) -> Result<Bookmark, RemoteError> {
-    match (metadata_if_any(rt, task.state)?, task.first) {
+    match (found, task.first) {
+        (Some(found), _) if !found.is_file() => Err(RemoteError::Command(CommandError::File)),
         (None, Some(first)) => {
             let key = read_key(alloc, &mut fs::open(rt, first)?)?;
             Ok(Bookmark {
@@ -170,6 +195,9 @@ fn bookmark_in<R: Read>(alloc: Global, file: &mut R) -> Result<Bookmark, RemoteE
 
 // The newest commitment in the file of a witness, which has one at least.
 fn witnessed_in<F: Files>(rt: &F, alloc: Global, path: &str) -> Result<Commitment, RemoteError> {
+    if !fs::metadata(rt, path)?.is_file() {
+        return Err(RemoteError::Command(CommandError::File));
+    }
     let file = fs::open(rt, path)?;
     let kept = StateFile::read(alloc, StateAt { rt, path, file })?;
     match kept.newest() {
