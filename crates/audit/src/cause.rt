@@ -67,20 +67,35 @@ fn print_kept_cause<F: Files, M: Write>(
     messages: &mut M,
 ) -> io::Result<()> {
     let (state, under) = kept;
-    let lock = format!(in alloc; "{state}.lock");
-    let lock = match &lock {
-        Ok(lock) => lock.as_str(),
-        Err(_) => state,
-    };
-    for file in [state, under.unwrap_or(state), lock] {
-        if fs::metadata(rt, file).is_ok_and(|found| !found.is_file()) {
-            return writeln!(messages, "audit: {}: it is no regular file", Shown(file));
-        }
+    if is_other(rt, state) {
+        return print_other(state, messages);
+    }
+    if let Some(under) = under
+        && is_other(rt, under)
+    {
+        return print_other(under, messages);
+    }
+    if let Ok(lock) = format!(in alloc; "{state}.lock")
+        && is_other(rt, &lock)
+    {
+        return print_other(&lock, messages);
     }
     match notes.last() {
         Some((name, error)) => writeln!(messages, "audit: {}: {error}", Shown(name)),
         None => Ok(()),
     }
+}
+
+// Whether something is there that is no regular file.
+fn is_other<F: Files>(rt: &F, path: &str) -> bool {
+    match fs::metadata(rt, path) {
+        Ok(found) => !found.is_file(),
+        Err(_) => false,
+    }
+}
+
+fn print_other<M: Write>(path: &str, messages: &mut M) -> io::Result<()> {
+    writeln!(messages, "audit: {}: it is no regular file", Shown(path))
 }
 
 // What is wrong with the kind or the length of a file that was to be a store.
