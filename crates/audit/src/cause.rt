@@ -57,8 +57,8 @@ fn kept_by<'a>(request: Remote<'a>) -> Option<(&'a str, Option<&'a str>)> {
     }
 }
 
-// A file that isn't opened since it is none, or else the last call of the system that failed. Looking whether there is
-// a file is such a call too.
+// A file that isn't opened since it is none, or else the last call of the system that failed: before these looks, which
+// are calls too.
 fn print_kept_cause<F: Files, M: Write>(
     rt: &F,
     alloc: Global,
@@ -67,6 +67,7 @@ fn print_kept_cause<F: Files, M: Write>(
     messages: &mut M,
 ) -> io::Result<()> {
     let (state, under) = kept;
+    let failed = notes.last();
     if is_other(rt, state) {
         return print_other(state, messages);
     }
@@ -80,7 +81,7 @@ fn print_kept_cause<F: Files, M: Write>(
     {
         return print_other(&lock, messages);
     }
-    match notes.last() {
+    match failed {
         Some((name, error)) => writeln!(messages, "audit: {}: {error}", Shown(name)),
         None => Ok(()),
     }
