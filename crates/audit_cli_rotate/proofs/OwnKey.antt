@@ -1,13 +1,13 @@
 -- Whether a log began with a key.
-use Rattle.std.proofs.Common.{◌≡◌, ◌∙◌, ◌⊎◌, inl, inr, ℕ, ◌<◌, ◌≤◌, Bool, true, false, cond, Option, Result, Ok, Err, List, [], ◌∷◌, ◌++◌, length, refl, sym, ap, subst, arith, append-nil, Global}
-use Rattle.std.specs.Prelude.{◌↔◌, IsTrue, slice_index_or}
+use Rattle.std.proofs.Common.{◌≡◌, ◌∙◌, ◌⊎◌, inl, inr, ℕ, ◌<◌, ◌≤◌, Bool, true, false, cond, Option, Result, Ok, Err, List, [], ◌∷◌, length, refl, sym, ap, subst, arith, append-nil, Global}
+use Rattle.std.specs.Prelude.{slice_index_or}
 use Rattle.std.specs.declared.vec.Vec.{Vec}
 use Rattle.std.proofs.lemmas.Bool.{cases_lt}
 use Rattle.audit_mac.specs.Hmac.{hmac}
 use Rattle.audit_disk_model.specs.View.{View}
 use Rattle.audit_disk_model.specs.declared.sectors.Sectors as sectors
 use Rattle.audit_base.specs.Bytes.{zeros}
-use Rattle.audit_chain.specs.Event.{EventData, IsEvent}
+use Rattle.audit_chain.specs.Event.{EventData}
 use Rattle.audit_chain.specs.Closing.{is_closed}
 use Rattle.audit_chain.specs.declared.key.TheConstants.{KEY_LEN}
 use Rattle.audit_chain.specs.Entries.{first_link, log_entries}
@@ -24,10 +24,8 @@ use Rattle.audit_store.specs.EntryRead.{IsIndexedEntryRead}
 use Rattle.audit_store.specs.Queries.{IsEntry}
 use Rattle.audit_store.specs.Store.{device, active_header, index_of, is_broken, Holds}
 use Rattle.audit_store.specs.declared.store.Store.{Store}
-use Rattle.audit_store.specs.declared.store_error.StoreError.{StoreError}
-use Rattle.audit_store.specs.declared.store_error.StoreError.TheVariants.{Broken, NoSuchVersion}
 use Rattle.audit_cli_rotate.specs.declared.fault.RotationError.{RotationError}
-use Rattle.audit_cli_rotate.specs.OwnKey.{IsAuthenticatedUnder, IsEvolvedFrom, IsJudged}
+use Rattle.audit_cli_rotate.specs.OwnKey.{IsAuthenticatedUnder, IsJudged}
 use Rattle.audit_cli_rotate.specs.Rotated.{RotationOutcome, FreshOutcome}
 
 -- the entry that bytes begin with was authenticated under the key

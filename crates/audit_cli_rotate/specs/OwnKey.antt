@@ -1,6 +1,5 @@
 -- Whether a log began with a key.
 use Rattle.std.specs.Prelude.{◌≡◌, ◌↔◌, ℕ, Bool, true, false, Err, List, IsTrue}
-use Rattle.std.specs.declared.vec.Vec.{Vec}
 use Rattle.std.proofs.Common.{Global}
 use Rattle.audit_mac.specs.Hmac.{hmac}
 use Rattle.audit_disk_model.specs.declared.sectors.Sectors as sectors

@@ -8,11 +8,11 @@ ghost use Rattle.audit_cli_rotate.specs.Carried.{rotation_end_status, IsRotation
 
 use crate::fault::RotationError;
 use crate::files::rotate_file;
-use audit_chain::Key;
-use audit_cli_base::{CommandError, Status, read_key, report_flush, sectors_asked};
+use audit_cli_base::{CommandError, FileDevice, Status, key_at, report_flush, sectors_asked};
 use audit_disk::{SystemFile, SystemFiles};
+use audit_disk_model::Sectors;
 use std::alloc::Global;
-use std::fs::{self, Files};
+use std::fs::Files;
 use std::io::Write;
 
 /// A request to rotate the log of a store, with the words of the command line as given.
@@ -48,9 +48,11 @@ where
         → (result ≡ status_of fault) ⊎ (result ≡ Status.Device) }
     ensures unwritten { (fault : CommandError) → sectors_asked request.entry.sectors.now ≡ Err fault
         → Keeps (W.contents output.old) (W.contents output.new) }
-    // The status is that of the result. On success the lines of a closed log and of a store of the size asked for,
-    // which continues it, were written.
-    ensures carried { IsRotationCarriedOut request.entry.sectors.now
+    // The status is that of the result. On success the log of the store in the old file is closed, and a store of the
+    // size and with the first key asked for continues it: one that was made, or one that an earlier run had made in the
+    // new file. The lines of the two were written, and nothing else was done to a store.
+    ensures carried { IsRotationCarriedOut F.File.facts F.File.positioned
+        ⟦<FileDevice<F::File> as Sectors>⟧ F.File.remaining request.entry
         (W.contents output.old) (W.contents output.new) result }
 {
     let done = perform(rt, alloc, request, output);
@@ -85,10 +87,12 @@ where
         → result ≡ Err (RotationError.Command fault) }
     ensures unwritten { (fault : CommandError) → sectors_asked request.entry.sectors.now ≡ Err fault
         → Keeps (W.contents output.old) (W.contents output.new) }
-    ensures rotated { IsRotationDone request.entry.sectors.now (W.contents output.old) (W.contents output.new) result }
+    ensures rotated { IsRotationDone F.File.facts F.File.positioned
+        ⟦<FileDevice<F::File> as Sectors>⟧ F.File.remaining request.entry
+        (W.contents output.old) (W.contents output.new) result }
 {
     let sectors = sectors_asked(request.sectors)?;
-    let first_key = read_first_key(rt, alloc, request.key_file)?;
+    let first_key = key_at(rt, alloc, request.key_file)?;
     rotate_file(
         rt,
         alloc,
@@ -98,8 +102,4 @@ where
         first_key,
         output,
     )
-}
-
-fn read_first_key<F: Files>(rt: &F, alloc: Global, key_file: &str) -> Result<Key, CommandError> {
-    read_key(alloc, &mut fs::open(rt, key_file)?)
 }

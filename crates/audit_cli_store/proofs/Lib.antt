@@ -3,3 +3,4 @@ pub mod KnownEntries
 pub mod Exported
 pub mod Checks
 pub mod SalvagedEntries
+pub mod AnsweredFiles

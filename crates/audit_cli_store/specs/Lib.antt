@@ -5,5 +5,6 @@ pub mod Closing
 pub mod Exports
 pub mod Checks
 pub mod Salvaged
+pub mod OnFiles
 pub mod Requests
 pub mod Verifications

@@ -1,6 +1,9 @@
 -- The effect of carrying out a request, apart from its files.
 use Rattle.std.specs.Prelude.{◌≡◌, ◌⊎◌, ℕ, Option, None, Result, Ok, Err, List, IfSome, IfOk, IsOkAnd}
 use Rattle.std.specs.Io.KnownBytes.{Keeps, Appends}
+use Rattle.audit_disk_model.specs.declared.sectors.Sectors as sectors
+use Rattle.audit_disk.specs.FileFacts.{FileFacts}
+use Rattle.audit_disk.specs.Positioned.{PositionedView}
 use Rattle.audit_text.specs.declared.fault.LinesError.{LinesError}
 use Rattle.audit_text.specs.Answers.{IsFaultOf, IsBeforeWriting}
 use Rattle.audit_text.specs.Writing.{WritesInPart}
@@ -11,6 +14,7 @@ use Rattle.audit_cli_base.specs.declared.status.Status.{Status}
 use Rattle.audit_cli_base.specs.declared.status.Status.TheVariants as ends
 use Rattle.audit_cli_base.specs.declared.fault.CommandError.{CommandError}
 use Rattle.audit_cli_base.specs.declared.fault.CommandError.TheVariants.{BadArgument, Lines}
+use Rattle.audit_cli_store.specs.OnFiles.{IsDoneOnFile}
 use Rattle.audit_cli_store.specs.Replay.{replay_output}
 use Rattle.audit_cli_store.specs.declared.request.Site.{Site}
 use Rattle.audit_cli_store.specs.declared.request.Site.TheVariants.{NewFile, InPlace}
@@ -55,12 +59,15 @@ abbrev pub IsReplayOf : Request → Option (List ℕ) → Option (List ℕ) → 
 IsReplayOf Replay input before after result = IsReplayed input before after result
 IsReplayOf _ input before after result = Unit {0}
 
--- A request was carried out with this result, and the output was then flushed. The program's status is that of the
--- result, or that of an output that couldn't be flushed.
-pub record IsCarriedOut (request : Request) (input before after : Option (List ℕ)) (status : Status) : Type 0 where
-  pub done : Result Unit CommandError
-  pub written : Option (List ℕ)
-  pub words : RefusesWords (IsWordFault request) before written done
-  pub replayed : IsReplayOf request input before written done
-  pub flushed : Keeps written after
-  pub status_is : (status ≡ status_of_end done) ⊎ (status ≡ ends.Device)
+module _ {F : Type 0} (facts : F → FileFacts) (positioned : F → PositionedView) {E : Type 0} (h : sectors.Ghosts E)
+    (remaining : F → Option (List ℕ)) where
+  -- A request was carried out with this result, and the output was then flushed. The program's status is that of the
+  -- result, or that of an output that couldn't be flushed.
+  pub record IsCarriedOut (request : Request) (input before after : Option (List ℕ)) (status : Status) : Type 0 where
+    pub done : Result Unit CommandError
+    pub written : Option (List ℕ)
+    pub words : RefusesWords (IsWordFault request) before written done
+    pub replayed : IsReplayOf request input before written done
+    pub on_file : IsDoneOnFile facts positioned h remaining request before written done
+    pub flushed : Keeps written after
+    pub status_is : (status ≡ status_of_end done) ⊎ (status ≡ ends.Device)

@@ -1,6 +1,18 @@
 //! Commands that only answer about the store in a file.
-ghost use Rattle.std.specs.Prelude.{◌≡◌, Err};
-ghost use Rattle.audit_cli_base.specs.Arguments.{RefusesWords, number_asked};
+ghost use Rattle.std.specs.Prelude.{◌≡◌, ℕ, Option, List, Ok, Err, IsErr, IfOk, OnOk, length};
+ghost use Rattle.std.specs.Io.KnownBytes.{Appends};
+ghost use Rattle.audit_chain.specs.Event.{EventData};
+ghost use Rattle.audit_disk.specs.SectorSource.{source_of};
+ghost use Rattle.audit_store.specs.ReadOnlyOpening.{at_rest};
+ghost use Rattle.audit_store.specs.Store.{Holds};
+ghost use Rattle.audit_store_layout.specs.Origin.{Origin};
+ghost use Rattle.audit_cli_base.specs.Arguments.{RefusesWords, number_asked, selects_output};
+ghost use Rattle.audit_cli_base.specs.OpenedStore.{IsStoreOn};
+ghost use Rattle.audit_cli_store.specs.OnFiles.{exported_text, IsPutTo, AnswersAbout, AnswersOn, AnswersAt};
+ghost use Rattle.audit_cli_store.specs.OnFiles.{ProvesOn, IsProofAt, ProvesAt};
+ghost use Rattle.audit_cli_store.specs.Exports.{PutsEntries};
+ghost use Rattle.audit_cli_store.specs.Proofs.{AsksOutside, proof_of_log};
+ghost use Rattle.audit_cli_store.specs.declared.answering.StoreQuestion.TheVariants.{Entries};
 
 use crate::exporting::{judge_first, write_entries};
 use crate::proving::proof_bytes;
@@ -9,9 +21,9 @@ use crate::salvaging::{Salvaged, write_salvage_line, write_salvaged};
 use crate::show_form::ShowForm;
 use crate::showing::show;
 use audit_cli_base::{
-    CommandError, Opened, OutputFile, ProofRequest, STANDARD_OUTPUT, is_standard_output,
-    number_asked, open_device_to_read, open_device_to_salvage, open_store, store_to_read,
-    write_exported, write_number,
+    CommandError, FileDevice, Opened, OutputFile, ProofRequest, STANDARD_OUTPUT,
+    is_standard_output, number_asked, open_device_to_read, open_device_to_salvage, open_store,
+    store_to_read, write_exported, write_number,
 };
 use audit_disk::{FileIdentity, Reading, SystemFile, SystemFiles};
 use audit_disk_model::Sectors;
@@ -46,8 +58,11 @@ pub fn export_file<F: SystemFiles, W: Write>(
 ) -> Result<(), CommandError>
 where
     F::File: SystemFile,
-    ensures { RefusesWords (λ fault. number_asked from.entry 0 ≡ Err fault) (W.contents output.old)
+    ensures words { RefusesWords (λ fault. number_asked from.entry 0 ≡ Err fault) (W.contents output.old)
         (W.contents output.new) result }
+    ensures exported { OnOk result ((first : ℕ) × (number_asked from.entry 0 ≡ Ok first)
+        × AnswersAt F.File.facts F.File.positioned ⟦<FileDevice<F::File> as Sectors>⟧ access file.now
+        (Entries out.entry first) (W.contents output.old) (W.contents output.new)) }
 {
     let first = number_asked(from, 0)?;
     let question = StoreQuestion::Entries { out, first };
@@ -66,6 +81,8 @@ pub fn answer_file<F: SystemFiles, W: Write>(
 ) -> Result<(), CommandError>
 where
     F::File: SystemFile,
+    ensures { OnOk result (AnswersAt F.File.facts F.File.positioned ⟦<FileDevice<F::File> as Sectors>⟧
+        access file.now question.entry (W.contents output.old) (W.contents output.new)) }
 {
     match access {
         Access::Repair => {
@@ -92,7 +109,10 @@ fn answer_device<F: Files, D: Sectors + Drop, W: Write>(
     access: Access,
     question: StoreQuestion<'_>,
     output: &mut W,
-) -> Result<(), CommandError> {
+) -> Result<(), CommandError>
+    ensures { OnOk result (AnswersOn question.entry (at_rest (source_of (D.view opened.content)))
+        (W.contents output.old) (W.contents output.new)) }
+{
     let identity = opened.identity;
     let mut source = Reading::new(opened.content);
     match store_to_read(alloc, &mut source) {
@@ -133,7 +153,10 @@ fn answer_opened<F: Files, D: Sectors + Drop, W: Write>(
     mut opened: Opened<Store<D>>,
     question: StoreQuestion<'_>,
     output: &mut W,
-) -> Result<(), CommandError> {
+) -> Result<(), CommandError>
+    ensures { OnOk result (AnswersAbout question.entry opened.content
+        (W.contents output.old) (W.contents output.new)) }
+{
     let identity = opened.identity;
     answer(rt, alloc, &mut opened.content, identity, question, output)
 }
@@ -145,7 +168,10 @@ fn answer<F: Files, D: Sectors, W: Write>(
     identity: FileIdentity,
     question: StoreQuestion<'_>,
     output: &mut W,
-) -> Result<(), CommandError> {
+) -> Result<(), CommandError>
+    ensures { OnOk result (AnswersAbout question.entry store.old
+        (W.contents output.old) (W.contents output.new)) }
+{
     match question {
         StoreQuestion::State { form } => show(alloc, store, form, output),
         StoreQuestion::Entries { out, first } => {
@@ -163,7 +189,9 @@ fn answer_damaged<F: Files, D: Sectors, W: Write>(
     damage: StoreError,
     question: StoreQuestion<'_>,
     output: &mut W,
-) -> Result<(), CommandError> {
+) -> Result<(), CommandError>
+    ensures { IsErr result }
+{
     match question {
         StoreQuestion::State { .. } => Err(CommandError::Refused(damage)),
         StoreQuestion::Entries { out, .. } => {
@@ -192,7 +220,11 @@ fn export_store<F: Files, D: Sectors, W: Write>(
     first: u64,
     out: &str,
     output: &mut W,
-) -> Result<(), CommandError> {
+) -> Result<(), CommandError>
+    ensures { OnOk result ((origin : Origin) (events : List EventData) → Holds store.old origin events
+        → Appends (W.contents output.old) (W.contents output.new)
+        (exported_text out.now first origin.first_key events)) }
+{
     let count = store.commitment().count;
     judge_first(first, count)?;
     let mut export = Export { store, first };
@@ -211,7 +243,9 @@ fn salvage_device<F: Files, D: Sectors, W: Write>(
     identity: FileIdentity,
     out: &str,
     output: &mut W,
-) -> Result<(), CommandError> {
+) -> Result<(), CommandError>
+    ensures { IsErr result }
+{
     let mut salvage = Salvage { alloc, disk };
     let salvaged = put(rt, alloc, &mut salvage, identity, out, output)?;
     if out != STANDARD_OUTPUT {
@@ -225,7 +259,11 @@ trait Contents {
     // What is known of it once it is written.
     type Extent: Copy;
 
-    fn write_to<W: Write>(&mut self, output: &mut W) -> Result<Self::Extent, CommandError>;
+    // What is written, to an output of which these bytes are known before and after, and with this extent.
+    ghost puts: { Self → Option (List ℕ) → Option (List ℕ) → Self.Extent → Type 0 };
+
+    fn write_to<W: Write>(&mut self, output: &mut W) -> Result<Self::Extent, CommandError>
+        ensures { IfOk result (puts self.old (W.contents output.old) (W.contents output.new)) };
 }
 
 // The entries of a store from an index on; their size in bytes.
@@ -237,6 +275,8 @@ struct Export<'a, D: Sectors> {
 
 impl<D: Sectors> Contents for Export<'_, D> {
     type Extent = u64;
+
+    ghost puts = { λ it before after size. PutsEntries it.store.now it.first before after size };
 
     fn write_to<W: Write>(&mut self, output: &mut W) -> Result<u64, CommandError> {
         write_entries(self.store, self.first, output)
@@ -253,6 +293,8 @@ struct Salvage<'a, D> {
 impl<D: Sectors> Contents for Salvage<'_, D> {
     type Extent = Salvaged;
 
+    ghost puts = { λ _ _ _ _. Unit {0} };
+
     fn write_to<W: Write>(&mut self, output: &mut W) -> Result<Salvaged, CommandError> {
         write_salvaged(self.alloc, self.disk, output)
     }
@@ -261,6 +303,8 @@ impl<D: Sectors> Contents for Salvage<'_, D> {
 // The bytes of a proof.
 impl Contents for &[u8] {
     type Extent = ();
+
+    ghost puts = { λ bytes before after _. Appends before after bytes.now };
 
     fn write_to<W: Write>(&mut self, output: &mut W) -> Result<(), CommandError> {
         Ok(output.write_all(self)?)
@@ -276,7 +320,10 @@ fn put<F: Files, C: Contents, W: Write>(
     identity: FileIdentity,
     out: &str,
     output: &mut W,
-) -> Result<C::Extent, CommandError> {
+) -> Result<C::Extent, CommandError>
+    ensures { IfOk result (IsPutTo (C.puts contents.old) (selects_output out.now)
+        (W.contents output.old) (W.contents output.new)) }
+{
     if is_standard_output(out) {
         return contents.write_to(output);
     }
@@ -297,7 +344,10 @@ fn write_buffered<C: Contents, W: Write>(
     alloc: Global,
     contents: &mut C,
     file: &mut W,
-) -> Result<C::Extent, CommandError> {
+) -> Result<C::Extent, CommandError>
+    ensures { IfOk result (λ extent. (empty : Option (List ℕ)) × (full : Option (List ℕ))
+        × C.puts contents.old empty full extent) }
+{
     let Ok(mut buffered) = BufWriter::with_capacity(alloc, FILE_ROOM, file) else {
         return Err(CommandError::Refused(StoreError::Memory));
     };
@@ -319,6 +369,8 @@ pub fn prove_file<F: SystemFiles, W: Write>(
 ) -> Result<(), CommandError>
 where
     F::File: SystemFile,
+    ensures { OnOk result (ProvesAt F.File.facts F.File.positioned ⟦<FileDevice<F::File> as Sectors>⟧
+        access file.now asked out.now (W.contents output.old) (W.contents output.new)) }
 {
     let (proof, identity) = proof_about(rt, alloc, file, access, asked)?;
     put(rt, alloc, &mut proof.as_slice(), identity, out, output)?;
@@ -338,6 +390,8 @@ fn proof_about<F: SystemFiles>(
 ) -> Result<(Vec<u8>, FileIdentity), CommandError>
 where
     F::File: SystemFile,
+    ensures { IfOk result (λ made. IsProofAt F.File.facts F.File.positioned ⟦<FileDevice<F::File> as Sectors>⟧
+        access file.now asked made.0.items) }
 {
     match access {
         Access::Repair => { proof_of_opened(alloc, open_store(rt, alloc, file)?, asked) }
@@ -352,7 +406,11 @@ fn proof_of_opened<D: Sectors + Drop>(
     alloc: Global,
     mut opened: Opened<Store<D>>,
     asked: ProofRequest,
-) -> Result<(Vec<u8>, FileIdentity), CommandError> {
+) -> Result<(Vec<u8>, FileIdentity), CommandError>
+    ensures { (origin : Origin) (events : List EventData) → Holds opened.content origin events
+        → (AsksOutside asked (length events) → ⊥)
+        → IfOk result (λ made. made.0.items ≡ proof_of_log origin.first_key events asked) }
+{
     let identity = opened.identity;
     proof_in(alloc, &mut opened.content, identity, asked)
 }
@@ -362,7 +420,11 @@ fn proof_in<D: Sectors>(
     store: &mut Store<D>,
     identity: FileIdentity,
     asked: ProofRequest,
-) -> Result<(Vec<u8>, FileIdentity), CommandError> {
+) -> Result<(Vec<u8>, FileIdentity), CommandError>
+    ensures { (origin : Origin) (events : List EventData) → Holds store.old origin events
+        → (AsksOutside asked (length events) → ⊥)
+        → IfOk result (λ made. made.0.items ≡ proof_of_log origin.first_key events asked) }
+{
     Ok((proof_bytes(alloc, store, asked)?, identity))
 }
 
@@ -371,7 +433,9 @@ fn proof_on<D: Sectors + Drop>(
     alloc: Global,
     opened: Opened<D>,
     asked: ProofRequest,
-) -> Result<(Vec<u8>, FileIdentity), CommandError> {
+) -> Result<(Vec<u8>, FileIdentity), CommandError>
+    ensures { IfOk result (λ made. ProvesOn asked (at_rest (source_of (D.view opened.content))) made.0.items) }
+{
     let identity = opened.identity;
     let mut source = Reading::new(opened.content);
     match store_to_read(alloc, &mut source) {

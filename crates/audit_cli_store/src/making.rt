@@ -1,13 +1,18 @@
 //! Making stores in files and on block devices.
-ghost use Rattle.std.specs.Prelude.{◌≡◌, Err};
+ghost use Rattle.std.specs.Prelude.{◌≡◌, ◌++◌, codes, Err, OnOk};
+ghost use Rattle.std.specs.Fmt.{decimal};
+ghost use Rattle.std.specs.Io.KnownBytes.{Appends};
+ghost use Rattle.audit_store.specs.Store.{IsFormatted};
+ghost use Rattle.audit_store.specs.declared.store.Store.{Store};
 ghost use Rattle.audit_cli_base.specs.Arguments.{IsNewFileFault, RefusesWords, sectors_asked};
+ghost use Rattle.audit_cli_store.specs.OnFiles.{FormatsSite, FormatsNewFile, FormatsInPlace};
 ghost use Rattle.audit_cli_store.specs.Requests.{IsFormatFault};
 
 use crate::formatting::format_device;
 use crate::request::Site;
 use audit_chain::Key;
 use audit_cli_base::{
-    CommandError, device_in_place, make_device, new_file_asked, read_key, sectors_asked,
+    CommandError, FileDevice, device_in_place, key_at, make_device, new_file_asked, sectors_asked,
 };
 use audit_disk::{SystemFile, SystemFiles};
 use audit_disk_model::Sectors;
@@ -27,8 +32,10 @@ pub fn format_site<F: SystemFiles, W: Write>(
 ) -> Result<(), CommandError>
 where
     F::File: SystemFile,
-    ensures { RefusesWords (IsFormatFault site.entry sectors.now) (W.contents output.old) (W.contents output.new)
-        result }
+    ensures words { RefusesWords (IsFormatFault site.entry sectors.now) (W.contents output.old)
+        (W.contents output.new) result }
+    ensures formatted { OnOk result (FormatsSite F.File.facts F.File.positioned ⟦<FileDevice<F::File> as Sectors>⟧
+        F.File.remaining file.now site.entry sectors.now key_file.now (W.contents output.old) (W.contents output.new)) }
 {
     match site {
         Site::NewFile { mode } => { format_file(rt, alloc, file, mode, sectors, key_file, output) }
@@ -51,11 +58,14 @@ fn format_file<F: SystemFiles, W: Write>(
 ) -> Result<(), CommandError>
 where
     F::File: SystemFile,
-    ensures { RefusesWords (IsNewFileFault mode.entry sectors.now) (W.contents output.old) (W.contents output.new)
-        result }
+    ensures words { RefusesWords (IsNewFileFault mode.entry sectors.now) (W.contents output.old)
+        (W.contents output.new) result }
+    ensures formatted { OnOk result (FormatsNewFile F.File.facts F.File.positioned
+        ⟦<FileDevice<F::File> as Sectors>⟧ F.File.remaining file.now mode.entry sectors.now key_file.now
+        (W.contents output.old) (W.contents output.new)) }
 {
     let (mode, sectors) = new_file_asked(mode, sectors)?;
-    let first_key = key_in(rt, alloc, key_file)?;
+    let first_key = key_at(rt, alloc, key_file)?;
     let disk = make_device(rt, alloc, file, sectors, mode)?;
     format_or_remove(rt, alloc, disk, Some(file), first_key, output)
 }
@@ -73,11 +83,14 @@ fn format_in_place<F: SystemFiles, W: Write>(
 ) -> Result<(), CommandError>
 where
     F::File: SystemFile,
-    ensures { RefusesWords (λ fault. sectors_asked sectors.now ≡ Err fault) (W.contents output.old)
+    ensures words { RefusesWords (λ fault. sectors_asked sectors.now ≡ Err fault) (W.contents output.old)
         (W.contents output.new) result }
+    ensures formatted { OnOk result (FormatsInPlace F.File.facts F.File.positioned
+        ⟦<FileDevice<F::File> as Sectors>⟧ F.File.remaining file.now erase sectors.now key_file.now
+        (W.contents output.old) (W.contents output.new)) }
 {
     let sectors = sectors_asked(sectors)?;
-    let first_key = key_in(rt, alloc, key_file)?;
+    let first_key = key_at(rt, alloc, key_file)?;
     let disk = device_in_place(rt, alloc, file, sectors, erase)?;
     format_or_remove(rt, alloc, disk, None, first_key, output)
 }
@@ -90,7 +103,11 @@ fn format_or_remove<F: Files, D: Sectors + Drop, W: Write>(
     made: Option<&str>,
     first_key: Key,
     output: &mut W,
-) -> Result<(), CommandError> {
+) -> Result<(), CommandError>
+    ensures { OnOk result ((store : Store D ⟦<D as Sectors>⟧) × IsFormatted (D.view disk) first_key store
+        × Appends (W.contents output.old) (W.contents output.new)
+        (codes "formatted " ++ decimal (D.view disk).size ++ codes "\n")) }
+{
     match format_device(alloc, disk, first_key, output) {
         Ok(formatted) => formatted.line,
         Err(failed) => {
@@ -100,10 +117,4 @@ fn format_or_remove<F: Files, D: Sectors + Drop, W: Write>(
             Err(CommandError::Refused(failed.error))
         }
     }
-}
-
-/// Reads the key in a key file. The error is `File` if it can't be opened, or that of `read_key`.
-pub fn key_in<F: Files>(rt: &F, alloc: Global, key_file: &str) -> Result<Key, CommandError> {
-    let mut file = fs::open(rt, key_file)?;
-    read_key(alloc, &mut file)
 }

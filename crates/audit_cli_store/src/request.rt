@@ -1,5 +1,6 @@
 //! The program's requests, and how they are carried out.
 ghost use Rattle.audit_cli_base.specs.Arguments.{RefusesWords};
+ghost use Rattle.audit_cli_store.specs.OnFiles.{IsDoneOnFile};
 ghost use Rattle.audit_cli_store.specs.Requests.{IsWordFault, IsReplayOf, IsCarriedOut};
 
 use crate::answering::{StoreQuestion, answer_file, export_file, prove_file};
@@ -8,9 +9,10 @@ use crate::closing::close_file;
 use crate::making::format_site;
 use crate::replaying::replay;
 use crate::show_form::ShowForm;
-use audit_cli_base::{CommandError, Status, proof_request, report_end};
+use audit_cli_base::{CommandError, FileDevice, Status, proof_request, report_end};
 use audit_cli_offline::CheckForm;
 use audit_disk::{SystemFile, SystemFiles};
+use audit_disk_model::Sectors;
 use std::alloc::Global;
 use std::fs::Files;
 use std::io::{Read, Write};
@@ -124,8 +126,8 @@ pub fn run<F: SystemFiles, R: Read, W: Write, M: Write>(
 ) -> Status
 where
     F::File: SystemFile,
-    ensures { IsCarriedOut request.entry (R.remaining input.old)
-        (W.contents output.old) (W.contents output.new) result }
+    ensures { IsCarriedOut F.File.facts F.File.positioned ⟦<FileDevice<F::File> as Sectors>⟧ F.File.remaining
+        request.entry (R.remaining input.old) (W.contents output.old) (W.contents output.new) result }
 {
     let done = perform(rt, alloc, request, input, output, messages);
     report_end(done, output.flush(), messages)
@@ -144,6 +146,8 @@ where
     ensures words { RefusesWords (IsWordFault request.entry) (W.contents output.old) (W.contents output.new) result }
     ensures replayed { IsReplayOf request.entry (R.remaining input.old) (W.contents output.old)
         (W.contents output.new) result }
+    ensures done { IsDoneOnFile F.File.facts F.File.positioned ⟦<FileDevice<F::File> as Sectors>⟧ F.File.remaining
+        request.entry (W.contents output.old) (W.contents output.new) result }
 {
     match request {
         Request::Replay => Ok(replay(alloc, input, output)?),

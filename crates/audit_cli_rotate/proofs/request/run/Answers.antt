@@ -1,5 +1,4 @@
-use Rattle.std.proofs.Common.{◌≡◌, ◌∙◌, ap, subst}
-use Rattle.audit_cli_rotate.specs.declared.fault.RotationError.TheVariants.{Command}
+use Rattle.std.proofs.Common.{◌∙◌, ap}
 use Rattle.audit_cli_rotate.specs.Carried.{rotation_end_status}
 use Rattle.audit_cli_rotate.proofs.Carried.{status_by}
 use Rattle.audit_cli_rotate.proofs.request.run.Goals as goal

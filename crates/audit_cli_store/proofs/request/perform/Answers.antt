@@ -1,4 +1,5 @@
-use Rattle.std.proofs.Common.{Ok, subst, sym}
+use Rattle.std.proofs.Common.{Ok, subst, sym, rules}
+use Rattle.audit_cli_store.proofs.AnsweredFiles.{done_show, done_format, done_export, done_prove}
 use Rattle.std.proofs.lemmas.Result.{err_from_is_err_and}
 use Rattle.audit_cli_store.specs.Requests.{IsWordFault, IsReplayed, IsReplayOf}
 use Rattle.audit_cli_store.proofs.request.perform.Goals as goal
@@ -12,7 +13,7 @@ pub returns-in-Show-clause-words : goal.returns-in-Show-clause-words
 returns-in-Show-clause-words g c = λ fault asked. absurd (subst (λ request. IsWordFault request fault) c.in-Show.is asked)
 
 pub returns-in-Export-clause-words : goal.returns-in-Export-clause-words
-returns-in-Export-clause-words g c = λ fault asked. c.export_file.ensures fault (subst (λ request. IsWordFault request fault) c.in-Export.is asked)
+returns-in-Export-clause-words g c = λ fault asked. c.export_file.ensures.words fault (subst (λ request. IsWordFault request fault) c.in-Export.is asked)
 
 pub returns-in-Verify-clause-words : goal.returns-in-Verify-clause-words
 returns-in-Verify-clause-words g c = λ fault asked. absurd (subst (λ request. IsWordFault request fault) c.in-Verify.is asked)
@@ -47,7 +48,7 @@ pub returns-in-Format-clause-replayed : goal.returns-in-Format-clause-replayed
 returns-in-Format-clause-replayed g c = rw c.in-Format.is tt
 
 pub returns-in-Format-clause-words : goal.returns-in-Format-clause-words
-returns-in-Format-clause-words g c = λ fault asked. c.format_site.ensures fault (subst (λ request. IsWordFault request fault) c.in-Format.is asked)
+returns-in-Format-clause-words g c = λ fault asked. c.format_site.ensures.words fault (subst (λ request. IsWordFault request fault) c.in-Format.is asked)
 
 pub returns-in_err-replay-in-Replay-clause-words : goal.returns-in_err-replay-in-Replay-clause-words
 returns-in_err-replay-in-Replay-clause-words g c = λ fault asked. absurd (subst (λ request. IsWordFault request fault) c.in-Replay.is asked)
@@ -70,3 +71,35 @@ pub returns-in_ok-replay-in-Replay-clause-replayed : goal.returns-in_ok-replay-i
 returns-in_ok-replay-in-Replay-clause-replayed g c =
     subst (λ request. IsReplayOf request (g.R.Read.remaining c.args.input.now) (g.W.Write.contents c.args.output.now) (g.W.Write.contents c.replay.new.writer) (Ok tt)) (sym c.in-Replay.is)
     c.in_ok-replay-in-Replay.ensures.ok
+
+-- What is done with the file of a store.
+
+pub returns-in-Close-clause-done : goal.returns-in-Close-clause-done
+returns-in-Close-clause-done g c = rw c.in-Close.is c.close_file.ensures
+
+pub returns-in-Show-clause-done : goal.returns-in-Show-clause-done
+returns-in-Show-clause-done g c = rw c.in-Show.is (done_show g.F.File.SystemFile.facts g.F.File.PositionedFile.positioned _ g.F.File.Read.remaining c.in-Show.file c.in-Show.access c.in-Show.form (g.W.Write.contents c.args.output.now) (g.W.Write.contents c.answer_file.new.output) c.answer_file.result c.answer_file.ensures)
+
+pub returns-in-Format-clause-done : goal.returns-in-Format-clause-done
+returns-in-Format-clause-done g c = rw c.in-Format.is (done_format g.F.File.SystemFile.facts g.F.File.PositionedFile.positioned _ g.F.File.Read.remaining c.in-Format.file c.in-Format.site c.in-Format.sectors c.in-Format.key_file (g.W.Write.contents c.args.output.now) (g.W.Write.contents c.format_site.new.output) c.format_site.result c.format_site.ensures.formatted)
+
+pub returns-in-Export-clause-done : goal.returns-in-Export-clause-done
+returns-in-Export-clause-done g c = rw c.in-Export.is (done_export g.F.File.SystemFile.facts g.F.File.PositionedFile.positioned _ g.F.File.Read.remaining c.in-Export.file c.in-Export.out c.in-Export.access c.in-Export.from (g.W.Write.contents c.args.output.now) (g.W.Write.contents c.export_file.new.output) c.export_file.result c.export_file.ensures.exported)
+
+pub returns-in-Some-clause-done : goal.returns-in-Some-clause-done
+returns-in-Some-clause-done g c = rw c.in-Prove.is (done_prove g.F.File.SystemFile.facts g.F.File.PositionedFile.positioned _ g.F.File.Read.remaining c.in-Prove.file c.in-Prove.kind c.in-Prove.first c.in-Prove.second c.in-Prove.out c.in-Prove.access c.in-Some.asked (g.W.Write.contents c.args.output.now) (g.W.Write.contents c.prove_file.new.output) c.prove_file.result (search rules) c.prove_file.ensures)
+
+pub returns-in-None-clause-done : goal.returns-in-None-clause-done
+returns-in-None-clause-done g c = rw c.in-Prove.is tt
+
+pub returns-in-Check-clause-done : goal.returns-in-Check-clause-done
+returns-in-Check-clause-done g c = rw c.in-Check.is tt
+
+pub returns-in-Verify-clause-done : goal.returns-in-Verify-clause-done
+returns-in-Verify-clause-done g c = rw c.in-Verify.is tt
+
+pub returns-in_err-replay-in-Replay-clause-done : goal.returns-in_err-replay-in-Replay-clause-done
+returns-in_err-replay-in-Replay-clause-done g c = rw c.in-Replay.is tt
+
+pub returns-in_ok-replay-in-Replay-clause-done : goal.returns-in_ok-replay-in-Replay-clause-done
+returns-in_ok-replay-in-Replay-clause-done g c = rw c.in-Replay.is tt

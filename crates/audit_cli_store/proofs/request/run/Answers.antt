@@ -18,6 +18,7 @@ returns g c = record {
   written = g.W.Write.contents c.perform-done.new.output;
   words = c.perform-done.ensures.words;
   replayed = c.perform-done.ensures.replayed;
+  on_file = c.perform-done.ensures.done;
   flushed = c.flush.ensures.bytes;
   status_is = status_by c.flush.result c.report_end.result c.perform-done.result c.report_end.ensures.whole c.report_end.ensures.failed;
 }
