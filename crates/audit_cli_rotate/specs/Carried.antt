@@ -41,8 +41,8 @@ pub record FindsOn (disk : View) (first_key : List ℕ) (sectors : ℕ) (old : H
   pub size : header.sectors ≡ sectors
   pub rotated : FindingOutcome first_key old header before after (Ok tt)
 
-module _ {F : Type 0} (facts : F → FileFacts) (positioned : F → PositionedView) {E : Type 0} (h : sectors.Ghosts E)
-    where
+module _ {F : Type 0} (facts : F → FileFacts) (positioned : F → PositionedView) {E : Type 0}
+    (h : sectors.Ghosts E) where
   -- the same in the file at this path, which is only read
   pub record FindsRotated (path first_key : List ℕ) (sectors : ℕ) (old : Header) (before after : Option (List ℕ))
       : Type 0 where

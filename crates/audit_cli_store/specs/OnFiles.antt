@@ -93,8 +93,8 @@ ProvesOn asked disk bytes =
     (origin : Origin) (events : List EventData) → disk.honest → IsRecoverable origin events disk.content
     → (AsksOutside asked (length events) → ⊥) → bytes ≡ proof_of_log origin.first_key events asked
 
-module _ {F : Type 0} (facts : F → FileFacts) (positioned : F → PositionedView) {E : Type 0} (h : sectors.Ghosts E)
-    where
+module _ {F : Type 0} (facts : F → FileFacts) (positioned : F → PositionedView) {E : Type 0}
+    (h : sectors.Ghosts E) where
   -- the device of the file at this path, as a command with this access opens it
   abbrev pub IsDeviceFor : Access → List ℕ → E → Type 0
   IsDeviceFor Repair path disk = IsDeviceAt facts positioned path (h.view disk)
