@@ -122,8 +122,9 @@ class Cluster:
         return os.path.join(self.folder, "osd.%d" % number)
 
     def ceph(self, *words):
-        out = call("ceph", "--connect-timeout", "60", *words, "-f", "json")
-        return json.loads(out) if out.strip() else None
+        """What a command says, as JSON. The blocklist is followed by a second list, of networks."""
+        out = call("ceph", "--connect-timeout", "60", *words, "-f", "json").decode().strip()
+        return json.JSONDecoder().raw_decode(out)[0] if out else None
 
     def start(self, number):
         self.osds[number] = start_silently("ceph-osd", "-f", "-i", str(number))
