@@ -67,10 +67,10 @@ module _ {F : Type 0} (facts : F → FileFacts) (positioned : F → PositionedVi
   }
 
   module _ {D : Type 0} {g : sectors.Ghosts D} where
-    pub made_at : (path first_key : List ℕ) (sectors : ℕ) (old closed : Store D g) (before after : Option (List ℕ)) (disk : E) (result : Result (Unit {0}) RotationError) → IsMadeDevice facts positioned path OWNER_ONLY sectors (h.view disk)
+    pub made_at : (path first_key : List ℕ) (sectors : ℕ) (old closed : Store D g) (before after : Option (List ℕ)) (disk : E) (result : Result (Unit {0}) RotationError) → IsMadeDevice facts positioned path OWNER_ONLY sectors (h.view disk) → (h.view disk).size ≡ sectors
         → OnOk result ((new : Store E h) × RotationOutcome (h.view disk) first_key old closed before after (Ok new)) → OnOk result (MakesRotated facts positioned h first_key sectors old closed before after)
-    made_at path first_key sectors old closed before after disk (Err fault) made rotated = tt
-    made_at path first_key sectors old closed before after disk (Ok done) made rotated = record { path = path; disk = disk; made = made; new = rotated.0; rotated = rotated.1 }
+    made_at path first_key sectors old closed before after disk (Err fault) made size rotated = tt
+    made_at path first_key sectors old closed before after disk (Ok done) made size rotated = record { path = path; disk = disk; made = made; size = size; new = rotated.0; rotated = rotated.1 }
 
     -- the lines were gathered first, and then written
     pub made_printed : (first_key : List ℕ) (sectors : ℕ) (old closed : Store D g) (before after : Option (List ℕ)) (none lines written : List ℕ) → none ≡ [] → written ≡ lines → Appends before after written
@@ -85,6 +85,7 @@ module _ {F : Type 0} (facts : F → FileFacts) (positioned : F → PositionedVi
           path = made.path;
           disk = made.disk;
           made = made.made;
+          size = made.size;
           new = made.new;
           rotated = record {
             looked = fresh.looked;

@@ -57,6 +57,7 @@ module _ {F : Type 0} (facts : F → FileFacts) (positioned : F → PositionedVi
       pub path : List ℕ
       pub disk : E
       pub made : IsMadeDevice facts positioned path OWNER_ONLY sectors (h.view disk)
+      pub size : (h.view disk).size ≡ sectors
       pub new : Store E h
       pub rotated : RotationOutcome (h.view disk) first_key old closed before after (Ok new)
 

@@ -50,7 +50,7 @@ where
         → Keeps (W.contents output.old) (W.contents output.new) }
     // The status is that of the result. On success the log of the store in the old file is closed, and a store of the
     // size and with the first key asked for continues it: one that was made, or one that an earlier run had made in the
-    // new file. The lines of the two were written, and nothing else was done to a store.
+    // new file. The lines of the two were written.
     ensures carried { IsRotationCarriedOut F.File.facts F.File.positioned
         ⟦<FileDevice<F::File> as Sectors>⟧ F.File.remaining request.entry
         (W.contents output.old) (W.contents output.new) result }
@@ -74,7 +74,7 @@ fn report_rotation<M: Write>(
     }
 }
 
-// The words and the key are judged before any store is opened.
+// The words and the key are judged first.
 fn perform<F: SystemFiles, W: Write>(
     rt: &F,
     alloc: Global,
