@@ -4,11 +4,9 @@ use Rattle.std.specs.BTreeMap.{BTreeMap, get}
 use Rattle.std.specs.Ordering.{nat_cmp}
 use Rattle.std.proofs.Common.{◌≡◌, ◌⊎◌, inl, inr, ◌∙◌, ℕ, zero, Bool, true, false, if◌then◌else◌, true≢false, Option, Some, None, List, [], ◌∷◌, length, refl, sym, ap, subst, arith}
 use Rattle.std.proofs.lemmas.Bool.{cases_eq}
-use Rattle.audit_serve_passes.specs.declared.rights.Rights.{Rights}
-use Rattle.audit_serve_passes.specs.declared.rights.Rights.TheVariants as rights
 use Rattle.audit_serve_door.specs.declared.entrance.Arrival.{Arrival}
 use Rattle.audit_serve_door.specs.declared.waiting.Waiting.{Waiting}
-use Rattle.audit_serve_door.specs.Waits.{silent_at, heard_with, IsPut, KeepsOthers, WaitsWith, NoArrival, Passes}
+use Rattle.audit_serve_door.specs.Waits.{silent_at, heard_among, IsPut, KeepsOthers, WaitsWith, NoArrival, Passes}
 
 some_is : {A : Type 0} (one other : A) → Some one ≡ Some other → one ≡ other
 some_is one other same = cc same
@@ -45,11 +43,11 @@ module _ {S : Type 0} where
   passes_at Came gone number old new keeps came kept entered = record {
     came = λ at arrival waits. elim (cases_eq at number) [
       | inl same ↦ subst (λ (k : ℕ). WaitsWith old k arrival ⊎ Came arrival) (sym same) (came arrival (subst (λ (k : ℕ). WaitsWith new k arrival) same waits))
-      | inr apart ↦ inl (same_held _ _ _ _ _ _ arrival (keeps.silent at apart) (keeps.heard rights.Read at apart) (keeps.heard rights.Close at apart) waits)
+      | inr apart ↦ inl (same_held _ _ _ _ _ _ arrival (keeps.silent at apart) (keeps.heard true at apart) (keeps.heard false at apart) waits)
     ];
     kept = λ at arrival waits. elim (cases_eq at number) [
       | inl same ↦ subst (λ (k : ℕ). WaitsWith new k arrival ⊎ Contains gone arrival) (sym same) (kept arrival (subst (λ (k : ℕ). WaitsWith old k arrival) same waits))
-      | inr apart ↦ inl (same_held _ _ _ _ _ _ arrival (sym (keeps.silent at apart)) (sym (keeps.heard rights.Read at apart)) (sym (keeps.heard rights.Close at apart)) waits)
+      | inr apart ↦ inl (same_held _ _ _ _ _ _ arrival (sym (keeps.silent at apart)) (sym (keeps.heard true at apart)) (sym (keeps.heard false at apart)) waits)
     ];
     entered = λ arrival comes. elim (entered arrival comes) [
       | inl waits ↦ inl (number, waits)
@@ -58,7 +56,7 @@ module _ {S : Type 0} where
   }
 
   -- it came among those that have sent nothing, in the place of another one, if there was one
-  pub passes_admitted : (number : ℕ) (arrival : Arrival S) (was : Option (Arrival S)) (old new : Waiting S) → KeepsOthers number old new → silent_at old number ≡ was → silent_at new number ≡ Some arrival → heard_with rights.Read new number ≡ heard_with rights.Read old number → heard_with rights.Close new number ≡ heard_with rights.Close old number
+  pub passes_admitted : (number : ℕ) (arrival : Arrival S) (was : Option (Arrival S)) (old new : Waiting S) → KeepsOthers number old new → silent_at old number ≡ was → silent_at new number ≡ Some arrival → heard_among true new number ≡ heard_among true old number → heard_among false new number ≡ heard_among false old number
       → Passes (λ (one : Arrival S). one ≡ arrival) (option_to_list was) old new
   passes_admitted number arrival was old new keeps s0 s1 r o = passes_at (λ (one : Arrival S). one ≡ arrival) (option_to_list was) number old new keeps
       (λ one waits. elim waits [
@@ -72,7 +70,7 @@ module _ {S : Type 0} where
       (λ one same. inl (inl (s1 ∙ ap (λ (a : Arrival S). Some a) (sym same))))
 
   -- one that had sent nothing is gone
-  pub passes_silent_out : (number : ℕ) (arrival : Arrival S) (old new : Waiting S) → KeepsOthers number old new → silent_at old number ≡ Some arrival → silent_at new number ≡ None → heard_with rights.Read new number ≡ heard_with rights.Read old number → heard_with rights.Close new number ≡ heard_with rights.Close old number
+  pub passes_silent_out : (number : ℕ) (arrival : Arrival S) (old new : Waiting S) → KeepsOthers number old new → silent_at old number ≡ Some arrival → silent_at new number ≡ None → heard_among true new number ≡ heard_among true old number → heard_among false new number ≡ heard_among false old number
       → Passes NoArrival (arrival ∷ []) old new
   passes_silent_out number arrival old new keeps s0 s1 r o = passes_at NoArrival (arrival ∷ []) number old new keeps
       (λ one waits. elim waits [
@@ -86,7 +84,7 @@ module _ {S : Type 0} where
       (λ one none. absurd none)
 
   -- one that only reads is gone, or another one
-  pub passes_reader_out : (number : ℕ) (was : Option (Arrival S)) (old new : Waiting S) → KeepsOthers number old new → silent_at new number ≡ silent_at old number → heard_with rights.Read old number ≡ was → heard_with rights.Read new number ≡ None → heard_with rights.Close new number ≡ heard_with rights.Close old number
+  pub passes_reader_out : (number : ℕ) (was : Option (Arrival S)) (old new : Waiting S) → KeepsOthers number old new → silent_at new number ≡ silent_at old number → heard_among true old number ≡ was → heard_among true new number ≡ None → heard_among false new number ≡ heard_among false old number
       → Passes NoArrival (option_to_list was) old new
   passes_reader_out number was old new keeps s r0 r1 o = passes_at NoArrival (option_to_list was) number old new keeps
       (λ one waits. elim waits [
@@ -99,7 +97,7 @@ module _ {S : Type 0} where
       ])
       (λ one none. absurd none)
 
-  pub passes_other_out : (number : ℕ) (was : Option (Arrival S)) (old new : Waiting S) → KeepsOthers number old new → silent_at new number ≡ silent_at old number → heard_with rights.Read new number ≡ heard_with rights.Read old number → heard_with rights.Close old number ≡ was → heard_with rights.Close new number ≡ None
+  pub passes_other_out : (number : ℕ) (was : Option (Arrival S)) (old new : Waiting S) → KeepsOthers number old new → silent_at new number ≡ silent_at old number → heard_among true new number ≡ heard_among true old number → heard_among false old number ≡ was → heard_among false new number ≡ None
       → Passes NoArrival (option_to_list was) old new
   passes_other_out number was old new keeps s r o0 o1 = passes_at NoArrival (option_to_list was) number old new keeps
       (λ one waits. elim waits [
@@ -113,8 +111,8 @@ module _ {S : Type 0} where
       (λ one none. absurd none)
 
   -- one that has sent something for the first time, and takes the place of another one, if there was one
-  pub passes_reader_heard : (number : ℕ) (arrival : Arrival S) (was : Option (Arrival S)) (old new : Waiting S) → KeepsOthers number old new → silent_at old number ≡ Some arrival → silent_at new number ≡ None → heard_with rights.Read old number ≡ was → heard_with rights.Read new number ≡ Some arrival
-      → heard_with rights.Close new number ≡ heard_with rights.Close old number → Passes NoArrival (option_to_list was) old new
+  pub passes_reader_heard : (number : ℕ) (arrival : Arrival S) (was : Option (Arrival S)) (old new : Waiting S) → KeepsOthers number old new → silent_at old number ≡ Some arrival → silent_at new number ≡ None → heard_among true old number ≡ was → heard_among true new number ≡ Some arrival
+      → heard_among false new number ≡ heard_among false old number → Passes NoArrival (option_to_list was) old new
   passes_reader_heard number arrival was old new keeps s0 s1 r0 r1 o = passes_at NoArrival (option_to_list was) number old new keeps
       (λ one waits. elim waits [
         | inl is ↦ none_some one (sym s1 ∙ is)
@@ -126,8 +124,8 @@ module _ {S : Type 0} where
       ])
       (λ one none. absurd none)
 
-  pub passes_other_heard : (number : ℕ) (arrival : Arrival S) (was : Option (Arrival S)) (old new : Waiting S) → KeepsOthers number old new → silent_at old number ≡ Some arrival → silent_at new number ≡ None → heard_with rights.Read new number ≡ heard_with rights.Read old number → heard_with rights.Close old number ≡ was
-      → heard_with rights.Close new number ≡ Some arrival → Passes NoArrival (option_to_list was) old new
+  pub passes_other_heard : (number : ℕ) (arrival : Arrival S) (was : Option (Arrival S)) (old new : Waiting S) → KeepsOthers number old new → silent_at old number ≡ Some arrival → silent_at new number ≡ None → heard_among true new number ≡ heard_among true old number → heard_among false old number ≡ was
+      → heard_among false new number ≡ Some arrival → Passes NoArrival (option_to_list was) old new
   passes_other_heard number arrival was old new keeps s0 s1 r o0 o1 = passes_at NoArrival (option_to_list was) number old new keeps
       (λ one waits. elim waits [
         | inl is ↦ none_some one (sym s1 ∙ is)
@@ -139,26 +137,25 @@ module _ {S : Type 0} where
       ])
       (λ one none. absurd none)
 
-  heard_as : (allowed : Rights) (number : ℕ) (old new : Waiting S) → new.readers ≡ old.readers → new.others ≡ old.others → heard_with allowed new number ≡ heard_with allowed old number
-  heard_as rights.Read number old new r o = ap (λ (map : BTreeMap ℕ (Arrival S)). get nat_cmp map number) r
-  heard_as rights.Append number old new r o = ap (λ (map : BTreeMap ℕ (Arrival S)). get nat_cmp map number) o
-  heard_as rights.Close number old new r o = ap (λ (map : BTreeMap ℕ (Arrival S)). get nat_cmp map number) o
+  heard_as : (reads : Bool) (number : ℕ) (old new : Waiting S) → new.readers ≡ old.readers → new.others ≡ old.others → heard_among reads new number ≡ heard_among reads old number
+  heard_as true number old new r o = ap (λ (map : BTreeMap ℕ (Arrival S)). get nat_cmp map number) r
+  heard_as false number old new r o = ap (λ (map : BTreeMap ℕ (Arrival S)). get nat_cmp map number) o
 
   pub keeps_silent : (number : ℕ) (old new : Waiting S) → ((other : ℕ) → (other ≡ number → ⊥) → silent_at new other ≡ silent_at old other) → new.readers ≡ old.readers → new.others ≡ old.others → KeepsOthers number old new
-  keeps_silent number old new silent r o = record { silent = silent; heard = λ allowed other apart. heard_as allowed other old new r o }
+  keeps_silent number old new silent r o = record { silent = silent; heard = λ reads other apart. heard_as reads other old new r o }
 
   -- a connection came
   pub admits : (number : ℕ) (arrival : Arrival S) (is_put : Bool) (old new : Waiting S) → IsPut number arrival is_put old.silent new.silent → new.readers ≡ old.readers → new.others ≡ old.others
       → (gone : List (Arrival S)) × Passes (λ (one : Arrival S). one ≡ arrival) gone old new × (length gone ≡ (if is_put then 0 else 1))
   admits number arrival true old new put r o =
-      ([], passes_admitted number arrival None old new (keeps_silent number old new put.others r o) (put.added refl).0 (put.added refl).1 (heard_as rights.Read number old new r o) (heard_as rights.Close number old new r o), refl)
+      ([], passes_admitted number arrival None old new (keeps_silent number old new put.others r o) (put.added refl).0 (put.added refl).1 (heard_as true number old new r o) (heard_as false number old new r o), refl)
   admits number arrival false old new put r o = elim (put.lost refl) [
-    | inl both ↦ (both.0 ∷ [], passes_admitted number arrival (Some both.0) old new (keeps_silent number old new put.others r o) both.1 both.2 (heard_as rights.Read number old new r o) (heard_as rights.Close number old new r o), refl)
+    | inl both ↦ (both.0 ∷ [], passes_admitted number arrival (Some both.0) old new (keeps_silent number old new put.others r o) both.1 both.2 (heard_as true number old new r o) (heard_as false number old new r o), refl)
     | inr none ↦ (
       arrival ∷ [],
       passes_at (λ (one : Arrival S). one ≡ arrival) (arrival ∷ []) number old new (keeps_silent number old new put.others r o)
-          (λ one waits. inl (same_held _ _ _ _ _ _ one (none.1 ∙ sym none.0) (heard_as rights.Read number old new r o) (heard_as rights.Close number old new r o) waits))
-          (λ one waits. inl (same_held _ _ _ _ _ _ one (none.0 ∙ sym none.1) (sym (heard_as rights.Read number old new r o)) (sym (heard_as rights.Close number old new r o)) waits))
+          (λ one waits. inl (same_held _ _ _ _ _ _ one (none.1 ∙ sym none.0) (heard_as true number old new r o) (heard_as false number old new r o) waits))
+          (λ one waits. inl (same_held _ _ _ _ _ _ one (none.0 ∙ sym none.1) (sym (heard_as true number old new r o)) (sym (heard_as false number old new r o)) waits))
           (λ one same. inr (in_one arrival one (sym same))),
       refl,
     )
@@ -168,15 +165,14 @@ module _ {S : Type 0} where
   pub hears_reader : (number : ℕ) (arrival : Arrival S) (is_put : Bool) (old new : Waiting S) → silent_at old number ≡ Some arrival → silent_at new number ≡ None → ((other : ℕ) → (other ≡ number → ⊥) → silent_at new other ≡ silent_at old other) → IsPut number arrival is_put old.readers new.readers → new.others ≡ old.others
       → (gone : List (Arrival S)) × Passes NoArrival gone old new × (length gone ≡ (if is_put then 0 else 1))
   hears_reader number arrival is_put old new s0 s1 silent put o = by_put is_put put where
-    same_others : (other : ℕ) → heard_with rights.Close new other ≡ heard_with rights.Close old other
+    same_others : (other : ℕ) → heard_among false new other ≡ heard_among false old other
     same_others other = ap (λ (map : BTreeMap ℕ (Arrival S)). get nat_cmp map other) o
 
     keeps : {is_put : Bool} → IsPut number arrival is_put old.readers new.readers → KeepsOthers number old new
     keeps put = record { silent = silent; heard = each } where
-      each : (allowed : Rights) (other : ℕ) → (other ≡ number → ⊥) → heard_with allowed new other ≡ heard_with allowed old other
-      each rights.Read other apart = put.others other apart
-      each rights.Append other apart = same_others other
-      each rights.Close other apart = same_others other
+      each : (reads : Bool) (other : ℕ) → (other ≡ number → ⊥) → heard_among reads new other ≡ heard_among reads old other
+      each true other apart = put.others other apart
+      each false other apart = same_others other
 
     by_put : (is_put : Bool) → IsPut number arrival is_put old.readers new.readers → (gone : List (Arrival S)) × Passes NoArrival gone old new × (length gone ≡ (if is_put then 0 else 1))
     by_put true put = ([], passes_reader_heard number arrival None old new (keeps put) s0 s1 (put.added refl).0 (put.added refl).1 (same_others number), refl)
@@ -188,15 +184,14 @@ module _ {S : Type 0} where
   pub hears_other : (number : ℕ) (arrival : Arrival S) (is_put : Bool) (old new : Waiting S) → silent_at old number ≡ Some arrival → silent_at new number ≡ None → ((other : ℕ) → (other ≡ number → ⊥) → silent_at new other ≡ silent_at old other) → new.readers ≡ old.readers → IsPut number arrival is_put old.others new.others
       → (gone : List (Arrival S)) × Passes NoArrival gone old new × (length gone ≡ (if is_put then 0 else 1))
   hears_other number arrival is_put old new s0 s1 silent r put = by_put is_put put where
-    same_readers : (other : ℕ) → heard_with rights.Read new other ≡ heard_with rights.Read old other
+    same_readers : (other : ℕ) → heard_among true new other ≡ heard_among true old other
     same_readers other = ap (λ (map : BTreeMap ℕ (Arrival S)). get nat_cmp map other) r
 
     keeps : {is_put : Bool} → IsPut number arrival is_put old.others new.others → KeepsOthers number old new
     keeps put = record { silent = silent; heard = each } where
-      each : (allowed : Rights) (other : ℕ) → (other ≡ number → ⊥) → heard_with allowed new other ≡ heard_with allowed old other
-      each rights.Read other apart = same_readers other
-      each rights.Append other apart = put.others other apart
-      each rights.Close other apart = put.others other apart
+      each : (reads : Bool) (other : ℕ) → (other ≡ number → ⊥) → heard_among reads new other ≡ heard_among reads old other
+      each true other apart = same_readers other
+      each false other apart = put.others other apart
 
     by_put : (is_put : Bool) → IsPut number arrival is_put old.others new.others → (gone : List (Arrival S)) × Passes NoArrival gone old new × (length gone ≡ (if is_put then 0 else 1))
     by_put true put = ([], passes_other_heard number arrival None old new (keeps put) s0 s1 (same_readers number) (put.added refl).0 (put.added refl).1, refl)
@@ -208,12 +203,12 @@ module _ {S : Type 0} where
   -- who waits is the same, whatever else changed
   pub passes_silent_same : (old new : Waiting S) → ((number : ℕ) → silent_at new number ≡ silent_at old number) → new.readers ≡ old.readers → new.others ≡ old.others → Passes NoArrival [] old new
   passes_silent_same old new silent r o = record {
-    came = λ number one waits. inl (same_held _ _ _ _ _ _ one (silent number) (heard_as rights.Read number old new r o) (heard_as rights.Close number old new r o) waits);
-    kept = λ number one waits. inl (same_held _ _ _ _ _ _ one (sym (silent number)) (sym (heard_as rights.Read number old new r o)) (sym (heard_as rights.Close number old new r o)) waits);
+    came = λ number one waits. inl (same_held _ _ _ _ _ _ one (silent number) (heard_as true number old new r o) (heard_as false number old new r o) waits);
+    kept = λ number one waits. inl (same_held _ _ _ _ _ _ one (sym (silent number)) (sym (heard_as true number old new r o)) (sym (heard_as false number old new r o)) waits);
     entered = λ one none. absurd none;
   }
 
   -- one that had sent nothing was dropped
   pub drops_silent : (number : ℕ) (arrival : Arrival S) (old new : Waiting S) → silent_at old number ≡ Some arrival → silent_at new number ≡ None → ((other : ℕ) → (other ≡ number → ⊥) → silent_at new other ≡ silent_at old other) → new.readers ≡ old.readers → new.others ≡ old.others → Passes NoArrival (arrival ∷ []) old new
   drops_silent number arrival old new s0 s1 silent r o =
-      passes_silent_out number arrival old new (keeps_silent number old new silent r o) s0 s1 (heard_as rights.Read number old new r o) (heard_as rights.Close number old new r o)
+      passes_silent_out number arrival old new (keeps_silent number old new silent r o) s0 s1 (heard_as true number old new r o) (heard_as false number old new r o)

@@ -3,8 +3,6 @@ use Rattle.std.specs.Prelude.{◌≡◌, ◌⊎◌, ℕ, Bool, true, false, Opti
 use Rattle.std.specs.Prelude.{Contains, option_to_list}
 use Rattle.std.specs.Ordering.{nat_cmp}
 use Rattle.std.specs.BTreeMap.{BTreeMap, get}
-use Rattle.audit_serve_passes.specs.declared.rights.Rights.{Rights}
-use Rattle.audit_serve_passes.specs.declared.rights.Rights.TheVariants as rights
 use Rattle.audit_serve_ready.specs.declared.departure.Departure.TheVariants.{Memory}
 use Rattle.audit_serve_door.specs.Notes.{NoteCall, a_note, a_silent_note, NoteModel}
 use Rattle.audit_serve_door.specs.declared.entrance.Arrival.{Arrival}
@@ -15,10 +13,10 @@ module _ {S : Type 0} where
   abbrev pub silent_at : Waiting S → ℕ → Option (Arrival S)
   silent_at waiting number = get nat_cmp waiting.silent number
 
-  -- and among those that have sent something and have these rights: those that only read, and all others
-  abbrev pub heard_with : Rights → Waiting S → ℕ → Option (Arrival S)
-  heard_with rights.Read waiting number = get nat_cmp waiting.readers number
-  heard_with _ waiting number = get nat_cmp waiting.others number
+  -- and among those that have sent something: those that only read, or all others
+  abbrev pub heard_among : Bool → Waiting S → ℕ → Option (Arrival S)
+  heard_among true waiting number = get nat_cmp waiting.readers number
+  heard_among false waiting number = get nat_cmp waiting.others number
 
 abbrev pub first_found : {A : Type 0} → Option A → Option A → Option A
 first_found None other = other
@@ -27,8 +25,7 @@ first_found (Some one) other = Some one
 module _ {S : Type 0} where
   -- and among all those that have sent something
   abbrev pub heard_at : Waiting S → ℕ → Option (Arrival S)
-  heard_at waiting number =
-      first_found (heard_with rights.Close waiting number) (heard_with rights.Read waiting number)
+  heard_at waiting number = first_found (heard_among false waiting number) (heard_among true waiting number)
 
   -- A connection was put among others that have numbers. If there was no room for it, or another one had its number,
   -- one of the two is no longer there.
@@ -39,17 +36,17 @@ module _ {S : Type 0} where
         → ((other : Arrival S) × (get nat_cmp old number ≡ Some other) × (get nat_cmp new number ≡ Some arrival))
         ⊎ ((get nat_cmp old number ≡ None) × (get nat_cmp new number ≡ None))
 
-  -- Who waits with another number is the same, with the same rights and the same stream.
+  -- Who waits with another number is the same.
   pub record KeepsOthers (number : ℕ) (old new : Waiting S) : Type 0 where
     pub silent : (other : ℕ) → (other ≡ number → ⊥) → silent_at new other ≡ silent_at old other
-    pub heard : (allowed : Rights) (other : ℕ) → (other ≡ number → ⊥)
-        → heard_with allowed new other ≡ heard_with allowed old other
+    pub heard : (reads : Bool) (other : ℕ) → (other ≡ number → ⊥)
+        → heard_among reads new other ≡ heard_among reads old other
 
   -- a connection waits with this number
   abbrev pub WaitsWith : Waiting S → ℕ → Arrival S → Type 0
   WaitsWith waiting number arrival = (silent_at waiting number ≡ Some arrival)
-      ⊎ (heard_with rights.Read waiting number ≡ Some arrival)
-      ⊎ (heard_with rights.Close waiting number ≡ Some arrival)
+      ⊎ (heard_among true waiting number ≡ Some arrival)
+      ⊎ (heard_among false waiting number ≡ Some arrival)
 
   abbrev pub NobodyWaits : Waiting S → Type 0
   NobodyWaits waiting = (number : ℕ) (arrival : Arrival S) → WaitsWith waiting number arrival → ⊥
@@ -72,8 +69,8 @@ module _ {S : Type 0} where
   -- read.
   pub record IsTakenOut (number : ℕ) (old new : Waiting S) : Type 0 where
     pub passes : Passes NoArrival (option_to_list (heard_at old number)) old new
-    pub other : heard_with rights.Close new number ≡ None
-    pub reader : heard_with rights.Close old number ≡ None → heard_with rights.Read new number ≡ None
+    pub other : heard_among false new number ≡ None
+    pub reader : heard_among false old number ≡ None → heard_among true new number ≡ None
 
 -- a connection was turned away: memory was refused for it, or the system gave no further descriptor
 abbrev pub IsTurningAway : NoteCall → Type 0

@@ -49,7 +49,14 @@ impl Entrance<UnixListener> {
 
 impl<L> Entrance<L> {
     ghost use Rattle.std.specs.Prelude.{◌≡◌};
-    ghost use Rattle.audit_serve_door.specs.Entrances.{IsQuiet, ComesIn, arrived_in};
+    ghost use Rattle.audit_serve_door.specs.Entrances.{rights_of, IsQuiet, ComesIn, arrived_in};
+
+    /// What the clients that come by the socket may ask for.
+    pub(crate) fn rights(&self) -> Rights
+        ensures { result ≡ rights_of self.now }
+    {
+        self.rights
+    }
 
     /// Has the system report on the socket.
     pub(crate) fn register(&mut self, registry: &Registry, token: Token) -> io::Result<()>

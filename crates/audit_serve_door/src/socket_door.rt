@@ -128,7 +128,10 @@ where
         let Ok(events) = Events::with_capacity(alloc, MAX_EVENTS) else {
             return Err(io::Error::from(ErrorKind::OutOfMemory));
         };
-        let most = if entrances.len() > 1 {
+        let has_readers = entrances
+            .iter()
+            .any(|entrance| entrance.rights().only_reads());
+        let most = if has_readers {
             MOST_OF_A_SIDE
         } else {
             SESSIONS
@@ -368,7 +371,7 @@ where
             self.journal.note(Departure::Memory);
             return None;
         }
-        let only_reads = arrival.rights() == Rights::Read;
+        let only_reads = arrival.rights().only_reads();
         self.places.take(place, number, only_reads, self.now);
         Some(arrival.into_newcomer())
     }

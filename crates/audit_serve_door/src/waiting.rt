@@ -2,7 +2,6 @@ ghost use Rattle.audit_serve_door.specs.Waits.{IsPut};
 
 use crate::choice::Heads;
 use crate::entrance::Arrival;
-use audit_serve_passes::Rights;
 use std::alloc::Global;
 use std::collections::{BTreeMap, BTreeSet};
 
@@ -20,9 +19,10 @@ pub(crate) struct Waiting<S> {
 
 impl<S: Drop> Waiting<S> {
     ghost use Rattle.std.specs.Prelude.{◌≡◌, List, [], ◌∷◌, length, true, Some, None, if◌then◌else◌};
+    ghost use Rattle.audit_serve_passes.specs.Rights.{only_reads};
     ghost use Rattle.audit_serve_door.specs.declared.entrance.Arrival.{Arrival};
     ghost use Rattle.audit_serve_door.specs.Entrances.{rights_at_arrival};
-    ghost use Rattle.audit_serve_door.specs.Waits.{silent_at, heard_with, heard_at, KeepsOthers};
+    ghost use Rattle.audit_serve_door.specs.Waits.{silent_at, heard_among, heard_at, KeepsOthers};
     ghost use Rattle.audit_serve_door.specs.Waits.{NobodyWaits, NoArrival, Passes, IsTakenOut};
 
     /// Nobody.
@@ -52,7 +52,7 @@ impl<S: Drop> Waiting<S> {
     /// else had this number. If not, it or the other one is dropped.
     pub(crate) fn hear(&mut self, number: usize) -> bool
         ensures heard { result ≡ true → (arrival : Arrival S) → silent_at self.old number ≡ Some arrival
-            → heard_with (rights_at_arrival arrival) self.new number ≡ Some arrival }
+            → heard_among (only_reads (rights_at_arrival arrival)) self.new number ≡ Some arrival }
         ensures others { KeepsOthers number self.old self.new }
         ensures passes { (gone : List (Arrival S)) × Passes NoArrival gone self.old self.new
             × (length gone ≡ (if result then 0 else 1)) }
@@ -60,7 +60,7 @@ impl<S: Drop> Waiting<S> {
         let Some(arrival) = self.silent.remove(&number) else {
             return true;
         };
-        if arrival.rights() == Rights::Read {
+        if arrival.rights().only_reads() {
             put(&mut self.readers, number, arrival)
         } else {
             put(&mut self.others, number, arrival)

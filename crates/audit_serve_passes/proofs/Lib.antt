@@ -4,3 +4,4 @@ pub mod Transitions
 pub mod Turns
 pub mod Runs
 pub mod Reaching
+pub mod Bound

@@ -6,6 +6,7 @@
 #![tactic(auto)]
 
 mod allowance;
+mod bound_kinds;
 mod duplex;
 mod duplex_stream;
 pub mod laws;
@@ -22,6 +23,7 @@ mod stream_pair;
 mod writing;
 
 pub use allowance::{Allowance, Demand, Share};
+pub use bound_kinds::{BoundKinds, MAX_BOUND_KINDS};
 pub use duplex::Duplex;
 pub use duplex_stream::DuplexStream;
 pub use limits::{MAX_PIECE, MAX_TURNS};

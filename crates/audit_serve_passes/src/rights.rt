@@ -1,26 +1,45 @@
 ghost use Rattle.std.specs.Prelude.{◌≡◌};
 
-/// What a session may ask for. Each of these rights includes those before it.
+use crate::bound_kinds::BoundKinds;
+
+/// What a session may ask for. Questions it may always ask.
 #[derive(Clone, Copy, Debug, PartialEq, Eq)]
 pub enum Rights {
     /// Questions alone: neither appending nor closing.
     Read,
-    /// Appending too, but not closing.
-    Append,
-    /// Everything.
-    Close,
+    /// Appending events of this kind alone, and not closing.
+    Source(u32),
+    /// Appending events of all kinds but these, which are bound to their sources, and not closing.
+    Append(BoundKinds),
+    /// Appending the same events, and closing.
+    Close(BoundKinds),
 }
 
 impl Rights {
-    ghost use Rattle.audit_serve_passes.specs.Rights.{may_append, may_close};
+    ghost use Rattle.audit_serve_passes.specs.Rights.{all_rights, only_reads, may_append, may_close};
 
-    /// Whether events may be appended.
-    pub fn may_append(self) -> bool
-        ensures { result ≡ may_append self }
+    /// Whatever can be asked for.
+    pub fn all() -> Rights
+        ensures { result ≡ all_rights }
+    {
+        Rights::Close(BoundKinds::none())
+    }
+
+    /// Whether nothing but questions may be asked.
+    pub fn only_reads(self) -> bool
+        ensures { result ≡ only_reads self }
+    {
+        matches!(self, Rights::Read)
+    }
+
+    /// Whether an event of this kind may be appended.
+    pub fn may_append(self, kind: u32) -> bool
+        ensures { result ≡ may_append self kind }
     {
         match self {
             Rights::Read => false,
-            Rights::Append | Rights::Close => true,
+            Rights::Source(own) => kind == own,
+            Rights::Append(bound) | Rights::Close(bound) => !bound.contains(kind),
         }
     }
 
@@ -28,9 +47,6 @@ impl Rights {
     pub fn may_close(self) -> bool
         ensures { result ≡ may_close self }
     {
-        match self {
-            Rights::Read | Rights::Append => false,
-            Rights::Close => true,
-        }
+        matches!(self, Rights::Close(_))
     }
 }

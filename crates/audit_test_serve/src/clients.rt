@@ -72,7 +72,7 @@ impl Door for Clients {
             room,
             taken: 0,
         };
-        let rights = Rights::Close;
+        let rights = Rights::all();
         Some(Newcomer { stream, rights })
     }
 

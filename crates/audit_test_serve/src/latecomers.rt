@@ -52,7 +52,7 @@ impl Door for Crowd {
         let reads = self.clients.get(self.came).copied()?;
         self.came = self.came.saturating_add(1);
         let stream = Client { reads, done: 0 };
-        let rights = Rights::Close;
+        let rights = Rights::all();
         Some(Newcomer { stream, rights })
     }
 

@@ -2,7 +2,7 @@
 // allowed, which gets the refusal 16 with its own tag; nothing after it is read.
 use audit_chain::Key;
 use audit_disk::MemDisk;
-use audit_serve_passes::{Allowance, Rights, SessionCore, Share};
+use audit_serve_passes::{Allowance, BoundKinds, Rights, SessionCore, Share};
 use audit_server::Core;
 use audit_store::Store;
 use std::alloc::Global;
@@ -256,7 +256,7 @@ fn appenders_do_not_close(rt: HostRuntime) {
         live(&COMMITMENT_APPEND, &APPENDED_FIRST),
         cut_off(&APPEND_CLOSE, &APPENDED_ALONE),
     ];
-    assert!(rt; all_hold(&rt, rt.alloc(), Rights::Append, &cases));
+    assert!(rt; all_hold(&rt, rt.alloc(), Rights::Append(BoundKinds::none()), &cases));
 }
 
 #[test]
@@ -265,7 +265,47 @@ fn closers_may_do_everything(rt: HostRuntime) {
         live(&COMMITMENT_APPEND, &APPENDED_FIRST),
         live(&APPEND_CLOSE, &ALL_DONE),
     ];
-    assert!(rt; all_hold(&rt, rt.alloc(), Rights::Close, &cases));
+    assert!(rt; all_hold(&rt, rt.alloc(), Rights::all(), &cases));
+}
+
+// These kinds, bound to sources.
+fn bound(rt: &impl Abort, kinds: &[u32]) -> BoundKinds {
+    let mut bound = BoundKinds::none();
+    for kind in kinds {
+        bound = bound.with(*kind).expect(rt, "a free place");
+    }
+    bound
+}
+
+// A source appends its own kind, and doesn't close.
+#[test]
+fn sources_append_their_own(rt: HostRuntime) {
+    let own = [
+        live(&COMMITMENT_APPEND, &APPENDED_FIRST),
+        cut_off(&APPEND_CLOSE, &APPENDED_ALONE),
+    ];
+    let other = [
+        cut_off(&COMMITMENT_APPEND, &ASKED),
+        cut_off(&APPEND_CLOSE, &ASKED[1..]),
+    ];
+    assert!(rt; all_hold(&rt, rt.alloc(), Rights::Source(7), &own));
+    assert!(rt; all_hold(&rt, rt.alloc(), Rights::Source(8), &other));
+}
+
+// Nobody else appends a kind that is bound, whether they may close or not. Other kinds are free.
+#[test]
+fn others_append_what_is_free(rt: HostRuntime) {
+    let taken = bound(&rt, &[8, 7]);
+    let free = bound(&rt, &[0, 1, 2, 3, 4, 5, 6, 8, 9, 10, 11, 12, 13, 14, 15]);
+    assert!(rt; free.with(7).is_none());
+    let refused = [
+        cut_off(&COMMITMENT_APPEND, &ASKED),
+        cut_off(&APPEND_CLOSE, &ASKED[1..]),
+    ];
+    let done = [live(&APPEND_CLOSE, &ALL_DONE)];
+    assert!(rt; all_hold(&rt, rt.alloc(), Rights::Append(taken), &refused));
+    assert!(rt; all_hold(&rt, rt.alloc(), Rights::Close(taken), &refused));
+    assert!(rt; all_hold(&rt, rt.alloc(), Rights::Close(free), &done));
 }
 
 const UNKNOWN: [u8; 15] = [0, 0, 0, 2, 99, 1, 0, 0, 0, 5, 2, 0, 0, 0, 9];

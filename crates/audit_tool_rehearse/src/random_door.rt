@@ -91,7 +91,7 @@ impl Door for RandomDoor {
         self.note(1, place);
         Some(Newcomer {
             stream: visitor,
-            rights: Rights::Close,
+            rights: Rights::all(),
         })
     }
 
