@@ -1,4 +1,4 @@
-use crate::forms::{EXPLAIN, NO_PROGRESS, command_line};
+use crate::forms::{EXPLAIN, NO_PROGRESS, WRITER, command_line};
 use crate::remote_command::remote_request;
 use audit_cli_append::Request as Lines;
 use audit_cli_client::Request as Remote;
@@ -39,26 +39,30 @@ pub enum Asked<'a> {
     Daemon(Daemon<'a>),
 }
 
-/// Parses the words of a command line, of which the first is the program's name. Without a command the request is
-/// `Replay`. The error prints help or usage, or reports that memory ran out.
-pub fn request_of<'a, S: AsStr>(alloc: Global, words: &'a [S]) -> Result<CommandLine<'a>, Error> {
-    let matches = command_line(alloc)?.try_get_matches_from(words)?;
+/// Parses the words of a command line, of which the first is the program's name. The error prints help or usage, or
+/// reports that memory ran out.
+pub fn matches_of<'a, S: AsStr>(alloc: Global, words: &'a [S]) -> Result<ArgMatches<'a>, Error> {
+    command_line(alloc)?.try_get_matches_from(words)
+}
+
+/// What a command line requests: `Replay` without a command.
+pub fn request_of<'m, 'a: 'm>(matches: &'m ArgMatches<'a>) -> CommandLine<'m> {
     match matches.subcommand() {
-        Some((name, given)) => Ok(CommandLine {
+        Some((name, given)) => CommandLine {
             asked: asked_by(name, given),
             explain: given.get_flag(EXPLAIN),
             shows_progress: !given.get_flag(NO_PROGRESS),
-        }),
-        None => Ok(CommandLine {
+        },
+        None => CommandLine {
             asked: Asked::Plain(Request::Replay),
             explain: false,
             shows_progress: false,
-        }),
+        },
     }
 }
 
 // The request of a command with these arguments.
-fn asked_by<'a>(name: &str, given: &ArgMatches<'a>) -> Asked<'a> {
+fn asked_by<'m, 'a: 'm>(name: &str, given: &'m ArgMatches<'a>) -> Asked<'m> {
     if let Some(remote) = remote_request(name, given) {
         return Asked::Remote(remote);
     }
@@ -113,11 +117,12 @@ fn append_request<'a>(given: &ArgMatches<'a>) -> Lines<'a> {
     }
 }
 
-fn settings<'a>(given: &ArgMatches<'a>) -> Settings<'a> {
+fn settings<'m, 'a: 'm>(given: &'m ArgMatches<'a>) -> Settings<'m> {
     Settings {
         file: word(given, "FILE"),
         socket: word(given, "SOCKET"),
         reader: given.get_str("reader"),
+        writers: given.get_strs(WRITER).unwrap_or(&[]),
         may_close: given.get_flag("allow-close"),
         idle: given.get_str("idle"),
         backlog: given.get_str("backlog"),
@@ -151,10 +156,15 @@ fn format_request<'a>(given: &ArgMatches<'a>) -> Request<'a> {
 }
 
 fn show_request<'a>(given: &ArgMatches<'a>) -> Request<'a> {
+    let file = word(given, "FILE");
+    let form = show_form(given);
+    if given.get_flag("header") {
+        return Request::ShowHeader { file, form };
+    }
     Request::Show {
-        file: word(given, "FILE"),
+        file,
         access: access(given),
-        form: show_form(given),
+        form,
     }
 }
 

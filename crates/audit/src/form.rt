@@ -1,6 +1,8 @@
 //! The forms that words of a command line have to have, and where a word departs from its own.
 use audit_cli_base::{MAX_SOCKET_PATH, mode_asked, socket_path_asked};
+use audit_cli_daemon::source_in;
 use audit_cli_offline::commitment_in_word;
+use audit_serve_passes::MAX_BOUND_KINDS;
 use audit_text::{kind_in_word, long_asked, number_in_text, split_at_first};
 use std::fmt::{self, Display, Formatter};
 
@@ -27,6 +29,12 @@ pub(crate) enum Form<'a> {
     Socket,
     /// The path of a daemon's socket, beside which it makes another.
     DaemonSocket,
+    /// A source of a daemon.
+    Source,
+    /// The same with another kind than those of the sources before it.
+    NewSource,
+    /// A source, of which there may be so many.
+    FurtherSource,
     /// What becomes of long lines, which are text if a kind is given.
     Long { text: Option<&'a str> },
     /// The kind of a proof.
@@ -54,6 +62,8 @@ impl Form<'_> {
             Form::Commitment => commitment_in_word(bytes).is_some(),
             Form::Socket => socket_path_asked(word, 0).is_ok(),
             Form::DaemonSocket => socket_path_asked(word, STOP_SUFFIX).is_ok(),
+            Form::Source => source_in(word).is_some(),
+            Form::NewSource | Form::FurtherSource => false,
             Form::Long { text } => long_asked(Some(word), text).is_some(),
             Form::Proof => word == "member" || word == "increment",
         }
@@ -95,6 +105,14 @@ impl Display for Form<'_> {
             Form::DaemonSocket => {
                 write!(f, "a path of 1 to {} bytes", MAX_SOCKET_PATH - STOP_SUFFIX)
             }
+            Form::Source => {
+                write!(
+                    f,
+                    "KIND:PATH, a number from 0 to 4294967294 and a path of 1 to {MAX_SOCKET_PATH} bytes"
+                )
+            }
+            Form::NewSource => f.write_str("KIND:PATH with a kind that no other --writer has"),
+            Form::FurtherSource => write!(f, "given at most {MAX_BOUND_KINDS} times"),
             Form::Long { text: None } => f.write_str("refuse, or with --text cut"),
             Form::Long { .. } => f.write_str("refuse or cut"),
             Form::Proof => f.write_str("member or increment"),

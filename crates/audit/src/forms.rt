@@ -11,6 +11,9 @@ use std::alloc::{AllocError, Global};
 /// An option of every command.
 pub const EXPLAIN: &str = "explain";
 
+/// An option of `daemon` that may be given more than once.
+pub const WRITER: &str = "writer";
+
 /// Another option of every command.
 pub const NO_PROGRESS: &str = "no-progress";
 
@@ -242,6 +245,13 @@ static SHOW: Form = Form {
             help: "Prints a line with the number of free sectors, too",
             needs: None,
             excludes: None,
+        },
+        Choice {
+            name: "header",
+            value: None,
+            help: "Reads the two header sectors alone, also while another program has the store open",
+            needs: None,
+            excludes: Some("read-only"),
         },
     ],
 };
@@ -513,6 +523,13 @@ static DAEMON: Form = Form {
             excludes: None,
         },
         Choice {
+            name: WRITER,
+            value: Some("KIND:PATH"),
+            help: "A further socket, whose clients may append events of KIND alone; no others may; up to 15 times",
+            needs: None,
+            excludes: None,
+        },
+        Choice {
             name: "allow-close",
             value: None,
             help: "Clients of SOCKET may close the log",
@@ -676,7 +693,11 @@ fn with_value<'a>(alloc: Global, option: &'static Choice) -> Arg<'a> {
         Some(value) => Arg::new(alloc, option.name)
             .long(option.name)
             .value_name(value)
-            .action(ArgAction::Set)
+            .action(if option.name == WRITER {
+                ArgAction::Append
+            } else {
+                ArgAction::Set
+            })
             .help(option.help),
         None => flag(alloc, option.name, option.help),
     }

@@ -22,6 +22,7 @@ fn store_of_plain<'a>(request: Request<'a>) -> Option<&'a str> {
         Request::Format { file, .. }
         | Request::Close { file }
         | Request::Show { file, .. }
+        | Request::ShowHeader { file, .. }
         | Request::Export { file, .. }
         | Request::Prove { file, .. } => Some(file),
         Request::Replay | Request::Check { .. } | Request::Verify(_) => None,

@@ -1,4 +1,4 @@
-use crate::command::{Asked, CommandLine, request_of};
+use crate::command::{Asked, CommandLine, matches_of, request_of};
 use crate::ending::{End, explain_end};
 use crate::heard::Heard;
 use crate::places::key_file_of;
@@ -14,8 +14,8 @@ use audit_cli_store::Request;
 use audit_disk::{SystemFile, SystemFiles};
 use audit_store::StoreError;
 use audit_text::Shown;
-use clap::Error;
 use clap::error::ErrorKind;
+use clap::{ArgMatches, Error};
 use std::alloc::{AllocError, Global};
 use std::io::{Read, Write};
 use std::net::Net;
@@ -50,13 +50,32 @@ pub fn run<F: SystemFiles + Net + Clock + Dial, R: Read, W: Write, M: Write>(
 where
     F::File: SystemFile,
 {
-    let line = match request_of(alloc, words) {
-        Ok(line) => line,
-        Err(error) => return explain_words(alloc, words, &error, notes, output, messages),
-    };
     if words.len() < 2 && terminals.input && terminals.messages {
         hint(messages);
     }
+    match matches_of(alloc, words) {
+        Ok(matches) => run_given(
+            rt, alloc, &matches, notes, terminals, input, output, messages,
+        ),
+        Err(error) => explain_words(alloc, words, &error, notes, output, messages),
+    }
+}
+
+// Runs the command that was given.
+fn run_given<F: SystemFiles + Net + Clock + Dial, R: Read, W: Write, M: Write>(
+    rt: &F,
+    alloc: Global,
+    matches: &ArgMatches<'_>,
+    notes: &Notes<'_>,
+    terminals: Terminals,
+    input: &mut R,
+    output: &mut W,
+    messages: &mut M,
+) -> Status
+where
+    F::File: SystemFile,
+{
+    let line = request_of(matches);
     run_line(rt, alloc, line, notes, terminals, input, output, messages)
 }
 
@@ -292,12 +311,22 @@ fn explain_words<W: Write, M: Write>(
     let Ok(shown) = shown_words(alloc, words) else {
         return report(CommandError::Refused(StoreError::Memory), messages);
     };
-    match request_of(alloc, &shown) {
-        Ok(_) => report(CommandError::BadArgument, messages),
-        Err(shown) if shown.kind() == error.kind() => {
+    match fault_in(alloc, &shown) {
+        Some(shown) if shown.kind() == error.kind() => {
             print_usage(&shown, notes, output, messages)
         }
-        Err(_) => report(CommandError::BadArgument, messages),
+        _ => report(CommandError::BadArgument, messages),
+    }
+}
+
+// What is wrong with the words of a command line, if they can't be parsed.
+fn fault_in(alloc: Global, words: &[String]) -> Option<Error> {
+    match matches_of(alloc, words) {
+        Ok(matches) => {
+            drop(matches);
+            None
+        }
+        Err(error) => Some(error),
     }
 }
 

@@ -21,7 +21,7 @@ pub(crate) fn explain_server<M: Write>(
             ..
         } => (socket, "its clients may not close the log"),
         Remote::Ask { socket, .. } => (socket, "its clients may not ask this"),
-        Remote::Send { socket, .. } => (socket, "its clients may only read"),
+        Remote::Send { socket, .. } => (socket, "its clients may not append this"),
         Remote::Watch { socket, .. } | Remote::Read { socket, .. } => {
             (socket, "its clients may not ask")
         }

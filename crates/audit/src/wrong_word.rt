@@ -3,10 +3,11 @@ use crate::command::Asked;
 use crate::form::Form;
 use audit_cli_append::Request as Lines;
 use audit_cli_client::Request as Remote;
-use audit_cli_daemon::{Request as Daemon, Settings};
+use audit_cli_daemon::{Request as Daemon, Settings, source_in};
 use audit_cli_serve::Request as Serving;
 use audit_cli_store::{Request, Site};
 use audit_log::{MAX_SECTORS, MIN_SECTORS};
+use audit_serve_passes::BoundKinds;
 use audit_text::Shown;
 use std::fmt::{self, Display, Formatter};
 
@@ -110,7 +111,10 @@ fn wrong_in_plain<'a>(request: Request<'a>) -> Option<Wrong<'a>> {
             ..
         } => judge("KIND", Some(kind), Form::Proof).or(wrong_in_pair(kind, first, second)),
         Request::Export { from, .. } => judge("--from", from, Form::ANY),
-        Request::Replay | Request::Close { .. } | Request::Show { .. } => None,
+        Request::Replay
+        | Request::Close { .. }
+        | Request::Show { .. }
+        | Request::ShowHeader { .. } => None,
     }
 }
 
@@ -221,8 +225,35 @@ fn wrong_in_serving<'a>(request: Serving<'a>) -> Option<Wrong<'a>> {
 fn wrong_in_settings<'a>(settings: Settings<'a>) -> Option<Wrong<'a>> {
     judge("SOCKET", Some(settings.socket), Form::DaemonSocket)
         .or(judge("--reader", settings.reader, Form::Socket))
+        .or(wrong_in_sources(settings.writers))
         .or(judge("--idle", settings.idle, Form::ANY))
         .or(judge("--reserve", settings.reserve, Form::ANY))
         .or(judge("--backlog", settings.backlog, BACKLOG))
         .or(judge("--socket-mode", settings.socket_mode, Form::Mode))
+}
+
+// The first word for a source that is none, or that binds a kind once more, or that is one too many.
+fn wrong_in_sources<'a>(words: &'a [&'a str]) -> Option<Wrong<'a>> {
+    let mut bound = BoundKinds::none();
+    for word in words {
+        let form = match source_in(word) {
+            None => Some(Form::Source),
+            Some(source) if bound.contains(source.kind) => Some(Form::NewSource),
+            Some(source) => match bound.with(source.kind) {
+                Some(more) => {
+                    bound = more;
+                    None
+                }
+                None => Some(Form::FurtherSource),
+            },
+        };
+        if let Some(form) = form {
+            return Some(Wrong {
+                name: "--writer",
+                word,
+                form,
+            });
+        }
+    }
+    None
 }

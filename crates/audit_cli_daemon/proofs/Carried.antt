@@ -18,9 +18,13 @@ use Rattle.audit_cli_base.specs.declared.fault.CommandError.{CommandError}
 use Rattle.audit_cli_daemon.specs.declared.arguments.TheConstants.{DEFAULT_IDLE, DEFAULT_RESERVE}
 use Rattle.audit_cli_daemon.specs.declared.request.Request.TheVariants.{Run}
 use Rattle.audit_cli_daemon.specs.declared.request.Settings.{Settings}
-use Rattle.audit_cli_daemon.specs.Carried.{ServesAtDoor, ServesBetween, IsDaemonDone}
+use Rattle.audit_cli_daemon.specs.Carried.{ServesAtDoor, ServesBetween, IsDaemonDone, sources_asked, rights_asked}
+use Rattle.audit_cli_daemon.specs.Sources.{words_of, sources_in, has_kind}
+use Rattle.audit_cli_daemon.specs.Sockets.{rights_served}
+use Rattle.audit_cli_daemon.specs.declared.sockets.Sockets.{Sockets}
 use Rattle.audit_serve_passes.specs.declared.rights.Rights.{Rights}
-use Rattle.audit_serve_passes.specs.declared.rights.Rights.TheVariants as rights
+use Rattle.audit_serve_passes.specs.declared.bound_kinds.BoundKinds.{BoundKinds}
+use Rattle.audit_serve_passes.specs.Rights.{is_bound}
 use Rattle.audit_serve_door.specs.declared.socket_door.SocketDoor.{SocketDoor}
 use Rattle.audit_cli_daemon.specs.declared.gauge.GaugedDoor.{GaugedDoor}
 use Rattle.audit_cli_daemon.specs.Rights.{rights_at, rights_of_others, modes_at, IsDoorFor}
@@ -53,17 +57,20 @@ serves_at_door N doors Opens reserve backlog was now opened left (Err fault) oth
 serves_at_door N doors Opens reserve backlog was now opened left (Ok first) (Err fault) opens served = tt
 serves_at_door N doors Opens reserve backlog was now opened left (Ok first) (Ok done) opens served = record { was = was; opens = opens; now = now; served = served }
 
--- the rights of those that don't only read
-pub others_by : (may_close : Bool) (others : Rights) → (may_close ≡ true → others ≡ rights.Close) → (may_close ≡ false → others ≡ rights.Append) → others ≡ rights_of_others may_close
-others_by true others closing appending = closing refl
-others_by false others closing appending = appending refl
+-- the rights at the sockets are those that were asked for
+rights_same : (settings : Settings) (sockets : Sockets) (others : Rights) (bound : BoundKinds) → sockets.readers ≡ settings.reader → sockets.sources ≡ settings.writers → others ≡ rights_of_others settings.may_close bound → rights_served sockets others ≡ rights_asked settings bound
+rights_same settings sockets others bound readers sources others_are =
+    ap (λ there. rights_at there (sources_in (words_of sockets.sources.now)) others) readers
+    ∙ ap (λ words. rights_at settings.reader (sources_in (words_of words.now)) others) sources
+    ∙ ap (λ (allowed : Rights). rights_at settings.reader (sources_in (words_of settings.writers.now)) allowed) others_are
 
 module _ {D : Type 0} (g : sectors.Ghosts D) (At : List ℕ → Store D g → Type 0) {S C J W L Q F T : Type 0} (N : CallModel S) (doors : DoorModel (GaugedDoor (SocketDoor C J W L Q) F T) S) where
-  pub performed : (settings : Settings) (readers : Option (Bor (List ℕ))) (others : Rights) (idle reserve backlog mode : ℕ) (opened : Store D g) (before after : Option (List ℕ)) (done : Ending) → readers ≡ settings.reader → others ≡ rights_of_others settings.may_close
+  pub performed : (settings : Settings) (sockets : Sockets) (others : Rights) (bound : BoundKinds) (idle reserve backlog mode : ℕ) (opened : Store D g) (before after : Option (List ℕ)) (done : Ending) → sockets.readers ≡ settings.reader → sockets.sources ≡ settings.writers
+      → ((kind : ℕ) → is_bound bound kind ≡ has_kind (sources_asked settings) kind) → others ≡ rights_of_others settings.may_close bound
       → number_asked settings.idle DEFAULT_IDLE ≡ Ok idle → number_asked settings.reserve DEFAULT_RESERVE ≡ Ok reserve → backlog_asked settings.backlog ≡ Ok backlog → (settings.socket_mode ≡ None → mode ≡ OWNER_ONLY) → IfSome settings.socket_mode (λ word. IsMode word.now mode) → At settings.file.now opened
-      → OnOk done (ServesBetween N doors (IsDoorFor (rights_at readers others) (modes_at readers mode) idle) reserve backlog opened before after) → IsDaemonDone g At N doors settings before after done
-  performed settings readers others idle reserve backlog mode opened before after (Err fault) readers_are others_are idle_is reserve_is backlog_is owner mode_is at served = tt
-  performed settings readers others idle reserve backlog mode opened before after (Ok done) readers_are others_are idle_is reserve_is backlog_is owner mode_is at served = record {
+      → OnOk done (ServesBetween N doors (IsDoorFor (rights_served sockets others) (modes_at (rights_served sockets others) mode) idle) reserve backlog opened before after) → IsDaemonDone g At N doors settings before after done
+  performed settings sockets others bound idle reserve backlog mode opened before after (Err fault) readers_are sources_are bound_are others_are idle_is reserve_is backlog_is owner mode_is at served = tt
+  performed settings sockets others bound idle reserve backlog mode opened before after (Ok done) readers_are sources_are bound_are others_are idle_is reserve_is backlog_is owner mode_is at served = record {
     reserve = reserve;
     reserve_is = reserve_is;
     backlog = backlog;
@@ -75,7 +82,8 @@ module _ {D : Type 0} (g : sectors.Ghosts D) (At : List ℕ → Store D g → Ty
     mode_is = mode_is;
     opened = opened;
     at = at;
+    bound = bound;
+    bound_are = bound_are;
     served =
-        subst (λ (there : Option (Bor (List ℕ))). ServesBetween N doors (IsDoorFor (rights_at there (rights_of_others settings.may_close)) (modes_at there mode) idle) reserve backlog opened before after) readers_are
-        (subst (λ (allowed : Rights). ServesBetween N doors (IsDoorFor (rights_at readers allowed) (modes_at readers mode) idle) reserve backlog opened before after) others_are served);
+        subst (λ (allowed : List Rights). ServesBetween N doors (IsDoorFor allowed (modes_at allowed mode) idle) reserve backlog opened before after) (rights_same settings sockets others bound readers_are sources_are others_are) served;
   }

@@ -18,6 +18,10 @@ use Rattle.audit_cli_daemon.specs.declared.request.Settings.{Settings}
 use Rattle.audit_serve_door.specs.declared.socket_door.SocketDoor.{SocketDoor}
 use Rattle.audit_cli_daemon.specs.declared.gauge.GaugedDoor.{GaugedDoor}
 use Rattle.audit_cli_daemon.specs.Rights.{rights_at, rights_of_others, modes_at, IsDoorFor}
+use Rattle.audit_serve_passes.specs.declared.bound_kinds.BoundKinds.{BoundKinds}
+use Rattle.audit_serve_passes.specs.declared.rights.Rights.{Rights}
+use Rattle.audit_serve_passes.specs.Rights.{is_bound}
+use Rattle.audit_cli_daemon.specs.Sources.{SourceData, words_of, sources_in, has_kind}
 use Rattle.audit_cli_daemon.specs.Running.{ServesStore}
 use Rattle.audit_cli_daemon.specs.State.{ready_line, stopped_line}
 use Rattle.audit_cli_daemon.specs.Words.{backlog_asked}
@@ -37,6 +41,15 @@ module _ {D : Type 0} {g : sectors.Ghosts D} {S E : Type 0} (N : CallModel S) (d
     pub served : ServesAtDoor reserve backlog opened left
     pub lines : Appends before after (ready_line (active_header opened) ++ stopped_line (active_header left))
 
+-- the sources that the words of a command ask for
+abbrev pub sources_asked : Settings → List SourceData
+sources_asked settings = sources_in (words_of settings.writers.now)
+
+-- the rights at its sockets
+abbrev pub rights_asked : Settings → BoundKinds → List Rights
+rights_asked settings bound =
+    rights_at settings.reader (sources_asked settings) (rights_of_others settings.may_close bound)
+
 -- `At` says at which path a store was opened.
 module _ {D : Type 0} (g : sectors.Ghosts D) (At : List ℕ → Store D g → Type 0) {S C J W L Q F T : Type 0}
     (N : CallModel S) (doors : DoorModel (GaugedDoor (SocketDoor C J W L Q) F T) S) where
@@ -55,9 +68,11 @@ module _ {D : Type 0} (g : sectors.Ghosts D) (At : List ℕ → Store D g → Ty
     pub mode_is : IfSome settings.socket_mode (λ word. IsMode word.now mode)
     pub opened : Store D g
     pub at : At settings.file.now opened
+    pub bound : BoundKinds
+    pub bound_are : (kind : ℕ) → is_bound bound kind ≡ has_kind (sources_asked settings) kind
     pub served : ServesBetween N doors
-        (IsDoorFor (rights_at settings.reader (rights_of_others settings.may_close)) (modes_at settings.reader mode)
-        idle) reserve backlog opened before after
+        (IsDoorFor (rights_asked settings bound) (modes_at (rights_asked settings bound) mode) idle) reserve backlog
+        opened before after
 
   abbrev pub IsDaemonDone : Settings → Option (List ℕ) → Option (List ℕ) → Result (Unit {0}) CommandError → Type 0
   IsDaemonDone settings before after (Ok done) = ServesClientsAsked settings before after

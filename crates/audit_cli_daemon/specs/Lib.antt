@@ -1,3 +1,4 @@
+pub mod Sources
 pub mod Words
 pub mod State
 pub mod Running
@@ -5,3 +6,4 @@ pub mod Marks
 pub mod Carried
 pub mod Gauged
 pub mod Rights
+pub mod Sockets

@@ -1,29 +1,38 @@
 -- What the clients of a daemon may ask for, by the socket that they come by.
-use Rattle.std.specs.Prelude.{◌≡◌, ◌<◌, ◌*◌, ℕ, Bool, true, false, Option, Some, None, List, [], ◌∷◌}
+use Rattle.std.specs.Prelude.{◌≡◌, ◌<◌, ◌*◌, ℕ, Bool, true, false, Option, Some, None, List, [], ◌∷◌, ◌++◌, map}
 use Rattle.std.specs.Duration.{as_nanos}
 use Rattle.std.specs.declared.time.Duration.{Duration}
+use Rattle.audit_serve_passes.specs.declared.bound_kinds.BoundKinds.{BoundKinds}
 use Rattle.audit_serve_passes.specs.declared.rights.Rights.{Rights}
 use Rattle.audit_serve_passes.specs.declared.rights.Rights.TheVariants as rights
 use Rattle.audit_serve_door.specs.Entrances.{rights_of_door, modes_of_door, idle_of_door}
 use Rattle.audit_serve_door.specs.Comings.{who_waits}
 use Rattle.audit_serve_door.specs.Waits.{NobodyWaits}
 use Rattle.audit_serve_door.specs.declared.socket_door.SocketDoor.{SocketDoor}
+use Rattle.audit_cli_daemon.specs.Sources.{SourceData}
 use Rattle.audit_cli_daemon.specs.declared.gauge.GaugedDoor.{GaugedDoor}
 
--- if there is a socket for readers, its clients only read; those of the other have these rights
-abbrev pub rights_at : {A : Type 0} → Option A → Rights → List Rights
-rights_at None others = others ∷ []
-rights_at (Some readers) others = rights.Read ∷ others ∷ []
+-- if there is a socket for readers, its clients only read
+abbrev pub rights_of_readers : {A : Type 0} → Option A → List Rights
+rights_of_readers None = []
+rights_of_readers (Some readers) = rights.Read ∷ []
 
--- what the others may ask for: whether they may close the log is asked
-abbrev pub rights_of_others : Bool → Rights
-rights_of_others true = rights.Close
-rights_of_others false = rights.Append
+-- those of a source append its kind
+abbrev pub source_rights : SourceData → Rights
+source_rights source = rights.Source source.kind
 
--- the files of both sockets have the same permissions
-abbrev pub modes_at : {A : Type 0} → Option A → ℕ → List ℕ
-modes_at None mode = mode ∷ []
-modes_at (Some readers) mode = mode ∷ mode ∷ []
+-- and those of the last socket have these rights
+abbrev pub rights_at : {A : Type 0} → Option A → List SourceData → Rights → List Rights
+rights_at readers sources others = rights_of_readers readers ++ (map source_rights sources ++ others ∷ [])
+
+-- what the others may ask for: whether they may close the log is asked, and they append no kind that is bound
+abbrev pub rights_of_others : Bool → BoundKinds → Rights
+rights_of_others true bound = rights.Close bound
+rights_of_others false bound = rights.Append bound
+
+-- the files of all sockets have the same permissions
+abbrev pub modes_at : List Rights → ℕ → List ℕ
+modes_at allowed mode = map (λ one. mode) allowed
 
 -- this many seconds, or none for ever
 abbrev pub IsIdleTime : ℕ → Option Duration → Type 0

@@ -1,12 +1,13 @@
 -- The words of a request to run a daemon.
 use denote.Ref.{Bor}
-use Rattle.std.specs.Prelude.{◌≡◌, ◌⊎◌, ℕ, nat_le, Option, Some, None, Result, Ok, Err, List, if◌then◌else◌}
+use Rattle.std.specs.Prelude.{◌≡◌, ◌⊎◌, ℕ, nat_le, true, Option, Some, None, Result, Ok, Err, List, if◌then◌else◌}
 use Rattle.audit_text.specs.Number.{number_in_text}
 use Rattle.audit_serve_ready.specs.declared.limits.TheConstants.{DEFAULT_BACKLOG, MAX_BACKLOG}
 use Rattle.audit_cli_base.specs.Arguments.{number_asked, IsNoMode}
 use Rattle.audit_cli_base.specs.SocketPath.{IsNoSocketPath}
 use Rattle.audit_cli_base.specs.declared.fault.CommandError.{CommandError}
 use Rattle.audit_cli_base.specs.declared.fault.CommandError.TheVariants.{BadArgument}
+use Rattle.audit_cli_daemon.specs.Sources.{words_of, are_no_sources}
 use Rattle.audit_cli_daemon.specs.declared.arguments.TheConstants.{DEFAULT_IDLE, DEFAULT_RESERVE}
 use Rattle.audit_cli_daemon.specs.declared.sockets.TheConstants.{STOP_SUFFIX_LEN}
 use Rattle.audit_cli_daemon.specs.declared.request.Settings.{Settings}
@@ -37,7 +38,8 @@ HasBadSetting settings =
     (number_asked settings.idle DEFAULT_IDLE ≡ Err BadArgument)
     ⊎ ((number_asked settings.reserve DEFAULT_RESERVE ≡ Err BadArgument)
     ⊎ ((backlog_asked settings.backlog ≡ Err BadArgument)
-    ⊎ (IsNoMode settings.socket_mode ⊎ HasNoSocket settings)))
+    ⊎ (IsNoMode settings.socket_mode ⊎ (HasNoSocket settings
+    ⊎ (are_no_sources (words_of settings.writers.now) ≡ true)))))
 
 abbrev pub HasBadWord : Request → Type 0
 HasBadWord (Run settings) = HasBadSetting settings

@@ -1,5 +1,5 @@
 //! The requests to run a daemon and to stop it, and how they are carried out.
-ghost use Rattle.std.specs.Prelude.{◌≡◌, ◌⊎◌, ◌≤◌, true, false, None, Ok, Err, IfSome, IfOk, IfErr, OnOk, IsOk, codes};
+ghost use Rattle.std.specs.Prelude.{◌≡◌, ◌⊎◌, ◌≤◌, ℕ, None, Ok, Err, IfSome, IfOk, IfErr, OnOk, IsOk, codes};
 ghost use Rattle.std.specs.Prelude.{map};
 ghost use Rattle.std.specs.Io.KnownBytes.{Keeps, Appends};
 ghost use Rattle.audit_serve_ready.specs.declared.limits.TheConstants.{MAX_BACKLOG};
@@ -12,7 +12,12 @@ ghost use Rattle.audit_disk.specs.declared.files.TheConstants.{OWNER_ONLY};
 ghost use Rattle.audit_cli_daemon.specs.declared.arguments.TheConstants.{DEFAULT_IDLE, DEFAULT_RESERVE};
 ghost use Rattle.audit_cli_daemon.specs.Words.{HasBadSetting, HasBadWord, backlog_asked};
 ghost use Rattle.audit_cli_daemon.specs.Carried.{ServesAtDoor, ServesBetween, IsDaemonDone, IsDaemonCarriedOut};
-ghost use Rattle.audit_cli_daemon.specs.Rights.{rights_at, modes_at, IsIdleTime, IsDoorFor};
+ghost use Rattle.audit_serve_passes.specs.declared.bound_kinds.BoundKinds.{BoundKinds};
+ghost use Rattle.audit_serve_passes.specs.Rights.{is_bound};
+ghost use Rattle.audit_cli_daemon.specs.Rights.{rights_of_others, modes_at, IsIdleTime, IsDoorFor};
+ghost use Rattle.audit_cli_daemon.specs.Sources.{has_kind};
+ghost use Rattle.audit_cli_daemon.specs.Carried.{sources_asked};
+ghost use Rattle.audit_cli_daemon.specs.Sockets.{rights_served};
 ghost use Rattle.audit_cli_daemon.specs.State.{ready_line};
 ghost use Rattle.audit_serve_door.specs.Entrances.{rights_of, rights_of_door, mode_of, modes_of_door, idle_of_door};
 ghost use Rattle.audit_serve_door.specs.Comings.{who_waits};
@@ -25,6 +30,7 @@ use crate::client_journal::ClientJournal;
 use crate::gauge::{Gauge, GaugedDoor};
 use crate::running::serve_until_stopped;
 use crate::sockets::{Listening, Made, STOP_SUFFIX_LEN, Sockets};
+use crate::sources::kinds_bound_by;
 use crate::sparing::Sparing;
 use crate::state_line::write_state;
 use crate::stopping::stop;
@@ -73,6 +79,9 @@ pub struct Settings<'a> {
     pub socket: &'a str,
     /// The path of the socket for clients that only read.
     pub reader: Option<&'a str>,
+    /// For each source, a word for its kind and the path of the socket for its clients, who append events of that
+    /// kind alone: the kind, a colon, and the path. No other client may append such an event.
+    pub writers: &'a [&'a str],
     /// Whether clients may close the log.
     pub may_close: bool,
     /// How many seconds a client may be idle while another one waits; 0 for ever.
@@ -205,7 +214,7 @@ where
         (W.contents output.old) (W.contents output.new) result }
 {
     let judged = judge(settings)?;
-    let sockets = Sockets::new(alloc, settings.socket, settings.reader)?;
+    let sockets = Sockets::new(alloc, settings.socket, settings.reader, settings.writers)?;
     if let Err(error) = messages.spare(rt, alloc) {
         return Err(fault_of(error.kind()));
     }
@@ -225,22 +234,24 @@ fn judge(settings: Settings<'_>) -> Result<Judged, CommandError>
     ensures most { IfOk result (λ judged. judged.most ≤ MAX_BACKLOG) }
     ensures owner { settings.entry.socket_mode ≡ None → IfOk result (λ judged. judged.mode ≡ OWNER_ONLY) }
     ensures mode { IfOk result (λ judged. IfSome settings.entry.socket_mode (λ word. IsMode word.now judged.mode)) }
-    ensures closing { IfOk result (λ judged. settings.entry.may_close ≡ true → judged.rights ≡ Rights.Close) }
-    ensures appending { IfOk result (λ judged. settings.entry.may_close ≡ false → judged.rights ≡ Rights.Append) }
+    ensures others { IfOk result (λ judged. (bound : BoundKinds)
+        × ((kind : ℕ) → is_bound bound kind ≡ has_kind (sources_asked settings.entry) kind)
+        × (judged.rights ≡ rights_of_others settings.entry.may_close bound)) }
 {
     socket_path_asked(settings.socket, STOP_SUFFIX_LEN)?;
     if let Some(path) = settings.reader {
         socket_path_asked(path, 0)?;
     }
+    let bound = kinds_bound_by(settings.writers)?;
     Ok(Judged {
         idle: number_asked(settings.idle, DEFAULT_IDLE)?,
         reserve: number_asked(settings.reserve, DEFAULT_RESERVE)?,
         most: backlog_asked(settings.backlog)?,
         mode: socket_mode_asked(settings.socket_mode)?,
         rights: if settings.may_close {
-            Rights::Close
+            Rights::Close(bound)
         } else {
-            Rights::Append
+            Rights::Append(bound)
         },
     })
 }
@@ -284,12 +295,12 @@ where
     ensures cause { IfErr result IsNoWordFault }
     ensures served { OnOk result (ServesBetween ⟦<Client as ReadyStream>⟧.calls
         ⟦<DaemonDoor<F, F::File, Sparing<'static, M>> as Door>⟧.calls
-        (IsDoorFor (rights_at sockets.now.readers judged.rights) (modes_at sockets.now.readers judged.mode)
-        judged.idle) judged.reserve judged.most store
+        (IsDoorFor (rights_served sockets.now judged.rights) (modes_at (rights_served sockets.now judged.rights)
+        judged.mode) judged.idle) judged.reserve judged.most store
         (W.contents output.old) (W.contents output.new)) }
 {
     let shared = RefCell::new(messages);
-    let mut made = Made::none();
+    let mut made = Made::none(alloc);
     let (store, served) = match sockets.bind(rt, alloc, judged.mode, judged.rights, &mut made) {
         Ok(listening) => serve_listening(
             rt, alloc, store, watch, listening, judged, explains, output, &shared, orders,

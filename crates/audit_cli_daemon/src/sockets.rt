@@ -1,14 +1,17 @@
-ghost use Rattle.std.specs.Prelude.{◌≡◌, ◌↔◌, map, IfOk, IfSome, IsSome};
+ghost use Rattle.std.specs.Prelude.{◌≡◌, ◌++◌, [], ◌∷◌, map, IfOk, OnOk};
 ghost use Rattle.audit_serve_door.specs.Entrances.{rights_of, mode_of};
-ghost use Rattle.audit_cli_daemon.specs.Rights.{rights_at, modes_at};
+ghost use Rattle.audit_cli_daemon.specs.Rights.{modes_at, source_rights};
+ghost use Rattle.audit_cli_daemon.specs.Sockets.{rights_served};
+ghost use Rattle.audit_cli_daemon.specs.Sources.{words_of, sources_in};
 
+use crate::sources::source_in;
 use audit_disk::{OWNER_ONLY, SystemFile};
 use audit_serve_door::{ClientEntrance, Entrance, StopOrders};
 use audit_serve_passes::Rights;
 use audit_serve_sockets::{SocketFile, SocketLock, SocketName};
 use std::alloc::{AllocError, Global};
 use std::fs::Files;
-use std::io;
+use std::io::{self, ErrorKind};
 use std::net::Net;
 use std::os::unix::net::UnixListener;
 
@@ -23,6 +26,8 @@ pub const STOP_SUFFIX_LEN: usize = 5;
 pub struct Sockets<'a> {
     clients: &'a str,
     readers: Option<&'a str>,
+    // The words for the sources.
+    sources: &'a [&'a str],
     stop: String,
 }
 
@@ -35,21 +40,20 @@ pub struct Listening {
     pub orders: StopOrders,
 }
 
-// A socket that listens, and the permission bits of its file.
+// A socket's file that was made, and its lock.
 #[derive(Drop)]
-struct Bound {
-    listener: UnixListener,
-    mode: u32,
+struct MadeSocket<'a, F> {
+    path: &'a str,
+    name: SocketName,
+    lock: SocketLock<F>,
 }
 
 /// The sockets' files that were made, and their locks.
 #[derive(Drop)]
-pub struct Made<F> {
-    clients: Option<SocketName>,
+pub struct Made<'a, F> {
+    // That of the clients comes first.
+    sockets: Vec<MadeSocket<'a, F>>,
     stop: Option<SocketName>,
-    readers: Option<SocketName>,
-    lock: Option<SocketLock<F>>,
-    readers_lock: Option<SocketLock<F>>,
 }
 
 /// The path of the socket for stop orders, which is beside the clients' socket.
@@ -57,31 +61,41 @@ pub fn stop_path(alloc: Global, socket: &str) -> Result<String, AllocError> {
     format!(in alloc; "{socket}{STOP_SUFFIX}")
 }
 
-impl<F: SystemFile> Made<F> {
+impl<'a, F: SystemFile> Made<'a, F> {
     /// No file, before the first is made.
-    pub fn none() -> Made<F> {
+    pub fn none(alloc: Global) -> Made<'a, F> {
         Made {
-            clients: None,
+            sockets: Vec::new(alloc),
             stop: None,
-            readers: None,
-            lock: None,
-            readers_lock: None,
         }
     }
 }
 
+impl<'a, F: SystemFile> MadeSocket<'a, F> {
+    // Removes the file, and then its lock, as far as they are still this program's. The first error is returned, after
+    // both were tried.
+    fn remove<R: Files<File = F>>(self, rt: &R) -> io::Result<()> {
+        let removed = self.name.remove(rt, self.path);
+        removed.and(self.lock.remove(rt))
+    }
+}
+
 impl<'a> Sockets<'a> {
-    /// The paths of the sockets for clients, for those that only read, and for stop orders.
+    /// The paths of the sockets for clients, for those that only read, for those of the sources that these words ask
+    /// for, and for stop orders.
     pub fn new(
         alloc: Global,
         clients: &'a str,
         readers: Option<&'a str>,
+        sources: &'a [&'a str],
     ) -> Result<Sockets<'a>, AllocError>
-        ensures { IfOk result (λ sockets. sockets.readers ≡ readers.entry) }
+        ensures readers { IfOk result (λ sockets. sockets.readers ≡ readers.entry) }
+        ensures sources { IfOk result (λ sockets. sockets.sources ≡ sources.entry) }
     {
         Ok(Sockets {
             clients,
             readers,
+            sources,
             stop: stop_path(alloc, clients)?,
         })
     }
@@ -94,39 +108,30 @@ impl<'a> Sockets<'a> {
         alloc: Global,
         mode: u32,
         rights: Rights,
-        made: &mut Made<R::File>,
+        made: &mut Made<'a, R::File>,
     ) -> io::Result<Listening>
     where
         R::File: SystemFile,
-        // Whoever comes by the readers' socket only reads; the others have these rights.
-        ensures rights { IfOk result (λ listening.
-            map rights_of listening.entrances.items ≡ rights_at self.now.readers rights) }
-        ensures modes { IfOk result (λ listening.
-            map mode_of listening.entrances.items ≡ modes_at self.now.readers mode) }
+        // Whoever comes by the readers' socket only reads, and whoever comes by a source's appends its kind; the others
+        // have these rights.
+        ensures rights { IfOk result (λ listening. map rights_of listening.entrances.items
+            ≡ rights_served self.now rights) }
+        ensures modes { IfOk result (λ listening. map mode_of listening.entrances.items
+            ≡ modes_at (rights_served self.now rights) mode) }
     {
-        let clients = self.bind_clients(rt, alloc, mode, made)?;
+        let clients = open_entrance(rt, alloc, self.clients, mode, rights, &mut made.sockets)?;
         let orders = self.bind_stop(rt, alloc, made)?;
-        let readers = self.bind_readers(rt, alloc, mode, made)?;
-        listen(alloc, clients, readers, orders, rights)
-    }
-
-    fn bind_clients<R: Files + Net>(
-        &self,
-        rt: &R,
-        alloc: Global,
-        mode: u32,
-        made: &mut Made<R::File>,
-    ) -> io::Result<Bound>
-    where
-        R::File: SystemFile,
-        ensures { IfOk result (λ bound. bound.mode ≡ mode) }
-    {
-        let (bound, lock) = SocketFile::bind(rt, alloc, self.clients, mode)?;
-        let (listener, name) = bound.into_parts();
-        let mode = name.mode();
-        made.clients = Some(name);
-        made.lock = Some(lock);
-        Ok(Bound { listener, mode })
+        let mut entrances = Vec::new(alloc);
+        if let Some(path) = self.readers {
+            let readers = open_entrance(rt, alloc, path, mode, Rights::Read, &mut made.sockets)?;
+            entrances.push(readers)?;
+        }
+        self.bind_sources(rt, alloc, mode, &mut made.sockets, &mut entrances)?;
+        entrances.push(clients)?;
+        Ok(Listening {
+            entrances,
+            orders: StopOrders::new(alloc, orders)?,
+        })
     }
 
     // The lock of the clients' socket covers it.
@@ -134,92 +139,80 @@ impl<'a> Sockets<'a> {
         &self,
         rt: &R,
         alloc: Global,
-        made: &mut Made<R::File>,
+        made: &mut Made<'a, R::File>,
     ) -> io::Result<UnixListener>
     where
         R::File: SystemFile,
     {
         let path = self.stop.as_str();
-        let bound = SocketFile::bind_beside(rt, alloc, path, OWNER_ONLY, made.lock.as_ref())?;
+        let lock = made.sockets.first().map(|clients| &clients.lock);
+        let bound = SocketFile::bind_beside(rt, alloc, path, OWNER_ONLY, lock)?;
         let (listener, name) = bound.into_parts();
         made.stop = Some(name);
         Ok(listener)
     }
 
-    fn bind_readers<R: Files + Net>(
+    // The words were judged, so each of them asks for a source.
+    fn bind_sources<R: Files + Net>(
         &self,
         rt: &R,
         alloc: Global,
         mode: u32,
-        made: &mut Made<R::File>,
-    ) -> io::Result<Option<Bound>>
+        made: &mut Vec<MadeSocket<'a, R::File>>,
+        entrances: &mut Vec<ClientEntrance>,
+    ) -> io::Result<()>
     where
         R::File: SystemFile,
-        ensures there { IfOk result (λ bound. IsSome bound ↔ IsSome self.now.readers) }
-        ensures mode { IfOk result (λ bound. IfSome bound (λ bound. bound.mode ≡ mode)) }
+        ensures rights { OnOk result (map rights_of entrances.new.items ≡ map rights_of entrances.old.items
+            ++ map source_rights (sources_in (words_of self.now.sources.now))) }
+        ensures modes { OnOk result (map mode_of entrances.new.items ≡ map mode_of entrances.old.items
+            ++ map (λ source. mode) (sources_in (words_of self.now.sources.now))) }
     {
-        let Some(path) = self.readers else {
-            return Ok(None);
+        for word in self.sources {
+            let Some(source) = source_in(word) else {
+                return Err(io::Error::from(ErrorKind::InvalidInput));
+            };
+            let rights = Rights::Source(source.kind);
+            entrances.push(open_entrance(rt, alloc, source.path, mode, rights, made)?)?;
+        }
+        Ok(())
+    }
+
+    /// Removes the sockets' files that were made, and their locks, as far as they are still this program's. The first
+    /// error is returned, after all were tried.
+    pub fn remove<R: Files>(&self, rt: &R, made: Made<'a, R::File>) -> io::Result<()>
+    where
+        R::File: SystemFile,
+    {
+        let mut removed = match made.stop {
+            Some(name) => name.remove(rt, self.stop.as_str()),
+            None => Ok(()),
         };
-        let (bound, lock) = SocketFile::bind(rt, alloc, path, mode)?;
-        let (listener, name) = bound.into_parts();
-        let mode = name.mode();
-        made.readers = Some(name);
-        made.readers_lock = Some(lock);
-        Ok(Some(Bound { listener, mode }))
-    }
-
-    /// Removes the sockets' files that were made, and then their locks, as far as they are still this program's. The
-    /// first error is returned, after all were tried.
-    pub fn remove<R: Files>(&self, rt: &R, made: Made<R::File>) -> io::Result<()>
-    where
-        R::File: SystemFile,
-    {
-        let clients = remove_name(rt, self.clients, made.clients);
-        let stop = remove_name(rt, self.stop.as_str(), made.stop);
-        let readers = remove_name(rt, self.readers.unwrap_or(""), made.readers);
-        let lock = remove_lock(rt, made.lock);
-        let readers_lock = remove_lock(rt, made.readers_lock);
-        clients.and(stop).and(readers).and(lock).and(readers_lock)
+        for socket in made.sockets {
+            removed = removed.and(socket.remove(rt));
+        }
+        removed
     }
 }
 
-fn remove_name<R: Files>(rt: &R, path: &str, name: Option<SocketName>) -> io::Result<()> {
-    match name {
-        Some(name) => name.remove(rt, path),
-        None => Ok(()),
-    }
-}
-
-fn remove_lock<R: Files>(rt: &R, lock: Option<SocketLock<R::File>>) -> io::Result<()>
+// Makes the file of a socket, whose clients have these rights, and listens. What was made is noted.
+fn open_entrance<'a, R: Files + Net>(
+    rt: &R,
+    alloc: Global,
+    path: &'a str,
+    mode: u32,
+    rights: Rights,
+    made: &mut Vec<MadeSocket<'a, R::File>>,
+) -> io::Result<ClientEntrance>
 where
     R::File: SystemFile,
+    ensures rights { IfOk result (λ entrance. rights_of entrance ≡ rights) }
+    ensures mode { IfOk result (λ entrance. mode_of entrance ≡ mode) }
 {
-    match lock {
-        Some(lock) => lock.remove(rt),
-        None => Ok(()),
-    }
-}
-
-fn listen(
-    alloc: Global,
-    clients: Bound,
-    readers: Option<Bound>,
-    orders: UnixListener,
-    rights: Rights,
-) -> io::Result<Listening>
-    ensures rights { IfOk result (λ listening.
-        map rights_of listening.entrances.items ≡ rights_at readers rights) }
-    ensures modes { IfSome readers (λ bound. bound.mode ≡ clients.mode)
-        → IfOk result (λ listening. map mode_of listening.entrances.items ≡ modes_at readers clients.mode) }
-{
-    let mut entrances = Vec::with_capacity(alloc, 2)?;
-    if let Some(readers) = readers {
-        entrances.push_reserved(Entrance::new(readers.listener, Rights::Read, readers.mode)?);
-    }
-    entrances.push_reserved(Entrance::new(clients.listener, rights, clients.mode)?);
-    Ok(Listening {
-        entrances,
-        orders: StopOrders::new(alloc, orders)?,
-    })
+    made.reserve(1)?;
+    let (bound, lock) = SocketFile::bind(rt, alloc, path, mode)?;
+    let (listener, name) = bound.into_parts();
+    let mode = name.mode();
+    made.push_reserved(MadeSocket { path, name, lock });
+    Entrance::new(listener, rights, mode)
 }

@@ -183,13 +183,13 @@ impl<'a> Notes<'a> {
         let mut found = Subject::Other;
         let mut length = 0;
         for (place, word) in self.words.iter().enumerate() {
-            let word = word.as_str();
-            if word == path {
+            let named = path_in(word.as_str());
+            if named == path {
                 return Subject::Word(place);
             }
-            if word.len() > length && path.starts_with(word) {
+            if named.len() > length && path.starts_with(named) {
                 found = Subject::Word(place);
-                length = word.len();
+                length = named.len();
             }
         }
         found
@@ -206,4 +206,16 @@ impl<'a> Notes<'a> {
             Subject::Other => "a file",
         }
     }
+}
+
+// The path in a word: all of it, or what follows the kind and the colon of a source.
+fn path_in(word: &str) -> &str {
+    match word.split_once(':') {
+        Some((kind, path)) if is_number(kind) => path,
+        _ => word,
+    }
+}
+
+fn is_number(word: &str) -> bool {
+    !word.is_empty() && word.bytes().all(|byte| byte.is_ascii_digit())
 }

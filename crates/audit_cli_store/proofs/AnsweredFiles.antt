@@ -19,7 +19,8 @@ use Rattle.audit_chain.specs.Key.{next_key}
 use Rattle.audit_tree.specs.Subtree.{commitment_of}
 use Rattle.audit_proof.specs.declared.commitment.Commitment.{Commitment}
 use Rattle.audit_disk.specs.FileFacts.{FileFacts, IsMadeDevice}
-use Rattle.audit_disk.specs.Positioned.{PositionedView}
+use Rattle.audit_disk.specs.Positioned.{PositionedView, ShowsFront}
+use Rattle.audit_log.specs.declared.header.Header.{Header}
 use Rattle.audit_disk.specs.declared.files.TheConstants.{OWNER_ONLY}
 use Rattle.audit_cli_base.specs.Arguments.{selects_output, sectors_asked, number_asked, proof_asked}
 use Rattle.audit_cli_base.specs.Blank.{IsBlankUpTo}
@@ -37,6 +38,8 @@ use Rattle.audit_cli_base.specs.OpenedStore.{IsStoreOn, IsDeviceAt, IsReadDevice
 use Rattle.audit_disk.specs.SectorSource.{source_of}
 use Rattle.audit_store.specs.ReadOnlyOpening.{at_rest}
 use Rattle.audit_cli_store.specs.Exports.{export_after, PutsEntries}
+use Rattle.audit_cli_store.specs.Shown.{printed_state}
+use Rattle.audit_cli_store.specs.Headers.{IsHeaderOn, TellsHeader, ShowsHeader}
 use Rattle.audit_cli_store.specs.OnFiles.{put_text, blank_front, IsPutTo, exported_line, exported_text, AnswersAbout, AnswersOn, AnswersAt, IsDeviceFor, view_for, ProvesOn, IsProofAt, ProvesAt, FormatsNewFile, FormatsInPlace, FormatsSite, ClosesAt, IsDoneOnFile}
 use Rattle.audit_cli_store.specs.declared.answering.StoreQuestion.{StoreQuestion}
 use Rattle.audit_cli_store.specs.declared.answering.StoreQuestion.TheVariants.{State, Entries}
@@ -198,9 +201,9 @@ module _ {F : Type 0} (facts : F → FileFacts) (positioned : F → PositionedVi
     IsFormatting disk first_key before after = (store : Store E h) × IsFormatted (h.view disk) first_key store × Appends before after (codes "formatted " ++ decimal (h.view disk).size ++ codes "\n")
 
     pub formatted_new : (path : List ℕ) (mode : Option (Bor (List ℕ))) (sectors key_file : List ℕ) (bits count : ℕ) (first_key : List ℕ) (disk : E) (before after : Option (List ℕ)) (result : Result (Unit {0}) CommandError) → (mode ≡ None → bits ≡ OWNER_ONLY) → IfSome mode (λ word. IsMode word.now bits) → sectors_asked sectors ≡ Ok count
-        → IsKeyAt facts remaining key_file first_key → IsMadeDevice facts positioned path bits count (h.view disk) → OnOk result (IsFormatting disk first_key before after) → OnOk result (FormatsNewFile facts positioned h remaining path mode sectors key_file before after)
-    formatted_new path mode sectors key_file bits count first_key disk before after (Err fault) owner bits_are asked key made formatted = tt
-    formatted_new path mode sectors key_file bits count first_key disk before after (Ok done) owner bits_are asked key made formatted = record {
+        → IsKeyAt facts remaining key_file first_key → IsMadeDevice facts positioned path bits count (h.view disk) → (h.view disk).size ≡ count → OnOk result (IsFormatting disk first_key before after) → OnOk result (FormatsNewFile facts positioned h remaining path mode sectors key_file before after)
+    formatted_new path mode sectors key_file bits count first_key disk before after (Err fault) owner bits_are asked key made size formatted = tt
+    formatted_new path mode sectors key_file bits count first_key disk before after (Ok done) owner bits_are asked key made size formatted = record {
       bits = bits;
       owner = owner;
       bits_are = bits_are;
@@ -208,6 +211,7 @@ module _ {F : Type 0} (facts : F → FileFacts) (positioned : F → PositionedVi
       count_is = asked;
       disk = disk;
       made = made;
+      size = size;
       formatted = record { first_key = first_key; key_is = key; store = formatted.0; formatted = formatted.1; line = formatted.2 };
     }
 
@@ -224,6 +228,16 @@ module _ {F : Type 0} (facts : F → FileFacts) (positioned : F → PositionedVi
       formatted = record { first_key = first_key; key_is = key; store = formatted.0; formatted = formatted.1; line = formatted.2 };
     }
 
+  -- ---- headers
+
+  pub told_by : (path : List ℕ) (file : F) (disk : E) (result : Result Header CommandError) → (facts file).opened_to_read path → ShowsFront (positioned file) (h.view disk) → IfOk result (IsHeaderOn (h.view disk)) → IfOk result (TellsHeader facts positioned h path)
+  told_by path file disk (Err fault) opened front on = tt
+  told_by path file disk (Ok header) opened front on = record { file = file; opened = opened; disk = disk; front = front; on = on }
+
+  pub shown_by : (path : List ℕ) (form : ShowForm) (header : Header) (before after : Option (List ℕ)) (result : Result (Unit {0}) CommandError) → TellsHeader facts positioned h path header → OnOk result (Appends before after (printed_state form header)) → OnOk result (ShowsHeader facts positioned h path form before after)
+  shown_by path form header before after (Err fault) tells shown = tt
+  shown_by path form header before after (Ok done) tells shown = record { header = header; tells = tells; shown = shown }
+
   -- ---- the whole command
 
   module _ (remaining : F → Option (List ℕ)) where
@@ -239,6 +253,10 @@ module _ {F : Type 0} (facts : F → FileFacts) (positioned : F → PositionedVi
         → IsDoneOnFile facts positioned h remaining (request.Show file access form) before after result
     done_show file access form before after (Ok done) answers = answers
     done_show file access form before after (Err fault) answers = tt
+
+    pub done_show_header : (file : Bor (List ℕ)) (form : ShowForm) (before after : Option (List ℕ)) (result : Result (Unit {0}) CommandError) → OnOk result (ShowsHeader facts positioned h file.now form before after) → IsDoneOnFile facts positioned h remaining (request.ShowHeader file form) before after result
+    done_show_header file form before after (Ok done) shows = shows
+    done_show_header file form before after (Err fault) shows = tt
 
     pub done_export : (file out : Bor (List ℕ)) (access : Access) (from : Option (Bor (List ℕ))) (before after : Option (List ℕ)) (result : Result (Unit {0}) CommandError) → OnOk result ((first : ℕ) × (number_asked from 0 ≡ Ok first) × AnswersAt facts positioned h access file.now (Entries out first) before after)
         → IsDoneOnFile facts positioned h remaining (request.Export file out access from) before after result

@@ -1,5 +1,6 @@
 pub mod Replay
 pub mod Shown
+pub mod Headers
 pub mod Proofs
 pub mod Closing
 pub mod Exports

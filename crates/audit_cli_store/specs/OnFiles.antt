@@ -27,6 +27,7 @@ use Rattle.audit_cli_base.specs.declared.arguments.ProofRequest.{ProofRequest}
 use Rattle.audit_cli_base.specs.declared.fault.CommandError.{CommandError}
 use Rattle.audit_cli_store.specs.Closing.{ClosesLog, IsNotAsked}
 use Rattle.audit_cli_store.specs.Exports.{export_after}
+use Rattle.audit_cli_store.specs.Headers.{ShowsHeader}
 use Rattle.audit_cli_store.specs.Proofs.{AsksOutside, proof_of_log}
 use Rattle.audit_cli_store.specs.Shown.{printed_state}
 use Rattle.audit_cli_store.specs.declared.answering.StoreQuestion.{StoreQuestion}
@@ -125,7 +126,7 @@ module _ {F : Type 0} (facts : F → FileFacts) (positioned : F → PositionedVi
     pub proves : IsProofAt access path asked proof
     pub put : Appends before after (proved_text out proof)
 
-  -- the log of the store that was opened at this path was closed, or wasn't; or no store was opened, and nothing was
+  -- the log of the store that was opened at this path was closed, or wasn't; or the result is an error, and nothing was
   -- written
   abbrev pub ClosesAt : List ℕ → Option (List ℕ) → Option (List ℕ) → Result (Unit {0}) CommandError → Type 0
   ClosesAt path before after result =
@@ -154,6 +155,7 @@ module _ {F : Type 0} (facts : F → FileFacts) (positioned : F → PositionedVi
       pub count_is : sectors_asked sectors ≡ Ok count
       pub disk : E
       pub made : IsMadeDevice facts positioned path bits count (h.view disk)
+      pub size : (h.view disk).size ≡ count
       pub formatted : FormatsDevice (h.view disk) key_file before after
 
     -- the device of the file at this path, which is as large as was asked for at least, and blank unless it is erased
@@ -182,6 +184,8 @@ module _ {F : Type 0} (facts : F → FileFacts) (positioned : F → PositionedVi
         FormatsSite file.now site sectors.now key_file.now before after
     IsDoneOnFile (request.Show file access form) before after (Ok done) =
         AnswersAt access file.now (State form) before after
+    IsDoneOnFile (request.ShowHeader file form) before after (Ok done) =
+        ShowsHeader facts positioned h file.now form before after
     IsDoneOnFile (request.Export file out access from) before after (Ok done) =
         (first : ℕ) × (number_asked from 0 ≡ Ok first) × AnswersAt access file.now (Entries out first) before after
     IsDoneOnFile (request.Prove file kind first second out access) before after (Ok done) =

@@ -6,6 +6,7 @@ ghost use Rattle.audit_cli_store.specs.Requests.{IsWordFault, IsReplayOf, IsCarr
 use crate::answering::{StoreQuestion, answer_file, export_file, prove_file};
 use crate::auditing::{Verification, check_file, verify_and_report};
 use crate::closing::close_file;
+use crate::header_showing::show_header;
 use crate::making::format_site;
 use crate::replaying::replay;
 use crate::show_form::ShowForm;
@@ -70,6 +71,13 @@ pub enum Request<'a> {
         file: &'a str,
         /// How it is opened.
         access: Access,
+        /// What is written of it.
+        form: ShowForm,
+    },
+    /// Write what the headers of the store in a file say, also while another program has it open.
+    ShowHeader {
+        /// The file.
+        file: &'a str,
         /// What is written of it.
         form: ShowForm,
     },
@@ -168,6 +176,7 @@ where
                 output,
             )
         }
+        Request::ShowHeader { file, form } => show_header(rt, alloc, file, form, output),
         Request::Check {
             proof,
             older,

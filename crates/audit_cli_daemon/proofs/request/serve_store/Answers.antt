@@ -10,7 +10,8 @@ use Rattle.audit_serve_door.specs.Notes.{unknown_notes}
 use Rattle.audit_serve_door.specs.Comings.{socket_door_calls}
 use Rattle.audit_cli_daemon.specs.Gauged.{gauged_calls}
 use Rattle.audit_cli_daemon.specs.Carried.{ServesAtDoor}
-use Rattle.audit_cli_daemon.specs.Rights.{rights_at, modes_at, IsDoorFor}
+use Rattle.audit_cli_daemon.specs.Rights.{modes_at, IsDoorFor}
+use Rattle.audit_cli_daemon.specs.Sockets.{rights_served}
 use Rattle.audit_cli_daemon.specs.State.{ready_line}
 use Rattle.audit_cli_daemon.proofs.Carried.{serves_between}
 use Rattle.audit_cli_daemon.proofs.request.serve_store.Goals.{in-Ok, in-Err}
@@ -20,7 +21,7 @@ pub returns-clause-served : goal.returns-clause-served
 returns-clause-served g c =
     let N = metered_calls (nonblocking_calls unknown_prompt) in
     let doors = gauged_calls (socket_door_calls unknown_accepting unknown_notes) in
-    let opens = IsDoorFor (rights_at c.args.sockets.now.readers c.args.judged.rights) (modes_at c.args.sockets.now.readers c.args.judged.mode) c.args.judged.idle in
+    let opens = IsDoorFor (rights_served c.args.sockets.now c.args.judged.rights) (modes_at (rights_served c.args.sockets.now c.args.judged.rights) c.args.judged.mode) c.args.judged.idle in
     let begun = g.W.Write.contents c.args.output.now in
     let pair = c.match-bind.store in
     serves_between N doors opens c.args.judged.reserve c.args.judged.most c.args.store pair.0 begun (g.W.Write.contents c.match-bind.output) (g.W.Write.contents c.report_stopped.new.output) pair.1 c.report_stopped.result c.closed.result.count c.closed.result.root
@@ -29,7 +30,7 @@ returns-clause-served g c =
         subst (λ both. OnOk both.1 (Appends begun (g.W.Write.contents c.match-bind.output) (ready_line (active_header c.args.store)))) (sym w.store-is)
             (subst (λ output. OnOk w.serve_listening.result.1 (Appends begun (g.W.Write.contents output) (ready_line (active_header c.args.store)))) (sym w.output-is) w.serve_listening.ensures.ready),
         subst (λ both. OnOk both.1 (ServesAtDoor N doors opens c.args.judged.reserve c.args.judged.most c.args.store both.0)) (sym w.store-is)
-            (subst (λ modes. OnOk w.serve_listening.result.1 (ServesAtDoor N doors (IsDoorFor (rights_at c.args.sockets.now.readers c.args.judged.rights) modes c.args.judged.idle) c.args.judged.reserve c.args.judged.most c.args.store w.serve_listening.result.0)) w.in-Ok.ensures.modes
+            (subst (λ modes. OnOk w.serve_listening.result.1 (ServesAtDoor N doors (IsDoorFor (rights_served c.args.sockets.now c.args.judged.rights) modes c.args.judged.idle) c.args.judged.reserve c.args.judged.most c.args.store w.serve_listening.result.0)) w.in-Ok.ensures.modes
             (subst (λ allowed. OnOk w.serve_listening.result.1 (ServesAtDoor N doors (IsDoorFor allowed (map mode_of w.in-Ok.listening.entrances.items) c.args.judged.idle) c.args.judged.reserve c.args.judged.most c.args.store w.serve_listening.result.0)) w.in-Ok.ensures.rights w.serve_listening.ensures.served)),
       )
       | in-Err w ↦ (

@@ -1,5 +1,5 @@
 use Rattle.std.proofs.Common.{Ok, subst, sym, rules}
-use Rattle.audit_cli_store.proofs.AnsweredFiles.{done_show, done_format, done_export, done_prove}
+use Rattle.audit_cli_store.proofs.AnsweredFiles.{done_show, done_show_header, done_format, done_export, done_prove}
 use Rattle.std.proofs.lemmas.Result.{err_from_is_err_and}
 use Rattle.audit_cli_store.specs.Requests.{IsWordFault, IsReplayed, IsReplayOf}
 use Rattle.audit_cli_store.proofs.request.perform.Goals as goal
@@ -11,6 +11,9 @@ returns-in-Close-clause-words g c = λ fault asked. absurd (subst (λ request. I
 
 pub returns-in-Show-clause-words : goal.returns-in-Show-clause-words
 returns-in-Show-clause-words g c = λ fault asked. absurd (subst (λ request. IsWordFault request fault) c.in-Show.is asked)
+
+pub returns-in-ShowHeader-clause-words : goal.returns-in-ShowHeader-clause-words
+returns-in-ShowHeader-clause-words g c = λ fault asked. absurd (subst (λ request. IsWordFault request fault) c.in-ShowHeader.is asked)
 
 pub returns-in-Export-clause-words : goal.returns-in-Export-clause-words
 returns-in-Export-clause-words g c = λ fault asked. c.export_file.ensures.words fault (subst (λ request. IsWordFault request fault) c.in-Export.is asked)
@@ -28,6 +31,9 @@ returns-in-Close-clause-replayed g c = rw c.in-Close.is tt
 
 pub returns-in-Show-clause-replayed : goal.returns-in-Show-clause-replayed
 returns-in-Show-clause-replayed g c = rw c.in-Show.is tt
+
+pub returns-in-ShowHeader-clause-replayed : goal.returns-in-ShowHeader-clause-replayed
+returns-in-ShowHeader-clause-replayed g c = rw c.in-ShowHeader.is tt
 
 pub returns-in-Check-clause-replayed : goal.returns-in-Check-clause-replayed
 returns-in-Check-clause-replayed g c = rw c.in-Check.is tt
@@ -79,6 +85,9 @@ returns-in-Close-clause-done g c = rw c.in-Close.is c.close_file.ensures
 
 pub returns-in-Show-clause-done : goal.returns-in-Show-clause-done
 returns-in-Show-clause-done g c = rw c.in-Show.is (done_show g.F.File.SystemFile.facts g.F.File.PositionedFile.positioned _ g.F.File.Read.remaining c.in-Show.file c.in-Show.access c.in-Show.form (g.W.Write.contents c.args.output.now) (g.W.Write.contents c.answer_file.new.output) c.answer_file.result c.answer_file.ensures)
+
+pub returns-in-ShowHeader-clause-done : goal.returns-in-ShowHeader-clause-done
+returns-in-ShowHeader-clause-done g c = rw c.in-ShowHeader.is (done_show_header g.F.File.SystemFile.facts g.F.File.PositionedFile.positioned _ g.F.File.Read.remaining c.in-ShowHeader.file c.in-ShowHeader.form (g.W.Write.contents c.args.output.now) (g.W.Write.contents c.show_header.new.output) c.show_header.result c.show_header.ensures)
 
 pub returns-in-Format-clause-done : goal.returns-in-Format-clause-done
 returns-in-Format-clause-done g c = rw c.in-Format.is (done_format g.F.File.SystemFile.facts g.F.File.PositionedFile.positioned _ g.F.File.Read.remaining c.in-Format.file c.in-Format.site c.in-Format.sectors c.in-Format.key_file (g.W.Write.contents c.args.output.now) (g.W.Write.contents c.format_site.new.output) c.format_site.result c.format_site.ensures.formatted)

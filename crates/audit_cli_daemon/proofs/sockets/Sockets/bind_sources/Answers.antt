@@ -1,0 +1,34 @@
+use Rattle.std.specs.Prelude.{option_map}
+use Rattle.std.proofs.Common.{◌≡◌, ◌∙◌, ◌++◌, ◌∷◌, [], map, sym, ap, take}
+use Rattle.std.proofs.lemmas.List.{append-nil, take_all}
+use Rattle.audit_serve_door.specs.Entrances.{rights_of, mode_of}
+use Rattle.audit_cli_daemon.specs.Rights.{source_rights}
+use Rattle.audit_cli_daemon.specs.Sources.{words_of, sources_in, source_shown}
+use Rattle.audit_cli_daemon.proofs.JudgedSources.{sources_taken, pushed}
+use Rattle.audit_cli_daemon.proofs.sockets.Sockets.bind_sources.Goals as goal
+
+pub loop-word-init : goal.loop-word-init
+loop-word-init g c = record {
+  rights = sym (append-nil (map rights_of c.args.entrances.now.items));
+  modes = sym (append-nil (map mode_of c.args.entrances.now.items));
+}
+
+pub loop-word-preserved : goal.loop-word-preserved
+loop-word-preserved g c =
+    let words = c.args.self.now.sources.now in
+    let i = c.loop-word.word-index in
+    let before = sources_in (words_of (take i words)) in
+    let s = source_shown c.in-Some.source in
+    let more = sources_taken words i s c.loop-word-test.true (sym c.source_in.ensures ∙ ap (option_map source_shown) c.in-Some.is) in
+    record {
+      rights = ap (map rights_of) c.in_ok-push.ensures.items ∙ pushed rights_of source_rights c.args.entrances.now.items c.loop-word.entrances.items c.in_ok-open_entrance.field-0 before _ s c.loop-word.invariant.rights c.in_ok-open_entrance.ensures.rights more;
+      modes = ap (map mode_of) c.in_ok-push.ensures.items ∙ pushed mode_of (λ source. c.args.mode) c.args.entrances.now.items c.loop-word.entrances.items c.in_ok-open_entrance.field-0 before _ s c.loop-word.invariant.modes c.in_ok-open_entrance.ensures.mode more;
+    }
+
+pub returns-clause-rights : goal.returns-clause-rights
+returns-clause-rights g c =
+    c.loop-word.invariant.rights ∙ ap (λ words. map rights_of c.args.entrances.now.items ++ map source_rights (sources_in (words_of words))) (take_all c.loop-word.word-index c.args.self.now.sources.now c.loop-word-test.false)
+
+pub returns-clause-modes : goal.returns-clause-modes
+returns-clause-modes g c =
+    c.loop-word.invariant.modes ∙ ap (λ words. map mode_of c.args.entrances.now.items ++ map (λ source. c.args.mode) (sources_in (words_of words))) (take_all c.loop-word.word-index c.args.self.now.sources.now c.loop-word-test.false)

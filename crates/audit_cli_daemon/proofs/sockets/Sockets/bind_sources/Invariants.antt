@@ -1,0 +1,14 @@
+use Rattle.std.proofs.Common.{◌≡◌, ◌++◌, map, take}
+use Rattle.audit_serve_door.specs.Entrances.{rights_of, mode_of}
+use Rattle.audit_cli_daemon.specs.Rights.{source_rights}
+use Rattle.audit_cli_daemon.specs.Sources.{words_of, sources_in}
+use Rattle.audit_cli_daemon.proofs.sockets.Sockets.bind_sources.Given as goal
+
+-- the words so far have their sockets
+abbrev pub invariant-loop-word : goal.invariant-loop-word
+invariant-loop-word g l =
+    let sources = sources_in (words_of (take l.word-index l.fn.self.sources.now)) in
+    record {
+      rights : map rights_of l.entrances.items ≡ map rights_of l.fn.entrances.items ++ map source_rights sources;
+      modes : map mode_of l.entrances.items ≡ map mode_of l.fn.entrances.items ++ map (λ source. l.fn.mode) sources;
+    }
