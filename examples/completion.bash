@@ -2,13 +2,15 @@
 _audit() {
     local word=${COMP_WORDS[COMP_CWORD]} before=${COMP_WORDS[COMP_CWORD - 1]} command=${COMP_WORDS[1]}
     local commands="replay format append close rotate show prove check export verify serve loop daemon stop send ask watch read help"
-    local valued="--mode --long --expect --reserve --sessions --socket-mode --reader --idle --backlog --window --timeout --every --kind --from --save --first --under"
+    local valued="--mode --long --expect --reserve --sessions --socket-mode --reader --writer --idle --backlog --window --timeout --every --kind --from --save --first --under"
     local options="--explain --no-progress --help" choices= files= place=0 question= index
     [[ $command = verify || $command = read ]] || valued="$valued --text"
     # Which word of the command this is: options and their values aren't counted.
     for ((index = 2; index < COMP_CWORD; index++)); do
         if [[ " $valued " == *" ${COMP_WORDS[index]} "* ]]; then
             index=$((index + 1))
+            # A colon parts the words of bash.
+            [[ ${COMP_WORDS[index + 1]} != : ]] || index=$((index + 2))
         elif [[ ${COMP_WORDS[index]} != -* ]]; then
             place=$((place + 1))
             [ "$place" -ne 2 ] || question=${COMP_WORDS[index]}
@@ -17,14 +19,14 @@ _audit() {
     case $command in
     format) options="$options --mode --in-place --erase" ;;
     append) options="$options --text --follow --long --expect --reserve" ;;
-    show) options="$options --free --read-only" ;;
+    show) options="$options --free --read-only --header" ;;
     prove) options="$options --read-only" ;;
     check) options="$options --print" ;;
     verify) options="$options --text --numbers --json --kind --from --save" ;;
     export) options="$options --from --read-only --salvage" ;;
     serve) options="$options --sessions --socket-mode" ;;
     loop) options="$options --socket-mode" ;;
-    daemon) options="$options --reader --allow-close --idle --backlog --reserve --socket-mode" ;;
+    daemon) options="$options --reader --writer --allow-close --idle --backlog --reserve --socket-mode" ;;
     send) options="$options --text --long --window --timeout" ;;
     ask) options="$options --from --timeout" ;;
     watch) options="$options --every --timeout --quiet" ;;
@@ -33,6 +35,8 @@ _audit() {
     esac
     if [ "$COMP_CWORD" -eq 1 ]; then
         choices="$commands --help --version"
+    elif [[ $before = : && ${COMP_WORDS[COMP_CWORD - 3]} = --writer ]]; then
+        files=1
     elif [[ " $valued " == *" $before "* ]]; then
         case $before in
         --reader | --save | --first | --under) files=1 ;;
