@@ -29,11 +29,11 @@ pub(crate) enum Form<'a> {
     Socket,
     /// The path of a daemon's socket, beside which it makes another.
     DaemonSocket,
-    /// A source of a daemon.
+    /// A kind of events, and the path of its source's socket.
     Source,
-    /// The same with another kind than those of the sources before it.
+    /// The same, with a kind that no word before it binds.
     NewSource,
-    /// A source, of which there may be so many.
+    /// The same, where a daemon can have one more source.
     FurtherSource,
     /// What becomes of long lines, which are text if a kind is given.
     Long { text: Option<&'a str> },
