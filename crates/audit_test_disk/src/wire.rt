@@ -112,6 +112,7 @@ fn view_of(request: &Request) -> RequestView<'_> {
             index: *index,
         },
         Request::Close { tag } => RequestView::Close { tag: *tag },
+        Request::State { tag } => RequestView::State { tag: *tag },
     }
 }
 
@@ -246,6 +247,33 @@ fn an_append_of_the_greatest_kind_and_no_payload(rt: HostRuntime) {
     check!(&rt; read_request(b"\x01\x00\x00\x00\x07\xff\xff\xff\xfe") == Ok(append));
 }
 
+// A daemon's clients may ask for the state, and every session for the other requests, which are the same for both.
+#[test]
+fn a_state_is_a_request_of_daemons_alone(rt: HostRuntime) {
+    let (_, body) = GET_STATE.split_at(2);
+    let state = RequestView::State { tag: 8 };
+    check!(&rt; read_request_by(Grammar::Daemon, body) == Ok(state));
+    check!(&rt; read_request_by(Grammar::Plain, body) == Err(Malformed));
+    check!(&rt; view_of(&state.own(rt.alloc()).expect(&rt, "memory")) == state);
+    for size in 0..body.len() {
+        check!(&rt; read_request_by(Grammar::Daemon, &body[..size]) == Err(Malformed), size);
+    }
+    check!(&rt; read_request_by(Grammar::Daemon, b"\x07\0\0\0\x08\0") == Err(Malformed));
+}
+
+#[test]
+fn a_daemon_reads_the_requests_of_every_session(rt: HostRuntime) {
+    for (frame, request) in &REQUESTS {
+        let (_, body) = frame.split_at(2);
+        check!(&rt; read_request_by(Grammar::Daemon, body) == Ok(*request));
+        check!(&rt; read_request_by(Grammar::Plain, body) == Ok(*request));
+    }
+    for (place, body) in NO_REQUESTS.iter().enumerate() {
+        let is_state = *body == b"\x07\x00\x00\x00\x09".as_slice();
+        check!(&rt; read_request_by(Grammar::Daemon, body).is_ok() == is_state, place);
+    }
+}
+
 // Whether a last byte completes the request, and can be put back as if it had never arrived.
 fn gives_and_puts_back(decoder: &mut Decoder, last: &[u8], request: &RequestView) -> bool {
     match decoder.feed(last) {
@@ -369,6 +397,36 @@ fn a_commitment_has_the_bytes_of_the_formats(rt: HostRuntime) {
         root: [0; 32],
     };
     check_reply(&rt, rt.alloc(), &commitment, &EMPTY_COMMITMENT);
+}
+
+// The state of a log of one event on 64 sectors.
+const OF_ONE: Reply = Reply::State {
+    tag: 8,
+    count: 1,
+    root: ROOT,
+    end: 3,
+    sectors: 64,
+    generation: 4,
+    version: 2,
+    closed: false,
+};
+
+#[test]
+fn a_state_has_the_bytes_of_the_formats(rt: HostRuntime) {
+    check_reply(&rt, rt.alloc(), &OF_ONE, &STATE);
+}
+
+// The last byte is 0 or 1. A state has one length.
+#[test]
+fn states_with_another_mark_or_length(rt: HostRuntime) {
+    for (mark, malformed) in [(0, false), (1, false), (2, true), (255, true)] {
+        let mut body = Vec::from_slice(rt.alloc(), &STATE[2..73]).expect(&rt, "memory");
+        check!(&rt; is_malformed(rt.alloc(), &body));
+        body.push(mark).expect(&rt, "memory");
+        check!(&rt; is_malformed(rt.alloc(), &body) == malformed, mark);
+        body.push(0).expect(&rt, "memory");
+        check!(&rt; is_malformed(rt.alloc(), &body));
+    }
 }
 
 const REFUSALS: [(u8, Refusal, u8); 8] = [

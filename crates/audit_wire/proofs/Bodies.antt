@@ -1,10 +1,12 @@
 -- The body of a request reads as that request, and a request that was read has that body.
-use Rattle.std.proofs.Common.{◌≡◌, ℕ, suc, ◌+◌, ◌<◌, ◌≤◌, ◌^◌, Bool, true, false, cond, not, ◌&&◌, leb, eqb, List, [], ◌∷◌, ◌++◌, length, take, drop, Option, Some, None, Result, Ok, Err, refl, sym, ap, subst, ◌∙◌, append_assoc, arith, inl, inr, length-take, length-drop}
+use Rattle.std.proofs.Common.{◌≡◌, ◌⊎◌, ℕ, suc, ◌+◌, ◌<◌, ◌≤◌, ◌^◌, Bool, true, false, cond, not, ◌&&◌, leb, eqb, List, [], ◌∷◌, ◌++◌, length, take, drop, Option, Some, None, Result, Ok, Err, refl, sym, ap, subst, ◌∙◌, append_assoc, arith, inl, inr, length-take, length-drop}
 use Rattle.std.specs.Int.{w32, w64, to_be_bytes, from_be_bytes}
 use Rattle.std.proofs.lemmas.Bool.{cases_lt, and_parts, and_from, not-true, not_from_false, leb-true, le-leb, eqb-true, eqb-false, ne_eqb, cond-true}
 use Rattle.std.proofs.lemmas.List.{get_or-take, get_or-drop, get_or_past, take-append-drop, drop-drop, take_all}
 use Rattle.std.proofs.lemmas.Nat.{be_bytes_4, be_bytes_8, from_be_bytes-to_be_bytes_4, from_be_bytes-to_be_bytes_8}
 use Rattle.audit_base.specs.declared.limits.TheConstants.{MAX_PAYLOAD, RESERVED_KIND}
+use Rattle.audit_wire.specs.declared.grammar.Grammar.{Grammar}
+use Rattle.audit_wire.specs.declared.grammar.Grammar.TheVariants as grammar
 use Rattle.audit_wire.specs.declared.request.Request.{Request}
 use Rattle.audit_wire.specs.declared.request.Request.TheVariants as request
 use Rattle.audit_wire.specs.declared.request_kind.RequestKind.{RequestKind}
@@ -16,7 +18,7 @@ use Rattle.audit_wire.specs.View.{request_shown, request_read}
 use Rattle.audit_base.specs.Bytes.{AreBytes}
 use Rattle.audit_wire.specs.Frame.{IsBodySize}
 use Rattle.audit_base.specs.Bytes.{number_at}
-use Rattle.audit_wire.specs.Request.{request_body, IsRequest, kind_at, append_in, commitment_in, membership_in, incremental_in, entry_in, close_in, fields_in, request_in}
+use Rattle.audit_wire.specs.Request.{request_body, IsRequest, IsDaemonRequest, IsRequestBy, kind_at, append_in, commitment_in, membership_in, incremental_in, entry_in, close_in, state_in, fields_in, request_in, request_by}
 
 -- ---- parts of bytes are bytes
 
@@ -172,15 +174,16 @@ record IsKindBy (a b c d e f : Bool) (found : Option RequestKind) : Type 0 where
   incremental : found ≡ Some kind.Incremental → d ≡ true
   entry : found ≡ Some kind.Entry → e ≡ true
   close : found ≡ Some kind.Close → f ≡ true
+  state : found ≡ Some kind.State → ⊥
 
 is_kind_by : (a b c d e f : Bool) → IsKindBy a b c d e f (kind_by a b c d e f)
-is_kind_by true b c d e f = record { append = λ h. refl; commitment = λ h. absurd cc; membership = λ h. absurd cc; incremental = λ h. absurd cc; entry = λ h. absurd cc; close = λ h. absurd cc }
-is_kind_by false true c d e f = record { append = λ h. absurd cc; commitment = λ h. refl; membership = λ h. absurd cc; incremental = λ h. absurd cc; entry = λ h. absurd cc; close = λ h. absurd cc }
-is_kind_by false false true d e f = record { append = λ h. absurd cc; commitment = λ h. absurd cc; membership = λ h. refl; incremental = λ h. absurd cc; entry = λ h. absurd cc; close = λ h. absurd cc }
-is_kind_by false false false true e f = record { append = λ h. absurd cc; commitment = λ h. absurd cc; membership = λ h. absurd cc; incremental = λ h. refl; entry = λ h. absurd cc; close = λ h. absurd cc }
-is_kind_by false false false false true f = record { append = λ h. absurd cc; commitment = λ h. absurd cc; membership = λ h. absurd cc; incremental = λ h. absurd cc; entry = λ h. refl; close = λ h. absurd cc }
-is_kind_by false false false false false true = record { append = λ h. absurd cc; commitment = λ h. absurd cc; membership = λ h. absurd cc; incremental = λ h. absurd cc; entry = λ h. absurd cc; close = λ h. refl }
-is_kind_by false false false false false false = record { append = λ h. absurd cc; commitment = λ h. absurd cc; membership = λ h. absurd cc; incremental = λ h. absurd cc; entry = λ h. absurd cc; close = λ h. absurd cc }
+is_kind_by true b c d e f = record { append = λ h. refl; commitment = λ h. absurd cc; membership = λ h. absurd cc; incremental = λ h. absurd cc; entry = λ h. absurd cc; close = λ h. absurd cc; state = λ h. absurd cc }
+is_kind_by false true c d e f = record { append = λ h. absurd cc; commitment = λ h. refl; membership = λ h. absurd cc; incremental = λ h. absurd cc; entry = λ h. absurd cc; close = λ h. absurd cc; state = λ h. absurd cc }
+is_kind_by false false true d e f = record { append = λ h. absurd cc; commitment = λ h. absurd cc; membership = λ h. refl; incremental = λ h. absurd cc; entry = λ h. absurd cc; close = λ h. absurd cc; state = λ h. absurd cc }
+is_kind_by false false false true e f = record { append = λ h. absurd cc; commitment = λ h. absurd cc; membership = λ h. absurd cc; incremental = λ h. refl; entry = λ h. absurd cc; close = λ h. absurd cc; state = λ h. absurd cc }
+is_kind_by false false false false true f = record { append = λ h. absurd cc; commitment = λ h. absurd cc; membership = λ h. absurd cc; incremental = λ h. absurd cc; entry = λ h. refl; close = λ h. absurd cc; state = λ h. absurd cc }
+is_kind_by false false false false false true = record { append = λ h. absurd cc; commitment = λ h. absurd cc; membership = λ h. absurd cc; incremental = λ h. absurd cc; entry = λ h. absurd cc; close = λ h. refl; state = λ h. absurd cc }
+is_kind_by false false false false false false = record { append = λ h. absurd cc; commitment = λ h. absurd cc; membership = λ h. absurd cc; incremental = λ h. absurd cc; entry = λ h. absurd cc; close = λ h. absurd cc; state = λ h. absurd cc }
 
 -- the first byte is that of the kind
 record IsFirst (byte : ℕ) (found : Option RequestKind) : Type 0 where
@@ -190,6 +193,7 @@ record IsFirst (byte : ℕ) (found : Option RequestKind) : Type 0 where
   incremental : found ≡ Some kind.Incremental → byte ≡ 4
   entry : found ≡ Some kind.Entry → byte ≡ 5
   close : found ≡ Some kind.Close → byte ≡ 6
+  state : found ≡ Some kind.State → ⊥
 
 first_found : (first : ℕ) → IsFirst first (kind_at first)
 first_found first =
@@ -201,6 +205,7 @@ first_found first =
       incremental = λ h. eqb-true first 4 (t.incremental h);
       entry = λ h. eqb-true first 5 (t.entry h);
       close = λ h. eqb-true first 6 (t.close h);
+      state = t.state;
     }
 
 by_kind : (first : ℕ) (fields : List ℕ) (found : Option RequestKind) (read : Request) → AreBytes fields → IsFirst first found → fields_in found fields ≡ Some read → IsBodyOf (first ∷ fields) read
@@ -211,9 +216,10 @@ by_kind first fields (Some kind.Membership) read fits is_first e = rw (is_first.
 by_kind first fields (Some kind.Incremental) read fits is_first e = rw (is_first.incremental refl) (incremental_found fields read fits e)
 by_kind first fields (Some kind.Entry) read fits is_first e = rw (is_first.entry refl) (entry_found fields read fits e)
 by_kind first fields (Some kind.Close) read fits is_first e = rw (is_first.close refl) (close_found fields read fits e)
+by_kind first fields (Some kind.State) read fits is_first e = absurd (is_first.state refl)
 
 pub request_found : (body : List ℕ) (read : Request) → AreBytes body → request_in body ≡ Some read → IsBodyOf body read
-unfolding request_in
+unfolding request_by
 request_found [] read fits e = absurd cc
 request_found (first ∷ fields) read fits e =
     by_kind first fields (kind_at first) read (λ place. fits (suc place)) (first_found first) e
@@ -276,13 +282,14 @@ unfolding close_in
 close_again tag lt = ap (λ (n : ℕ). Some (request.Close n)) (again_4 tag lt)
 
 pub request_again : (asked : Request) → IsRequest asked → request_in (request_body asked) ≡ Some asked
-unfolding request_in
+unfolding request_by
 request_again (request.Append tag event_kind payload) allowed = append_again tag event_kind payload allowed
 request_again (request.Commitment tag) allowed = commitment_again tag allowed
 request_again (request.Membership tag index count) allowed = membership_again tag index count allowed
 request_again (request.Incremental tag older newer) allowed = incremental_again tag older newer allowed
 request_again (request.Entry tag index) allowed = entry_again tag index allowed
 request_again (request.Close tag) allowed = close_again tag allowed
+request_again (request.State tag) allowed = absurd allowed
 
 -- ---- the size of a body is allowed in a frame
 
@@ -293,12 +300,109 @@ request_size (request.Membership tag index count) allowed = (omega arith, omega 
 request_size (request.Incremental tag older newer) allowed = (omega arith, omega arith)
 request_size (request.Entry tag index) allowed = (omega arith, omega arith)
 request_size (request.Close tag) allowed = (omega arith, omega arith)
+request_size (request.State tag) allowed = absurd allowed
+
+-- ---- the requests of each grammar
+
+pub daemon_allows : (asked : Request) → IsRequest asked → IsDaemonRequest asked
+daemon_allows (request.Append tag event_kind payload) allowed = allowed
+daemon_allows (request.Commitment tag) allowed = allowed
+daemon_allows (request.Membership tag index count) allowed = allowed
+daemon_allows (request.Incremental tag older newer) allowed = allowed
+daemon_allows (request.Entry tag index) allowed = allowed
+daemon_allows (request.Close tag) allowed = allowed
+daemon_allows (request.State tag) allowed = absurd allowed
+
+-- a request of the grammar, whose body this is
+pub record IsBodyBy (grammar : Grammar) (body : List ℕ) (read : Request) : Type 0 where
+  pub allowed : IsRequestBy grammar read
+  pub same : body ≡ request_body read
+
+state_found : (fields : List ℕ) (read : Request) → AreBytes fields → state_in fields ≡ Some read → IsBodyBy grammar.Daemon (7 ∷ fields) read
+unfolding state_in
+state_found fields read fits e =
+    let g = guard_some (eqb (length fields) 4) (request.State (number_at w32 0 fields)) read e in
+    let size = eqb-true (length fields) 4 g.0 in
+    let whole : to_be_bytes w32 (number_at w32 0 fields) ≡ fields = back_4 0 fields fits (omega arith) ∙ take_all 4 fields (omega arith) in
+    subst (λ (found : Request). IsBodyBy grammar.Daemon (7 ∷ fields) found) g.1 (record {
+      allowed = below_4 0 fields fits;
+      same = ap (λ (after : List ℕ). 7 ∷ after) (sym whole);
+    })
+
+-- the first byte is the one of a state, or another
+by_first : (first : ℕ) (fields : List ℕ) (read : Request) → AreBytes (first ∷ fields) → (is_state : Bool) → eqb first 7 ≡ is_state
+    → fields_in (cond is_state (Some kind.State) (kind_at first)) fields ≡ Some read → IsBodyBy grammar.Daemon (first ∷ fields) read
+by_first first fields read fits true is e = rw (eqb-true first 7 is) (state_found fields read (λ place. fits (suc place)) e)
+by_first first fields read fits false is e =
+    let given = by_kind first fields (kind_at first) read (λ place. fits (suc place)) (first_found first) e in
+    record { allowed = daemon_allows read given.allowed; same = given.same }
+
+pub request_found_by : (grammar : Grammar) (body : List ℕ) (read : Request) → AreBytes body → request_by grammar body ≡ Some read → IsBodyBy grammar body read
+unfolding request_by
+request_found_by grammar.Plain body read fits e =
+    let given = request_found body read fits e in
+    record { allowed = given.allowed; same = given.same }
+request_found_by grammar.Daemon [] read fits e = absurd cc
+request_found_by grammar.Daemon (first ∷ fields) read fits e = by_first first fields read fits (eqb first 7) refl e
+
+state_again : (tag : ℕ) → tag < 2 ^ 32 → state_in (to_be_bytes w32 tag) ≡ Some (request.State tag)
+unfolding state_in
+state_again tag lt = ap (λ (n : ℕ). Some (request.State n)) (again_4 tag lt)
+
+pub request_again_by : (grammar : Grammar) (asked : Request) → IsRequestBy grammar asked → request_by grammar (request_body asked) ≡ Some asked
+unfolding request_by
+request_again_by grammar.Plain asked allowed = request_again asked allowed
+request_again_by grammar.Daemon (request.Append tag event_kind payload) allowed = append_again tag event_kind payload allowed
+request_again_by grammar.Daemon (request.Commitment tag) allowed = commitment_again tag allowed
+request_again_by grammar.Daemon (request.Membership tag index count) allowed = membership_again tag index count allowed
+request_again_by grammar.Daemon (request.Incremental tag older newer) allowed = incremental_again tag older newer allowed
+request_again_by grammar.Daemon (request.Entry tag index) allowed = entry_again tag index allowed
+request_again_by grammar.Daemon (request.Close tag) allowed = close_again tag allowed
+request_again_by grammar.Daemon (request.State tag) allowed = state_again tag allowed
+
+pub request_size_by : (grammar : Grammar) (asked : Request) → IsRequestBy grammar asked → IsBodySize (length (request_body asked))
+request_size_by grammar.Plain asked allowed = request_size asked allowed
+request_size_by grammar.Daemon (request.Append tag event_kind payload) allowed = (omega arith, omega (arith, allowed.3))
+request_size_by grammar.Daemon (request.Commitment tag) allowed = (omega arith, omega arith)
+request_size_by grammar.Daemon (request.Membership tag index count) allowed = (omega arith, omega arith)
+request_size_by grammar.Daemon (request.Incremental tag older newer) allowed = (omega arith, omega arith)
+request_size_by grammar.Daemon (request.Entry tag index) allowed = (omega arith, omega arith)
+request_size_by grammar.Daemon (request.Close tag) allowed = (omega arith, omega arith)
+request_size_by grammar.Daemon (request.State tag) allowed = (omega arith, omega arith)
+
+-- ---- what every session may ask, a daemon's clients may ask in the same bytes
+
+no_state : (first : ℕ) (fields : List ℕ) (read : Request) → (is_state : Bool) → eqb first 7 ≡ is_state → fields_in (kind_at first) fields ≡ Some read
+    → fields_in (cond is_state (Some kind.State) (kind_at first)) fields ≡ Some read
+no_state first fields read true is e =
+    let none : fields_in (kind_at 7) fields ≡ Some read = subst (λ (byte : ℕ). fields_in (kind_at byte) fields ≡ Some read) (eqb-true first 7 is) e in
+    absurd cc
+no_state first fields read false is e = e
+
+pub daemon_reads : (body : List ℕ) (asked : Request) → request_in body ≡ Some asked → request_by grammar.Daemon body ≡ Some asked
+unfolding request_by
+daemon_reads [] asked e = absurd cc
+daemon_reads (first ∷ fields) asked e = no_state first fields asked (eqb first 7) refl e
+
+state_alone : (fields : List ℕ) (asked : Request) → state_in fields ≡ Some asked → (tag : ℕ) × (asked ≡ request.State tag)
+unfolding state_in
+state_alone fields asked e = (number_at w32 0 fields, sym (guard_some (eqb (length fields) 4) (request.State (number_at w32 0 fields)) asked e).1)
+
+or_state : (first : ℕ) (fields : List ℕ) (asked : Request) → (is_state : Bool) → fields_in (cond is_state (Some kind.State) (kind_at first)) fields ≡ Some asked
+    → ((tag : ℕ) × (asked ≡ request.State tag)) ⊎ (fields_in (kind_at first) fields ≡ Some asked)
+or_state first fields asked true e = inl (state_alone fields asked e)
+or_state first fields asked false e = inr e
+
+pub daemon_only : (body : List ℕ) (asked : Request) → request_by grammar.Daemon body ≡ Some asked → ((tag : ℕ) × (asked ≡ request.State tag)) ⊎ (request_in body ≡ Some asked)
+unfolding request_by
+daemon_only [] asked e = absurd cc
+daemon_only (first ∷ fields) asked e = or_state first fields asked (eqb first 7) e
 
 -- ---- what was read is a request with that body
 
-pub found_by : (body : List ℕ) (read : Result RequestView Malformed) → AreBytes body → request_read read ≡ request_in body
-    → IfOk read (λ view. IsRequest (request_shown view) × (body ≡ request_body (request_shown view)))
-found_by body (Ok view) fits e =
-    let found = request_found body (request_shown view) fits (sym e) in
+pub found_by : (grammar : Grammar) (body : List ℕ) (read : Result RequestView Malformed) → AreBytes body → request_read read ≡ request_by grammar body
+    → IfOk read (λ view. IsRequestBy grammar (request_shown view) × (body ≡ request_body (request_shown view)))
+found_by grammar body (Ok view) fits e =
+    let found = request_found_by grammar body (request_shown view) fits (sym e) in
     (found.allowed, found.same)
-found_by body (Err fault) fits e = tt
+found_by grammar body (Err fault) fits e = tt

@@ -5,10 +5,11 @@ use Rattle.std.proofs.lemmas.Bool.{cases_lt, cases_Bool, both_ways, and_parts, a
 use Rattle.std.proofs.lemmas.List.{take_at, drop_at, take-append-drop}
 use Rattle.std.proofs.lemmas.Nat.{from_be_bytes-to_be_bytes_2}
 use Rattle.audit_wire.specs.declared.limits.TheConstants.{MAX_BODY}
+use Rattle.audit_wire.specs.declared.grammar.Grammar.{Grammar}
 use Rattle.audit_wire.specs.declared.request.Request.{Request}
 use Rattle.audit_wire.specs.Frame.{frame, size_of, IsBodySize, is_body_size, IsPartial}
-use Rattle.audit_wire.specs.Request.{request_in}
-use Rattle.audit_wire.specs.Stream.{Framed, rest_alone, spoiled, in_front, all_in_front, bodies_within, framed_bodies, read_first, requests_in, framed_requests, continued}
+use Rattle.audit_wire.specs.Request.{request_by}
+use Rattle.audit_wire.specs.Stream.{Framed, rest_alone, spoiled, in_front, all_in_front, bodies_within, framed_bodies, read_first, requests_in, framed_by, continued}
 
 -- ---- the test of a size
 
@@ -100,21 +101,21 @@ bodies_frame body more h = bodies_whole _ _ body more h (frame_size (length body
 
 -- ---- the requests of a stream
 
-pub requests_partial : (bytes : List ℕ) → IsPartial bytes → framed_requests bytes ≡ rest_alone bytes
-unfolding framed_requests
-requests_partial bytes h = ap requests_in (bodies_partial bytes h)
+pub requests_partial : (grammar : Grammar) (bytes : List ℕ) → IsPartial bytes → framed_by grammar bytes ≡ rest_alone bytes
+unfolding framed_by
+requests_partial grammar bytes h = ap (requests_in grammar) (bodies_partial bytes h)
 
-pub requests_bad : (high low : ℕ) (bytes : List ℕ) → (IsBodySize (size_of high low) → ⊥) → framed_requests (high ∷ low ∷ bytes) ≡ spoiled
-unfolding framed_requests
-requests_bad high low bytes h = ap requests_in (bodies_bad high low bytes h)
+pub requests_bad : (grammar : Grammar) (high low : ℕ) (bytes : List ℕ) → (IsBodySize (size_of high low) → ⊥) → framed_by grammar (high ∷ low ∷ bytes) ≡ spoiled
+unfolding framed_by
+requests_bad grammar high low bytes h = ap (requests_in grammar) (bodies_bad high low bytes h)
 
-pub requests_whole : (high low : ℕ) (body more : List ℕ) → IsBodySize (length body) → size_of high low ≡ length body
-    → framed_requests (high ∷ low ∷ (body ++ more)) ≡ read_first (request_in body) (framed_requests more)
-unfolding framed_requests
-requests_whole high low body more h e = ap requests_in (bodies_whole high low body more h e)
+pub requests_whole : (grammar : Grammar) (high low : ℕ) (body more : List ℕ) → IsBodySize (length body) → size_of high low ≡ length body
+    → framed_by grammar (high ∷ low ∷ (body ++ more)) ≡ read_first (request_by grammar body) (framed_by grammar more)
+unfolding framed_by
+requests_whole grammar high low body more h e = ap (requests_in grammar) (bodies_whole high low body more h e)
 
-pub requests_frame : (body more : List ℕ) → IsBodySize (length body) → framed_requests (frame body ++ more) ≡ read_first (request_in body) (framed_requests more)
-requests_frame body more h = requests_whole _ _ body more h (frame_size (length body) h)
+pub requests_frame : (grammar : Grammar) (body more : List ℕ) → IsBodySize (length body) → framed_by grammar (frame body ++ more) ≡ read_first (request_by grammar body) (framed_by grammar more)
+requests_frame grammar body more h = requests_whole grammar _ _ body more h (frame_size (length body) h)
 
 -- ---- the cases of the start of a stream
 
@@ -147,29 +148,29 @@ choice_in_front : (flag : Bool) (asked : Request) (framed later : Framed Request
 choice_in_front true asked framed later = refl
 choice_in_front false asked framed later = refl
 
-continued_first : (found : Option Request) (framed : Framed Request) (more : List ℕ) → continued (read_first found framed) more ≡ read_first found (continued framed more)
-continued_first None framed more = refl
-continued_first (Some asked) framed more = choice_in_front framed.malformed asked framed (framed_requests (framed.rest ++ more))
+continued_first : (grammar : Grammar) (found : Option Request) (framed : Framed Request) (more : List ℕ) → continued grammar (read_first found framed) more ≡ read_first found (continued grammar framed more)
+continued_first grammar None framed more = refl
+continued_first grammar (Some asked) framed more = choice_in_front framed.malformed asked framed (framed_by grammar (framed.rest ++ more))
 
 -- one step of the induction over the number of bytes
-continued_step : (bytes more : List ℕ) → ((shorter : List ℕ) → length shorter < length bytes → framed_requests (shorter ++ more) ≡ continued (framed_requests shorter) more)
-    → First bytes → framed_requests (bytes ++ more) ≡ continued (framed_requests bytes) more
-continued_step bytes more before (partial h) = sym (ap (λ (framed : Framed Request). continued framed more) (requests_partial bytes h))
-continued_step bytes more before (bad high low after h e) =
-    ap (λ (all : List ℕ). framed_requests (all ++ more)) e ∙ requests_bad high low (after ++ more) h
-    ∙ sym (ap (λ (all : List ℕ). continued (framed_requests all) more) e ∙ ap (λ (framed : Framed Request). continued framed more) (requests_bad high low after h))
-continued_step bytes more before (whole high low body after h size e) =
-    ap (λ (all : List ℕ). framed_requests (all ++ more)) e
-    ∙ ap (λ (all : List ℕ). framed_requests (high ∷ low ∷ all)) (append_assoc body after more)
-    ∙ requests_whole high low body (after ++ more) h size
-    ∙ ap (λ (framed : Framed Request). read_first (request_in body) framed) (before after (omega (arith, ap length e, length-append body after)))
-    ∙ sym (continued_first (request_in body) (framed_requests after) more)
-    ∙ sym (ap (λ (all : List ℕ). continued (framed_requests all) more) e ∙ ap (λ (framed : Framed Request). continued framed more) (requests_whole high low body after h size))
+continued_step : (grammar : Grammar) (bytes more : List ℕ) → ((shorter : List ℕ) → length shorter < length bytes → framed_by grammar (shorter ++ more) ≡ continued grammar (framed_by grammar shorter) more)
+    → First bytes → framed_by grammar (bytes ++ more) ≡ continued grammar (framed_by grammar bytes) more
+continued_step grammar bytes more before (partial h) = sym (ap (λ (framed : Framed Request). continued grammar framed more) (requests_partial grammar bytes h))
+continued_step grammar bytes more before (bad high low after h e) =
+    ap (λ (all : List ℕ). framed_by grammar (all ++ more)) e ∙ requests_bad grammar high low (after ++ more) h
+    ∙ sym (ap (λ (all : List ℕ). continued grammar (framed_by grammar all) more) e ∙ ap (λ (framed : Framed Request). continued grammar framed more) (requests_bad grammar high low after h))
+continued_step grammar bytes more before (whole high low body after h size e) =
+    ap (λ (all : List ℕ). framed_by grammar (all ++ more)) e
+    ∙ ap (λ (all : List ℕ). framed_by grammar (high ∷ low ∷ all)) (append_assoc body after more)
+    ∙ requests_whole grammar high low body (after ++ more) h size
+    ∙ ap (λ (framed : Framed Request). read_first (request_by grammar body) framed) (before after (omega (arith, ap length e, length-append body after)))
+    ∙ sym (continued_first grammar (request_by grammar body) (framed_by grammar after) more)
+    ∙ sym (ap (λ (all : List ℕ). continued grammar (framed_by grammar all) more) e ∙ ap (λ (framed : Framed Request). continued grammar framed more) (requests_whole grammar high low body after h size))
 
-continued_below : (count : ℕ) (bytes more : List ℕ) → length bytes < count → framed_requests (bytes ++ more) ≡ continued (framed_requests bytes) more
-continued_below zero bytes more lt = absurd (omega arith)
-continued_below (suc count) bytes more lt = continued_step bytes more (λ shorter less. continued_below count shorter more (omega arith)) (first_of_stream bytes)
+continued_below : (grammar : Grammar) (count : ℕ) (bytes more : List ℕ) → length bytes < count → framed_by grammar (bytes ++ more) ≡ continued grammar (framed_by grammar bytes) more
+continued_below grammar zero bytes more lt = absurd (omega arith)
+continued_below grammar (suc count) bytes more lt = continued_step grammar bytes more (λ shorter less. continued_below grammar count shorter more (omega arith)) (first_of_stream bytes)
 
 -- earlier requests are unchanged, and the rest is read together with the new bytes
-pub requests-append : (bytes more : List ℕ) → framed_requests (bytes ++ more) ≡ continued (framed_requests bytes) more
-requests-append bytes more = continued_below (suc (length bytes)) bytes more (omega arith)
+pub requests-append : (grammar : Grammar) (bytes more : List ℕ) → framed_by grammar (bytes ++ more) ≡ continued grammar (framed_by grammar bytes) more
+requests-append grammar bytes more = continued_below grammar (suc (length bytes)) bytes more (omega arith)

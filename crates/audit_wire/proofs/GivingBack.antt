@@ -2,6 +2,7 @@
 use Rattle.std.proofs.Common.{◌≡◌, ◌+◌, ◌-◌, ◌<◌, ◌≤◌, ℕ, List, [], ◌∷◌, ◌++◌, length, take, get_or, refl, sym, ap, subst, ◌∙◌, append_assoc, arith, length-append}
 use Rattle.std.proofs.lemmas.List.{take_at, take_more}
 use Rattle.audit_wire.specs.declared.fed.Fed.{Fed}
+use Rattle.audit_wire.specs.declared.grammar.Grammar.{Grammar}
 use Rattle.audit_wire.specs.declared.fed.Fed.TheVariants as fed
 use Rattle.audit_wire.specs.Frame.{IsPartial}
 use Rattle.audit_wire.specs.Progress.{DecoderProgress, reading, whole, malformed, closed, rest_of, taken_of, taken_by, taken_but_one, handed_out, requests_ahead, HasJustTaken, IsPieceTaken, IsDecoderFed, PutsBack}
@@ -59,8 +60,8 @@ any_given_back (malformed bytes) taken new piece answer h just back = absurd (su
 any_given_back closed taken new piece answer h just back = absurd (subst HasJustTaken h.1 just)
 
 -- a decoder to which a byte was put back has returned nothing
-pub ahead_given_back : (old taken new : DecoderProgress) (piece : List ℕ) (answer : Fed) (later : List ℕ) → IsDecoderFed old piece answer taken → HasJustTaken taken → PutsBack taken new
-    → requests_ahead old (taken_but_one answer piece ++ later) ≡ requests_ahead new later
-ahead_given_back old taken new piece answer later h just back =
-    fed_ahead old (taken_but_one answer piece) fed.More new later (any_given_back old taken new piece answer h just back)
-    ∙ ap (λ (after : DecoderProgress). requests_of (handed_out after) (requests_ahead new later)) back.begun
+pub ahead_given_back : (grammar : Grammar) (old taken new : DecoderProgress) (piece : List ℕ) (answer : Fed) (later : List ℕ) → IsDecoderFed old piece answer taken → HasJustTaken taken → PutsBack taken new
+    → requests_ahead grammar old (taken_but_one answer piece ++ later) ≡ requests_ahead grammar new later
+ahead_given_back grammar old taken new piece answer later h just back =
+    fed_ahead grammar old (taken_but_one answer piece) fed.More new later (any_given_back old taken new piece answer h just back)
+    ∙ ap (λ (after : DecoderProgress). requests_of grammar (handed_out after) (requests_ahead grammar new later)) back.begun

@@ -1,9 +1,9 @@
 -- The body of a reply reads as that reply, and has the length that its length field states.
-use Rattle.std.proofs.Common.{◌≡◌, ℕ, ◌+◌, ◌*◌, ◌<◌, ◌≤◌, ◌^◌, true, ◌&&◌, leb, eqb, List, [], ◌∷◌, ◌++◌, length, take, drop, Some, None, refl, sym, ap, ◌∙◌, arith}
+use Rattle.std.proofs.Common.{◌≡◌, ℕ, Bool, ◌+◌, ◌*◌, ◌<◌, ◌≤◌, ◌^◌, true, false, get_or, ◌&&◌, leb, eqb, cond, List, [], ◌∷◌, ◌++◌, length, take, drop, Some, None, refl, sym, ap, ◌∙◌, arith, length-append}
 use Rattle.std.specs.List.{concat, flat_map, AllByRecursion}
 use Rattle.std.specs.Int.{w16, w32, w64, to_be_bytes, from_be_bytes}
 use Rattle.std.proofs.lemmas.Bool.{and_from, le-leb, eq-eqb, cond-true}
-use Rattle.std.proofs.lemmas.List.{append-nil, take_at, drop_at, take_all}
+use Rattle.std.proofs.lemmas.List.{append-nil, take_at, drop_at, take_all, drop-drop, get_or-drop}
 use Rattle.std.proofs.lemmas.Nat.{from_be_bytes-to_be_bytes_2, from_be_bytes-to_be_bytes_4, from_be_bytes-to_be_bytes_8}
 use Rattle.audit_base.specs.declared.limits.TheConstants.{HASH_LEN, MAX_MEMBER_HASHES, MAX_INCREMENT_HASHES, MAX_ENTRY}
 use Rattle.audit_base.specs.Bytes.{number_at}
@@ -14,7 +14,7 @@ use Rattle.audit_wire.specs.declared.refusal.Refusal.TheVariants as refusal
 use Rattle.audit_wire.specs.declared.reply.Reply.{Reply}
 use Rattle.audit_wire.specs.declared.reply.Reply.TheVariants as reply
 use Rattle.audit_wire.specs.Frame.{frame}
-use Rattle.audit_wire.specs.Reply.{IsWholeReply, reply_frame, longest_frame, reply_body, refusal_code, hash_list, IsReply, HasReplyFields, refusal_with_code, refused_with, acknowledgement_in, commitment_reply_in, membership_reply_in, increment_reply_in, entry_reply_in, refused_in, reply_in}
+use Rattle.audit_wire.specs.Reply.{IsWholeReply, reply_frame, longest_frame, reply_body, refusal_code, hash_list, IsReply, HasReplyFields, refusal_with_code, refused_with, acknowledgement_in, commitment_reply_in, membership_reply_in, increment_reply_in, entry_reply_in, state_tail, state_reply_in, refused_in, reply_in}
 
 -- the concatenated hashes of a reply
 joined : (hashes : List (List ℕ)) (entry : List ℕ) → flat_map (λ (hash : List ℕ). hash) hashes ++ entry ≡ concat hashes ++ entry
@@ -94,6 +94,43 @@ entry_again tag entry within fits =
     (and_from (leb 4 (length fields)) (leb (length fields) (4 + MAX_ENTRY)) (le-leb 4 (length fields) (omega arith)) (le-leb (length fields) (4 + MAX_ENTRY) (omega (arith, within))))
     ∙ ap (λ (n : ℕ). Some (reply.Entry n entry)) (from_be_bytes-to_be_bytes_4 tag fits)
 
+-- a list after one of as many bytes as a hash
+past : (root after : List ℕ) (count : ℕ) → length root ≡ HASH_LEN → drop (HASH_LEN + count) (root ++ after) ≡ drop count after
+past root after count size = sym (drop-drop count HASH_LEN (root ++ after)) ∙ ap (drop count) (drop_at root after HASH_LEN size)
+
+marked : (closed : Bool) → leb (cond closed 1 0) 1 ≡ true
+marked true = refl
+marked false = refl
+
+mark_again : (closed : Bool) → eqb (cond closed 1 0) 1 ≡ closed
+mark_again true = refl
+mark_again false = refl
+
+state_again : (tag count : ℕ) (root : List ℕ) (end sectors generation version : ℕ) (closed : Bool) → HasReplyFields (reply.State tag count root end sectors generation version closed)
+    → state_reply_in (to_be_bytes w32 tag ++ to_be_bytes w64 count ++ root ++ state_tail end sectors generation version closed) ≡ Some (reply.State tag count root end sectors generation version closed)
+unfolding state_reply_in
+state_again tag count root end sectors generation version closed fits =
+    let after : List ℕ = state_tail end sectors generation version closed in
+    let fields : List ℕ = to_be_bytes w32 tag ++ to_be_bytes w64 count ++ root ++ after in
+    let mark : get_or fields 70 0 ≡ cond closed 1 0 = sym (get_or-drop 58 (root ++ after) 0 0) ∙ ap (λ (bytes : List ℕ). get_or bytes 0 0) (past root after 26 fits.2) in
+    let test : (eqb (length fields) 71 && leb (get_or fields 70 0) 1) ≡ true = and_from (eqb (length fields) 71) (leb (get_or fields 70 0) 1) (eq-eqb (length fields) 71 (omega (arith, fits.2, length-append root after))) (ap (λ (m : ℕ). leb m 1) mark ∙ marked closed) in
+    let end_is : number_at w64 44 fields ≡ end = ap (λ (bytes : List ℕ). from_be_bytes w64 (take 8 bytes)) (past root after 0 fits.2) ∙ from_be_bytes-to_be_bytes_8 end fits.3 in
+    let sectors_is : number_at w64 52 fields ≡ sectors = ap (λ (bytes : List ℕ). from_be_bytes w64 (take 8 bytes)) (past root after 8 fits.2) ∙ from_be_bytes-to_be_bytes_8 sectors fits.4 in
+    let generation_is : number_at w64 60 fields ≡ generation = ap (λ (bytes : List ℕ). from_be_bytes w64 (take 8 bytes)) (past root after 16 fits.2) ∙ from_be_bytes-to_be_bytes_8 generation fits.5 in
+    let version_is : number_at w16 68 fields ≡ version = ap (λ (bytes : List ℕ). from_be_bytes w16 (take 2 bytes)) (past root after 24 fits.2) ∙ from_be_bytes-to_be_bytes_2 version fits.6 in
+    cond-true (eqb (length fields) 71 && leb (get_or fields 70 0) 1)
+    (Some (reply.State (number_at w32 0 fields) (number_at w64 4 fields) (take HASH_LEN (drop 12 fields)) (number_at w64 44 fields) (number_at w64 52 fields) (number_at w64 60 fields) (number_at w16 68 fields) (eqb (get_or fields 70 0) 1)))
+    None test
+    ∙ ap (λ (last : List ℕ). Some (reply.State (number_at w32 0 fields) (number_at w64 4 fields) last (number_at w64 44 fields) (number_at w64 52 fields) (number_at w64 60 fields) (number_at w16 68 fields) (eqb (get_or fields 70 0) 1))) (take_at root after HASH_LEN fits.2)
+    ∙ ap (λ (n : ℕ). Some (reply.State n (number_at w64 4 fields) root (number_at w64 44 fields) (number_at w64 52 fields) (number_at w64 60 fields) (number_at w16 68 fields) (eqb (get_or fields 70 0) 1))) (from_be_bytes-to_be_bytes_4 tag fits.0)
+    ∙ ap (λ (n : ℕ). Some (reply.State tag n root (number_at w64 44 fields) (number_at w64 52 fields) (number_at w64 60 fields) (number_at w16 68 fields) (eqb (get_or fields 70 0) 1))) (from_be_bytes-to_be_bytes_8 count fits.1)
+    ∙ ap (λ (n : ℕ). Some (reply.State tag count root n (number_at w64 52 fields) (number_at w64 60 fields) (number_at w16 68 fields) (eqb (get_or fields 70 0) 1))) end_is
+    ∙ ap (λ (n : ℕ). Some (reply.State tag count root end n (number_at w64 60 fields) (number_at w16 68 fields) (eqb (get_or fields 70 0) 1))) sectors_is
+    ∙ ap (λ (n : ℕ). Some (reply.State tag count root end sectors n (number_at w16 68 fields) (eqb (get_or fields 70 0) 1))) generation_is
+    ∙ ap (λ (n : ℕ). Some (reply.State tag count root end sectors generation n (eqb (get_or fields 70 0) 1))) version_is
+    ∙ ap (λ (n : ℕ). Some (reply.State tag count root end sectors generation version (eqb n 1))) mark
+    ∙ ap (λ (is : Bool). Some (reply.State tag count root end sectors generation version is)) (mark_again closed)
+
 refusal_again : (code : Refusal) → refusal_with_code (refusal_code code) ≡ Some code
 refusal_again refusal.DamagedLog = refl
 refusal_again refusal.Full = refl
@@ -117,6 +154,7 @@ reply_again (reply.Commitment tag count root) within fits = commitment_again tag
 reply_again (reply.Membership tag hashes entry) within fits = membership_again tag hashes entry within fits
 reply_again (reply.Incremental tag hashes) within fits = increment_again tag hashes within fits
 reply_again (reply.Entry tag entry) within fits = entry_again tag entry within fits
+reply_again (reply.State tag count root end sectors generation version closed) within fits = state_again tag count root end sectors generation version closed fits
 reply_again (reply.Refused tag code) within fits = refused_again tag code fits
 
 -- ---- sizes
@@ -127,6 +165,7 @@ reply_size (reply.Commitment tag count root) within fits = omega (arith, fits.2)
 reply_size (reply.Membership tag hashes entry) within fits = omega (arith, ap length (joined hashes entry), length-joined hashes entry fits.1, within.0, within.1)
 reply_size (reply.Incremental tag hashes) within fits = omega (arith, ap length (flat_map-concat hashes), length-concat hashes fits.1, within)
 reply_size (reply.Entry tag entry) within fits = omega (arith, within)
+reply_size (reply.State tag count root end sectors generation version closed) within fits = omega (arith, fits.2, length-append root (state_tail end sectors generation version closed))
 reply_size (reply.Refused tag code) within fits = omega arith
 
 -- a frame is no longer than the longest of its kind
@@ -136,6 +175,7 @@ reply_within (reply.Commitment tag count root) within fits = omega (arith, fits.
 reply_within (reply.Membership tag hashes entry) within fits = omega (arith, ap length (joined hashes entry), length-joined hashes entry fits.1, within.0, within.1)
 reply_within (reply.Incremental tag hashes) within fits = omega (arith, ap length (flat_map-concat hashes), length-concat hashes fits.1, within)
 reply_within (reply.Entry tag entry) within fits = omega (arith, within)
+reply_within (reply.State tag count root end sectors generation version closed) within fits = omega (arith, fits.2, length-append root (state_tail end sectors generation version closed))
 reply_within (reply.Refused tag code) within fits = omega arith
 
 -- ---- consecutive replies

@@ -3,10 +3,11 @@ use Rattle.std.proofs.Common.{◌≡◌, ℕ, true, false, if◌then◌else◌, 
 use Rattle.std.proofs.lemmas.List.{append-nil, take-append-drop}
 use Rattle.audit_wire.specs.declared.fed.Fed.{Fed}
 use Rattle.audit_wire.specs.declared.fed.Fed.TheVariants as fed
+use Rattle.audit_wire.specs.declared.grammar.Grammar.{Grammar}
 use Rattle.audit_wire.specs.declared.request.Request.{Request}
 use Rattle.audit_wire.specs.Frame.{frame, IsPartial, IsBadLength}
-use Rattle.audit_wire.specs.Request.{request_in}
-use Rattle.audit_wire.specs.Stream.{Framed, spoiled, all_in_front, framed_bodies, read_first, requests_of, requests_in, framed_requests}
+use Rattle.audit_wire.specs.Request.{request_by}
+use Rattle.audit_wire.specs.Stream.{Framed, spoiled, all_in_front, framed_bodies, read_first, requests_of, requests_in, framed_by}
 use Rattle.audit_wire.specs.Progress.{DecoderProgress, reading, whole, malformed, closed, rest_of, taken_of, is_spoiled, HasJustTaken, IsDecoderProgress, IsDecoderAnswer, Spoils, taken_by, untaken, handed_out, requests_ahead, IsPieceTaken, IsDecoderFed, Feeding, IsRun, bytes_taken, bodies_given, progress_after}
 use Rattle.audit_wire.proofs.Framing.{bodies_partial, bodies_bad, bodies_frame, requests_bad, requests_frame}
 
@@ -47,16 +48,16 @@ fed_bodies closed piece more answer new f = dropped new more f.1
 
 -- ---- the same for requests
 
-requests_in-front : (bodies : List (List ℕ)) (framed : Framed (List ℕ)) → requests_in (all_in_front bodies framed) ≡ requests_of bodies (requests_in framed)
-requests_in-front [] framed = refl
-requests_in-front (body ∷ bodies) framed = ap (λ (following : Framed Request). read_first (request_in body) following) (requests_in-front bodies framed)
+requests_in-front : (grammar : Grammar) (bodies : List (List ℕ)) (framed : Framed (List ℕ)) → requests_in grammar (all_in_front bodies framed) ≡ requests_of grammar bodies (requests_in grammar framed)
+requests_in-front grammar [] framed = refl
+requests_in-front grammar (body ∷ bodies) framed = ap (λ (following : Framed Request). read_first (request_by grammar body) following) (requests_in-front grammar bodies framed)
 
-ahead_in : (progress : DecoderProgress) (bytes : List ℕ) → requests_ahead progress bytes ≡ requests_in (bodies_ahead progress bytes)
-unfolding framed_requests
-ahead_in (reading held) bytes = refl
-ahead_in (whole body) bytes = refl
-ahead_in (malformed held) bytes = refl
-ahead_in closed bytes = refl
+ahead_in : (grammar : Grammar) (progress : DecoderProgress) (bytes : List ℕ) → requests_ahead grammar progress bytes ≡ requests_in grammar (bodies_ahead progress bytes)
+unfolding framed_by
+ahead_in grammar (reading held) bytes = refl
+ahead_in grammar (whole body) bytes = refl
+ahead_in grammar (malformed held) bytes = refl
+ahead_in grammar closed bytes = refl
 
 parts : (answer : Fed) (piece later : List ℕ) → piece ++ later ≡ taken_by answer piece ++ (untaken answer piece ++ later)
 parts fed.More piece later = refl
@@ -64,19 +65,19 @@ parts (fed.Body taken) piece later = sym (sym (append_assoc (take taken piece) (
 parts (fed.Malformed taken) piece later = sym (sym (append_assoc (take taken piece) (drop taken piece) later) ∙ ap (λ (all : List ℕ). all ++ later) (take-append-drop taken piece))
 
 -- the requests ahead before a piece are those that it returns, followed by those ahead after the bytes taken
-pub fed_ahead : (old : DecoderProgress) (piece : List ℕ) (answer : Fed) (new : DecoderProgress) (later : List ℕ) → IsDecoderFed old piece answer new
-    → requests_ahead old (taken_by answer piece ++ later) ≡ requests_of (handed_out new) (requests_ahead new later)
-fed_ahead old piece answer new later f =
-    ahead_in old (taken_by answer piece ++ later)
-    ∙ ap requests_in (fed_bodies old piece later answer new f)
-    ∙ requests_in-front (handed_out new) (bodies_ahead new later)
-    ∙ ap (λ (following : Framed Request). requests_of (handed_out new) following) (sym (ahead_in new later))
+pub fed_ahead : (grammar : Grammar) (old : DecoderProgress) (piece : List ℕ) (answer : Fed) (new : DecoderProgress) (later : List ℕ) → IsDecoderFed old piece answer new
+    → requests_ahead grammar old (taken_by answer piece ++ later) ≡ requests_of grammar (handed_out new) (requests_ahead grammar new later)
+fed_ahead grammar old piece answer new later f =
+    ahead_in grammar old (taken_by answer piece ++ later)
+    ∙ ap (requests_in grammar) (fed_bodies old piece later answer new f)
+    ∙ requests_in-front grammar (handed_out new) (bodies_ahead new later)
+    ∙ ap (λ (following : Framed Request). requests_of grammar (handed_out new) following) (sym (ahead_in grammar new later))
 
-pub fed_requests : (old : DecoderProgress) (piece : List ℕ) (answer : Fed) (new : DecoderProgress) (later : List ℕ) → IsDecoderFed old piece answer new
-    → requests_ahead old (piece ++ later) ≡ requests_of (handed_out new) (requests_ahead new (untaken answer piece ++ later))
-fed_requests old piece answer new later f =
-    ap (λ (bytes : List ℕ). requests_ahead old bytes) (parts answer piece later)
-    ∙ fed_ahead old piece answer new (untaken answer piece ++ later) f
+pub fed_requests : (grammar : Grammar) (old : DecoderProgress) (piece : List ℕ) (answer : Fed) (new : DecoderProgress) (later : List ℕ) → IsDecoderFed old piece answer new
+    → requests_ahead grammar old (piece ++ later) ≡ requests_of grammar (handed_out new) (requests_ahead grammar new (untaken answer piece ++ later))
+fed_requests grammar old piece answer new later f =
+    ap (λ (bytes : List ℕ). requests_ahead grammar old bytes) (parts answer piece later)
+    ∙ fed_ahead grammar old piece answer new (untaken answer piece ++ later) f
 
 -- ---- how much of a piece is taken
 
@@ -124,27 +125,27 @@ fed_spoils closed piece answer new f = spoils_dropped answer new f.0 f.1
 
 -- ---- a byte that was put back
 
-bad_requests : (bytes more : List ℕ) → IsBadLength bytes → framed_requests (bytes ++ more) ≡ spoiled
-bad_requests [] more h = absurd h
-bad_requests (high ∷ []) more h = absurd h
-bad_requests (high ∷ low ∷ []) more h = requests_bad high low more h
-bad_requests (high ∷ low ∷ next ∷ bytes) more h = absurd h
+bad_requests : (grammar : Grammar) (bytes more : List ℕ) → IsBadLength bytes → framed_by grammar (bytes ++ more) ≡ spoiled
+bad_requests grammar [] more h = absurd h
+bad_requests grammar (high ∷ []) more h = absurd h
+bad_requests grammar (high ∷ low ∷ []) more h = requests_bad grammar high low more h
+bad_requests grammar (high ∷ low ∷ next ∷ bytes) more h = absurd h
 
 -- once the byte came again, the bytes are the original ones
 again : (held taken later : List ℕ) (byte : ℕ) → taken ≡ held ++ byte ∷ [] → held ++ byte ∷ later ≡ taken ++ later
 again held taken later byte e = sym (append_assoc held (byte ∷ []) later) ∙ ap (λ (bytes : List ℕ). bytes ++ later) (sym e)
 
-given_back : (old : DecoderProgress) (held : List ℕ) (byte : ℕ) (later : List ℕ) → IsDecoderProgress old → HasJustTaken old → taken_of old ≡ held ++ byte ∷ []
-    → framed_requests (held ++ byte ∷ later) ≡ requests_of (handed_out old) (requests_ahead old later)
-given_back (reading bytes) held byte later p h e = absurd h
-given_back (whole body) held byte later p h e = ap framed_requests (again held (frame body) later byte e) ∙ requests_frame body later p
-given_back (malformed bytes) held byte later p h e = ap framed_requests (again held bytes later byte e) ∙ bad_requests bytes later p
-given_back closed held byte later p h e = absurd h
+given_back : (grammar : Grammar) (old : DecoderProgress) (held : List ℕ) (byte : ℕ) (later : List ℕ) → IsDecoderProgress old → HasJustTaken old → taken_of old ≡ held ++ byte ∷ []
+    → framed_by grammar (held ++ byte ∷ later) ≡ requests_of grammar (handed_out old) (requests_ahead grammar old later)
+given_back grammar (reading bytes) held byte later p h e = absurd h
+given_back grammar (whole body) held byte later p h e = ap (framed_by grammar) (again held (frame body) later byte e) ∙ requests_frame grammar body later p
+given_back grammar (malformed bytes) held byte later p h e = ap (framed_by grammar) (again held bytes later byte e) ∙ bad_requests grammar bytes later p
+given_back grammar closed held byte later p h e = absurd h
 
-pub put_back_requests : (old new : DecoderProgress) (byte : ℕ) (later : List ℕ) → IsDecoderProgress old → HasJustTaken old → new ≡ reading (rest_of new) → taken_of old ≡ rest_of new ++ byte ∷ []
-    → requests_ahead new (byte ∷ later) ≡ requests_of (handed_out old) (requests_ahead old later)
-put_back_requests old new byte later p h n e =
-    ap (λ (after : DecoderProgress). requests_ahead after (byte ∷ later)) n ∙ given_back old (rest_of new) byte later p h e
+pub put_back_requests : (grammar : Grammar) (old new : DecoderProgress) (byte : ℕ) (later : List ℕ) → IsDecoderProgress old → HasJustTaken old → new ≡ reading (rest_of new) → taken_of old ≡ rest_of new ++ byte ∷ []
+    → requests_ahead grammar new (byte ∷ later) ≡ requests_of grammar (handed_out old) (requests_ahead grammar old later)
+put_back_requests grammar old new byte later p h n e =
+    ap (λ (after : DecoderProgress). requests_ahead grammar after (byte ∷ later)) n ∙ given_back grammar old (rest_of new) byte later p h e
 
 -- ---- many pieces
 

@@ -4,8 +4,9 @@ use Rattle.std.specs.Prelude.{if◌then◌else◌}
 use Rattle.audit_wire.specs.declared.fed.Fed.{Fed}
 use Rattle.audit_wire.specs.declared.fed.Fed.TheVariants as fed
 use Rattle.audit_wire.specs.Frame.{frame, IsBodySize, IsPartial, IsBadLength}
+use Rattle.audit_wire.specs.declared.grammar.Grammar.{Grammar}
 use Rattle.audit_wire.specs.declared.request.Request.{Request}
-use Rattle.audit_wire.specs.Stream.{Framed, spoiled, framed_requests}
+use Rattle.audit_wire.specs.Stream.{Framed, spoiled, framed_by}
 
 pub data DecoderProgress : Type 0 where
   -- these bytes of a frame have arrived: none, or not all
@@ -107,9 +108,10 @@ abbrev pub handed_out : DecoderProgress → List (List ℕ)
 handed_out (whole body) = body ∷ []
 handed_out _ = []
 
--- the requests in the stream from here on, if these bytes come
-abbrev pub requests_ahead : DecoderProgress → List ℕ → Framed Request
-requests_ahead progress bytes = if is_spoiled progress then spoiled else framed_requests (rest_of progress ++ bytes)
+-- the requests of a grammar in the stream from here on, if these bytes come
+abbrev pub requests_ahead : Grammar → DecoderProgress → List ℕ → Framed Request
+requests_ahead grammar progress bytes =
+    if is_spoiled progress then spoiled else framed_by grammar (rest_of progress ++ bytes)
 
 -- the progress before the last byte taken; that byte led from the new to the old progress
 pub record PutsBack (old new : DecoderProgress) : Type 0 where

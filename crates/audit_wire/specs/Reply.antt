@@ -1,13 +1,15 @@
 -- The body of a reply: the kind in one byte, the request tag in four, then the fields of that kind.
-use Rattle.std.specs.Prelude.{◌≡◌, ℕ, ◌+◌, ◌*◌, ◌^◌, ◌<◌, ◌≤◌, ◌&&◌, ◌==◌, nat_le, if◌then◌else◌, List, [], ◌∷◌, ◌++◌}
+use Rattle.std.specs.Prelude.{◌≡◌, ℕ, Bool, ◌+◌, ◌*◌, ◌^◌, ◌<◌, ◌≤◌, ◌&&◌, ◌==◌, nat_le, if◌then◌else◌, List, [], ◌∷◌}
+use Rattle.std.specs.Prelude.{◌++◌}
 use Rattle.std.specs.Prelude.{length, take, drop, slice_index, Option, Some, None, Result, Ok, Err, MatchOption}
 use Rattle.std.specs.List.{flat_map}
-use Rattle.std.specs.Int.{w32, w64, to_be_bytes}
+use Rattle.std.specs.Int.{w16, w32, w64, to_be_bytes}
 use Rattle.audit_base.specs.Bytes.{number_at}
 use Rattle.audit_base.specs.Hashes.{AreHashes, first_hashes}
 use Rattle.audit_base.specs.declared.limits.TheConstants.{HASH_LEN, MAX_MEMBER_HASHES, MAX_INCREMENT_HASHES, MAX_ENTRY}
 use Rattle.audit_wire.specs.declared.limits.TheConstants.{ACKNOWLEDGEMENT_FRAME, REFUSAL_FRAME, COMMITMENT_FRAME}
 use Rattle.audit_wire.specs.declared.limits.TheConstants.{MAX_ENTRY_FRAME, MAX_INCREMENT_FRAME, MAX_MEMBERSHIP_FRAME}
+use Rattle.audit_wire.specs.declared.limits.TheConstants.{STATE_FRAME}
 use Rattle.audit_wire.specs.Frame.{frame}
 use Rattle.audit_wire.specs.declared.reply_fault.ReplyError.{ReplyError}
 use Rattle.audit_wire.specs.declared.reply_fault.ReplyError.TheVariants as fault
@@ -29,18 +31,25 @@ refusal_code refusal.Closed = 13
 refusal_code refusal.NotAllowed = 16
 refusal_code refusal.Malformed = 20
 
--- the first byte of each kind: 0x81 to 0x85, and 0xff
+-- the first byte of each kind: 0x81 to 0x85, 0x87, and 0xff
 abbrev pub reply_byte : ReplyKind → ℕ
 reply_byte kind.Acknowledgement = 129
 reply_byte kind.Commitment = 130
 reply_byte kind.Membership = 131
 reply_byte kind.Incremental = 132
 reply_byte kind.Entry = 133
+reply_byte kind.State = 135
 reply_byte kind.Refused = 255
 
 -- the number of hashes in one byte, then the hashes
 abbrev pub hash_list : List (List ℕ) → List ℕ
 hash_list hashes = length hashes ∷ flat_map (λ hash. hash) hashes
+
+-- the fields of a state after its commitment: three numbers, the version, and the mark of a closed log
+abbrev pub state_tail : ℕ → ℕ → ℕ → ℕ → Bool → List ℕ
+state_tail end sectors generation version closed =
+    to_be_bytes w64 end ++ to_be_bytes w64 sectors ++ to_be_bytes w64 generation ++ to_be_bytes w16 version
+    ++ (if closed then 1 else 0) ∷ []
 
 -- the body of each reply
 abbrev pub reply_body : Reply → List ℕ
@@ -52,6 +61,9 @@ reply_body (reply.Membership tag hashes entry) =
     reply_byte kind.Membership ∷ (to_be_bytes w32 tag ++ hash_list hashes ++ entry)
 reply_body (reply.Incremental tag hashes) = reply_byte kind.Incremental ∷ (to_be_bytes w32 tag ++ hash_list hashes)
 reply_body (reply.Entry tag entry) = reply_byte kind.Entry ∷ (to_be_bytes w32 tag ++ entry)
+reply_body (reply.State tag count root end sectors generation version closed) =
+    reply_byte kind.State ∷ (to_be_bytes w32 tag ++ to_be_bytes w64 count ++ root
+    ++ state_tail end sectors generation version closed)
 reply_body (reply.Refused tag code) = reply_byte kind.Refused ∷ (to_be_bytes w32 tag ++ refusal_code code ∷ [])
 
 -- a reply that has a frame
@@ -69,6 +81,9 @@ HasReplyFields (reply.Commitment tag count root) = (tag < 2 ^ 32) × (count < 2 
 HasReplyFields (reply.Membership tag hashes entry) = (tag < 2 ^ 32) × AreHashes hashes
 HasReplyFields (reply.Incremental tag hashes) = (tag < 2 ^ 32) × AreHashes hashes
 HasReplyFields (reply.Entry tag entry) = tag < 2 ^ 32
+HasReplyFields (reply.State tag count root end sectors generation version closed) = (tag < 2 ^ 32)
+    × (count < 2 ^ 64) × (length root ≡ HASH_LEN) × (end < 2 ^ 64) × (sectors < 2 ^ 64) × (generation < 2 ^ 64)
+    × (version < 2 ^ 16)
 HasReplyFields (reply.Refused tag code) = tag < 2 ^ 32
 
 -- a reply that has a frame, as the code represents it
@@ -86,6 +101,7 @@ longest_frame (reply.Commitment tag count root) = COMMITMENT_FRAME
 longest_frame (reply.Membership tag hashes entry) = MAX_MEMBERSHIP_FRAME
 longest_frame (reply.Incremental tag hashes) = MAX_INCREMENT_FRAME
 longest_frame (reply.Entry tag entry) = MAX_ENTRY_FRAME
+longest_frame (reply.State tag count root end sectors generation version closed) = STATE_FRAME
 longest_frame (reply.Refused tag code) = REFUSAL_FRAME
 
 -- ---- the same, read from bytes
@@ -98,6 +114,7 @@ reply_kind_at byte =
     if byte == 131 then Some kind.Membership else
     if byte == 132 then Some kind.Incremental else
     if byte == 133 then Some kind.Entry else
+    if byte == 135 then Some kind.State else
     if byte == 255 then Some kind.Refused else None
 
 -- the refusal with this code
@@ -145,6 +162,14 @@ entry_reply_in fields =
     if nat_le 4 (length fields) && nat_le (length fields) (4 + MAX_ENTRY)
     then Some (reply.Entry (number_at w32 0 fields) (drop 4 fields)) else None
 
+unfoldable pub state_reply_in : List ℕ → Option Reply
+state_reply_in fields =
+    let mark = slice_index fields 70 in
+    if (length fields == 71) && nat_le mark 1
+    then Some (reply.State (number_at w32 0 fields) (number_at w64 4 fields) (take HASH_LEN (drop 12 fields))
+    (number_at w64 44 fields) (number_at w64 52 fields) (number_at w64 60 fields) (number_at w16 68 fields) (mark == 1))
+    else None
+
 abbrev pub refused_with : ℕ → Option Refusal → Option Reply
 refused_with tag None = None
 refused_with tag (Some code) = Some (reply.Refused tag code)
@@ -160,6 +185,7 @@ reply_fields_in (Some kind.Commitment) fields = commitment_reply_in fields
 reply_fields_in (Some kind.Membership) fields = membership_reply_in fields
 reply_fields_in (Some kind.Incremental) fields = increment_reply_in fields
 reply_fields_in (Some kind.Entry) fields = entry_reply_in fields
+reply_fields_in (Some kind.State) fields = state_reply_in fields
 reply_fields_in (Some kind.Refused) fields = refused_in fields
 
 -- the reply whose body this is

@@ -4,6 +4,8 @@ use Rattle.std.specs.Prelude.{length, drop, Option, Some, None}
 use Rattle.std.specs.Int.{w32, w64, to_be_bytes}
 use Rattle.audit_base.specs.Bytes.{number_at}
 use Rattle.audit_base.specs.declared.limits.TheConstants.{MAX_PAYLOAD, RESERVED_KIND}
+use Rattle.audit_wire.specs.declared.grammar.Grammar.{Grammar}
+use Rattle.audit_wire.specs.declared.grammar.Grammar.TheVariants as grammar
 use Rattle.audit_wire.specs.declared.request.Request.{Request}
 use Rattle.audit_wire.specs.declared.request.Request.TheVariants as request
 use Rattle.audit_wire.specs.declared.request_kind.RequestKind.{RequestKind}
@@ -17,6 +19,7 @@ request_byte kind.Membership = 3
 request_byte kind.Incremental = 4
 request_byte kind.Entry = 5
 request_byte kind.Close = 6
+request_byte kind.State = 7
 
 -- the body of each request
 abbrev pub request_body : Request → List ℕ
@@ -29,8 +32,10 @@ request_body (request.Incremental tag older newer) =
     4 ∷ (to_be_bytes w32 tag ++ to_be_bytes w64 older ++ to_be_bytes w64 newer)
 request_body (request.Entry tag index) = 5 ∷ (to_be_bytes w32 tag ++ to_be_bytes w64 index)
 request_body (request.Close tag) = 6 ∷ to_be_bytes w32 tag
+request_body (request.State tag) = 7 ∷ to_be_bytes w32 tag
 
--- a request that has a body: its numbers fit their fields, and an append has an allowed kind and payload
+-- A request that every session may make and that has a body: its numbers fit their fields, and an append has an allowed
+-- kind and payload.
 abbrev pub IsRequest : Request → Type 0
 IsRequest (request.Append tag event_kind payload) = (tag < 2 ^ 32) × (event_kind < 2 ^ 32)
     × (event_kind ≢ RESERVED_KIND) × (length payload ≤ MAX_PAYLOAD)
@@ -39,8 +44,18 @@ IsRequest (request.Membership tag index count) = (tag < 2 ^ 32) × (index < 2 ^ 
 IsRequest (request.Incremental tag older newer) = (tag < 2 ^ 32) × (older < 2 ^ 64) × (newer < 2 ^ 64)
 IsRequest (request.Entry tag index) = (tag < 2 ^ 32) × (index < 2 ^ 64)
 IsRequest (request.Close tag) = tag < 2 ^ 32
+IsRequest (request.State tag) = ⊥
 
--- the kind that the first byte of a body denotes
+-- the same of the clients of a daemon, which may also ask for the state
+abbrev pub IsDaemonRequest : Request → Type 0
+IsDaemonRequest (request.State tag) = tag < 2 ^ 32
+IsDaemonRequest asked = IsRequest asked
+
+abbrev pub IsRequestBy : Grammar → Request → Type 0
+IsRequestBy grammar.Plain asked = IsRequest asked
+IsRequestBy grammar.Daemon asked = IsDaemonRequest asked
+
+-- the kind that the first byte of a body denotes, of those that every session may make, and by a grammar
 abbrev pub kind_at : ℕ → Option RequestKind
 kind_at byte =
     if byte == 1 then Some kind.Append else
@@ -49,6 +64,10 @@ kind_at byte =
     if byte == 4 then Some kind.Incremental else
     if byte == 5 then Some kind.Entry else
     if byte == 6 then Some kind.Close else None
+
+abbrev pub kind_in : Grammar → ℕ → Option RequestKind
+kind_in grammar.Plain byte = kind_at byte
+kind_in grammar.Daemon byte = if byte == 7 then Some kind.State else kind_at byte
 
 -- the request in the bytes after the first one, for each kind
 unfoldable pub append_in : List ℕ → Option Request
@@ -78,6 +97,9 @@ entry_in fields = if length fields == 12 then Some (request.Entry (number_at w32
 unfoldable pub close_in : List ℕ → Option Request
 close_in fields = if length fields == 4 then Some (request.Close (number_at w32 0 fields)) else None
 
+unfoldable pub state_in : List ℕ → Option Request
+state_in fields = if length fields == 4 then Some (request.State (number_at w32 0 fields)) else None
+
 abbrev pub fields_in : Option RequestKind → List ℕ → Option Request
 fields_in None fields = None
 fields_in (Some kind.Append) fields = append_in fields
@@ -86,8 +108,12 @@ fields_in (Some kind.Membership) fields = membership_in fields
 fields_in (Some kind.Incremental) fields = incremental_in fields
 fields_in (Some kind.Entry) fields = entry_in fields
 fields_in (Some kind.Close) fields = close_in fields
+fields_in (Some kind.State) fields = state_in fields
 
--- the request whose body this is
-unfoldable pub request_in : List ℕ → Option Request
-request_in [] = None
-request_in (first ∷ fields) = fields_in (kind_at first) fields
+-- the request whose body this is, by a grammar, and of those that every session may make
+unfoldable pub request_by : Grammar → List ℕ → Option Request
+request_by grammar [] = None
+request_by grammar (first ∷ fields) = fields_in (kind_in grammar first) fields
+
+abbrev pub request_in : List ℕ → Option Request
+request_in body = request_by grammar.Plain body

@@ -3,9 +3,11 @@
 use Rattle.std.specs.Prelude.{◌≡◌, ◌≢◌, ℕ, zero, suc, ◌≤◌, Bool, true, false, nat_le, if◌then◌else◌, List, [], ◌∷◌}
 use Rattle.std.specs.Prelude.{◌++◌, length, take, drop, Option, Some, None}
 use Rattle.std.specs.List.{flat_map, AllByRecursion}
+use Rattle.audit_wire.specs.declared.grammar.Grammar.{Grammar}
+use Rattle.audit_wire.specs.declared.grammar.Grammar.TheVariants as grammar
 use Rattle.audit_wire.specs.declared.request.Request.{Request}
 use Rattle.audit_wire.specs.Frame.{frame, size_of, IsBodySize, is_body_size, IsPartial}
-use Rattle.audit_wire.specs.Request.{request_body, request_in, IsRequest}
+use Rattle.audit_wire.specs.Request.{request_body, request_by, IsRequestBy}
 
 pub record Framed (Item : Type 0) : Type 0 where
   pub items : List Item
@@ -52,21 +54,25 @@ abbrev pub read_first : Option Request → Framed Request → Framed Request
 read_first None after = spoiled
 read_first (Some request) after = in_front request after
 
-abbrev pub requests_of : List (List ℕ) → Framed Request → Framed Request
-requests_of [] after = after
-requests_of (body ∷ bodies) after = read_first (request_in body) (requests_of bodies after)
+abbrev pub requests_of : Grammar → List (List ℕ) → Framed Request → Framed Request
+requests_of grammar [] after = after
+requests_of grammar (body ∷ bodies) after = read_first (request_by grammar body) (requests_of grammar bodies after)
 
-abbrev pub requests_in : Framed (List ℕ) → Framed Request
-requests_in bodies = requests_of bodies.items (record { items = []; malformed = bodies.malformed; rest = bodies.rest })
+abbrev pub requests_in : Grammar → Framed (List ℕ) → Framed Request
+requests_in grammar bodies =
+    requests_of grammar bodies.items (record { items = []; malformed = bodies.malformed; rest = bodies.rest })
 
--- the requests framed in a byte stream
-unfoldable pub framed_requests : List ℕ → Framed Request
-framed_requests bytes = requests_in (framed_bodies bytes)
+-- the requests framed in a byte stream, by a grammar, and by that of every session
+unfoldable pub framed_by : Grammar → List ℕ → Framed Request
+framed_by grammar bytes = requests_in grammar (framed_bodies bytes)
+
+abbrev pub framed_requests : List ℕ → Framed Request
+framed_requests bytes = framed_by grammar.Plain bytes
 
 -- the contents of a stream after more bytes, from its contents before
-abbrev pub continued : Framed Request → List ℕ → Framed Request
-continued framed more = if framed.malformed then framed
-    else all_in_front framed.items (framed_requests (framed.rest ++ more))
+abbrev pub continued : Grammar → Framed Request → List ℕ → Framed Request
+continued grammar framed more = if framed.malformed then framed
+    else all_in_front framed.items (framed_by grammar (framed.rest ++ more))
 
 -- ---- the same as a relation, independent of how a stream is read
 
@@ -75,21 +81,21 @@ request_frame request = frame (request_body request)
 
 -- a place where no request's frame is or can come to be: a length that no request has, or a whole body that is no
 -- request's
-abbrev pub IsMalformedPlace : List ℕ → Type 0
-IsMalformedPlace [] = ⊥
-IsMalformedPlace (high ∷ []) = ⊥
-IsMalformedPlace (high ∷ low ∷ bytes) =
+abbrev pub IsMalformedPlace : Grammar → List ℕ → Type 0
+IsMalformedPlace grammar [] = ⊥
+IsMalformedPlace grammar (high ∷ []) = ⊥
+IsMalformedPlace grammar (high ∷ low ∷ bytes) =
     IsBodySize (size_of high low) → (size_of high low ≤ length bytes)
-    × ((request : Request) → IsRequest request → request_body request ≢ take (size_of high low) bytes)
+    × ((request : Request) → IsRequestBy grammar request → request_body request ≢ take (size_of high low) bytes)
 
 -- what follows the requests
-abbrev pub EndsIn : Bool → List ℕ → List ℕ → Type 0
-EndsIn false rest place = IsPartial place × (rest ≡ place)
-EndsIn true rest place = IsMalformedPlace place × (rest ≡ [])
+abbrev pub EndsIn : Grammar → Bool → List ℕ → List ℕ → Type 0
+EndsIn grammar false rest place = IsPartial place × (rest ≡ place)
+EndsIn grammar true rest place = IsMalformedPlace grammar place × (rest ≡ [])
 
--- the stream consists of the frames of these requests, then a malformed place or the rest
-pub record IsReading (bytes : List ℕ) (framed : Framed Request) : Type 0 where
-  pub each : AllByRecursion IsRequest framed.items
+-- the stream consists of the frames of these requests of the grammar, then a malformed place or the rest
+pub record IsReading (grammar : Grammar) (bytes : List ℕ) (framed : Framed Request) : Type 0 where
+  pub each : AllByRecursion (IsRequestBy grammar) framed.items
   pub place : List ℕ
   pub whole : bytes ≡ flat_map request_frame framed.items ++ place
-  pub ends : EndsIn framed.malformed framed.rest place
+  pub ends : EndsIn grammar framed.malformed framed.rest place

@@ -14,6 +14,7 @@ request_shown (view.Membership tag index count) = request.Membership tag index c
 request_shown (view.Incremental tag older newer) = request.Incremental tag older newer
 request_shown (view.Entry tag index) = request.Entry tag index
 request_shown (view.Close tag) = request.Close tag
+request_shown (view.State tag) = request.State tag
 
 -- a request without a payload
 abbrev pub IsQuery : RequestView → Type 0

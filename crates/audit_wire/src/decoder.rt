@@ -4,6 +4,7 @@ ghost use Rattle.audit_wire.specs.Frame.{IsPartial};
 ghost use Rattle.audit_wire.specs.Progress.{reading, rest_of, body_of, HasJustTaken, IsDecoderProgress, IsDecoderFed};
 ghost use Rattle.audit_wire.specs.Progress.{IsDecoderAnswer, PutsBack, Spoils, taken_of, taken_by, handed_out, untaken};
 ghost use Rattle.audit_wire.specs.Progress.{is_spoiled, requests_ahead};
+ghost use Rattle.audit_wire.specs.declared.grammar.Grammar.{Grammar};
 ghost use Rattle.audit_wire.specs.Stream.{requests_of};
 ghost use Rattle.audit_wire.specs.Filled.{IsFilled};
 
@@ -71,12 +72,14 @@ impl Decoder {
         // A body or a malformed length takes at least one byte, which may be put back.
         ensures taken { IsDecoderAnswer result (length piece.now) self.new }
         // The requests ahead before the call are those in the returned body, followed by those ahead after it.
-        ensures requests { (later : List ℕ) → requests_ahead self.old (piece.now ++ later)
-            ≡ requests_of (handed_out self.new) (requests_ahead self.new (untaken result piece.now ++ later)) }
+        ensures requests { (grammar : Grammar) (later : List ℕ) → requests_ahead grammar self.old (piece.now ++ later)
+            ≡ requests_of grammar (handed_out self.new)
+            (requests_ahead grammar self.new (untaken result piece.now ++ later)) }
         ensures rest { IsPartial (rest_of self.new) }
         // The same for the bytes that were taken, whatever follows them.
-        ensures ahead { (later : List ℕ) → requests_ahead self.old (taken_by result piece.now ++ later)
-            ≡ requests_of (handed_out self.new) (requests_ahead self.new later) }
+        ensures ahead { (grammar : Grammar) (later : List ℕ)
+            → requests_ahead grammar self.old (taken_by result piece.now ++ later)
+            ≡ requests_of grammar (handed_out self.new) (requests_ahead grammar self.new later) }
         // The bytes since the end of the previous frame are those held back and those taken.
         ensures so_far { is_spoiled self.old ≡ false → taken_of self.new
             ≡ rest_of self.old ++ taken_by result piece.now }
@@ -123,9 +126,10 @@ impl Decoder {
         requires { HasJustTaken self.old }
         ensures before { PutsBack self.old self.new }
         // If that byte comes again, the requests ahead are the same as before it was put back.
-        ensures requests { (byte : ℕ) (later : List ℕ) → taken_of self.old ≡ rest_of self.new ++ byte ∷ []
-            → requests_ahead self.new (byte ∷ later) ≡ requests_of (handed_out self.old)
-            (requests_ahead self.old later) }
+        ensures requests { (grammar : Grammar) (byte : ℕ) (later : List ℕ)
+            → taken_of self.old ≡ rest_of self.new ++ byte ∷ []
+            → requests_ahead grammar self.new (byte ∷ later) ≡ requests_of grammar (handed_out self.old)
+            (requests_ahead grammar self.old later) }
     {
         self.undo();
     }

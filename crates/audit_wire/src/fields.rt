@@ -1,4 +1,5 @@
 //! The offsets of a body's fields, counted from after its first byte.
+use audit_base::HASH_LEN;
 
 /// The request tag.
 pub(crate) const TAG_AT: usize = 0;
@@ -14,6 +15,21 @@ pub(crate) const AFTER_ONE_NUMBER: usize = AFTER_TAG + 8;
 
 /// After two numbers.
 pub(crate) const AFTER_TWO_NUMBERS: usize = AFTER_ONE_NUMBER + 8;
+
+/// After one number and a hash: the first sector after the log, in a state.
+pub(crate) const AFTER_COMMITMENT: usize = AFTER_ONE_NUMBER + HASH_LEN;
+
+/// The number of sectors in a state, after the first sector after the log.
+pub(crate) const SECTORS_AT: usize = AFTER_COMMITMENT + 8;
+
+/// The generation in a state.
+pub(crate) const GENERATION_AT: usize = SECTORS_AT + 8;
+
+/// The version in a state.
+pub(crate) const VERSION_AT: usize = GENERATION_AT + 8;
+
+/// The mark of a closed log in a state.
+pub(crate) const MARK_AT: usize = VERSION_AT + 2;
 
 /// After one byte: a proof's hashes follow their number, and nothing follows a code.
 pub(crate) const AFTER_ONE_BYTE: usize = AFTER_TAG + 1;

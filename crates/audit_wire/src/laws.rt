@@ -1,12 +1,15 @@
 //! Laws of the formats. Each function does nothing: its contract is the law.
 
-ghost use Rattle.std.specs.Prelude.{◌≡◌, ◌<◌, ◌≤◌, ◌^◌, ℕ, length, List, [], ◌∷◌, ◌++◌, Some};
+ghost use Rattle.std.specs.Prelude.{◌≡◌, ◌<◌, ◌≤◌, ◌^◌, ◌⊎◌, ℕ, Bool, length, List, [], ◌∷◌, ◌++◌, Some};
+ghost use Rattle.audit_wire.specs.declared.grammar.Grammar.{Grammar};
+ghost use Rattle.audit_wire.specs.declared.grammar.Grammar.TheVariants as grammar;
 ghost use Rattle.audit_wire.specs.declared.request.Request.{Request};
+ghost use Rattle.audit_wire.specs.declared.request.Request.TheVariants as request;
 ghost use Rattle.audit_base.specs.declared.limits.TheConstants.{HASH_LEN};
 ghost use Rattle.audit_wire.specs.declared.limits.TheConstants.{LENGTH_BYTES, MAX_BODY, MAX_FRAME};
 ghost use Rattle.audit_wire.specs.declared.limits.TheConstants.{ACKNOWLEDGEMENT_FRAME, COMMITMENT_FRAME};
 ghost use Rattle.audit_wire.specs.declared.limits.TheConstants.{MAX_ENTRY_FRAME, MAX_INCREMENT_FRAME};
-ghost use Rattle.audit_wire.specs.declared.limits.TheConstants.{MAX_MEMBERSHIP_FRAME, REFUSAL_FRAME};
+ghost use Rattle.audit_wire.specs.declared.limits.TheConstants.{MAX_MEMBERSHIP_FRAME, REFUSAL_FRAME, STATE_FRAME};
 ghost use Rattle.audit_wire.specs.declared.refusal.Refusal.{Refusal};
 ghost use Rattle.audit_wire.specs.declared.reply.Reply.{Reply};
 ghost use Rattle.audit_wire.specs.declared.reply.Reply.TheVariants as reply;
@@ -14,37 +17,51 @@ ghost use Rattle.audit_wire.specs.Reply.{reply_body, reply_frame, longest_frame,
 ghost use Rattle.std.specs.List.{flat_map, AllByRecursion};
 ghost use Rattle.audit_base.specs.Bytes.{AreBytes};
 ghost use Rattle.audit_wire.specs.Frame.{IsPartial};
-ghost use Rattle.audit_wire.specs.Request.{request_body, request_in, IsRequest};
-ghost use Rattle.audit_wire.specs.Stream.{Framed, rest_alone, in_front, framed_bodies, framed_requests, continued};
+ghost use Rattle.audit_wire.specs.Request.{request_body, request_in, request_by, IsRequest, IsRequestBy};
+ghost use Rattle.audit_wire.specs.Stream.{Framed, rest_alone, in_front, framed_bodies, framed_by, continued};
 ghost use Rattle.audit_wire.specs.Stream.{request_frame, IsReading};
 ghost use Rattle.audit_wire.specs.declared.fed.Fed.{Fed};
 ghost use Rattle.audit_wire.specs.Progress.{DecoderProgress, Feeding, reading, rest_of, is_spoiled, IsDecoderFed};
 ghost use Rattle.audit_wire.specs.Progress.{taken_by, taken_but_one, requests_ahead, HasJustTaken, PutsBack, IsRun};
 ghost use Rattle.audit_wire.specs.Progress.{bytes_taken, bodies_given, progress_after};
 
-/// A stream can be read in only one way: two readings of the same bytes have the same requests, the same rest, and
-/// both or neither ends in a malformed place.
+/// A stream can be read in only one way by a grammar: two readings of the same bytes have the same requests, the same
+/// rest, and both or neither ends in a malformed place.
 pub fn one_reading_of_a_stream()
-    ensures read { (bytes : List ℕ) → AreBytes bytes → IsReading bytes (framed_requests bytes) }
-    ensures only { (bytes : List ℕ) (framed : Framed Request) → AreBytes bytes → IsReading bytes framed
-        → framed ≡ framed_requests bytes }
+    ensures read { (grammar : Grammar) (bytes : List ℕ) → AreBytes bytes
+        → IsReading grammar bytes (framed_by grammar bytes) }
+    ensures only { (grammar : Grammar) (bytes : List ℕ) (framed : Framed Request) → AreBytes bytes
+        → IsReading grammar bytes framed → framed ≡ framed_by grammar bytes }
 {}
 
-/// Every request has a frame that reads back as the request, whatever follows it. A body reads as a request if and
-/// only if it is that request's body.
+/// Every request of a grammar has a frame that reads back as the request, whatever follows it. A body reads as a
+/// request if and only if it is that request's body.
 pub fn every_request_is_read_back()
-    ensures frame { (request : Request) (more : List ℕ) → IsRequest request
-        → framed_requests (request_frame request ++ more) ≡ in_front request (framed_requests more) }
-    ensures body { (request : Request) → IsRequest request → request_in (request_body request) ≡ Some request }
-    ensures only { (body : List ℕ) (request : Request) → AreBytes body → request_in body ≡ Some request
-        → IsRequest request × (body ≡ request_body request) }
+    ensures frame { (grammar : Grammar) (request : Request) (more : List ℕ) → IsRequestBy grammar request
+        → framed_by grammar (request_frame request ++ more) ≡ in_front request (framed_by grammar more) }
+    ensures body { (grammar : Grammar) (request : Request) → IsRequestBy grammar request
+        → request_by grammar (request_body request) ≡ Some request }
+    ensures only { (grammar : Grammar) (body : List ℕ) (request : Request) → AreBytes body
+        → request_by grammar body ≡ Some request → IsRequestBy grammar request × (body ≡ request_body request) }
+{}
+
+/// What every session may ask, a daemon's clients may ask too, in the same bytes. Besides these they may ask for the state
+/// alone.
+pub fn grammars_agree()
+    ensures read { (body : List ℕ) (request : Request) → request_in body ≡ Some request
+        → request_by grammar.Daemon body ≡ Some request }
+    ensures only { (body : List ℕ) (asked : Request) → request_by grammar.Daemon body ≡ Some asked
+        → ((tag : ℕ) × (asked ≡ request.State tag)) ⊎ (request_in body ≡ Some asked) }
+    ensures allowed { (request : Request) → IsRequest request → IsRequestBy grammar.Daemon request }
 {}
 
 /// More bytes leave the earlier requests unchanged, and are read together with the incomplete frame before them. The
 /// start of a frame is such a rest.
 pub fn more_bytes_keep_the_requests()
-    ensures more { (bytes later : List ℕ) → framed_requests (bytes ++ later) ≡ continued (framed_requests bytes) later }
-    ensures rest { (bytes : List ℕ) → IsPartial bytes → framed_requests bytes ≡ rest_alone bytes }
+    ensures more { (grammar : Grammar) (bytes later : List ℕ)
+        → framed_by grammar (bytes ++ later) ≡ continued grammar (framed_by grammar bytes) later }
+    ensures rest { (grammar : Grammar) (bytes : List ℕ) → IsPartial bytes
+        → framed_by grammar bytes ≡ rest_alone bytes }
 {}
 
 /// However a stream is cut into pieces, the bodies that a decoder returned and the bytes that it holds back depend
@@ -70,12 +87,15 @@ pub fn every_reply_is_read_back()
     ensures refused { (tag : ℕ) (code : Refusal) → length (reply_body (reply.Refused tag code)) ≡ 6 }
 {}
 
-/// All acknowledgements have frames of one size, and so have all refusals. No frame is longer than the longest of its
+/// All acknowledgements have frames of one size, and so have all refusals and all states. No frame is longer than the longest of its
 /// kind.
 pub fn replies_have_their_sizes()
     ensures acknowledgement { (tag index count : ℕ) (root : List ℕ) → length root ≡ HASH_LEN
         → length (reply_frame (reply.Acknowledgement tag index count root)) ≡ ACKNOWLEDGEMENT_FRAME }
     ensures refused { (tag : ℕ) (code : Refusal) → length (reply_frame (reply.Refused tag code)) ≡ REFUSAL_FRAME }
+    ensures state { (tag count : ℕ) (root : List ℕ) (end sectors generation version : ℕ) (closed : Bool)
+        → length root ≡ HASH_LEN
+        → length (reply_frame (reply.State tag count root end sectors generation version closed)) ≡ STATE_FRAME }
     ensures within { (given : Reply) → IsWholeReply given → length (reply_frame given) ≤ longest_frame given }
 {}
 
@@ -101,10 +121,11 @@ pub fn a_byte_given_back_never_came()
         → IsDecoderFed old piece answer taken
         → HasJustTaken taken
         → PutsBack taken new → IsDecoderFed old (taken_but_one answer piece) Fed.More new }
-    ensures ahead { (old taken new : DecoderProgress) (piece : List ℕ) (answer : Fed) (later : List ℕ)
+    ensures ahead { (grammar : Grammar) (old taken new : DecoderProgress) (piece : List ℕ) (answer : Fed)
+        (later : List ℕ)
         → IsDecoderFed old piece answer taken
-        → HasJustTaken taken → PutsBack taken new → requests_ahead old (taken_but_one answer piece ++ later)
-        ≡ requests_ahead new later }
+        → HasJustTaken taken → PutsBack taken new
+        → requests_ahead grammar old (taken_but_one answer piece ++ later) ≡ requests_ahead grammar new later }
 {}
 
 /// The limits of the frames, as numbers.
@@ -115,6 +136,7 @@ pub fn limits_are_these_numbers()
     ensures acknowledgement { ACKNOWLEDGEMENT_FRAME ≡ 55 }
     ensures refusal { REFUSAL_FRAME ≡ 8 }
     ensures commitment { COMMITMENT_FRAME ≡ 47 }
+    ensures state { STATE_FRAME ≡ 74 }
     ensures entry { MAX_ENTRY_FRAME ≡ 32775 }
     ensures increment { MAX_INCREMENT_FRAME ≡ 808 }
     ensures membership { MAX_MEMBERSHIP_FRAME ≡ 33544 }

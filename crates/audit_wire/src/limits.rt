@@ -23,6 +23,9 @@ pub const REFUSAL_FRAME: usize = 8;
 /// The frame of every commitment, including its length field.
 pub const COMMITMENT_FRAME: usize = 47;
 
+/// The frame of every state, including its length field.
+pub const STATE_FRAME: usize = 74;
+
 /// The length field, first byte and request tag of a reply.
 const REPLY_HEAD: usize = LENGTH_BYTES + 5;
 

@@ -2,17 +2,20 @@ ghost use Rattle.std.specs.Prelude.{◌≡◌, ◌+◌, ◌≤◌, length, IfOk,
 ghost use Rattle.std.specs.Int.{w32, w64};
 ghost use Rattle.audit_wire.specs.declared.request.Request.{Request};
 ghost use Rattle.audit_base.specs.Bytes.{number_at};
-ghost use Rattle.audit_wire.specs.Request.{request_body, request_in, IsRequest, append_in, commitment_in};
-ghost use Rattle.audit_wire.specs.Request.{membership_in, incremental_in, entry_in, close_in};
+ghost use Rattle.audit_wire.specs.Request.{request_body, request_in, request_by, IsRequest, IsRequestBy};
+ghost use Rattle.audit_wire.specs.Request.{append_in, commitment_in, membership_in, incremental_in, entry_in};
+ghost use Rattle.audit_wire.specs.Request.{close_in, state_in};
 ghost use Rattle.audit_wire.specs.View.{request_shown, request_read};
 
 use crate::fields::{AFTER_ONE_NUMBER, AFTER_TAG, AFTER_TWO_NUMBERS, PAYLOAD_AT, TAG_AT};
+use crate::grammar::Grammar;
 use crate::malformed::Malformed;
 use crate::request_kind::RequestKind;
 use crate::view::RequestView;
 use audit_base::{MAX_PAYLOAD, RESERVED_KIND, u32_at, u64_at};
 
-/// Reads the body of a frame as a request, and borrows an append's payload. It allocates nothing.
+/// Reads the body of a frame as a request that every session may make, and borrows an append's payload. It allocates
+/// nothing.
 pub fn read_request(body: &[u8]) -> Result<RequestView<'_>, Malformed>
     // A request that is read has this body.
     ensures found { IfOk result (λ view. IsRequest (request_shown view)
@@ -20,20 +23,34 @@ pub fn read_request(body: &[u8]) -> Result<RequestView<'_>, Malformed>
     // The body of a request reads as that request.
     ensures only { (request : Request) → IsRequest request → body.now ≡ request_body request
         → request_read result ≡ Some request }
-    // Every body is read according to the grammar.
+    // Every body is read according to the grammar of every session.
     ensures exact { request_read result ≡ request_in body.now }
 {
-    read_by_kind(body)
+    read_by_kind(Grammar::Plain, body)
 }
 
-#[tactic(auto, unfolding(crate::specs::Request::request_in))]
-fn read_by_kind(body: &[u8]) -> Result<RequestView<'_>, Malformed>
-    ensures { request_read result ≡ request_in body.now }
+/// Reads the body of a frame as a request of this grammar, and borrows an append's payload. It allocates nothing.
+pub fn read_request_by(grammar: Grammar, body: &[u8]) -> Result<RequestView<'_>, Malformed>
+    // A request that is read has this body.
+    ensures found { IfOk result (λ view. IsRequestBy grammar (request_shown view)
+        × (body.now ≡ request_body (request_shown view))) }
+    // The body of a request reads as that request.
+    ensures only { (request : Request) → IsRequestBy grammar request → body.now ≡ request_body request
+        → request_read result ≡ Some request }
+    // Every body is read according to the grammar.
+    ensures exact { request_read result ≡ request_by grammar body.now }
+{
+    read_by_kind(grammar, body)
+}
+
+#[tactic(auto, unfolding(crate::specs::Request::request_by))]
+fn read_by_kind(grammar: Grammar, body: &[u8]) -> Result<RequestView<'_>, Malformed>
+    ensures { request_read result ≡ request_by grammar body.now }
 {
     let [first, fields @ ..] = body else {
         return Err(Malformed);
     };
-    let Some(kind) = RequestKind::from_byte(*first) else {
+    let Some(kind) = RequestKind::from_byte(grammar, *first) else {
         return Err(Malformed);
     };
     match kind {
@@ -43,6 +60,7 @@ fn read_by_kind(body: &[u8]) -> Result<RequestView<'_>, Malformed>
         RequestKind::Incremental => incremental_of(fields),
         RequestKind::Entry => entry_of(fields),
         RequestKind::Close => close_of(fields),
+        RequestKind::State => state_of(fields),
     }
 }
 
@@ -125,6 +143,18 @@ fn close_of(fields: &[u8]) -> Result<RequestView<'_>, Malformed>
         return Err(Malformed);
     }
     Ok(RequestView::Close {
+        tag: u32_at(fields, TAG_AT),
+    })
+}
+
+#[tactic(auto, unfolding(crate::specs::Request::state_in))]
+fn state_of(fields: &[u8]) -> Result<RequestView<'_>, Malformed>
+    ensures { request_read result ≡ state_in fields.now }
+{
+    if fields.len() != AFTER_TAG {
+        return Err(Malformed);
+    }
+    Ok(RequestView::State {
         tag: u32_at(fields, TAG_AT),
     })
 }

@@ -35,6 +35,18 @@ pub enum Reply {
         tag: u32,
         entry: ByteList,
     },
+    /// The state of the store: its commitment, the first sector after the log, how many sectors there are, the
+    /// generation and the format version of its header, and whether the log is closed.
+    State {
+        tag: u32,
+        count: u64,
+        root: Hash,
+        end: u64,
+        sectors: u64,
+        generation: u64,
+        version: u16,
+        closed: bool,
+    },
     /// The request was refused. A malformed request has no tag, and is answered with tag 0.
     Refused {
         tag: u32,

@@ -8,6 +8,7 @@ pub(crate) enum ReplyKind {
     Membership = 0x83,
     Incremental = 0x84,
     Entry = 0x85,
+    State = 0x87,
     Refused = 0xFF,
 }
 
@@ -31,6 +32,7 @@ impl ReplyKind {
             0x83 => Some(ReplyKind::Membership),
             0x84 => Some(ReplyKind::Incremental),
             0x85 => Some(ReplyKind::Entry),
+            0x87 => Some(ReplyKind::State),
             0xFF => Some(ReplyKind::Refused),
             _ => None,
         }

@@ -2,10 +2,14 @@
 ghost use Rattle.std.specs.Prelude.{◌≡◌, ◌^◌, ◌<◌, ℕ, List, ◌++◌, length, IfSome, MatchOption};
 ghost use Rattle.audit_wire.specs.Frame.{frame};
 ghost use Rattle.audit_wire.specs.Reply.{acknowledgement_in, commitment_reply_in, membership_reply_in};
-ghost use Rattle.audit_wire.specs.Reply.{increment_reply_in, entry_reply_in, refused_in, reply_in, IsReadAs};
+ghost use Rattle.audit_wire.specs.Reply.{increment_reply_in, entry_reply_in, state_reply_in, refused_in};
+ghost use Rattle.audit_wire.specs.Reply.{reply_in, IsReadAs};
 
 use crate::byte_list::ByteList;
-use crate::fields::{AFTER_ONE_BYTE, AFTER_ONE_NUMBER, AFTER_TAG, AFTER_TWO_NUMBERS, TAG_AT};
+use crate::fields::{
+    AFTER_COMMITMENT, AFTER_ONE_BYTE, AFTER_ONE_NUMBER, AFTER_TAG, AFTER_TWO_NUMBERS,
+    GENERATION_AT, MARK_AT, SECTORS_AT, TAG_AT, VERSION_AT,
+};
 use crate::hash_list::HashList;
 use crate::limits::LENGTH_BYTES;
 use crate::refusal::Refusal;
@@ -13,8 +17,8 @@ use crate::reply::Reply;
 use crate::reply_fault::ReplyError;
 use crate::reply_kind::ReplyKind;
 use audit_base::{
-    HASH_LEN, MAX_ENTRY, MAX_INCREMENT_HASHES, MAX_MEMBER_HASHES, array_at, read_hashes, u32_at,
-    u64_at,
+    HASH_LEN, MAX_ENTRY, MAX_INCREMENT_HASHES, MAX_MEMBER_HASHES, array_at, read_hashes, u16_at,
+    u32_at, u64_at,
 };
 use std::alloc::Global;
 
@@ -61,6 +65,7 @@ fn read_by_kind(alloc: Global, body: &[u8]) -> Result<Reply, ReplyError>
         ReplyKind::Membership => membership_of(alloc, fields),
         ReplyKind::Incremental => increment_of(alloc, fields),
         ReplyKind::Entry => entry_of(alloc, fields),
+        ReplyKind::State => state_of(fields),
         ReplyKind::Refused => refused_of(fields),
     }
 }
@@ -158,6 +163,25 @@ fn entry_of(alloc: Global, fields: &[u8]) -> Result<Reply, ReplyError>
     Ok(Reply::Entry {
         tag: u32_at(fields, TAG_AT),
         entry: ByteList::from_vec(entry),
+    })
+}
+
+#[tactic(auto, unfolding(crate::specs::Reply::state_reply_in))]
+fn state_of(fields: &[u8]) -> Result<Reply, ReplyError>
+    ensures { IsReadAs (state_reply_in fields.now) result }
+{
+    if fields.len() != MARK_AT + 1 || fields[MARK_AT] > 1 {
+        return Err(ReplyError::Malformed);
+    }
+    Ok(Reply::State {
+        tag: u32_at(fields, TAG_AT),
+        count: u64_at(fields, AFTER_TAG),
+        root: *array_at(fields, AFTER_ONE_NUMBER),
+        end: u64_at(fields, AFTER_COMMITMENT),
+        sectors: u64_at(fields, SECTORS_AT),
+        generation: u64_at(fields, GENERATION_AT),
+        version: u16_at(fields, VERSION_AT),
+        closed: fields[MARK_AT] == 1,
     })
 }
 

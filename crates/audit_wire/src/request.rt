@@ -34,4 +34,8 @@ pub enum Request {
     Close {
         tag: u32,
     },
+    /// The state of the store. Only the clients of a daemon may ask for it ([`Grammar`](crate::Grammar)).
+    State {
+        tag: u32,
+    },
 }

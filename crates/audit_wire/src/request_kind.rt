@@ -1,5 +1,7 @@
 ghost use Rattle.std.specs.Prelude.{◌≡◌};
 
+use crate::grammar::Grammar;
+
 /// The kinds of requests. A body begins with its kind in one byte.
 #[derive(Clone, Copy)]
 pub(crate) enum RequestKind {
@@ -9,10 +11,11 @@ pub(crate) enum RequestKind {
     Incremental = 4,
     Entry = 5,
     Close = 6,
+    State = 7,
 }
 
 impl RequestKind {
-    ghost use Rattle.audit_wire.specs.Request.{kind_at, request_byte};
+    ghost use Rattle.audit_wire.specs.Request.{kind_in, request_byte};
 
     /// The first byte of a body.
     pub(crate) fn byte(self) -> u8
@@ -21,9 +24,9 @@ impl RequestKind {
         self as u8
     }
 
-    /// The kind that a body's first byte denotes.
-    pub(crate) fn from_byte(byte: u8) -> Option<RequestKind>
-        ensures { result ≡ kind_at byte }
+    /// The kind that a body's first byte denotes in this grammar.
+    pub(crate) fn from_byte(grammar: Grammar, byte: u8) -> Option<RequestKind>
+        ensures { result ≡ kind_in grammar byte }
     {
         match byte {
             1 => Some(RequestKind::Append),
@@ -32,6 +35,7 @@ impl RequestKind {
             4 => Some(RequestKind::Incremental),
             5 => Some(RequestKind::Entry),
             6 => Some(RequestKind::Close),
+            7 if grammar == Grammar::Daemon => Some(RequestKind::State),
             _ => None,
         }
     }

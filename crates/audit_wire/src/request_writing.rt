@@ -2,7 +2,7 @@
 ghost use Rattle.std.specs.Prelude.{◌≡◌, ◌+◌, ◌^◌, ◌<◌, ◌≤◌, ◌∷◌, ◌++◌, length, IsOk, OnOk, OnErr, vec_len};
 ghost use Rattle.std.specs.Prelude.{vec_capacity};
 ghost use Rattle.std.specs.Int.{w32, w64, to_be_bytes};
-ghost use Rattle.audit_wire.specs.Request.{request_body, request_byte, IsRequest};
+ghost use Rattle.audit_wire.specs.Request.{request_body, request_byte, IsDaemonRequest};
 ghost use Rattle.audit_wire.specs.Stream.{request_frame};
 ghost use Rattle.audit_wire.specs.View.{request_shown};
 
@@ -21,9 +21,9 @@ const NUMBER: usize = 8;
 const EVENT_KIND: usize = 4;
 
 /// Appends the frame of a request to `out`. The only error is that memory is refused; the bytes of `out` are then
-/// unchanged. Read back from its frame it is the same request: `every_request_is_read_back`.
+/// unchanged. Read back from its frame, by a grammar that has it, it is the same request: `every_request_is_read_back`.
 pub fn write_request(request: RequestView<'_>, out: &mut Vec<u8>) -> Result<(), AllocError>
-    requires { IsRequest (request_shown request) }
+    requires { IsDaemonRequest (request_shown request) }
     ensures ok { OnOk result (out.new.items ≡ out.old.items ++ request_frame (request_shown request.entry)) }
     ensures err { OnErr result (out.new.items ≡ out.old.items) }
     // Nothing is allocated if the capacity suffices, and capacity is never given back.
@@ -40,13 +40,14 @@ pub fn write_request(request: RequestView<'_>, out: &mut Vec<u8>) -> Result<(), 
 
 // Returns the length of a request's body.
 fn body_size(request: RequestView<'_>) -> usize
-    requires { IsRequest (request_shown request) }
+    requires { IsDaemonRequest (request_shown request) }
     ensures size { result ≡ length (request_body (request_shown request.entry)) }
     ensures fits { result < 2 ^ 16 }
 {
     match request {
         RequestView::Append { payload, .. } => HEAD + EVENT_KIND + payload.len(),
-        RequestView::Commitment { .. } | RequestView::Close { .. } => HEAD,
+        RequestView::Commitment { .. } | RequestView::Close { .. } | RequestView::State { .. } =>
+            HEAD,
         RequestView::Membership { .. } | RequestView::Incremental { .. } => HEAD + 2 * NUMBER,
         RequestView::Entry { .. } => HEAD + NUMBER,
     }
@@ -78,6 +79,7 @@ fn put_body(out: &mut Vec<u8>, request: RequestView<'_>)
             put(out, &index.to_be_bytes());
         }
         RequestView::Close { tag } => put_head(out, RequestKind::Close, tag),
+        RequestView::State { tag } => put_head(out, RequestKind::State, tag),
     }
 }
 

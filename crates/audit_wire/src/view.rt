@@ -32,6 +32,9 @@ pub enum RequestView<'a> {
     Close {
         tag: u32,
     },
+    State {
+        tag: u32,
+    },
 }
 
 impl<'a> RequestView<'a> {
@@ -61,6 +64,7 @@ impl<'a> RequestView<'a> {
             },
             RequestView::Entry { tag, index } => Request::Entry { tag, index },
             RequestView::Close { tag } => Request::Close { tag },
+            RequestView::State { tag } => Request::State { tag },
         })
     }
 }

@@ -1,9 +1,10 @@
 ghost use Rattle.std.specs.Prelude.{◌≡◌, ◌+◌, ◌^◌, ◌<◌, ◌≤◌, ◌∷◌, ◌++◌, length, IsOk, OnOk, OnErr, vec_len};
-ghost use Rattle.std.specs.Prelude.{vec_capacity};
-ghost use Rattle.std.specs.Int.{w32, to_be_bytes};
+ghost use Rattle.std.specs.Prelude.{vec_capacity, if◌then◌else◌};
+ghost use Rattle.std.specs.Int.{w32, w64, to_be_bytes};
 ghost use Rattle.audit_base.specs.Hashes.{AreHashes};
 ghost use Rattle.audit_wire.specs.Frame.{frame};
-ghost use Rattle.audit_wire.specs.Reply.{reply_body, reply_byte, hash_list, IsReply, HasReplyFields, IsWholeReply};
+ghost use Rattle.audit_wire.specs.Reply.{reply_body, reply_byte, hash_list, state_tail, IsReply, HasReplyFields};
+ghost use Rattle.audit_wire.specs.Reply.{IsWholeReply};
 
 use crate::hash_list::HashList;
 use crate::limits::LENGTH_BYTES;
@@ -13,11 +14,13 @@ use crate::room::put;
 use audit_base::Hash;
 use std::alloc::{AllocError, Global};
 
-// A body begins with its kind in one byte and the request tag in four. An index or a count has eight bytes; a number
-// of hashes or a code has one.
+// A body begins with its kind in one byte and the request tag in four. An index, a count, a sector or a generation has
+// eight bytes, a version two; how many hashes there are, a code or a mark has one.
 const HEAD: usize = 5;
 
 const NUMBER: usize = 8;
+
+const VERSION: usize = 2;
 
 /// Appends the frame of a reply to `out`. The only error is that memory is refused; the bytes of `out` are then
 /// unchanged.
@@ -52,6 +55,7 @@ fn body_size(reply: &Reply) -> usize
         }
         Reply::Incremental { hashes, .. } => HEAD + 1 + hashes.as_bytes().len(),
         Reply::Entry { entry, .. } => HEAD + entry.as_slice().len(),
+        Reply::State { root, .. } => HEAD + 4 * NUMBER + hash_size(root) + VERSION + 1,
         Reply::Refused { .. } => HEAD + 1,
     }
 }
@@ -101,6 +105,21 @@ fn put_body(out: &mut Vec<u8>, reply: &Reply)
             put_head(out, ReplyKind::Entry, *tag);
             put(out, entry.as_slice());
         }
+        Reply::State {
+            tag,
+            count,
+            root,
+            end,
+            sectors,
+            generation,
+            version,
+            closed,
+        } => {
+            put_head(out, ReplyKind::State, *tag);
+            put(out, &count.to_be_bytes());
+            put(out, root);
+            put_state_tail(out, *end, *sectors, *generation, *version, *closed);
+        }
         Reply::Refused { tag, refusal } => {
             put_head(out, ReplyKind::Refused, *tag);
             put(out, &[refusal.code()]);
@@ -126,4 +145,39 @@ fn put_hashes(out: &mut Vec<u8>, hashes: &HashList)
 {
     put(out, &[hashes.as_slice().len() as u8]);
     put(out, hashes.as_bytes());
+}
+
+// Appends the fields of a state after its commitment.
+fn put_state_tail(
+    out: &mut Vec<u8>,
+    end: u64,
+    sectors: u64,
+    generation: u64,
+    version: u16,
+    closed: bool,
+)
+    requires { vec_len out.old + 27 ≤ vec_capacity out.old }
+    ensures items { out.new.items ≡ out.old.items ++ state_tail end sectors generation version closed }
+    ensures capacity { vec_capacity out.old ≤ vec_capacity out.new }
+{
+    put_number(out, end);
+    put_number(out, sectors);
+    put_number(out, generation);
+    put(out, &version.to_be_bytes());
+    put(out, &[mark_of(closed)]);
+}
+
+// The mark of a log that is closed or not.
+fn mark_of(closed: bool) -> u8
+    ensures { result ≡ (if closed then 1 else 0) }
+{
+    u8::from(closed)
+}
+
+fn put_number(out: &mut Vec<u8>, number: u64)
+    requires { vec_len out.old + 8 ≤ vec_capacity out.old }
+    ensures items { out.new.items ≡ out.old.items ++ to_be_bytes w64 number }
+    ensures capacity { vec_capacity out.old ≤ vec_capacity out.new }
+{
+    put(out, &number.to_be_bytes());
 }

@@ -92,6 +92,10 @@ impl Reading {
                 self.add(6);
                 self.add(*tag as u64);
             }
+            RequestView::State { tag } => {
+                self.add(7);
+                self.add(*tag as u64);
+            }
         }
     }
 }

@@ -1,5 +1,10 @@
+use Rattle.std.proofs.Common.{arith, length-append}
+use Rattle.audit_wire.specs.Reply.{state_tail}
 use Rattle.audit_wire.proofs.Replies.{reply_within}
 use Rattle.audit_wire.proofs.laws.replies_have_their_sizes.Goals as goal
 
 pub returns-clause-within : goal.returns-clause-within
 returns-clause-within c = λ given whole. reply_within given whole.within whole.fields
+
+pub returns-clause-state : goal.returns-clause-state
+returns-clause-state c = λ tag count root end sectors generation version closed size. omega (arith, size, length-append root (state_tail end sectors generation version closed))

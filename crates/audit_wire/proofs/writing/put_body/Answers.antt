@@ -10,3 +10,8 @@ pub returns-in-Commitment-clause-items : goal.returns-in-Commitment-clause-items
 returns-in-Commitment-clause-items c =
     rw (c.in-Commitment.is, c.put-in-Commitment-2.ensures.items, c.put-in-Commitment.ensures.items, c.put_head-in-Commitment.ensures.items, c.to_be_bytes-in-Commitment.ensures)
     (simp append_assoc)
+
+pub returns-in-State-clause-items : goal.returns-in-State-clause-items
+returns-in-State-clause-items c =
+    rw (c.in-State.is, c.put_state_tail.ensures.items, c.put-in-State-2.ensures.items, c.put-in-State.ensures.items, c.put_head-in-State.ensures.items, c.to_be_bytes-in-State.ensures)
+    (simp append_assoc)
