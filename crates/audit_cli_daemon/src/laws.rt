@@ -2,6 +2,7 @@
 ghost use Rattle.std.specs.Prelude.{◌≡◌, ◌≢◌, ◌≤◌, ℕ, true, List, ◌∷◌, Contains, length};
 ghost use Rattle.audit_base.specs.declared.limits.TheConstants.{RESERVED_KIND, SESSIONS};
 ghost use Rattle.audit_serve_passes.specs.declared.bound_kinds.BoundKinds.{BoundKinds};
+ghost use Rattle.audit_serve_passes.specs.declared.bound_kinds.TheConstants.{MAX_BOUND_KINDS};
 ghost use Rattle.audit_serve_passes.specs.declared.rights.Rights.TheVariants.{Source};
 ghost use Rattle.audit_serve_passes.specs.Rights.{is_bound};
 ghost use Rattle.audit_serve_ready.specs.Clients.{AreChanges, ClientChange, a_coming};
@@ -24,10 +25,11 @@ use audit_serve_ready::ReadyStream;
 use audit_server::Core;
 use audit_server::laws::rights_bind_what_arrives;
 
-/// The seconds and sectors without a word, as numbers.
+/// The seconds and sectors without a word, and how many kinds may be bound, as numbers.
 pub fn limits_are_these_numbers()
     ensures idle { DEFAULT_IDLE ≡ 60 }
     ensures reserve { DEFAULT_RESERVE ≡ 1 }
+    ensures kinds { MAX_BOUND_KINDS ≡ 15 }
 {}
 
 /// An event of a kind that is bound to a source arrives of a client of its socket alone. `bound` are the kinds of the

@@ -23,10 +23,10 @@ arrivals_more k bytes more session = by session.ended
     now = heard_after session bytes
 
     next : Heard
-    next = heard session.allowed (now.rest ++ more)
+    next = heard session.terms (now.rest ++ more)
 
-    joined : heard_after session (bytes ++ more) ≡ heard_on session.allowed now more
-    joined = ap (heard session.allowed) (sym (append_assoc session.rest bytes more)) ∙ heard-append session.allowed (session.rest ++ bytes) more
+    joined : heard_after session (bytes ++ more) ≡ heard_on session.terms now more
+    joined = ap (heard session.terms) (sym (append_assoc session.rest bytes more)) ∙ heard-append session.terms (session.rest ++ bytes) more
 
     live : ends_session now ≡ false → (later : List Arrival) × (arrivals_heard k (heard_after session (bytes ++ more)) ≡ arrivals_heard k now ++ later)
     live goes = (

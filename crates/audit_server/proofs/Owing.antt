@@ -76,6 +76,7 @@ request_from k (request.Membership tag index count) = refl
 request_from k (request.Incremental tag older newer) = refl
 request_from k (request.Entry tag index) = refl
 request_from k (request.Close tag) = refl
+request_from k (request.State tag) = refl
 
 arrivals_from : (k : ℕ) (requests : List Request) (last : Option Query) → ComeFrom k (map (arrival_of k) requests ++ last_arrival k last)
 arrivals_from k [] (Some asked) = (refl, tt)
@@ -117,6 +118,7 @@ longest_query (query.Incremental tag older newer) = omega arith
 longest_query (query.Entry tag index) = omega arith
 longest_query query.Malformed = omega arith
 longest_query (query.NotAllowed tag) = omega arith
+longest_query (query.State tag) = omega arith
 
 longest_arrival : (arrival : Arrival) → longest_reply arrival ≤ MAX_MEMBERSHIP_FRAME
 longest_arrival (an_append append) = omega arith

@@ -6,13 +6,13 @@ use Rattle.audit_disk_model.specs.declared.sectors.Sectors as sectors
 use Rattle.audit_wire.specs.declared.request.Request.{Request}
 use Rattle.audit_wire.specs.declared.fed.Fed.{Fed}
 use Rattle.audit_wire.specs.declared.fed.Fed.TheVariants as fed
-use Rattle.audit_wire.specs.Request.{request_in}
-use Rattle.audit_wire.specs.Stream.{Framed, read_first, framed_requests}
+use Rattle.audit_wire.specs.Request.{request_by}
+use Rattle.audit_wire.specs.Stream.{Framed, read_first, framed_by}
 use Rattle.audit_wire.specs.Progress.{DecoderProgress, reading, whole, malformed, closed, rest_of, body_of, is_spoiled, IsDecoderFed, PutsBack}
 use Rattle.audit_server_commit.specs.declared.question.Query.{Query}
 use Rattle.audit_server_commit.specs.declared.question.Query.TheVariants.{NotAllowed}
 use Rattle.audit_serve_passes.specs.declared.rights.Rights.{Rights}
-use Rattle.audit_server_model.specs.Heard.{Heard, allows, request_tag, is_not_allowed, heard_rest, stops_with, request_in_front, requests_in_front, heard_of, heard, last_arrival, arrivals_heard}
+use Rattle.audit_server_model.specs.Heard.{Terms, Heard, allows, request_tag, is_not_allowed, heard_rest, stops_with, request_in_front, requests_in_front, heard_of, heard, last_arrival, arrivals_heard}
 use Rattle.audit_server_model.proofs.Hearing.{heard_partial}
 use Rattle.audit_server_commit.specs.Arrivals.{Arrival, a_question, arrival_of, malformed_from}
 use Rattle.audit_store.specs.Store.{is_broken}
@@ -35,36 +35,36 @@ use Rattle.audit_server.proofs.Fronts.{no_request, StaysPart, front_more, EndsFr
 
 -- ---- a live session, by its decoder
 
-pub record Shows (allowed : Rights) (progress : DecoderProgress) (ended cut : Bool) (session : SessionData) : Type 0 where
-  pub view : session_view allowed progress ended cut ≡ session
+pub record Shows (terms : Terms) (progress : DecoderProgress) (ended cut : Bool) (session : SessionData) : Type 0 where
+  pub view : session_view terms progress ended cut ≡ session
   pub live : session.ended ≡ false
   pub inside : IsLive progress ended
 
-rest_shown : (allowed : Rights) (progress : DecoderProgress) (ended cut : Bool) → ended ≡ false → (session_view allowed progress ended cut).rest ≡ rest_of progress
-rest_shown allowed progress ended cut is = ap (λ (b : Bool). if b then [] else rest_of progress) is
+rest_shown : (terms : Terms) (progress : DecoderProgress) (ended cut : Bool) → ended ≡ false → (session_view terms progress ended cut).rest ≡ rest_of progress
+rest_shown terms progress ended cut is = ap (λ (b : Bool). if b then [] else rest_of progress) is
 
-heard_by : (allowed : Rights) (progress : DecoderProgress) (ended cut : Bool) (bytes : List ℕ) → ended ≡ false → heard_after (session_view allowed progress ended cut) bytes ≡ heard allowed (rest_of progress ++ bytes)
-heard_by allowed progress ended cut bytes is = ap (λ (rest : List ℕ). heard allowed (rest ++ bytes)) (rest_shown allowed progress ended cut is)
+heard_by : (terms : Terms) (progress : DecoderProgress) (ended cut : Bool) (bytes : List ℕ) → ended ≡ false → heard_after (session_view terms progress ended cut) bytes ≡ heard terms (rest_of progress ++ bytes)
+heard_by terms progress ended cut bytes is = ap (λ (rest : List ℕ). heard terms (rest ++ bytes)) (rest_shown terms progress ended cut is)
 
-module _ {allowed : Rights} {progress : DecoderProgress} {ended cut : Bool} {session : SessionData} where
-  not_ended : Shows allowed progress ended cut session → ended ≡ false
+module _ {terms : Terms} {progress : DecoderProgress} {ended cut : Bool} {session : SessionData} where
+  not_ended : Shows terms progress ended cut session → ended ≡ false
   not_ended shows = ap (λ (s : SessionData). s.ended) shows.view ∙ shows.live
 
-  uncut : Shows allowed progress ended cut session → (ended && cut) ≡ false
+  uncut : Shows terms progress ended cut session → (ended && cut) ≡ false
   uncut shows = ap (λ (b : Bool). b && cut) (not_ended shows)
 
-  pub unspoiled : Shows allowed progress ended cut session → is_spoiled progress ≡ false
+  pub unspoiled : Shows terms progress ended cut session → is_spoiled progress ≡ false
   unspoiled shows = shows.inside (not_ended shows)
 
-  rights_are : Shows allowed progress ended cut session → allowed ≡ session.allowed
-  rights_are shows = ap (λ (s : SessionData). s.allowed) shows.view
+  terms_are : Shows terms progress ended cut session → terms ≡ session.terms
+  terms_are shows = ap (λ (s : SessionData). s.terms) shows.view
 
-  rest_is : Shows allowed progress ended cut session → session.rest ≡ rest_of progress
-  rest_is shows = ap (λ (s : SessionData). s.rest) (sym shows.view) ∙ rest_shown allowed progress ended cut (not_ended shows)
+  rest_is : Shows terms progress ended cut session → session.rest ≡ rest_of progress
+  rest_is shows = ap (λ (s : SessionData). s.rest) (sym shows.view) ∙ rest_shown terms progress ended cut (not_ended shows)
 
-  heard_shown : (bytes : List ℕ) → Shows allowed progress ended cut session → heard_after session bytes ≡ heard allowed (rest_of progress ++ bytes)
+  heard_shown : (bytes : List ℕ) → Shows terms progress ended cut session → heard_after session bytes ≡ heard terms (rest_of progress ++ bytes)
   heard_shown bytes shows =
-      ap (λ (s : SessionData). heard_after s bytes) (sym shows.view) ∙ heard_by allowed progress ended cut bytes (not_ended shows)
+      ap (λ (s : SessionData). heard_after s bytes) (sym shows.view) ∙ heard_by terms progress ended cut bytes (not_ended shows)
 
 -- what is taken of a body, followed by what is taken of the bytes after it
 abbrev first_heard : Result Request Query → Heard → Heard
@@ -93,11 +93,11 @@ none_some : {P : Type 0} (allowed : Rights) (read : Option Request) (asked : Req
 none_some allowed None asked none is = absurd (cc is)
 none_some allowed (Some request) asked none is = absurd (cc none)
 
-pub not_spoiled : (allowed : Rights) (progress : DecoderProgress) (asked : Request) → item_heard allowed (request_in (body_of progress)) ≡ Ok asked → is_spoiled progress ≡ false
-not_spoiled allowed (reading held) asked is = refl
-not_spoiled allowed (whole body) asked is = refl
-not_spoiled allowed (malformed held) asked is = none_some allowed (request_in []) asked no_request is
-not_spoiled allowed closed asked is = none_some allowed (request_in []) asked no_request is
+pub not_spoiled : (terms : Terms) (progress : DecoderProgress) (asked : Request) → item_heard terms.rights (request_by terms.grammar (body_of progress)) ≡ Ok asked → is_spoiled progress ≡ false
+not_spoiled terms (reading held) asked is = refl
+not_spoiled terms (whole body) asked is = refl
+not_spoiled terms (malformed held) asked is = none_some terms.rights (request_by terms.grammar []) asked (no_request terms.grammar) is
+not_spoiled terms closed asked is = none_some terms.rights (request_by terms.grammar []) asked (no_request terms.grammar) is
 
 arrivals_first : (k : ℕ) (found : Result Request Query) → arrivals_heard k (first_heard found (heard_rest [])) ≡ arrival_by k found ∷ []
 arrivals_first k (Ok asked) = refl
@@ -123,8 +123,8 @@ arrivals_all k items now =
 by_piece : (k : ℕ) (piece : List ℕ) (session : SessionData) → session.ended ≡ false → arrivals_by_piece k piece session ≡ arrivals_heard k (heard_after session piece)
 by_piece k piece session live = ap (λ (b : Bool). if b then [] else arrivals_heard k (heard_after session piece)) live
 
-with_live : (piece : List ℕ) (session : SessionData) → session.ended ≡ false → with_piece piece session ≡ session_after session.allowed (heard_after session piece)
-with_live piece session live = ap (λ (b : Bool). if b then session else session_after session.allowed (heard_after session piece)) live
+with_live : (piece : List ℕ) (session : SessionData) → session.ended ≡ false → with_piece piece session ≡ session_after session.terms (heard_after session piece)
+with_live piece session live = ap (λ (b : Bool). if b then session else session_after session.terms (heard_after session piece)) live
 
 no_rest : (k : ℕ) (rest : List ℕ) → (rest ≢ [] → ⊥) → arrivals_of_rest k rest ≡ []
 no_rest k [] none = refl
@@ -137,97 +137,97 @@ some_rest k (byte ∷ rest) some = refl
 by_end : (k : ℕ) (session : SessionData) → session.ended ≡ false → arrivals_by_end k session ≡ arrivals_of_rest k session.rest
 by_end k session live = ap (λ (b : Bool). if b then [] else arrivals_of_rest k session.rest) live
 
-begun_arrives : {allowed : Rights} {progress : DecoderProgress} {ended cut : Bool} {session : SessionData} (k : ℕ) → Shows allowed progress ended cut session → rest_of progress ≢ [] → arrivals_by_end k session ≡ malformed_from k ∷ []
+begun_arrives : {terms : Terms} {progress : DecoderProgress} {ended cut : Bool} {session : SessionData} (k : ℕ) → Shows terms progress ended cut session → rest_of progress ≢ [] → arrivals_by_end k session ≡ malformed_from k ∷ []
 begun_arrives {progress = progress} {session = session} k shows some = by_end k session shows.live ∙ ap (arrivals_of_rest k) (rest_is shows) ∙ some_rest k (rest_of progress) some
 
-held_back : {allowed : Rights} {old : DecoderProgress} {ended cut : Bool} {session : SessionData} (k : ℕ) (mid new : DecoderProgress) (piece : List ℕ) (answer : Fed) (taken : ℕ) → Shows allowed old ended cut session → EndsFrame old mid piece taken
+held_back : {terms : Terms} {old : DecoderProgress} {ended cut : Bool} {session : SessionData} (k : ℕ) (mid new : DecoderProgress) (piece : List ℕ) (answer : Fed) (taken : ℕ) → Shows terms old ended cut session → EndsFrame terms.grammar old mid piece taken
     → IsDecoderFed old piece answer mid → place_after answer ≡ Some taken → PutsBack mid new
-    → IsHeldBack k piece (taken - 1) (arrival_by k (item_heard allowed (request_in (body_of mid)))) session (session_view allowed new ended cut)
-held_back {allowed = allowed} {old = old} {ended = ended} {cut = cut} {session = session} k mid new piece answer taken shows ends h is back =
-    let undone : GoesBack old new piece taken = front_undone old mid new piece answer taken (unspoiled shows) h is ends.just back in
+    → IsHeldBack k piece (taken - 1) (arrival_by k (item_heard terms.rights (request_by terms.grammar (body_of mid)))) session (session_view terms new ended cut)
+held_back {terms = terms} {old = old} {ended = ended} {cut = cut} {session = session} k mid new piece answer taken shows ends h is back =
+    let undone : GoesBack terms.grammar old new piece taken = front_undone terms.grammar old mid new piece answer taken (unspoiled shows) h is ends.just back in
     let one_more : 1 + (taken - 1) ≡ taken = omega (arith, ends.some) in
     record {
       within = omega (arith, ends.some, ends.within);
       live = not_ended shows;
       uncut = uncut shows;
-      rights = rights_are shows;
-      heard = λ later. heard_shown (take (taken - 1) piece ++ later) shows ∙ ap (heard_of allowed) (undone.framed later) ∙ sym (heard_by allowed new ended cut later (not_ended shows));
+      terms = terms_are shows;
+      heard = λ later. heard_shown (take (taken - 1) piece ++ later) shows ∙ ap (heard_of terms.rights) (undone.framed later) ∙ sym (heard_by terms new ended cut later (not_ended shows));
       partial =
-          heard_by allowed new ended cut [] (not_ended shows)
-          ∙ ap (heard allowed) (append-nil (rest_of new))
-          ∙ ap (heard_of allowed) undone.partial
+          heard_by terms new ended cut [] (not_ended shows)
+          ∙ ap (heard terms) (append-nil (rest_of new))
+          ∙ ap (heard_of terms.rights) undone.partial
           ∙ ap (λ (b : Bool). heard_rest (if b then [] else rest_of new)) (sym (not_ended shows));
       next =
           ap (λ (n : ℕ). arrivals_by_piece k (take n piece) session) one_more
           ∙ by_piece k (take taken piece) session shows.live
           ∙ ap (λ (bytes : List ℕ). arrivals_heard k (heard_after session bytes)) (sym (append-nil (take taken piece)))
-          ∙ ap (arrivals_heard k) (heard_shown (take taken piece ++ []) shows ∙ ap (heard_of allowed) (ends.framed []) ∙ heard_first allowed (request_in (body_of mid)) (framed_requests []))
-          ∙ ap (λ (later : Heard). arrivals_heard k (first_heard (item_heard allowed (request_in (body_of mid))) later)) (heard_partial allowed [] tt)
-          ∙ arrivals_first k (item_heard allowed (request_in (body_of mid)));
+          ∙ ap (arrivals_heard k) (heard_shown (take taken piece ++ []) shows ∙ ap (heard_of terms.rights) (ends.framed []) ∙ heard_first terms.rights (request_by terms.grammar (body_of mid)) (framed_by terms.grammar []))
+          ∙ ap (λ (later : Heard). arrivals_heard k (first_heard (item_heard terms.rights (request_by terms.grammar (body_of mid))) later)) (heard_partial terms [] tt)
+          ∙ arrivals_first k (item_heard terms.rights (request_by terms.grammar (body_of mid)));
     }
 
 -- what is taken of the bytes up to the end of a frame, followed by others
-frame_heard : {allowed : Rights} {old : DecoderProgress} {ended cut : Bool} {session : SessionData} (new : DecoderProgress) (piece : List ℕ) (taken : ℕ) (later : List ℕ) → Shows allowed old ended cut session → EndsFrame old new piece taken
-    → heard_after session (take taken piece ++ later) ≡ first_heard (item_heard allowed (request_in (body_of new))) (heard allowed later)
-frame_heard {allowed = allowed} new piece taken later shows ends =
-    heard_shown (take taken piece ++ later) shows ∙ ap (heard_of allowed) (ends.framed later) ∙ heard_first allowed (request_in (body_of new)) (framed_requests later)
+frame_heard : {terms : Terms} {old : DecoderProgress} {ended cut : Bool} {session : SessionData} (new : DecoderProgress) (piece : List ℕ) (taken : ℕ) (later : List ℕ) → Shows terms old ended cut session → EndsFrame terms.grammar old new piece taken
+    → heard_after session (take taken piece ++ later) ≡ first_heard (item_heard terms.rights (request_by terms.grammar (body_of new))) (heard terms later)
+frame_heard {terms = terms} new piece taken later shows ends =
+    heard_shown (take taken piece ++ later) shows ∙ ap (heard_of terms.rights) (ends.framed later) ∙ heard_first terms.rights (request_by terms.grammar (body_of new)) (framed_by terms.grammar later)
 
-module _ {D : Type 0} {g : sectors.Ghosts D} {allowed : Rights} {old : DecoderProgress} {ended cut : Bool} {session : SessionData} where
-  pub part_done : (new : DecoderProgress) (piece : List ℕ) (answer : Fed) (committer : Committer D g) (bound : Limit) → Shows allowed old ended cut session → IsDecoderFed old piece answer new → place_after answer ≡ None
-      → IsPart piece session (session_view allowed new ended cut) committer committer bound bound
+module _ {D : Type 0} {g : sectors.Ghosts D} {terms : Terms} {old : DecoderProgress} {ended cut : Bool} {session : SessionData} where
+  pub part_done : (new : DecoderProgress) (piece : List ℕ) (answer : Fed) (committer : Committer D g) (bound : Limit) → Shows terms old ended cut session → IsDecoderFed old piece answer new → place_after answer ≡ None
+      → IsPart piece session (session_view terms new ended cut) committer committer bound bound
   part_done new piece answer committer bound shows h is =
-      let part : StaysPart old new piece = front_more old new piece (unspoiled shows) (subst (λ (a : Fed). IsDecoderFed old piece a new) (part_more answer is) h) in
+      let part : StaysPart terms.grammar old new piece = front_more terms.grammar old new piece (unspoiled shows) (subst (λ (a : Fed). IsDecoderFed old piece a new) (part_more answer is) h) in
       record {
         live = not_ended shows;
         uncut = uncut shows;
-        rights = rights_are shows;
-        heard = heard_shown piece shows ∙ ap (heard_of allowed) part.framed ∙ ap (λ (b : Bool). heard_rest (if b then [] else rest_of new)) (sym (not_ended shows));
+        terms = terms_are shows;
+        heard = heard_shown piece shows ∙ ap (heard_of terms.rights) part.framed ∙ ap (λ (b : Bool). heard_rest (if b then [] else rest_of new)) (sym (not_ended shows));
         same = refl;
         unspent = refl;
       }
 
-  pub whole_done : (k : ℕ) (new : DecoderProgress) (piece : List ℕ) (taken : ℕ) (before after : Committer D g) (request : Request) → Shows allowed old ended cut session → EndsFrame old new piece taken
-      → item_heard allowed (request_in (body_of new)) ≡ Ok request → Enters (arrival_of k request) before after (Ok tt) → {bound left : Limit} → AreAdmitted (arrival_of k request ∷ []) bound left → IsWholeFeed k piece taken session (session_view allowed new ended cut) before after bound left
+  pub whole_done : (k : ℕ) (new : DecoderProgress) (piece : List ℕ) (taken : ℕ) (before after : Committer D g) (request : Request) → Shows terms old ended cut session → EndsFrame terms.grammar old new piece taken
+      → item_heard terms.rights (request_by terms.grammar (body_of new)) ≡ Ok request → Enters (arrival_of k request) before after (Ok tt) → {bound left : Limit} → AreAdmitted (arrival_of k request ∷ []) bound left → IsWholeFeed k piece taken session (session_view terms new ended cut) before after bound left
   whole_done k new piece taken before after request shows ends is enters spent = record {
     some = ends.some;
     within = ends.within;
     live = not_ended shows;
-    rights = rights_are shows;
+    terms = terms_are shows;
     request = request;
     heard = λ later.
         frame_heard new piece taken later shows ends
-        ∙ ap (λ (found : Result Request Query). first_heard found (heard allowed later)) is
-        ∙ ap (λ (rest : List ℕ). request_in_front request (heard allowed (rest ++ later))) (sym ends.rest)
-        ∙ ap (request_in_front request) (sym (heard_by allowed new ended cut later (not_ended shows)));
+        ∙ ap (λ (found : Result Request Query). first_heard found (heard terms later)) is
+        ∙ ap (λ (rest : List ℕ). request_in_front request (heard terms (rest ++ later))) (sym ends.rest)
+        ∙ ap (request_in_front request) (sym (heard_by terms new ended cut later (not_ended shows)));
     enters = enters;
     spent = spent;
   }
 
-  pub last_done : (cut_off : Bool) (k : ℕ) (new : DecoderProgress) (piece : List ℕ) (taken : ℕ) (before after : Committer D g) (last : Query) → cut_off ≡ is_not_allowed (Some last) → Shows allowed old ended cut session → EndsFrame old new piece taken
-      → item_heard allowed (request_in (body_of new)) ≡ Err last → Enters (a_question (record { session = k; query = last })) before after (Ok tt) → {bound left : Limit} → AreAdmitted (a_question (record { session = k; query = last }) ∷ []) bound left
-      → IsLast k piece session (session_view allowed closed true cut_off) before after bound left
+  pub last_done : (cut_off : Bool) (k : ℕ) (new : DecoderProgress) (piece : List ℕ) (taken : ℕ) (before after : Committer D g) (last : Query) → cut_off ≡ is_not_allowed (Some last) → Shows terms old ended cut session → EndsFrame terms.grammar old new piece taken
+      → item_heard terms.rights (request_by terms.grammar (body_of new)) ≡ Err last → Enters (a_question (record { session = k; query = last })) before after (Ok tt) → {bound left : Limit} → AreAdmitted (a_question (record { session = k; query = last }) ∷ []) bound left
+      → IsLast k piece session (session_view terms closed true cut_off) before after bound left
   last_done cut_off k new piece taken before after last same shows ends is enters spent = record {
     last = last;
-    ended = ◌∙◌ {A = SessionData} (ap (λ (b : Bool). record { allowed = allowed; rest = []; ended = true; cut_off = b }) same) (ap (λ (r : Rights). session_after r (stops_with last)) (rights_are shows));
+    ended = ◌∙◌ {A = SessionData} (ap (λ (b : Bool). record { terms = terms; rest = []; ended = true; cut_off = b }) same) (ap (λ (r : Terms). session_after r (stops_with last)) (terms_are shows));
     heard =
         ap (heard_after session) (sym (take-append-drop taken piece))
         ∙ frame_heard new piece taken (drop taken piece) shows ends
-        ∙ ap (λ (found : Result Request Query). first_heard found (heard allowed (drop taken piece))) is;
+        ∙ ap (λ (found : Result Request Query). first_heard found (heard terms (drop taken piece))) is;
     enters = enters;
     spent = spent;
   }
 
-  pub untaken_done : (k : ℕ) (mid new : DecoderProgress) (piece : List ℕ) (answer : Fed) (taken : ℕ) (before after : Committer D g) (error : StoreError) → Shows allowed old ended cut session → EndsFrame old mid piece taken
-      → IsDecoderFed old piece answer mid → place_after answer ≡ Some taken → PutsBack mid new → Enters (arrival_by k (item_heard allowed (request_in (body_of mid)))) before after (Err error) → {bound left : Limit} → left ≡ bound
-      → IsUntaken k piece (record { taken = taken - 1; error = error }) session (session_view allowed new ended cut) before after bound left
+  pub untaken_done : (k : ℕ) (mid new : DecoderProgress) (piece : List ℕ) (answer : Fed) (taken : ℕ) (before after : Committer D g) (error : StoreError) → Shows terms old ended cut session → EndsFrame terms.grammar old mid piece taken
+      → IsDecoderFed old piece answer mid → place_after answer ≡ Some taken → PutsBack mid new → Enters (arrival_by k (item_heard terms.rights (request_by terms.grammar (body_of mid)))) before after (Err error) → {bound left : Limit} → left ≡ bound
+      → IsUntaken k piece (record { taken = taken - 1; error = error }) session (session_view terms new ended cut) before after bound left
   untaken_done k mid new piece answer taken before after error shows ends h is back enters unspent =
-      record { arrival = arrival_by k (item_heard allowed (request_in (body_of mid))); held = held_back k mid new piece answer taken shows ends h is back; enters = enters; unspent = unspent }
+      record { arrival = arrival_by k (item_heard terms.rights (request_by terms.grammar (body_of mid))); held = held_back k mid new piece answer taken shows ends h is back; enters = enters; unspent = unspent }
 
-  pub withheld_done : (k : ℕ) (mid new : DecoderProgress) (piece : List ℕ) (answer : Fed) (taken : ℕ) (before after : Committer D g) → Shows allowed old ended cut session → EndsFrame old mid piece taken
-      → IsDecoderFed old piece answer mid → place_after answer ≡ Some taken → PutsBack mid new → after ≡ before → {bound left : Limit} → left ≡ bound → IsNotAdmitted (arrival_by k (item_heard allowed (request_in (body_of mid)))) bound
-      → IsWithheld k piece (taken - 1) session (session_view allowed new ended cut) before after bound left
+  pub withheld_done : (k : ℕ) (mid new : DecoderProgress) (piece : List ℕ) (answer : Fed) (taken : ℕ) (before after : Committer D g) → Shows terms old ended cut session → EndsFrame terms.grammar old mid piece taken
+      → IsDecoderFed old piece answer mid → place_after answer ≡ Some taken → PutsBack mid new → after ≡ before → {bound left : Limit} → left ≡ bound → IsNotAdmitted (arrival_by k (item_heard terms.rights (request_by terms.grammar (body_of mid)))) bound
+      → IsWithheld k piece (taken - 1) session (session_view terms new ended cut) before after bound left
   withheld_done k mid new piece answer taken before after shows ends h is back same unspent over =
-      record { arrival = arrival_by k (item_heard allowed (request_in (body_of mid))); held = held_back k mid new piece answer taken shows ends h is back; same = same; unspent = unspent; over = over }
+      record { arrival = arrival_by k (item_heard terms.rights (request_by terms.grammar (body_of mid))); held = held_back k mid new piece answer taken shows ends h is back; same = same; unspent = unspent; over = over }
 
 module _ {D : Type 0} {g : sectors.Ghosts D} where
   -- ---- a whole piece, frame by frame
@@ -238,7 +238,7 @@ module _ {D : Type 0} {g : sectors.Ghosts D} where
     pub was_live : old.ended ≡ false
     pub live : now.ended ≡ false
     pub sound : is_broken (store_of after) ≡ false
-    pub rights : now.allowed ≡ old.allowed
+    pub terms : now.terms ≡ old.terms
     pub items : List Request
     pub ahead : (later : List ℕ) → heard_after old (take taken piece ++ later) ≡ requests_in_front items (heard_after now later)
     pub run : Run (map (arrival_of k) items) before after
@@ -265,18 +265,18 @@ module _ {D : Type 0} {g : sectors.Ghosts D} where
     all_arrivals rest is = by_piece k piece old fed.was_live ∙ ap (arrivals_heard k) (all_heard rest is) ∙ arrivals_all k fed.items rest
 
     -- the session after it, if it still has its rights
-    session_left : (allowed : Rights) (ended cut : Bool) → allowed ≡ now.allowed → ended ≡ false → cut ≡ false
-        → ◌≡◌ {A = SessionData} (record { allowed = old.allowed; rest = new.rest; ended = false; cut_off = false }) (record { allowed = allowed; rest = new.rest; ended = ended; cut_off = cut })
-    session_left allowed ended cut same live uncut =
-        ◌∙◌ {A = SessionData} (ap (λ (r : Rights). record { allowed = r; rest = new.rest; ended = false; cut_off = false }) (sym (same ∙ fed.rights)))
-        (◌∙◌ {A = SessionData} (ap (λ (b : Bool). record { allowed = allowed; rest = new.rest; ended = b; cut_off = false }) (sym live)) (ap (λ (b : Bool). record { allowed = allowed; rest = new.rest; ended = ended; cut_off = b }) (sym uncut)))
+    session_left : (terms : Terms) (ended cut : Bool) → terms ≡ now.terms → ended ≡ false → cut ≡ false
+        → ◌≡◌ {A = SessionData} (record { terms = old.terms; rest = new.rest; ended = false; cut_off = false }) (record { terms = terms; rest = new.rest; ended = ended; cut_off = cut })
+    session_left terms ended cut same live uncut =
+        ◌∙◌ {A = SessionData} (ap (λ (r : Terms). record { terms = r; rest = new.rest; ended = false; cut_off = false }) (sym (same ∙ fed.terms)))
+        (◌∙◌ {A = SessionData} (ap (λ (b : Bool). record { terms = terms; rest = new.rest; ended = b; cut_off = false }) (sym live)) (ap (λ (b : Bool). record { terms = terms; rest = new.rest; ended = ended; cut_off = b }) (sym uncut)))
 
     pub fed_part : IsPart (drop taken piece) now new mid after left later_left → IsFedUpTo k piece (length piece) old new before after bound later_left
     fed_part part =
         let arrivals : arrivals_by_piece k piece old ≡ map (arrival_of k) fed.items = all_arrivals (heard_rest new.rest) part.heard ∙ append-nil (map (arrival_of k) fed.items) in
         all_taken k piece old new before after bound later_left (record {
           session =
-              sym (with_live piece old fed.was_live ∙ ap (session_after old.allowed) (all_heard (heard_rest new.rest) part.heard) ∙ session_left new.allowed new.ended new.cut_off part.rights part.live part.uncut);
+              sym (with_live piece old fed.was_live ∙ ap (session_after old.terms) (all_heard (heard_rest new.rest) part.heard) ∙ session_left new.terms new.ended new.cut_off part.terms part.live part.uncut);
           run = subst (λ (c : Committer D g). Run (arrivals_by_piece k piece old) before c) (sym part.same) (run_as (sym arrivals) fed.run);
         }) (taken_as bound later_left (sym arrivals) (subst (λ (l : Limit). AreAdmitted (map (arrival_of k) fed.items) bound l) (sym part.unspent) fed.spent))
 
@@ -285,7 +285,7 @@ module _ {D : Type 0} {g : sectors.Ghosts D} where
         let arrival : Arrival = a_question (record { session = k; query = bad.last }) in
         let arrivals : arrivals_by_piece k piece old ≡ map (arrival_of k) fed.items ++ arrival ∷ [] = all_arrivals (stops_with bad.last) bad.heard in
         all_taken k piece old new before after bound later_left (record {
-          session = bad.ended ∙ ap (λ (r : Rights). session_after r (stops_with bad.last)) fed.rights ∙ sym (with_live piece old fed.was_live ∙ ap (session_after old.allowed) (all_heard (stops_with bad.last) bad.heard));
+          session = bad.ended ∙ ap (λ (r : Terms). session_after r (stops_with bad.last)) fed.terms ∙ sym (with_live piece old fed.was_live ∙ ap (session_after old.terms) (all_heard (stops_with bad.last) bad.heard));
           run = run_as (sym arrivals) (run_more arrival fed.run bad.enters);
         }) (taken_as bound later_left (sym arrivals) (taken_append (map (arrival_of k) fed.items) (arrival ∷ []) bound left later_left fed.spent bad.spent))
 
@@ -295,7 +295,7 @@ module _ {D : Type 0} {g : sectors.Ghosts D} where
       was_live = fed.was_live;
       live = front.live;
       sound = entered_sound (arrival_of k front.request) mid after front.enters.end fed.sound;
-      rights = front.rights ∙ fed.rights;
+      terms = front.terms ∙ fed.terms;
       items = fed.items ++ front.request ∷ [];
       ahead = λ later.
           let next : Heard = heard_after new later in
@@ -328,7 +328,7 @@ module _ {D : Type 0} {g : sectors.Ghosts D} where
       held_within = omega (arith, fed.within, held.within, length-drop taken piece)
 
       held_session : new ≡ with_piece (take (taken + first) piece) old
-      held_session = sym (with_live (take (taken + first) piece) old fed.was_live ∙ ap (session_after old.allowed) held_heard ∙ session_left new.allowed new.ended new.cut_off held.rights held.live held.uncut)
+      held_session = sym (with_live (take (taken + first) piece) old fed.was_live ∙ ap (session_after old.terms) held_heard ∙ session_left new.terms new.ended new.cut_off held.terms held.live held.uncut)
 
       held_next : arrivals_by_piece k (take (1 + (taken + first)) piece) old ≡ arrivals_by_piece k (take (taken + first) piece) old ++ arrival ∷ []
       held_next =
@@ -383,7 +383,7 @@ module _ {D : Type 0} {g : sectors.Ghosts D} where
     was_live = live;
     live = live;
     sound = sound;
-    rights = refl;
+    terms = refl;
     items = [];
     ahead = λ later. refl;
     run = run_none committer;
@@ -395,7 +395,7 @@ module _ {D : Type 0} {g : sectors.Ghosts D} where
   fed_ended k piece session committer bound ended =
       let none : arrivals_by_piece k piece session ≡ [] = ap (λ (b : Bool). if b then [] else arrivals_heard k (heard_after session piece)) ended in
       all_taken k piece session session committer committer bound bound (record {
-        session = sym (ap (λ (b : Bool). if b then session else session_after session.allowed (heard_after session piece)) ended);
+        session = sym (ap (λ (b : Bool). if b then session else session_after session.terms (heard_after session piece)) ended);
         run = run_as (sym none) (run_none committer);
       }) (taken_as bound bound (sym none) refl)
 
@@ -404,11 +404,11 @@ module _ {D : Type 0} {g : sectors.Ghosts D} where
   pub end_ended : (k : ℕ) (session : SessionData) (committer : Committer D g) → session.ended ≡ true → Run (arrivals_by_end k session) committer committer
   end_ended k session committer ended = run_as (sym (ap (λ (b : Bool). if b then [] else arrivals_of_rest k session.rest) ended)) (run_none committer)
 
-  pub end_idle : {allowed : Rights} {progress : DecoderProgress} {ended cut : Bool} {session : SessionData} (k : ℕ) (committer : Committer D g) → Shows allowed progress ended cut session → (rest_of progress ≢ [] → ⊥) → Run (arrivals_by_end k session) committer committer
+  pub end_idle : {terms : Terms} {progress : DecoderProgress} {ended cut : Bool} {session : SessionData} (k : ℕ) (committer : Committer D g) → Shows terms progress ended cut session → (rest_of progress ≢ [] → ⊥) → Run (arrivals_by_end k session) committer committer
   end_idle {progress = progress} {ended = ended} {cut = cut} {session = session} k committer shows none =
       run_as (sym (by_end k session shows.live ∙ ap (arrivals_of_rest k) (rest_is shows) ∙ no_rest k (rest_of progress) none)) (run_none committer)
 
-  pub end_begun : {allowed : Rights} {progress : DecoderProgress} {ended cut : Bool} {session : SessionData} (k : ℕ) (before after : Committer D g) (result : Result (Unit {0}) StoreError) → Shows allowed progress ended cut session → rest_of progress ≢ [] → is_broken (store_of before) ≡ false
+  pub end_begun : {terms : Terms} {progress : DecoderProgress} {ended cut : Bool} {session : SessionData} (k : ℕ) (before after : Committer D g) (result : Result (Unit {0}) StoreError) → Shows terms progress ended cut session → rest_of progress ≢ [] → is_broken (store_of before) ≡ false
       → Enters (malformed_from k) before after result → IsArrivalEnd (malformed_from k) before after result → IsFrameEnd k session before after result
   end_begun {progress = progress} {session = session} k before after (Ok done) shows some sound enters end =
       run_as (sym (begun_arrives k shows some)) (run_more (malformed_from k) (run_none before) enters)

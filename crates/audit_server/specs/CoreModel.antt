@@ -15,6 +15,7 @@ use Rattle.audit_serve_passes.specs.Steps.{StepData, IsAbout}
 use Rattle.audit_serve_passes.specs.declared.rights.Rights.{Rights}
 use Rattle.audit_serve_passes.specs.Core.{CoreModel, RequestKind, appending, asking}
 use Rattle.audit_server.specs.declared.server_core.Core.{Core}
+use Rattle.audit_server_model.specs.Heard.{daemon_terms}
 use Rattle.audit_server_model.specs.Sessions.{SessionData, begun_session, no_session, session_at, sessions_run}
 use Rattle.audit_server_model.specs.Sessions.{sessions_after, arrivals_by_piece}
 use Rattle.audit_server.specs.Core.{committer_of, sessions_of, data_of, Refuses}
@@ -56,10 +57,10 @@ module _ {D : Type 0} {g : sectors.Ghosts D} where
   abbrev pub output_of : Core D g → ℕ → List ℕ
   output_of core k = slice_index_or (outputs_of (committer_of core)) k []
 
-  -- a session with these rights is at the start of its stream, and nothing else has changed
+  -- the session of a daemon's client with these rights is at the start of its stream, and nothing else has changed
   pub record IsBegunAnew (k : ℕ) (allowed : Rights) (old new : Core D g) : Type 0 where
     pub committer : committer_of new ≡ committer_of old
-    pub sessions : sessions_of new ≡ slice_set (sessions_of old) k (begun_session allowed)
+    pub sessions : sessions_of new ≡ slice_set (sessions_of old) k (begun_session (daemon_terms allowed))
 
   abbrev pub core_model : CoreModel (Core D g)
   core_model = record {
@@ -95,7 +96,7 @@ module _ {D : Type 0} {g : sectors.Ghosts D} where
     begun_alone = λ old new k other allowed begun apart.
         ap (λ (sessions : List SessionData). (session_at other sessions).ended) begun.sessions
         ∙ ap (λ (session : SessionData). session.ended)
-        (get_or-set_other (sessions_of old) k other (begun_session allowed) no_session apart);
+        (get_or-set_other (sessions_of old) k other (begun_session (daemon_terms allowed)) no_session apart);
     owed_idle = λ core k idle.
         ap (λ (waiting : Waiting). length (output_of core k) + owed_for_waiting k waiting) idle
         ∙ nothing_more (length (output_of core k));

@@ -8,8 +8,7 @@ use Rattle.audit_wire.specs.declared.fed.Fed.TheVariants as fed
 use Rattle.audit_wire.specs.Progress.{DecoderProgress, rest_of, is_spoiled}
 use Rattle.audit_server_commit.specs.declared.question.Query.{Query}
 use Rattle.audit_server_commit.specs.Arrivals.{Arrival, a_question, arrival_of}
-use Rattle.audit_serve_passes.specs.declared.rights.Rights.{Rights}
-use Rattle.audit_server_model.specs.Heard.{heard_rest, stops_with, request_in_front}
+use Rattle.audit_server_model.specs.Heard.{Terms, heard_rest, stops_with, request_in_front}
 use Rattle.audit_store.specs.declared.store_error.StoreError.TheVariants.{Broken}
 use Rattle.audit_server_commit.specs.declared.committer.Committer.{Committer}
 use Rattle.audit_server.specs.declared.feed_fault.FeedFault.{FeedFault}
@@ -22,9 +21,9 @@ use Rattle.audit_server.specs.Running.{HaveEntered, Run, IsRefusedAfter}
 use Rattle.audit_server.specs.Entering.{IsRequestEnd, Enters}
 
 -- a session as contracts see it, given its decoder; no bytes are kept of a session that has ended
-abbrev pub session_view : Rights → DecoderProgress → Bool → Bool → SessionData
-session_view allowed progress ended cut_off = record {
-  allowed = allowed;
+abbrev pub session_view : Terms → DecoderProgress → Bool → Bool → SessionData
+session_view terms progress ended cut_off = record {
+  terms = terms;
   rest = if ended then [] else rest_of progress;
   ended = ended;
   cut_off = ended && cut_off;
@@ -46,7 +45,7 @@ pub record IsHeldBack (k : ℕ) (piece : List ℕ) (taken : ℕ) (arrival : Arri
   pub within : taken < length piece
   pub live : new.ended ≡ false
   pub uncut : new.cut_off ≡ false
-  pub rights : new.allowed ≡ old.allowed
+  pub terms : new.terms ≡ old.terms
   pub heard : (later : List ℕ) → heard_after old (take taken piece ++ later) ≡ heard_after new later
   pub partial : heard_after new [] ≡ heard_rest new.rest
   pub next : arrivals_by_piece k (take (1 + taken) piece) old ≡ arrival ∷ []
@@ -64,7 +63,7 @@ module _ {D : Type 0} {g : sectors.Ghosts D} where
       (limit left : Limit) : Type 0 where
     pub live : new.ended ≡ false
     pub uncut : new.cut_off ≡ false
-    pub rights : new.allowed ≡ old.allowed
+    pub terms : new.terms ≡ old.terms
     pub heard : heard_after old piece ≡ heard_rest new.rest
     pub same : after ≡ before
     pub unspent : left ≡ limit
@@ -75,7 +74,7 @@ module _ {D : Type 0} {g : sectors.Ghosts D} where
     pub some : 0 < taken
     pub within : taken ≤ length piece
     pub live : new.ended ≡ false
-    pub rights : new.allowed ≡ old.allowed
+    pub terms : new.terms ≡ old.terms
     pub request : Request
     pub heard : (later : List ℕ)
         → heard_after old (take taken piece ++ later) ≡ request_in_front request (heard_after new later)
@@ -86,7 +85,7 @@ module _ {D : Type 0} {g : sectors.Ghosts D} where
   pub record IsLast (k : ℕ) (piece : List ℕ) (old new : SessionData) (before after : Committer D g)
       (limit left : Limit) : Type 0 where
     pub last : Query
-    pub ended : new ≡ session_after old.allowed (stops_with last)
+    pub ended : new ≡ session_after old.terms (stops_with last)
     pub heard : heard_after old piece ≡ stops_with last
     pub enters : Enters (a_question (record { session = k; query = last })) before after (Ok tt)
     pub spent : AreAdmitted (a_question (record { session = k; query = last }) ∷ []) limit left

@@ -8,7 +8,7 @@ use audit_disk_model::Sectors;
 use audit_serve_passes::Rights;
 use audit_server_commit::{Committer, Query, Question};
 use audit_store::StoreError;
-use audit_wire::{Decoder, Fed};
+use audit_wire::{Decoder, Fed, Grammar};
 use std::alloc::{AllocError, Global};
 use std::marker::Model;
 
@@ -26,10 +26,11 @@ pub(crate) enum Front {
     Withheld { taken: usize },
 }
 
-/// What a core keeps of a session: its rights, its decoder, whether it has ended, and whether it made a request that
-/// isn't allowed.
+/// What a core keeps of a session: its grammar, its rights, its decoder, whether it has ended, and whether it made a
+/// request that isn't allowed.
 #[derive(Drop)]
 pub(crate) struct Session {
+    grammar: Grammar,
     rights: Rights,
     decoder: Decoder,
     ended: bool,
@@ -52,7 +53,8 @@ impl Model for Session {
 
     ghost Value = { SessionData };
 
-    ghost view = { λ session. session_view session.rights session.decoder session.ended session.cut_off };
+    ghost view = { λ session. session_view (record { grammar = session.grammar; rights = session.rights })
+        session.decoder session.ended session.cut_off };
 
     ghost invariant = { λ session. IsLive session.decoder session.ended };
 }
@@ -66,12 +68,18 @@ impl Session {
     ghost use Rattle.audit_server.specs.Feeding.{IsFront, IsFedWithin};
     ghost use Rattle.audit_server.specs.Ending.{IsFrameEnd, IsEnd};
 
-    /// Makes a session with these rights at the start of its stream. It reserves all the capacity that it will need.
-    /// The only error is that memory is refused.
-    pub(crate) fn new(alloc: Global, rights: Rights) -> Result<Session, AllocError>
-        ensures { IfOk result (λ session. session ≡ begun_session rights) }
+    /// Makes a session with this grammar and these rights at the start of its stream. It reserves all the capacity that
+    /// it will need. The only error is that memory is refused.
+    pub(crate) fn new(
+        alloc: Global,
+        grammar: Grammar,
+        rights: Rights,
+    ) -> Result<Session, AllocError>
+        ensures { IfOk result (λ session.
+            session ≡ begun_session (record { grammar = grammar; rights = rights })) }
     {
         Ok(Session {
+            grammar,
             rights,
             decoder: Decoder::new(alloc)?,
             ended: false,
@@ -168,6 +176,7 @@ impl Session {
             committer,
             alloc,
             session,
+            self.grammar,
             self.rights,
             self.decoder.body(),
             limit,

@@ -11,3 +11,5 @@ mod passes;
 mod recorder;
 #[cfg(test)]
 mod rights;
+#[cfg(test)]
+mod state;

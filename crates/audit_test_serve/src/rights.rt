@@ -76,15 +76,22 @@ where
     core.ended(0) && core.reopen(0, rights).is_ok()
 }
 
-fn core_with(rt: &impl Abort, alloc: Global, rights: Rights) -> Core<MemDisk> {
+// A core over a store of 64 sectors without events, as it is made.
+pub(crate) fn new_core(rt: &impl Abort, alloc: Global) -> Core<MemDisk> {
     let disk = MemDisk::new(alloc, 64).expect(rt, "a device");
     let store = match Store::format(alloc, disk, Key::from_bytes([0; 32])) {
         Ok(store) => store,
         Err(failed) => panic!(rt; "a store: {}", failed.error),
     };
-    let Ok(mut core) = Core::new(alloc, store) else {
-        panic!(rt; "memory");
-    };
+    match Core::new(alloc, store) {
+        Ok(core) => core,
+        Err(_) => panic!(rt; "memory"),
+    }
+}
+
+// The same with a daemon's client of these rights in session 0.
+pub(crate) fn core_with(rt: &impl Abort, alloc: Global, rights: Rights) -> Core<MemDisk> {
+    let mut core = new_core(rt, alloc);
     assert!(rt; begin(&mut core, rights));
     core
 }

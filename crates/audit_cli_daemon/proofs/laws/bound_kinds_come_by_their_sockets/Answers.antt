@@ -2,6 +2,7 @@ use Rattle.std.specs.Prelude.{Contains}
 use Rattle.std.specs.List.{AllByRecursion}
 use Rattle.std.proofs.Common.{◌∙◌, ap, subst}
 use Rattle.audit_server_commit.specs.Arrivals.{appends_among}
+use Rattle.audit_server_model.specs.Heard.{daemon_terms}
 use Rattle.audit_server.specs.Rights.{IsRightful}
 use Rattle.audit_cli_daemon.specs.Carried.{sources_asked}
 use Rattle.audit_cli_daemon.proofs.BoundSources.{all_at, one_is_source, kind_allowed}
@@ -11,5 +12,5 @@ pub returns : goal.returns
 returns g c settings bound kind k client changes before after backlog first append bound_are there plain comes few are stays arrived same =
     let law = c.rights_bind_what_arrives.ensures in
     let is = ap appends_among (law.arrived k client changes before after backlog first few are stays) in
-    let allowed = all_at (IsRightful client.rights) _ append (law.allowed k client.rights _ _) (subst (λ appends. Contains appends append) is arrived) in
+    let allowed = all_at (IsRightful client.rights) _ append (law.allowed k (daemon_terms client.rights) _ _) (subst (λ appends. Contains appends append) is arrived) in
     one_is_source kind settings.reader (sources_asked settings) settings.may_close bound client.rights (bound_are kind ∙ there) comes (kind_allowed client.rights append kind allowed same plain)
