@@ -27,7 +27,7 @@ impl Display for BadQuestion<'_> {
         match self {
             BadQuestion::Name(name) => write!(
                 f,
-                "{}: QUESTION is commitment, close, export, entry, member or increment",
+                "{}: QUESTION is commitment, state, close, export, entry, member or increment",
                 Shown(name)
             ),
             BadQuestion::Words(name, "") => write!(f, "{}: it takes no further word", Shown(name)),
@@ -71,7 +71,7 @@ fn word_or<'a>(wrong: Option<Wrong<'a>>, other: BadQuestion<'a>) -> BadQuestion<
 // The words that a question takes.
 fn wanted_words(name: &str) -> Option<&'static str> {
     match name {
-        "commitment" | "close" => Some(""),
+        "commitment" | "state" | "close" => Some(""),
         "export" => Some("OUT"),
         "entry" => Some("INDEX OUT"),
         "member" => Some("INDEX COUNT OUT"),

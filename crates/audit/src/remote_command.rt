@@ -25,6 +25,7 @@ pub fn remote_request<'a>(name: &str, given: &ArgMatches<'a>) -> Option<Remote<'
             long: given.get_str("long"),
             window: given.get_str("window"),
             timeout,
+            until_refused: given.get_flag("until-refused"),
         }),
         "watch" => Some(Remote::Watch {
             socket,

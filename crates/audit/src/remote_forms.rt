@@ -39,14 +39,21 @@ static SEND: Form = Form {
             needs: None,
             excludes: None,
         },
+        Choice {
+            name: "until-refused",
+            value: None,
+            help: "Stops at the first refusal; the events that are on their way are still answered",
+            needs: None,
+            excludes: None,
+        },
     ],
 };
 
 static ASK: Form = Form {
     name: "ask",
-    about: "Asks a server for its commitment, an entry, a proof or an export, or to close the log",
+    about: "Asks a server for its commitment or state, an entry, a proof or an export, or to close the log",
     after: Some(
-        "Questions: commitment | entry INDEX OUT | member INDEX COUNT OUT | increment OLDER NEWER OUT | export OUT | close",
+        "Questions: commitment | state | entry INDEX OUT | member INDEX COUNT OUT | increment OLDER NEWER OUT | export OUT | close",
     ),
     words: &[
         Word {
@@ -56,7 +63,7 @@ static ASK: Form = Form {
         },
         Word {
             name: "QUESTION",
-            help: "commitment, entry, member, increment, export or close",
+            help: "commitment, state, entry, member, increment, export or close",
             is_required: true,
         },
         Word {

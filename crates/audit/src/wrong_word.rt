@@ -161,6 +161,7 @@ fn wrong_in_remote<'a>(request: Remote<'a>) -> Option<Wrong<'a>> {
             long,
             window,
             timeout,
+            until_refused: _,
         } => {
             let socket = judge("SOCKET", Some(socket), Form::Socket);
             let text = wrong_in_text(text, long);

@@ -9,6 +9,8 @@ use Rattle.audit_client.specs.declared.putting.AskError.{AskError}
 use Rattle.audit_client.specs.declared.putting.AskError.TheVariants as asking
 use Rattle.audit_client.specs.Exporting.{GivesExport}
 use Rattle.audit_client.specs.Failing.{FailsNewest, FailsClosing, FailsExport, FailsPutting, FailsPuttingOne, IsUnasked}
+use Rattle.audit_client.specs.declared.store_state.StoreState.{StoreState}
+use Rattle.audit_client.specs.StateAsking.{FailsState}
 use Rattle.audit_client.specs.Putting.{IsFile, AreGivenEntries}
 use Rattle.audit_client.specs.Watching.{GivesNewest}
 use Rattle.audit_cli_client.specs.declared.arguments.Evidence.{Evidence}
@@ -16,7 +18,7 @@ use Rattle.audit_cli_client.specs.declared.arguments.Question.{Question}
 use Rattle.audit_cli_client.specs.declared.arguments.Question.TheVariants as question
 use Rattle.audit_cli_client.specs.declared.fault.RemoteError.{RemoteError}
 use Rattle.audit_cli_client.specs.declared.fault.RemoteError.TheVariants.{Server}
-use Rattle.audit_cli_client.specs.Asked.{AsksOnly, AnswersQuestion, GivesLast, IsGivenEvidence, FailsEvidence}
+use Rattle.audit_cli_client.specs.Asked.{AsksOnly, AnswersQuestion, GivesState, GivesLast, IsGivenEvidence, FailsEvidence}
 use Rattle.audit_cli_client.specs.Arguments.{judged_question}
 use Rattle.audit_cli_client.specs.Faults.{of_asking}
 use denote.Ref.{Bor}
@@ -41,6 +43,11 @@ pub newest_asked : (given : Result Commitment ClientError) (result : Result (Uni
     → ((error : ClientError) → given ≡ Err error → result ≡ Err (Server error)) → AsksOnly w0 w1 r0 r1 question.Commitment result
 newest_asked (Ok newest) result w0 w1 r0 r1 done fails passes = answered w0 w1 r0 r1 question.Commitment result (newest, done)
 newest_asked (Err error) result w0 w1 r0 r1 done fails passes = subst (AsksOnly w0 w1 r0 r1 question.Commitment) (sym (passes error refl)) (inl (error, refl, fails))
+
+pub state_asked : (given : Result StoreState ClientError) (result : Result (Unit {0}) RemoteError) (w0 w1 r0 r1 : Option (List ℕ)) → IfOk given (GivesState w0 w1 r0 r1) → IfErr given (FailsState w0 w1 r0 r1)
+    → ((error : ClientError) → given ≡ Err error → result ≡ Err (Server error)) → AsksOnly w0 w1 r0 r1 question.State result
+state_asked (Ok state) result w0 w1 r0 r1 done fails passes = answered w0 w1 r0 r1 question.State result (state, done)
+state_asked (Err error) result w0 w1 r0 r1 done fails passes = subst (AsksOnly w0 w1 r0 r1 question.State) (sym (passes error refl)) (inl (error, refl, fails))
 
 pub last_asked : (given : Result Commitment ClientError) (result : Result (Unit {0}) RemoteError) (w0 w1 r0 r1 : Option (List ℕ)) → IfOk given (GivesLast w0 w1 r0 r1) → IfErr given (FailsClosing w0 w1 r0 r1)
     → ((error : ClientError) → given ≡ Err error → result ≡ Err (Server error)) → AsksOnly w0 w1 r0 r1 question.Close result

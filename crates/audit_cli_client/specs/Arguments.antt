@@ -1,7 +1,7 @@
 -- The words of requests to a server.
 use denote.Ref.{Bor}
 use Rattle.std.specs.Prelude.{◌≡◌, ◌⊎◌, ℕ, nat_le, ◌&&◌, Option, Some, None, Result, Ok, Err, List, codes}
-use Rattle.std.specs.Prelude.{if◌then◌else◌}
+use Rattle.std.specs.Prelude.{Bool, true, false, if◌then◌else◌}
 use Rattle.std.specs.Str.{bytes_eq}
 use Rattle.audit_text.specs.Number.{number_in_text}
 use Rattle.std.specs.Option.{is_some}
@@ -12,6 +12,8 @@ use Rattle.audit_cli_base.specs.declared.arguments.ProofRequest.{ProofRequest}
 use Rattle.audit_cli_base.specs.declared.fault.CommandError.{CommandError}
 use Rattle.audit_cli_base.specs.declared.fault.CommandError.TheVariants.{BadArgument}
 use Rattle.audit_cli_base.specs.SocketPath.{IsNoSocketPath}
+use Rattle.audit_client.specs.declared.stop_at.StopAt.{StopAt}
+use Rattle.audit_client.specs.declared.stop_at.StopAt.TheVariants as stop
 use Rattle.audit_cli_client.specs.declared.arguments.TheConstants.{MAX_SECONDS, MAX_WINDOW}
 use Rattle.audit_cli_client.specs.declared.arguments.Question.{Question}
 use Rattle.audit_cli_client.specs.declared.arguments.Question.TheVariants as question
@@ -73,6 +75,7 @@ abbrev pub question_in : List ℕ → Option (Bor (List ℕ)) → Option (Bor (L
     → Option Question
 question_in name None None None =
     if bytes_eq name (codes "commitment") then Some question.Commitment
+    else if bytes_eq name (codes "state") then Some question.State
     else if bytes_eq name (codes "close") then Some question.Close else None
 question_in name (Some out) None None = if bytes_eq name (codes "export") then Some (question.Export out 0) else None
 question_in name (Some index) (Some out) None =
@@ -109,19 +112,24 @@ IsNoTask text long window timeout =
 abbrev pub HasRefusedWord : Request → Type 0
 HasRefusedWord (Ask socket words first timeout) = IsNoSocketPath socket.now 0
     ⊎ ((question_from first (question_in words.0.now words.1 words.2 words.3) ≡ None) ⊎ AreNoSeconds timeout)
-HasRefusedWord (Send socket text long window timeout) =
+HasRefusedWord (Send socket text long window timeout until_refused) =
     IsNoSocketPath socket.now 0 ⊎ IsNoTask text long window timeout
 HasRefusedWord (Watch socket state every timeout is_quiet) =
     IsNoSocketPath socket.now 0 ⊎ (AreNoSeconds every ⊎ AreNoSeconds timeout)
 HasRefusedWord (Read socket state first under form kinds every timeout) =
     IsNoSocketPath socket.now 0 ⊎ (AreNoSeconds every ⊎ AreNoSeconds timeout)
 
--- a task has the form and the numbers of the words
-abbrev pub HasTaskNumbers : Option (Bor (List ℕ)) → Option (Bor (List ℕ)) → Option (Bor (List ℕ))
-    → Option (Bor (List ℕ)) → Task → Type 0
-HasTaskNumbers text long window timeout task = (form_asked text ≡ Some task.form)
+-- where sending stops
+abbrev pub stop_asked : Bool → StopAt
+stop_asked true = stop.Refusal
+stop_asked false = stop.End
+
+-- the task that these words ask for
+abbrev pub IsTaskOfWords : Option (Bor (List ℕ)) → Option (Bor (List ℕ)) → Option (Bor (List ℕ))
+    → Option (Bor (List ℕ)) → Bool → Task → Type 0
+IsTaskOfWords text long window timeout until_refused task = (form_asked text ≡ Some task.form)
     × (long_asked long text ≡ Some task.long) × (window_or_default window ≡ Ok task.window)
-    × (seconds_or_default timeout ≡ Ok task.seconds)
+    × (seconds_or_default timeout ≡ Ok task.seconds) × (task.stop_at ≡ stop_asked until_refused)
 
 -- what is read, and how it is printed, is that of the words
 pub record IsTaskOf (socket state : Bor (List ℕ)) (first under : Option (Bor (List ℕ))) (form : ReportForm)
@@ -138,8 +146,8 @@ abbrev pub IsOrderOf : Request → Order → Type 0
 IsOrderOf (Ask socket words first timeout) (order.Ask path asked seconds) = (path ≡ socket)
     × (question_from first (question_in words.0.now words.1 words.2 words.3) ≡ Some asked)
     × (seconds_or_default timeout ≡ Ok seconds)
-IsOrderOf (Send socket text long window timeout) (order.Send path task) =
-    (path ≡ socket) × HasTaskNumbers text long window timeout task
+IsOrderOf (Send socket text long window timeout until_refused) (order.Send path task) =
+    (path ≡ socket) × IsTaskOfWords text long window timeout until_refused task
 IsOrderOf (Watch socket state every timeout is_quiet) (order.Watch post pause) = (post.socket ≡ socket)
     × (post.state ≡ state) × IsPause every pause × (seconds_or_default timeout ≡ Ok post.seconds)
     × (post.is_quiet ≡ is_quiet)

@@ -11,12 +11,15 @@ use Rattle.audit_client.specs.declared.fault.ClientError.{ClientError}
 use Rattle.audit_client.specs.Conversation.{Converses}
 use Rattle.audit_client.specs.Failing.{FailsNewest, FailsClosing, FailsEntry, FailsMember, FailsIncrement, FailsExport}
 use Rattle.audit_client.specs.Failing.{IsUnasked}
+use Rattle.audit_client.specs.declared.store_state.StoreState.{StoreState}
+use Rattle.audit_client.specs.StateAsking.{state_reply, FailsState}
 use Rattle.audit_client.specs.Putting.{IsGivenEntry, IsGivenMember, IsGivenIncrement, AreGivenEntries}
 use Rattle.audit_client.specs.Watching.{GivesNewest}
 use Rattle.audit_cli_client.specs.declared.arguments.Evidence.{Evidence}
 use Rattle.audit_cli_client.specs.declared.arguments.Evidence.TheVariants as evidence
 use Rattle.audit_cli_client.specs.declared.arguments.Question.{Question}
 use Rattle.audit_cli_client.specs.declared.arguments.Question.TheVariants as question
+use Rattle.audit_cli_client.specs.StoreStateLine.{store_state_line}
 use Rattle.audit_cli_client.specs.declared.fault.RemoteError.{RemoteError}
 use Rattle.audit_cli_client.specs.declared.fault.RemoteError.TheVariants.{Server}
 
@@ -46,10 +49,17 @@ GivesLast written_old written_new read_old read_new last =
     (index : ℕ) × Converses written_old written_new read_old read_new (request.Close ASKED_TAG ∷ [])
     (reply.Acknowledgement ASKED_TAG index last.count last.root ∷ [])
 
+-- the state of the store was asked for and given
+abbrev pub GivesState : Option (List ℕ) → Option (List ℕ) → Option (List ℕ) → Option (List ℕ) → StoreState → Type 0
+GivesState written_old written_new read_old read_new state =
+    Converses written_old written_new read_old read_new (request.State ASKED_TAG ∷ []) (state_reply state ∷ [])
+
 -- The question was asked and answered, and nothing else asked.
 abbrev pub AnswersQuestion : Option (List ℕ) → Option (List ℕ) → Option (List ℕ) → Option (List ℕ) → Question → Type 0
 AnswersQuestion written_old written_new read_old read_new question.Commitment =
     (newest : Commitment) × GivesNewest written_old written_new read_old read_new newest
+AnswersQuestion written_old written_new read_old read_new question.State =
+    (state : StoreState) × GivesState written_old written_new read_old read_new state
 AnswersQuestion written_old written_new read_old read_new question.Close =
     (last : Commitment) × GivesLast written_old written_new read_old read_new last
 AnswersQuestion written_old written_new read_old read_new (question.Evidence asked out) =
@@ -62,6 +72,8 @@ abbrev pub FailsQuestion : Option (List ℕ) → Option (List ℕ) → Option (L
     → ClientError → Type 0
 FailsQuestion written_old written_new read_old read_new question.Commitment error =
     FailsNewest written_old written_new read_old read_new error
+FailsQuestion written_old written_new read_old read_new question.State error =
+    FailsState written_old written_new read_old read_new error
 FailsQuestion written_old written_new read_old read_new question.Close error =
     FailsClosing written_old written_new read_old read_new error
 FailsQuestion written_old written_new read_old read_new (question.Evidence asked out) error =
@@ -87,12 +99,15 @@ AsksOnly written_old written_new read_old read_new asked (Err fault) =
     ⊎ (AnswersQuestion written_old written_new read_old read_new asked
     ⊎ IsUnaskedFor written_old written_new read_old read_new asked)
 
--- what is printed for a commitment, or for the last one
+-- what is printed for a commitment, a state, or the last commitment
 abbrev pub PrintsAnswer : Option (List ℕ) → Option (List ℕ) → Option (List ℕ) → Option (List ℕ) → Option (List ℕ)
     → Option (List ℕ) → Question → Type 0
 PrintsAnswer written_old written_new read_old read_new old new question.Commitment =
     (newest : Commitment) × GivesNewest written_old written_new read_old read_new newest
     × Appends old new (numbered_line (codes "commit ") newest.count newest.root)
+PrintsAnswer written_old written_new read_old read_new old new question.State =
+    (state : StoreState) × GivesState written_old written_new read_old read_new state
+    × Appends old new (store_state_line state)
 PrintsAnswer written_old written_new read_old read_new old new question.Close =
     (last : Commitment) × GivesLast written_old written_new read_old read_new last
     × Appends old new (numbered_line (codes "closed ") last.count last.root)

@@ -2,6 +2,7 @@ pub mod Faults
 pub mod Frames
 pub mod Sent
 pub mod State
+pub mod StoreStateLine
 pub mod Alarm
 pub mod Arguments
 pub mod Looking

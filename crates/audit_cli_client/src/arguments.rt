@@ -18,6 +18,8 @@ pub const MAX_WINDOW: u64 = 1024;
 pub enum Question<'a> {
     /// The newest commitment.
     Commitment,
+    /// The state of the store.
+    State,
     /// An entry or a proof, and the file for it.
     Evidence(Evidence, &'a str),
     /// All entries from an index on, and the file for them.
@@ -78,6 +80,7 @@ fn question_in<'a>(words: QuestionWords<'a>) -> Option<Question<'a>>
     let (name, first, second, third) = words;
     match (first, second, third) {
         (None, None, None) if name == "commitment" => Some(Question::Commitment),
+        (None, None, None) if name == "state" => Some(Question::State),
         (None, None, None) if name == "close" => Some(Question::Close),
         (Some(out), None, None) if name == "export" => Some(Question::Export(out, 0)),
         (Some(index), Some(out), None) if name == "entry" => {

@@ -10,19 +10,21 @@ ghost use Rattle.audit_client.specs.Putting.{AreGivenEntries};
 ghost use Rattle.audit_cli_client.specs.declared.fault.RemoteError.{RemoteError};
 ghost use Rattle.audit_cli_client.specs.Asked.{AsksOnly, PrintsAnswer, IsGivenEvidence, FailsEvidence};
 ghost use Rattle.audit_cli_client.specs.Faults.{of_asking};
+ghost use Rattle.audit_cli_client.specs.StoreStateLine.{store_state_line};
 
 use crate::arguments::{Evidence, Question};
 use crate::connection::{connect, socket_identity};
 use crate::fault::RemoteError;
 use crate::line::{LineEnd, Pace};
 use crate::out::OutFile;
+use crate::store_state_line::put_store_state;
 use audit_cli_base::{
     CommandError, ProofRequest, is_standard_output, write_exported, write_number,
 };
 use audit_cli_host::Dial;
 use audit_client::{
-    AskError, ClientError, Export, Out, close_log, newest_commitment, put_entry, put_export,
-    put_increment, put_member,
+    AskError, ClientError, Export, Out, StoreState, close_log, newest_commitment, put_entry,
+    put_export, put_increment, put_member, state_of_store,
 };
 use audit_disk::FileIdentity;
 use audit_proof::Commitment;
@@ -76,6 +78,10 @@ pub fn answer<F: Files, A: Write, B: Read, W: Write>(
             let newest = newest_commitment(alloc, to, from);
             print_commitment(alloc, b"commit ", newest, output)
         }
+        Question::State => {
+            let state = state_of_store(alloc, to, from);
+            print_state(alloc, state, output)
+        }
         Question::Close => {
             let last = close_log(alloc, to, from);
             print_commitment(alloc, b"closed ", last, output)
@@ -106,6 +112,23 @@ fn print_commitment<W: Write>(
     let commitment = given?;
     let mut line = Vec::new(alloc);
     put_line(&mut line, word, commitment.count, &commitment.root)?;
+    write_whole(output, &line)?;
+    Ok(())
+}
+
+// Prints the line of a store's state, or passes the client's error on.
+fn print_state<W: Write>(
+    alloc: Global,
+    given: Result<StoreState, ClientError>,
+    output: &mut W,
+) -> Result<(), RemoteError>
+    ensures printed { OnOk result ((shown : StoreState) × (given ≡ Ok shown) × Appends (W.contents output.old)
+        (W.contents output.new) (store_state_line shown)) }
+    ensures fault { (error : ClientError) → given ≡ Err error → result ≡ Err (RemoteError.Server error) }
+{
+    let state = given?;
+    let mut line = Vec::new(alloc);
+    put_store_state(&mut line, &state)?;
     write_whole(output, &line)?;
     Ok(())
 }

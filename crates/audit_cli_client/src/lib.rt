@@ -25,6 +25,7 @@ mod state_file;
 mod state_lines;
 mod state_lock;
 mod state_text;
+mod store_state_line;
 mod watching;
 
 pub use arguments::{Evidence, Question};

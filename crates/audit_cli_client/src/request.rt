@@ -6,7 +6,7 @@ ghost use Rattle.audit_text.specs.LineEvents.{form_asked, long_asked};
 ghost use Rattle.audit_cli_client.specs.declared.fault.RemoteError.{RemoteError};
 ghost use Rattle.audit_cli_client.specs.Faults.{IsNoJudgment, judgment_of};
 ghost use Rattle.audit_cli_client.specs.Arguments.{AreNoSeconds, IsNoWindow, HasRefusedWord, IsOrderOf};
-ghost use Rattle.audit_cli_client.specs.Arguments.{HasTaskNumbers, IsNoTask};
+ghost use Rattle.audit_cli_client.specs.Arguments.{IsTaskOfWords, IsNoTask, stop_asked};
 ghost use Rattle.audit_cli_client.specs.Requests.{IsClientRun, EndsOrder, Performs, status_of_done, done_after};
 ghost use Rattle.audit_cli_client.specs.ServerCalls.{CommandStreams};
 ghost use Rattle.audit_cli_client.specs.Arguments.{IsPause, seconds_or_default, window_or_default};
@@ -20,7 +20,7 @@ use crate::servers::Servers;
 use crate::watching::{Post, watch_for_ever, watch_once};
 use audit_cli_base::{CommandError, Status, report_flush, socket_path_asked};
 use audit_cli_offline::ReportForm;
-use audit_client::FallibleWrite;
+use audit_client::{FallibleWrite, StopAt};
 use audit_text::{LineForm, LongLines, form_asked, long_asked};
 use std::alloc::Global;
 use std::io::{Read, Write};
@@ -57,6 +57,8 @@ pub enum Request<'a> {
         window: Option<&'a str>,
         /// How many seconds an answer is waited for; 30 if absent.
         timeout: Option<&'a str>,
+        /// Whether it ends once an event is refused.
+        until_refused: bool,
     },
     /// Sees the newest commitment, and keeps it in a file if it follows from the one before.
     Watch {
@@ -255,9 +257,10 @@ fn judge<'a>(request: Request<'a>) -> Result<Order<'a>, CommandError>
             long,
             window,
             timeout,
+            until_refused,
         } => {
             socket_path_asked(socket, 0)?;
-            let task = task_asked(text, long, window, timeout)?;
+            let task = task_asked(text, long, window, timeout, until_refused)?;
             Ok(Order::Send { socket, task })
         }
         Request::Watch {
@@ -311,9 +314,10 @@ fn task_asked(
     long: Option<&str>,
     window: Option<&str>,
     timeout: Option<&str>,
+    until_refused: bool,
 ) -> Result<Task, CommandError>
     ensures wrong { IsNoTask text.entry long.entry window.entry timeout.entry → result ≡ Err CommandError.BadArgument }
-    ensures asked { IfOk result (HasTaskNumbers text.entry long.entry window.entry timeout.entry) }
+    ensures asked { IfOk result (IsTaskOfWords text.entry long.entry window.entry timeout.entry until_refused) }
     ensures fault { IfErr result (λ fault. (fault ≡ CommandError.BadArgument)
         × IsNoTask text.entry long.entry window.entry timeout.entry) }
 {
@@ -326,7 +330,18 @@ fn task_asked(
         long,
         window,
         seconds,
+        stop_at: stop_asked(until_refused),
     })
+}
+
+fn stop_asked(until_refused: bool) -> StopAt
+    ensures { result ≡ stop_asked until_refused }
+{
+    if until_refused {
+        StopAt::Refusal
+    } else {
+        StopAt::End
+    }
 }
 
 // Does what was ordered. Only sending has a status of its own.

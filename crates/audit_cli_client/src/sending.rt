@@ -7,7 +7,7 @@ use crate::fault::RemoteError;
 use crate::line::{Line, LineEnd, Pace};
 use audit_cli_base::Status;
 use audit_cli_host::Dial;
-use audit_client::{SendEnd, send_events};
+use audit_client::{SendEnd, StopAt, send_events};
 use audit_text::{CutLines, LineForm, LongLines};
 use std::alloc::Global;
 use std::io::{BufReader, Read, Write};
@@ -27,6 +27,8 @@ pub struct Task {
     pub window: u64,
     /// How many seconds an answer is waited for.
     pub seconds: u64,
+    /// Where sending stops.
+    pub stop_at: StopAt,
 }
 
 /// Sends the events of the input to a server, and prints its answers. Returns the status of a command whose lines were
@@ -84,10 +86,11 @@ fn send_over<C: Clock, R: Read, W: Write>(
         &mut from,
         output,
         task.window,
+        task.stop_at,
     ))
 }
 
-// Prints why sending ended before the input did, if so, and which lines weren't acknowledged. Returns the status.
+// Prints why sending failed, if it did, and which lines weren't acknowledged. Returns the status.
 fn report_sent<M: Write>(end: &SendEnd, messages: &mut M) -> Status
     ensures { result ≡ status_of_sent end.now }
 {

@@ -13,3 +13,4 @@ pub mod LongLines
 pub mod ReadWhole
 mod OneEntry
 mod OlderNodes
+pub mod NearRefusals

@@ -1,8 +1,7 @@
 -- One entry alone.
-use Rattle.std.proofs.Common.{◌≡◌, ◌∙◌, ℕ, ◌+◌, IsTrue, List, [], ◌∷◌, ◌++◌, Result, Ok, Err, length, length-append, append-nil, sym, ap, refl, arith}
+use Rattle.std.proofs.Common.{◌≡◌, ◌∙◌, ℕ, IsTrue, List, [], ◌∷◌, ◌++◌, Result, Ok, length, length-append, append-nil, sym, ap, arith}
 use Rattle.std.specs.Prelude.{nat_eq}
-use Rattle.audit_chain.specs.EntryForm.{EntryParts, AreParts, BeginsWithEntry, bytes_of_parts}
-use Rattle.audit_chain.specs.declared.entry.EntryFault.{EntryFault}
+use Rattle.audit_chain.specs.EntryForm.{EntryParts, BeginsWithEntry, bytes_of_parts}
 use Rattle.audit_client.specs.Asking.{IsOneEntry}
 
 no_rest : (front rest : List ℕ) → length (front ++ rest) ≡ length front → front ++ rest ≡ front

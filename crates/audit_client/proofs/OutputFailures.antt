@@ -33,6 +33,7 @@ not_due_only : (Cause : Type 0) (tag : ℕ) (given : Reply) → WritingBreaksOnl
 not_due_only Cause tag (reply.Refused given code) = refused_only Cause (given == tag) code
 not_due_only Cause tag (reply.Commitment given count root) = tt
 not_due_only Cause tag (reply.Entry given entry) = tt
+not_due_only Cause tag (reply.State given count root end sectors generation version closed) = tt
 not_due_only Cause tag (reply.Membership given hashes entry) = tt
 not_due_only Cause tag (reply.Incremental given hashes) = tt
 not_due_only Cause tag (reply.Acknowledgement given index count root) = tt

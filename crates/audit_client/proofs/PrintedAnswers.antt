@@ -137,7 +137,7 @@ pub stopped : {r0 r1 o0 o1 : Option (List ℕ)} {before n refused count : ℕ} (
 stopped r2 o2 h (Input error) k below = absurd k
 stopped {r1 = r1} {count = count} r2 o2 h (Client error) k below =
     let few : length (h.answers ++ []) ≤ count = omega (arith, below, h.counted, ap length (append-nil h.answers)) in
-    record { prints = prints_all (Some (Client error)) (keeps_all o2 h k.0); few = few; all = λ none. absurd (none-some (Client error) (sym none)); fails = (r1, h.answers, h.counted, h.read, k.1) }
+    record { prints = prints_all (Some (Client error)) (keeps_all o2 h k.0); few = few; read = (r1, h.read); all = λ none. absurd (none-some (Client error) (sym none)); fails = (r1, h.answers, h.counted, h.read, k.1) }
 stopped {r0 = r0} {r1 = r1} {o0 = o0} {o1 = o1} {before = before} {n = n} r2 o2 h Output k below =
     let answer = k.answer in
     let place : before + n + 1 ≡ suc (before + length h.answers) = omega (arith, h.counted) in
@@ -156,15 +156,16 @@ stopped {r0 = r0} {r1 = r1} {o0 = o0} {o1 = o1} {before = before} {n = n} r2 o2 
         whole = λ other. absurd (other refl);
       };
       few = omega (arith, below, h.counted, length-append h.answers (answer ∷ []));
+      read = (r1, h.read);
       all = λ none. absurd (none-some Output (sym none));
       fails = tt;
     }
 
 -- all were read and printed
 pub finished : {r0 r1 o0 o1 : Option (List ℕ)} {before count refused : ℕ} → PrintsAll r0 r1 o0 o1 before count count refused → TakesAnswers r0 r1 o0 o1 before count (record { count = count; refused = refused; error = None })
-finished {count = count} h =
+finished {r1 = r1} {count = count} h =
     let few : length (h.answers ++ []) ≤ count = omega (arith, h.counted, ap length (append-nil h.answers)) in
-    record { prints = prints_all None h; few = few; all = λ _. h; fails = tt }
+    record { prints = prints_all None h; few = few; read = (r1, h.read); all = λ _. h; fails = tt }
 
 -- ---- the answers of several rounds
 

@@ -1,5 +1,5 @@
 -- A reply that was read whole isn't a lost one.
-use Rattle.std.specs.Prelude.{◌⊎◌, ◌+◌, map, length, IfSome}
+use Rattle.std.specs.Prelude.{map, length, IfSome}
 use Rattle.std.specs.List.{flat_map}
 use Rattle.std.proofs.Common.{◌≡◌, ◌∙◌, inl, inr, ℕ, Option, Some, List, [], ◌∷◌, ◌++◌, drop, refl, sym, ap, subst, arith, length-append, append-nil}
 use Rattle.std.proofs.lemmas.List.{append_cancel_right}
@@ -9,7 +9,7 @@ use Rattle.audit_wire.specs.Frame.{frame}
 use Rattle.audit_wire.specs.Reply.{reply_in, HasParts}
 use Rattle.audit_client.specs.declared.fault.ClientError.{ClientError}
 use Rattle.audit_client.specs.Asking.{newest_reply}
-use Rattle.audit_client.specs.Conversation.{IsPartOfFrame, ReadsReply, ReadsReplies}
+use Rattle.audit_client.specs.Conversation.{IsPartOfFrame, ReadsReply}
 use Rattle.audit_client.specs.Failing.{FailsNewest, IsNewestReply}
 
 pub no_part : (body more : List ℕ) → IsPartOfFrame (frame body ++ more) → ⊥

@@ -7,3 +7,4 @@ pub mod Keeping
 pub mod Sending
 pub mod Putting
 pub mod Failing
+pub mod StateAsking

@@ -1,6 +1,6 @@
 -- Events that are sent from the lines of an input, and the lines that are printed for their answers.
 use Rattle.std.specs.Prelude.{◌≡◌, ◌≢◌, ◌⊎◌, ℕ, suc, ◌+◌, ◌%◌, ◌^◌, ◌<◌, ◌≤◌, Bool, true, false, Option, Some, None}
-use Rattle.std.specs.Prelude.{Result, Ok, Err, IfSome, List, [], ◌∷◌, ◌++◌, length, codes, if◌then◌else◌}
+use Rattle.std.specs.Prelude.{nat_lt, Result, Ok, Err, IfSome, List, [], ◌∷◌, ◌++◌, length, codes, if◌then◌else◌}
 use Rattle.std.specs.List.{flat_map}
 use Rattle.std.specs.Fmt.{decimal}
 use Rattle.std.specs.Io.KnownBytes.{Appends, Keeps, IsAtEnd}
@@ -27,6 +27,8 @@ use Rattle.audit_client.specs.declared.fault.ClientError.{ClientError}
 use Rattle.audit_client.specs.declared.send_error.SendError.{SendError}
 use Rattle.audit_client.specs.declared.send_error.SendError.TheVariants.{Input, Client, Output}
 use Rattle.audit_client.specs.declared.sending.SendEnd.{SendEnd}
+use Rattle.audit_client.specs.declared.stop_at.StopAt.{StopAt}
+use Rattle.audit_client.specs.declared.stop_at.StopAt.TheVariants as stop
 use Rattle.audit_client.specs.declared.taking.Taken.{Taken}
 use Rattle.audit_client.specs.declared.answering.Answers.{Answers}
 use Rattle.audit_client.specs.declared.fault.ClientError.TheVariants as client
@@ -107,6 +109,11 @@ answer_lines before (answer ∷ answers) = answer_line (suc before) answer ++ an
 abbrev pub refusals_in : List Reply → ℕ
 refusals_in [] = 0
 refusals_in (answer ∷ answers) = if is_refusal answer then refusals_in answers + 1 else refusals_in answers
+
+-- how many of them come before the first refusal
+abbrev pub before_refusal : List Reply → ℕ
+before_refusal [] = 0
+before_refusal (answer ∷ answers) = if is_refusal answer then 0 else suc (before_refusal answers)
 
 -- these are the first replies that were read, whatever was read after them
 abbrev pub ReadsFirst : Option (List ℕ) → List Reply → Type 0
@@ -240,6 +247,7 @@ pub record TakesAnswers (read_old read_new old new : Option (List ℕ)) (before 
     : Type 0 where
   pub prints : Prints read_old old new before taken.count taken.refused taken.error
   pub few : length (prints.answers ++ prints.torn) ≤ count
+  pub read : ReadsFirst read_old prints.answers
   pub all : taken.error ≡ None → PrintsAll read_old read_new old new before count taken.count taken.refused
   pub fails : IfSome taken.error (LacksAnswer read_old read_new before taken.count)
 
@@ -275,6 +283,24 @@ pub record SendsAll (form : LineForm) (before : ℕ)
   pub taken : TakesAll form input events
   pub sent : Appends written_old written_new (event_frames before events)
   pub prints : PrintsAll read_old read_new old new before (length events) end.answered end.refused
+
+-- The answers that were counted were read, and at most `window` more lines were sent than came before the first refusal
+-- among them.
+pub record StaysNear (read_old read_new : Option (List ℕ)) (window : ℕ) (end : SendEnd) : Type 0 where
+  pub answers : List Reply
+  pub answered_is : end.answered ≡ length answers
+  pub refused_is : end.refused ≡ refusals_in answers
+  pub read : ReadsReplies read_old read_new answers
+  pub near : end.sent ≤ before_refusal answers + window
+
+-- the same, whatever was read after them
+abbrev pub StopsNear : Option (List ℕ) → ℕ → SendEnd → Type 0
+StopsNear read_old window end = (read_new : Option (List ℕ)) × StaysNear read_old read_new window end
+
+-- so many refusals stop the sending before the end of the input
+abbrev pub stops_at : StopAt → ℕ → Bool
+stops_at stop.End refused = false
+stops_at stop.Refusal refused = nat_lt 0 refused
 
 -- Why sending ended before the input did, after `sent` lines of which `answered` were answered. Either the next line is
 -- no event or has no number; or the connection was lost after all lines were answered; or the next answer didn't come.

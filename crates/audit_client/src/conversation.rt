@@ -6,7 +6,7 @@ ghost use Rattle.std.specs.Io.KnownBytes.{Appends, Consumes, Keeps};
 ghost use Rattle.audit_text.specs.Writing.{WritesInPart};
 ghost use Rattle.audit_wire.specs.declared.limits.TheConstants.{LENGTH_BYTES};
 ghost use Rattle.audit_wire.specs.Frame.{frame};
-ghost use Rattle.audit_wire.specs.Request.{IsRequest};
+ghost use Rattle.audit_wire.specs.Request.{IsDaemonRequest};
 ghost use Rattle.audit_wire.specs.Stream.{request_frame};
 ghost use Rattle.audit_wire.specs.View.{request_shown};
 ghost use Rattle.audit_client.specs.declared.fault.ClientError.TheVariants.{BadReply};
@@ -27,7 +27,7 @@ pub fn ask<W: Write, R: Read>(
     from: &mut R,
     request: RequestView<'_>,
 ) -> Result<Reply, ClientError>
-    requires { IsRequest (request_shown request) }
+    requires { IsDaemonRequest (request_shown request) }
     ensures done { IfOk result (λ given. Converses (W.contents to.old) (W.contents to.new)
         (R.remaining from.old) (R.remaining from.new) (request_shown request.entry ∷ []) (given ∷ [])) }
     ensures heard { IfOk result (λ given. Exchanges (W.contents to.old) (W.contents to.new)
@@ -49,7 +49,7 @@ fn send_request<W: Write>(
     to: &mut W,
     request: RequestView<'_>,
 ) -> Result<(), ClientError>
-    requires { IsRequest (request_shown request) }
+    requires { IsDaemonRequest (request_shown request) }
     ensures sent { OnOk result (Appends (W.contents to.old) (W.contents to.new)
         (request_frame (request_shown request.entry))) }
     ensures part { OnErr result (WritesInPart (W.contents to.old) (W.contents to.new)

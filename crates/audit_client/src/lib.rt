@@ -15,6 +15,9 @@ mod putting;
 mod refusal_word;
 mod send_error;
 mod sending;
+mod state_asking;
+mod stop_at;
+mod store_state;
 mod taking;
 mod watching;
 
@@ -31,4 +34,7 @@ pub use putting::{AskError, Out, put_entry, put_export, put_increment, put_membe
 pub use refusal_word::word_of_refusal;
 pub use send_error::SendError;
 pub use sending::{SendEnd, send_events};
+pub use state_asking::state_of_store;
+pub use stop_at::StopAt;
+pub use store_state::StoreState;
 pub use watching::{Sight, Unseen, watch};

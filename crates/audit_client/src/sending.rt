@@ -2,13 +2,14 @@
 ghost use Rattle.std.specs.Prelude.{◌≡◌, ◌⊎◌, ◌+◌, ◌<◌, ◌≤◌, ℕ, List, Option, Some, None, true, false};
 ghost use Rattle.std.specs.Io.Buffered.{reader_remaining};
 ghost use Rattle.audit_client.specs.Sending.{Sends, SendsOn, SendsAll, EndsFor, IsWithin, end_after};
-ghost use Rattle.audit_client.specs.Sending.{first_error, BreaksOnlyIf};
+ghost use Rattle.audit_client.specs.Sending.{first_error, stops_at, BreaksOnlyIf, StaysNear, StopsNear};
 
 use crate::answering::{Answers, take_answers};
 use crate::conversation::send_bytes;
 use crate::fallible_write::FallibleWrite;
 use crate::fault::ClientError;
 use crate::send_error::SendError;
+use crate::stop_at::StopAt;
 use crate::taking::{Taken, has_line, take_lines};
 use audit_text::{LineForm, LinesError};
 use std::alloc::Global;
@@ -26,14 +27,15 @@ pub struct SendEnd {
     pub answered: u64,
     /// The number of answers that are refusals.
     pub refused: u64,
-    /// Why sending ended before the input did, if so.
+    /// Why sending failed, if it did. It didn't if it stopped at a refusal.
     pub error: Option<SendError>,
 }
 
 /// Sends the events that the lines of an input have in this form, and prints a line for each answer as soon as it is
 /// read. Lines are sent as they come: those that the buffer of the input has, at most `window` of them ahead of their
 /// answers. All answers that are due are read before the next read of the input. The input has no limit, and the memory
-/// that is taken doesn't grow with it.
+/// that is taken doesn't grow with it. If it stops at a refusal, at most `window` lines more are sent than are answered
+/// before the first one, and each line that was sent is still answered.
 pub fn send_events<I: Read, W: Write, R: Read, O: FallibleWrite>(
     alloc: Global,
     form: LineForm,
@@ -42,6 +44,7 @@ pub fn send_events<I: Read, W: Write, R: Read, O: FallibleWrite>(
     from: &mut R,
     output: &mut O,
     window: u64,
+    stop_at: StopAt,
 ) -> SendEnd
     // What was written, read and printed, whatever happened.
     ensures sends { Sends form 0 (reader_remaining I.remaining input.old) (W.contents to.old) (W.contents to.new)
@@ -53,10 +56,21 @@ pub fn send_events<I: Read, W: Write, R: Read, O: FallibleWrite>(
         (R.remaining from.new) result.sent result.answered result.error }
     // That the output failed is said only if its last call did.
     ensures broken { BreaksOnlyIf (O.failed output.new) result.error }
-    // Without an error all lines were sent and answered.
-    ensures all { result.error ≡ None → SendsAll form 0 (reader_remaining I.remaining input.old)
+    // If it stops at a refusal, at most `window` more lines are sent than are answered before the first one.
+    ensures near { stop_at ≡ StopAt.Refusal → StopsNear (R.remaining from.old) window result }
+    // Without an error all lines that were sent were answered; and all lines were sent, unless it stopped at a refusal:
+    // then the lines after them remain.
+    ensures answered { result.error ≡ None → result.answered ≡ result.sent }
+    ensures all { result.error ≡ None → stops_at stop_at result.refused ≡ false
+        → SendsAll form 0 (reader_remaining I.remaining input.old)
         (W.contents to.old) (W.contents to.new) (R.remaining from.old) (R.remaining from.new) (O.contents output.old)
         (O.contents output.new) result }
+    ensures stopped { result.error ≡ None → stops_at stop_at result.refused ≡ true
+        → SendsOn form (reader_remaining I.remaining input.old) (reader_remaining I.remaining input.new)
+        (W.contents to.old) (W.contents to.new) (R.remaining from.old) (R.remaining from.new) (O.contents output.old)
+        (O.contents output.new) result
+        ⊎ SendsAll form 0 (reader_remaining I.remaining input.old) (W.contents to.old) (W.contents to.new)
+        (R.remaining from.old) (R.remaining from.new) (O.contents output.old) (O.contents output.new) result }
 {
     let mut room = Room::new(alloc);
     let mut end = SendEnd {
@@ -66,6 +80,9 @@ pub fn send_events<I: Read, W: Write, R: Read, O: FallibleWrite>(
         error: None,
     };
     for _ in 0..u64::MAX {
+        if stops_at(stop_at, end.refused) {
+            return take_last(alloc, from, output, window, &end, &mut room);
+        }
         let round = send_round(
             alloc, form, input, to, from, output, window, &end, &mut room,
         );
@@ -75,6 +92,61 @@ pub fn send_events<I: Read, W: Write, R: Read, O: FallibleWrite>(
         }
     }
     with_error(&end, SendError::Input(LinesError::InputTooLong))
+}
+
+fn stops_at(stop_at: StopAt, refused: u64) -> bool
+    ensures { result ≡ stops_at stop_at refused }
+{
+    match stop_at {
+        StopAt::End => false,
+        StopAt::Refusal => refused > 0,
+    }
+}
+
+// Reads and prints the answers to all lines that were sent.
+fn take_last<R: Read, O: FallibleWrite>(
+    alloc: Global,
+    from: &mut R,
+    output: &mut O,
+    window: u64,
+    end: &SendEnd,
+    room: &mut Room,
+) -> SendEnd
+    requires within { IsWithin window end.now }
+    ensures ahead { result.sent ≤ result.answered + window }
+    ensures answered { result.error ≡ None → result.answered ≡ result.sent }
+    ensures refused { end.now.refused ≤ result.refused }
+    ensures broken { BreaksOnlyIf (O.failed output.new) result.error }
+    // After rounds that sent lines and answered the first of them.
+    ensures sends { (form : LineForm) (i rest w v r o : Option (List ℕ)) → SendsOn form i rest w v r
+        (R.remaining from.old) o (O.contents output.old) end.now
+        → Sends form 0 i w v r o (O.contents output.new) result }
+    ensures cause { (form : LineForm) (i rest w v r o : Option (List ℕ)) → SendsOn form i rest w v r
+        (R.remaining from.old) o (O.contents output.old) end.now
+        → EndsFor form i r (R.remaining from.new) result.sent result.answered result.error }
+    ensures on { result.error ≡ None → (form : LineForm) (i rest w v r o : Option (List ℕ)) → SendsOn form i rest w v r
+        (R.remaining from.old) o (O.contents output.old) end.now
+        → SendsOn form i rest w v r (R.remaining from.new) o (O.contents output.new) result }
+    ensures near { (r : Option (List ℕ)) → StaysNear r (R.remaining from.old) window end.now
+        → StopsNear r window result }
+{
+    let first = end.answered;
+    let answers = take_answers(
+        alloc,
+        from,
+        output,
+        first,
+        end.sent - first,
+        &mut room.body,
+        &mut room.line,
+    );
+    let none = Taken {
+        count: 0,
+        more: true,
+        error: None,
+    };
+    let error = first_error(Ok(()), answers.error, None);
+    end_after(end, &none, &answers, error)
 }
 
 fn with_error(end: &SendEnd, error: SendError) -> SendEnd
@@ -136,6 +208,12 @@ fn send_round<I: Read, W: Write, R: Read, O: FallibleWrite>(
         w (W.contents to.old) r (R.remaining from.old) o (O.contents output.old) end.now
         → EndsFor form i r (R.remaining from.new) result.end.sent result.end.answered result.end.error }
     ensures broken { BreaksOnlyIf (O.failed output.new) result.end.error }
+    ensures answered { result.more ≡ false → result.end.error ≡ None → result.end.answered ≡ result.end.sent }
+    // If nothing was refused before.
+    ensures near { end.now.refused ≡ 0 → (r : Option (List ℕ)) → StaysNear r (R.remaining from.old) window end.now
+        → StopsNear r window result.end }
+    ensures stays { result.more ≡ true → end.now.refused ≡ 0 → (r : Option (List ℕ))
+        → StaysNear r (R.remaining from.old) window end.now → StaysNear r (R.remaining from.new) window result.end }
     // After rounds that sent lines and answered the first of them, from any input, connection and output on.
     ensures sends { (i w r o : Option (List ℕ)) → SendsOn form i (reader_remaining I.remaining input.old)
         w (W.contents to.old) r (R.remaining from.old) o (O.contents output.old) end.now

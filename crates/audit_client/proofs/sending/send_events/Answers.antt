@@ -1,8 +1,9 @@
-use Rattle.std.proofs.Common.{◌≡◌, arith, rules, true, false}
+use Rattle.std.proofs.Common.{◌≡◌, ◌∙◌, Some, inl, inr, sym, arith, rules, true, false}
 use Rattle.std.specs.Io.Buffered.{reader_remaining}
 use Rattle.audit_text.specs.declared.fault.LinesError.TheVariants.{InputTooLong}
 use Rattle.audit_client.specs.declared.send_error.SendError.TheVariants.{Input}
 use Rattle.audit_client.proofs.SentLines.{sends_none, on_stopped, ends_at_limit}
+use Rattle.audit_client.proofs.NearRefusals.{stays_none, stops_stays, until_none, until_stays}
 use Rattle.audit_client.proofs.sending.send_events.Goals as goal
 
 pub loop-init : goal.loop-init
@@ -10,13 +11,14 @@ loop-init g c = record {
   further = λ some. omega arith;
   on = sends_none c.args.form (reader_remaining g.I.Read.remaining c.args.input.now) (g.W.Write.contents c.args.to.now) (g.R.Read.remaining c.args.from.now) (g.O.Write.contents c.args.output.now);
   within = record { refused = omega arith; answered = omega arith; ahead = omega arith; room = λ some. omega arith };
+  stays = λ is. stays_none (g.R.Read.remaining c.args.from.now) c.args.window;
 }
 
 pub returns-then-not-round-clause-sends : goal.returns-then-not-round-clause-sends
 returns-then-not-round-clause-sends g c = c.send_round-round.ensures.sends _ _ _ _ c.loop.invariant.on
 
 pub returns-then-not-round-clause-all : goal.returns-then-not-round-clause-all
-returns-then-not-round-clause-all g c = λ none.
+returns-then-not-round-clause-all g c = λ none goes.
     let over : c.send_round-round.result.more ≡ false = search rules in
     c.send_round-round.ensures.all over none _ _ _ _ c.loop.invariant.on
 
@@ -27,6 +29,7 @@ loop-preserved g c =
       on = c.send_round-round.ensures.on more _ _ _ _ c.loop.invariant.on;
       within = c.send_round-round.ensures.within more;
       further = λ some. omega (arith, c.send_round-round.ensures.more some more, c.loop.invariant.further some);
+      stays = λ is. c.send_round-round.ensures.stays more (until_none c.args.stop_at c.loop.end.refused is (sym c.stops_at.ensures ∙ c.if-stops_at.false)) _ (c.loop.invariant.stays is);
     }
 
 pub returns-clause-sends : goal.returns-clause-sends
@@ -43,3 +46,30 @@ returns-then-not-round-clause-broken g c = c.send_round-round.ensures.broken
 
 pub returns-clause-broken : goal.returns-clause-broken
 returns-clause-broken g c = rw c.with_error.ensures tt
+
+pub returns-then-stops_at-clause-sends : goal.returns-then-stops_at-clause-sends
+returns-then-stops_at-clause-sends g c = c.take_last.ensures.sends _ _ _ _ _ _ _ c.loop.invariant.on
+
+pub returns-then-stops_at-clause-cause : goal.returns-then-stops_at-clause-cause
+returns-then-stops_at-clause-cause g c = λ some. c.take_last.ensures.cause _ _ _ _ _ _ _ c.loop.invariant.on
+
+pub returns-then-stops_at-clause-all : goal.returns-then-stops_at-clause-all
+returns-then-stops_at-clause-all g c = λ none goes.
+    absurd (until_stays c.args.stop_at c.loop.end.refused c.take_last.result.refused c.take_last.ensures.refused (sym c.stops_at.ensures ∙ c.if-stops_at.true) goes)
+
+pub returns-then-stops_at-clause-near : goal.returns-then-stops_at-clause-near
+returns-then-stops_at-clause-near g c = λ is. c.take_last.ensures.near _ (c.loop.invariant.stays is)
+
+pub returns-then-not-round-clause-near : goal.returns-then-not-round-clause-near
+returns-then-not-round-clause-near g c = λ is. c.send_round-round.ensures.near (until_none c.args.stop_at c.loop.end.refused is (sym c.stops_at.ensures ∙ c.if-stops_at.false)) _ (c.loop.invariant.stays is)
+
+pub returns-clause-near : goal.returns-clause-near
+returns-clause-near g c = λ is. rw c.with_error.ensures (stops_stays (Some (Input InputTooLong)) (c.loop.invariant.stays is))
+
+pub returns-then-stops_at-clause-stopped : goal.returns-then-stops_at-clause-stopped
+returns-then-stops_at-clause-stopped g c = λ none stopped. inl (c.take_last.ensures.on none _ _ _ _ _ _ _ c.loop.invariant.on)
+
+pub returns-then-not-round-clause-stopped : goal.returns-then-not-round-clause-stopped
+returns-then-not-round-clause-stopped g c = λ none stopped.
+    let over : c.send_round-round.result.more ≡ false = search rules in
+    inr (c.send_round-round.ensures.all over none _ _ _ _ c.loop.invariant.on)

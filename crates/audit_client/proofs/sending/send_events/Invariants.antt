@@ -1,6 +1,7 @@
-use Rattle.std.proofs.Common.{◌<◌, ◌≤◌}
+use Rattle.std.proofs.Common.{◌≡◌, ◌<◌, ◌≤◌}
 use Rattle.std.specs.Io.Buffered.{reader_remaining}
-use Rattle.audit_client.specs.Sending.{SendsOn, IsWithin}
+use Rattle.audit_client.specs.declared.stop_at.StopAt.TheVariants as stop
+use Rattle.audit_client.specs.Sending.{SendsOn, IsWithin, StaysNear}
 use Rattle.audit_client.proofs.sending.send_events.Given as goal
 
 abbrev pub invariant-loop : goal.invariant-loop
@@ -9,4 +10,5 @@ invariant-loop g l = record {
       (g.O.Write.contents l.fn.output) (g.O.Write.contents l.output) l.end;
   within : IsWithin l.window l.end;
   further : 0 < l.window → l.counter ≤ l.end.sent;
+  stays : l.stop_at ≡ stop.Refusal → StaysNear (g.R.Read.remaining l.fn.from) (g.R.Read.remaining l.from) l.window l.end;
 }

@@ -3,6 +3,7 @@ use Rattle.std.specs.Io.KnownBytes.{Appends}
 use Rattle.audit_text.specs.Writing.{WritesInPart}
 use Rattle.audit_client.specs.declared.sending.SendEnd.{SendEnd}
 use Rattle.audit_client.proofs.SentLines.{few_answers, first_none, read_within, read_near, read_all, read_unwritten, round_ends, round_sends, round_on, round_all, first_breaks}
+use Rattle.audit_client.proofs.NearRefusals.{stops_more, stays_more}
 use Rattle.audit_client.proofs.sending.send_round.Goals as goal
 
 pub end_after-requires-clause-refused : goal.end_after-requires-clause-refused
@@ -89,3 +90,14 @@ returns-clause-cause g c = λ i w r o on.
 
 pub returns-clause-broken : goal.returns-clause-broken
 returns-clause-broken g c = rw c.end_after.ensures (rw c.first_error-error.ensures (first_breaks _ c.send_bytes-sent.result c.take_answers-answers.result.error c.take_lines-taken.result.error c.take_answers-answers.ensures.broken))
+
+pub returns-clause-near : goal.returns-clause-near
+returns-clause-near g c = λ none r near.
+    let room : c.args.end.now.sent + c.take_lines-taken.result.count ≤ c.args.end.now.answered + c.args.window = omega (arith, c.requires.within.answered, c.take_lines-taken.ensures.few, c.lines_of_round.ensures.within) in
+    rw c.end_after.ensures (stops_more c.take_lines-taken.result _ near none c.take_answers-answers.ensures.taken room)
+
+pub returns-clause-stays : goal.returns-clause-stays
+returns-clause-stays g c = λ more none r near.
+    let room : c.args.end.now.sent + c.take_lines-taken.result.count ≤ c.args.end.now.answered + c.args.window = omega (arith, c.requires.within.answered, c.take_lines-taken.ensures.few, c.lines_of_round.ensures.within) in
+    let right = first_none c.send_bytes-sent.result c.take_answers-answers.result.error c.take_lines-taken.result.error (sym c.first_error-error.ensures ∙ c.goes_on.ensures.right more) in
+    rw c.end_after.ensures (stays_more c.take_lines-taken.result c.take_answers-answers.result _ near none (c.take_answers-answers.ensures.taken.all right.1) room)

@@ -1,0 +1,36 @@
+use Rattle.std.proofs.Common.{◌≡◌, ◌∙◌, ◌≤◌, ◌+◌, ◌-◌, true, None, Ok, refl, sym, ap, arith, rules}
+use Rattle.audit_client.specs.declared.sending.SendEnd.{SendEnd}
+use Rattle.audit_client.proofs.Conversations.{appends_none}
+use Rattle.audit_client.proofs.SentLines.{few_answers, round_sends, round_on, round_ends}
+use Rattle.audit_client.proofs.NearRefusals.{takes_nothing, stops_last}
+use Rattle.audit_client.proofs.sending.take_last.Goals as goal
+
+pub end_after-requires-clause-refused : goal.end_after-requires-clause-refused
+end_after-requires-clause-refused g c =
+    let few = few_answers c.take_answers-answers.ensures.taken in
+    search (rules, few.0, few.1, c.requires.within.refused, c.requires.within.answered)
+
+pub returns-clause-sends : goal.returns-clause-sends
+returns-clause-sends g c = λ form i rest w v r o on.
+    let end = c.args.end.now in
+    let within : end.answered + (end.sent - end.answered) ≤ end.sent + 0 = omega (arith, c.requires.within.answered) in
+    rw c.end_after.ensures (rw c.first_error-error.ensures (round_sends (Ok tt) on (takes_nothing form rest end.sent) (appends_none v) tt c.take_answers-answers.ensures.taken within))
+
+pub returns-clause-cause : goal.returns-clause-cause
+returns-clause-cause g c = λ form i rest w v r o on.
+    let end = c.args.end.now in
+    let answered = c.take_answers-answers.ensures.taken in
+    let all : end.answered + (end.sent - end.answered) ≡ end.sent + 0 = omega (arith, c.requires.within.answered) in
+    rw c.end_after.ensures (rw c.first_error-error.ensures
+    (round_ends _ (end.sent - end.answered) c.take_answers-answers.result (Ok tt) c.take_answers-answers.result.error None on (takes_nothing form rest end.sent) tt answered.fails tt (λ none. (answered.all none).answered_is) (λ _ over. all) (λ broken. all)))
+
+pub returns-clause-near : goal.returns-clause-near
+returns-clause-near g c = λ r near.
+    rw c.end_after.ensures (stops_last (record { count = 0; more = true; error = None }) _ refl near c.take_answers-answers.ensures.taken)
+
+pub returns-clause-on : goal.returns-clause-on
+returns-clause-on g c = λ none form i rest w v r o on.
+    let end = c.args.end.now in
+    let within : end.answered + (end.sent - end.answered) ≤ end.sent + 0 = omega (arith, c.requires.within.answered) in
+    let right = sym (ap (λ (after : SendEnd). after.error) c.end_after.ensures) ∙ none in
+    rw c.end_after.ensures (rw c.first_error-error.ensures (round_on (Ok tt) on (takes_nothing form rest end.sent) (appends_none v) c.take_answers-answers.ensures.taken within refl (sym c.first_error-error.ensures ∙ right)))
