@@ -27,7 +27,7 @@ _audit() {
     serve) options="$options --sessions --socket-mode" ;;
     loop) options="$options --socket-mode" ;;
     daemon) options="$options --reader --writer --allow-close --idle --backlog --reserve --socket-mode" ;;
-    send) options="$options --text --long --window --timeout" ;;
+    send) options="$options --text --long --window --until-refused --timeout" ;;
     ask) options="$options --from --timeout" ;;
     watch) options="$options --every --timeout --quiet" ;;
     read) options="$options --first --under --text --numbers --json --kind --every --timeout" ;;
@@ -51,7 +51,7 @@ _audit() {
             verify:[01]: | serve:[01]: | loop:[01]: | daemon:[01]: | stop:0: | send:0: | watch:[01]: | read:[01]: | prove:0: | ask:0: | \
             prove:4:* | ask:2:export | ask:3:entry | ask:4:member | ask:4:increment) files=1 ;;
         prove:1:) choices="member increment" ;;
-        ask:1:) choices="commitment entry member increment export close" ;;
+        ask:1:) choices="commitment state entry member increment export close" ;;
         help:0:) choices=$commands ;;
         esac
     fi
