@@ -297,7 +297,7 @@ pub record StaysNear (read_old read_new : Option (List ℕ)) (window : ℕ) (end
 abbrev pub StopsNear : Option (List ℕ) → ℕ → SendEnd → Type 0
 StopsNear read_old window end = (read_new : Option (List ℕ)) × StaysNear read_old read_new window end
 
--- so many refusals stop the sending before the end of the input
+-- whether sending ends before its input, once this number of events was refused
 abbrev pub stops_at : StopAt → ℕ → Bool
 stops_at stop.End refused = false
 stops_at stop.Refusal refused = nat_lt 0 refused

@@ -45,8 +45,8 @@ pub fn every_request_is_read_back()
         → request_by grammar body ≡ Some request → IsRequestBy grammar request × (body ≡ request_body request) }
 {}
 
-/// What every session may ask, a daemon's clients may ask too, in the same bytes. Besides these they may ask for the state
-/// alone.
+/// Each request of every session is one of a daemon's clients too, in the same bytes. The only further one of theirs asks
+/// for the state.
 pub fn grammars_agree()
     ensures read { (body : List ℕ) (request : Request) → request_in body ≡ Some request
         → request_by grammar.Daemon body ≡ Some request }
@@ -87,8 +87,8 @@ pub fn every_reply_is_read_back()
     ensures refused { (tag : ℕ) (code : Refusal) → length (reply_body (reply.Refused tag code)) ≡ 6 }
 {}
 
-/// All acknowledgements have frames of one size, and so have all refusals and all states. No frame is longer than the longest of its
-/// kind.
+/// All acknowledgements have frames of one size, and so have all refusals and all states. No frame is longer than the
+/// longest of its kind.
 pub fn replies_have_their_sizes()
     ensures acknowledgement { (tag index count : ℕ) (root : List ℕ) → length root ≡ HASH_LEN
         → length (reply_frame (reply.Acknowledgement tag index count root)) ≡ ACKNOWLEDGEMENT_FRAME }
