@@ -30,13 +30,15 @@ def commitment_of(count):
 
 def is_member(index, count):
     proof = membership_proof(index, count, membership(leaves_of(count), index), texts(count)[index])
-    return is_accepted(read_proof(proof), [commitment_of(count)]) and not is_accepted(read_proof(proof + b"x"), [commitment_of(count)])
+    commitments = [commitment_of(count)]
+    return is_accepted(read_proof(proof), commitments) and not is_accepted(read_proof(proof + b"x"), commitments)
 
 
 def is_grown(older, newer):
     proof = increment_proof(older, newer, increment(leaves_of(newer), older))
     commitments = [commitment_of(older), commitment_of(newer)]
-    return is_accepted(read_proof(proof), commitments) and (older == newer or not is_accepted(read_proof(proof), commitments[::-1]))
+    is_swapped_refused = older == newer or not is_accepted(read_proof(proof), commitments[::-1])
+    return is_accepted(read_proof(proof), commitments) and is_swapped_refused
 
 
 def members_accepted():

@@ -1,4 +1,4 @@
-"""Ten thousand drawn streams of frames, as crates/audit_test_disk/src/wire/streams.rt draws them, and the sum of their readings."""
+"""Ten thousand streams of frames, as crates/audit_test_disk/src/wire/streams.rt draws them, and the sum of their readings."""
 from model import wire
 
 MASK = (1 << 64) - 1
