@@ -191,7 +191,7 @@ impl<F: SystemFile> SystemFile for NotedFile<'_, '_, F> {
         self.inner.is_same(found)
     }
 
-    fn set_mode(&self, mode: u32) -> io::Result<()> {
+    fn set_mode(&mut self, mode: u32) -> io::Result<()> {
         let changed = self.inner.set_mode(mode);
         self.notes.watch(self.subject, &changed);
         changed

@@ -1,5 +1,5 @@
 -- What a program knows of an open file of the system because a call succeeded.
-use Rattle.std.specs.Prelude.{◌≡◌, ◌⊎◌, ℕ, ◌*◌, List, [], length, replicate, Result, OnOk}
+use Rattle.std.specs.Prelude.{◌≡◌, ℕ, ◌*◌, List, [], length, replicate, Result, OnOk}
 use Rattle.audit_disk_model.specs.View.{View}
 use Rattle.audit_base.specs.declared.limits.TheConstants.{SECTOR_SIZE}
 use Rattle.audit_disk.specs.declared.files.TheConstants.{OWNER_ONLY}
@@ -20,7 +20,7 @@ pub record FileFacts : Type 1 where
   pub locked : Type 0
   -- no other open holds it locked alone
   pub locked_shared : Type 0
-  -- it was given these permission bits
+  -- its permission bits are these: those that the last call gave it, or it was made with them, less those of the umask
   pub mode : ℕ → Type 0
   -- it was given this length and synced
   pub laid_out : ℕ → Type 0
@@ -40,16 +40,27 @@ facts_of_calls = record {
   failed = Unit {0};
 }
 
--- what was known before is still known
-pub record KeepsFacts (old new : FileFacts) : Type 0 where
+-- what was known before is still known, except for the permission bits
+pub record KeepsPlace (old new : FileFacts) : Type 0 where
   pub made : (path : List ℕ) (mode : ℕ) → old.made path mode → new.made path mode
   pub locked : old.locked → new.locked
+
+-- what was known before is still known
+pub record KeepsFacts (old new : FileFacts) : Type 0 where
+  pub place : KeepsPlace old new
   pub mode : (mode : ℕ) → old.mode mode → new.mode mode
 
 -- a new file: no call was made, and it has no bytes
 pub record IsNewFile (file : PositionedView) : Type 0 where
   pub uncalled : IsUncalled file
   pub empty : file.honest → file.bytes ≡ []
+
+-- only the permission bits of a file have changed
+pub record HasSameBytes (old new : PositionedView) : Type 0 where
+  pub honest : old.honest → new.honest
+  pub was_honest : new.honest → old.honest
+  pub uncalled : IsUncalled old → IsUncalled new
+  pub bytes : old.honest → new.bytes ≡ old.bytes
 
 -- An empty file was given this length. Then it has zeros, and a crash leaves them.
 pub record IsLaidOut {E : Type 0} (old new : PositionedView) (length : ℕ) (result : Result (Unit {0}) E) : Type 0 where
@@ -83,13 +94,13 @@ module _ {F : Type 0} (facts : F → FileFacts) (positioned : F → PositionedVi
     pub front : ShowsFront (positioned file) view
     pub whole : (positioned file).honest → length (positioned file).bytes ≡ SECTOR_SIZE * view.size
 
-  -- The device is over a file that was made at this path for its owner alone and then locked, given its permission bits
-  -- and its length, and synced. If the file is honest, it is all zeros.
+  -- The device is over a file that was made at this path for its owner alone and then locked, given its length, and
+  -- synced. It has these permission bits, and no others were given to it since. If the file is honest, it is all zeros.
   pub record IsMadeDevice (path : List ℕ) (mode sectors : ℕ) (view : View) : Type 0 where
     pub file : F
     pub made : (facts file).made path OWNER_ONLY
     pub locked : (facts file).locked
-    pub permissions : (mode ≡ OWNER_ONLY) ⊎ (facts file).mode mode
+    pub permissions : (facts file).mode mode
     pub laid_out : (facts file).laid_out (SECTOR_SIZE * sectors)
     pub zeros : (positioned file).honest → IsFresh view (replicate sectors (replicate SECTOR_SIZE 0))
     pub honest : view.honest → (positioned file).honest

@@ -7,7 +7,7 @@ ghost use Rattle.std.specs.Prelude.{◌≡◌, ◌≢◌, ◌⊎◌, ◌*◌, �
 ghost use Rattle.std.specs.Prelude.{ℕ, List, IfOk, IfErr, OnOk, OnErr, IsErrOf, replicate, length};
 ghost use Rattle.audit_base.specs.declared.limits.TheConstants.{SECTOR_SIZE};
 ghost use Rattle.audit_disk.specs.FileDisk.{IsFreshFile, file_disk_view};
-ghost use Rattle.audit_disk.specs.FileFacts.{IsOpenedAs, IsFrontOfOpened, IsWholeOpened, IsMadeDevice, KeepsFacts};
+ghost use Rattle.audit_disk.specs.FileFacts.{IsOpenedAs, IsFrontOfOpened, IsWholeOpened, IsMadeDevice, KeepsPlace};
 ghost use Rattle.audit_disk.specs.FileFacts.{IsLaidOut};
 ghost use Rattle.audit_disk.specs.FileFaults.{IsLockingFault, IsMakingFault};
 ghost use Rattle.audit_disk.specs.FileFaults.{IsMeasuringFault, IsFrontFault, IsOpeningFault, IsFrontOpeningFault};
@@ -277,10 +277,11 @@ fn take_and_lay_out<R: SystemFiles<File = F>, F: SystemFile>(
     length: u64,
     mode: u32,
 ) -> Result<(), FileFault>
+    requires made { (F.facts file.old).mode OWNER_ONLY }
     ensures locked { OnOk result (F.facts file.new).locked }
-    ensures mode { OnOk result ((mode ≡ OWNER_ONLY) ⊎ (F.facts file.new).mode mode) }
+    ensures mode { OnOk result ((F.facts file.new).mode mode) }
     ensures laid_out { OnOk result ((F.facts file.new).laid_out length) }
-    ensures kept { KeepsFacts (F.facts file.old) (F.facts file.new) }
+    ensures kept { KeepsPlace (F.facts file.old) (F.facts file.new) }
     ensures bytes { OnOk result (IsLaidOut (F.positioned file.old) (F.positioned file.new) length result) }
     ensures named { OnOk result (R.synced rt.now (folder_of path.now)) }
     ensures fault { IfErr result (λ fault. ((fault ≡ FileFault.Io) × R.failed rt.now)

@@ -1,6 +1,7 @@
 //! The files of the operating system.
 ghost use Rattle.std.specs.Prelude.{OnOk, OnErr};
-ghost use Rattle.audit_disk.specs.FileFacts.{FileFacts, KeepsFacts, IsLaidOut, facts_of_calls};
+ghost use Rattle.audit_disk.specs.FileFacts.{FileFacts, KeepsPlace, KeepsFacts, HasSameBytes, IsLaidOut};
+ghost use Rattle.audit_disk.specs.FileFacts.{facts_of_calls};
 ghost use Rattle.audit_disk.specs.Positioned.{unknown_positioned};
 
 use crate::{PositionedFile, SECTOR_SIZE};
@@ -31,10 +32,12 @@ pub trait SystemFile: PositionedFile + OpenFile + Drop {
     fn is_same(&self, found: &Metadata) -> io::Result<()>
         ensures failed { OnErr result (facts self.now).failed };
 
-    /// Gives the file these permission bits, whatever the umask is.
-    fn set_mode(&self, mode: u32) -> io::Result<()>
-        ensures mode { OnOk result ((facts self.now).mode mode) }
-        ensures failed { OnErr result (facts self.now).failed };
+    /// Gives the file these permission bits, whatever the umask is. Those that it had are no longer known.
+    fn set_mode(&mut self, mode: u32) -> io::Result<()>
+        ensures mode { OnOk result ((facts self.new).mode mode) }
+        ensures failed { OnErr result (facts self.new).failed }
+        ensures kept { KeepsPlace (facts self.old) (facts self.new) }
+        ensures bytes { HasSameBytes (Self.positioned self.old) (Self.positioned self.new) };
 
     /// Gives an empty file its length, all of it zeros, and syncs it.
     fn lay_out(&mut self, length: u64) -> io::Result<()>
@@ -80,7 +83,7 @@ impl SystemFile for File {
         judge_same(&OpenFile::metadata(self)?, found)
     }
 
-    fn set_mode(&self, mode: u32) -> io::Result<()> {
+    fn set_mode(&mut self, mode: u32) -> io::Result<()> {
         self.set_permissions(Permissions::from_mode(mode))
     }
 

@@ -53,6 +53,7 @@ where
     fn make_file(&self, path: &str, mode: u32) -> io::Result<Self::File>
         ensures failed { OnErr result (failed self.now) }
         ensures made { IfOk result (λ file. (Self.File.facts file).made path.now mode) }
+        ensures mode { IfOk result (λ file. (Self.File.facts file).mode mode) }
         ensures new { IfOk result (λ file. IsNewFile (Self.File.positioned file)) };
 
     /// Syncs a folder, which keeps the names of its files. One that can't be opened is left as it is.

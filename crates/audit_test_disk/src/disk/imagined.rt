@@ -111,7 +111,7 @@ impl SystemFile for ImaginedFile {
         Ok(())
     }
 
-    fn set_mode(&self, _mode: u32) -> io::Result<()> {
+    fn set_mode(&mut self, _mode: u32) -> io::Result<()> {
         unsupported()
     }
 
