@@ -12,13 +12,13 @@ use audit_cli_rotate::Request as Rotation;
 use audit_cli_serve::Request as Serving;
 use audit_cli_store::Request;
 use audit_disk::{SystemFile, SystemFiles};
+use audit_serve_sockets::SystemSockets;
 use audit_store::StoreError;
 use audit_text::Shown;
 use clap::error::ErrorKind;
 use clap::{ArgMatches, Error};
 use std::alloc::{AllocError, Global};
 use std::io::{Read, Write};
-use std::net::Net;
 use std::time::Clock;
 
 /// Which streams of the program are terminals.
@@ -37,7 +37,7 @@ pub struct Terminals {
 /// Causes and warnings follow if `messages` is a terminal, or if the command line requests them; causes also if the
 /// command serves, asks or rotates, since its messages are mostly read later, in a journal. Payloads that are printed
 /// as text are escaped if `output` is a terminal.
-pub fn run<F: SystemFiles + Net + Clock + Dial, R: Read, W: Write, M: Write>(
+pub fn run<F: SystemFiles + SystemSockets + Clock + Dial, R: Read, W: Write, M: Write>(
     rt: &F,
     alloc: Global,
     words: &[String],
@@ -62,7 +62,7 @@ where
 }
 
 // Runs the command that was given.
-fn run_given<F: SystemFiles + Net + Clock + Dial, R: Read, W: Write, M: Write>(
+fn run_given<F: SystemFiles + SystemSockets + Clock + Dial, R: Read, W: Write, M: Write>(
     rt: &F,
     alloc: Global,
     matches: &ArgMatches<'_>,
@@ -80,7 +80,7 @@ where
 }
 
 // Runs the command of a command line, and explains its end.
-fn run_line<F: SystemFiles + Net + Clock + Dial, R: Read, W: Write, M: Write>(
+fn run_line<F: SystemFiles + SystemSockets + Clock + Dial, R: Read, W: Write, M: Write>(
     rt: &F,
     alloc: Global,
     line: CommandLine<'_>,
@@ -139,7 +139,7 @@ fn only_answers(asked: Asked<'_>) -> bool {
 
 // Carries out what a command line asks for. Each command has a stack frame of its own, so that a small one doesn't take
 // the memory of the largest.
-fn carry_out<F: SystemFiles + Net + Clock + Dial, R: Read, W: Write, M: Write>(
+fn carry_out<F: SystemFiles + SystemSockets + Clock + Dial, R: Read, W: Write, M: Write>(
     rt: &F,
     alloc: Global,
     asked: Asked<'_>,
@@ -206,7 +206,7 @@ where
 }
 
 #[inline(never)]
-fn ask<F: SystemFiles + Net + Clock + Dial, R: Read, W: Write, M: Write>(
+fn ask<F: SystemFiles + SystemSockets + Clock + Dial, R: Read, W: Write, M: Write>(
     rt: &F,
     alloc: Global,
     request: Remote<'_>,
@@ -222,7 +222,7 @@ where
 }
 
 #[inline(never)]
-fn serve<F: SystemFiles + Net + Clock, R: Read, W: Write, M: Write>(
+fn serve<F: SystemFiles + SystemSockets + Clock, R: Read, W: Write, M: Write>(
     rt: &F,
     alloc: Global,
     request: Serving<'_>,
@@ -237,7 +237,7 @@ where
 }
 
 #[inline(never)]
-fn attend<F: SystemFiles + Net + Dial + Clock, W: Write, M: Write>(
+fn attend<F: SystemFiles + SystemSockets + Dial + Clock, W: Write, M: Write>(
     rt: &F,
     alloc: Global,
     request: Daemon<'_>,

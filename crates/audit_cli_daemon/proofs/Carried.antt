@@ -1,9 +1,8 @@
 -- What running a daemon comes to.
-use denote.Ref.{Bor}
-use Rattle.std.specs.Prelude.{OnOk, IsOk, IfSome, codes}
+use Rattle.std.specs.Prelude.{OnOk, OnErr, IsOk, IfSome, codes}
 use Rattle.std.specs.Result.{result_and}
 use Rattle.std.specs.Io.KnownBytes.{Appends}
-use Rattle.std.proofs.Common.{◌≡◌, ◌∙◌, ℕ, Bool, true, false, Option, None, Result, Ok, Err, List, refl, ap, subst}
+use Rattle.std.proofs.Common.{◌≡◌, ◌∙◌, inr, ℕ, ℤ, Option, None, Result, Ok, Err, List, sym, ap, subst}
 use Rattle.std.proofs.KnownBytes.{Appends-trans}
 use Rattle.audit_disk_model.specs.declared.sectors.Sectors as sectors
 use Rattle.audit_store.specs.Store.{active_header}
@@ -18,9 +17,11 @@ use Rattle.audit_cli_base.specs.declared.fault.CommandError.{CommandError}
 use Rattle.audit_cli_daemon.specs.declared.arguments.TheConstants.{DEFAULT_IDLE, DEFAULT_RESERVE}
 use Rattle.audit_cli_daemon.specs.declared.request.Request.TheVariants.{Run}
 use Rattle.audit_cli_daemon.specs.declared.request.Settings.{Settings}
-use Rattle.audit_cli_daemon.specs.Carried.{ServesAtDoor, ServesBetween, IsDaemonDone, sources_asked, rights_asked}
+use Rattle.mio.specs.declared.net.uds.listener.UnixListener.{UnixListener}
+use Rattle.audit_serve_sockets.specs.Bound.{SocketFacts}
+use Rattle.audit_cli_daemon.specs.Carried.{ServesAtDoor, ServesBetween, EndsEarly, IsDaemonDone, sources_asked, rights_asked, paths_asked}
 use Rattle.audit_cli_daemon.specs.Sources.{words_of, sources_in, has_kind}
-use Rattle.audit_cli_daemon.specs.Sockets.{rights_served}
+use Rattle.audit_cli_daemon.specs.Sockets.{rights_served, paths_served, paths_at, ListenAt}
 use Rattle.audit_cli_daemon.specs.declared.sockets.Sockets.{Sockets}
 use Rattle.audit_serve_passes.specs.declared.rights.Rights.{Rights}
 use Rattle.audit_serve_passes.specs.declared.bound_kinds.BoundKinds.{BoundKinds}
@@ -57,6 +58,31 @@ serves_at_door N doors Opens reserve backlog was now opened left (Err fault) oth
 serves_at_door N doors Opens reserve backlog was now opened left (Ok first) (Err fault) opens served = tt
 serves_at_door N doors Opens reserve backlog was now opened left (Ok first) (Ok done) opens served = record { was = was; opens = opens; now = now; served = served }
 
+-- served at a door whose sockets are these, it was served at one whose sockets are as was asked
+pub served_there : {D : Type 0} {g : sectors.Ghosts D} {S C J W Q F T : Type 0} (N : CallModel S) (doors : DoorModel (GaugedDoor (SocketDoor C J W UnixListener Q) F T) S) (one other : List Rights) (bits modes : List ℕ) (descriptors : List ℤ) (Listen : List ℤ → Type 0) (idle reserve backlog : ℕ) (opened left : Store D g) (done : Ending)
+    → one ≡ other → bits ≡ modes → Listen descriptors → OnOk done (ServesAtDoor N doors (IsDoorFor one bits (λ found. found ≡ descriptors) idle) reserve backlog opened left) → OnOk done (ServesAtDoor N doors (IsDoorFor other modes Listen idle) reserve backlog opened left)
+served_there N doors one other bits modes descriptors Listen idle reserve backlog opened left (Err fault) same alike there served = tt
+served_there N doors one other bits modes descriptors Listen idle reserve backlog opened left (Ok done) same alike there served = record {
+  was = served.was;
+  opens = record {
+    rights_are = served.opens.rights_are ∙ same;
+    modes_are = served.opens.modes_are ∙ alike;
+    listen = subst Listen (sym served.opens.listen) there;
+    idle = served.opens.idle;
+    nobody = served.opens.nobody;
+    vacant = served.opens.vacant;
+  };
+  now = served.now;
+  served = served.served;
+}
+
+-- the paths of the sockets are those that were asked for
+paths_same : (settings : Settings) (sockets : Sockets) → sockets.clients ≡ settings.socket → sockets.readers ≡ settings.reader → sockets.sources ≡ settings.writers → paths_served sockets ≡ paths_asked settings
+paths_same settings sockets clients readers sources =
+    ap (λ there. paths_at there (sources_in (words_of sockets.sources.now)) sockets.clients.now) readers
+    ∙ ap (λ words. paths_at settings.reader (sources_in (words_of words.now)) sockets.clients.now) sources
+    ∙ ap (λ word. paths_at settings.reader (sources_in (words_of settings.writers.now)) word.now) clients
+
 -- the rights at the sockets are those that were asked for
 rights_same : (settings : Settings) (sockets : Sockets) (others : Rights) (bound : BoundKinds) → sockets.readers ≡ settings.reader → sockets.sources ≡ settings.writers → others ≡ rights_of_others settings.may_close bound → rights_served sockets others ≡ rights_asked settings bound
 rights_same settings sockets others bound readers sources others_are =
@@ -64,13 +90,13 @@ rights_same settings sockets others bound readers sources others_are =
     ∙ ap (λ words. rights_at settings.reader (sources_in (words_of words.now)) others) sources
     ∙ ap (λ (allowed : Rights). rights_at settings.reader (sources_in (words_of settings.writers.now)) allowed) others_are
 
-module _ {D : Type 0} (g : sectors.Ghosts D) (At : List ℕ → Store D g → Type 0) {S C J W L Q F T : Type 0} (N : CallModel S) (doors : DoorModel (GaugedDoor (SocketDoor C J W L Q) F T) S) where
-  pub performed : (settings : Settings) (sockets : Sockets) (others : Rights) (bound : BoundKinds) (idle reserve backlog mode : ℕ) (opened : Store D g) (before after : Option (List ℕ)) (done : Ending) → sockets.readers ≡ settings.reader → sockets.sources ≡ settings.writers
+module _ {D : Type 0} (g : sectors.Ghosts D) (At : List ℕ → Store D g → Type 0) (facts : SocketFacts) {S C J W Q F T : Type 0} (N : CallModel S) (doors : DoorModel (GaugedDoor (SocketDoor C J W UnixListener Q) F T) S) where
+  pub performed : (settings : Settings) (sockets : Sockets) (others : Rights) (bound : BoundKinds) (idle reserve backlog mode : ℕ) (opened : Store D g) (before after : Option (List ℕ)) (done : Ending) → sockets.clients ≡ settings.socket → sockets.readers ≡ settings.reader → sockets.sources ≡ settings.writers
       → ((kind : ℕ) → is_bound bound kind ≡ has_kind (sources_asked settings) kind) → others ≡ rights_of_others settings.may_close bound
       → number_asked settings.idle DEFAULT_IDLE ≡ Ok idle → number_asked settings.reserve DEFAULT_RESERVE ≡ Ok reserve → backlog_asked settings.backlog ≡ Ok backlog → (settings.socket_mode ≡ None → mode ≡ OWNER_ONLY) → IfSome settings.socket_mode (λ word. IsMode word.now mode) → At settings.file.now opened
-      → OnOk done (ServesBetween N doors (IsDoorFor (rights_served sockets others) (modes_at (rights_served sockets others) mode) idle) reserve backlog opened before after) → IsDaemonDone g At N doors settings before after done
-  performed settings sockets others bound idle reserve backlog mode opened before after (Err fault) readers_are sources_are bound_are others_are idle_is reserve_is backlog_is owner mode_is at served = tt
-  performed settings sockets others bound idle reserve backlog mode opened before after (Ok done) readers_are sources_are bound_are others_are idle_is reserve_is backlog_is owner mode_is at served = record {
+      → OnErr done (EndsEarly opened before after) → OnOk done (ServesBetween N doors (IsDoorFor (rights_served sockets others) (modes_at (rights_served sockets others) mode) (ListenAt facts mode (paths_served sockets)) idle) reserve backlog opened before after) → IsDaemonDone g At facts N doors settings before after done
+  performed settings sockets others bound idle reserve backlog mode opened before after (Err fault) clients_are readers_are sources_are bound_are others_are idle_is reserve_is backlog_is owner mode_is at ended served = inr (opened, at, ended)
+  performed settings sockets others bound idle reserve backlog mode opened before after (Ok done) clients_are readers_are sources_are bound_are others_are idle_is reserve_is backlog_is owner mode_is at ended served = record {
     reserve = reserve;
     reserve_is = reserve_is;
     backlog = backlog;
@@ -85,5 +111,6 @@ module _ {D : Type 0} (g : sectors.Ghosts D) (At : List ℕ → Store D g → Ty
     bound = bound;
     bound_are = bound_are;
     served =
-        subst (λ (allowed : List Rights). ServesBetween N doors (IsDoorFor allowed (modes_at allowed mode) idle) reserve backlog opened before after) (rights_same settings sockets others bound readers_are sources_are others_are) served;
+        subst (λ (paths : List (List ℕ)). ServesBetween N doors (IsDoorFor (rights_asked settings bound) (modes_at (rights_asked settings bound) mode) (ListenAt facts mode paths) idle) reserve backlog opened before after) (paths_same settings sockets clients_are readers_are sources_are)
+        (subst (λ (allowed : List Rights). ServesBetween N doors (IsDoorFor allowed (modes_at allowed mode) (ListenAt facts mode (paths_served sockets)) idle) reserve backlog opened before after) (rights_same settings sockets others bound readers_are sources_are others_are) served);
   }

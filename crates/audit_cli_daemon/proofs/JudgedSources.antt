@@ -1,8 +1,8 @@
 -- The words for sources, judged one after another.
 use denote.Ref.{Bor}
-use Rattle.std.proofs.Common.{arith, ◌≡◌, ◌≢◌, ◌⊎◌, inl, inr, refl, sym, ap, ◌∙◌, subst, ℕ, zero, suc, ◌<◌, ◌≤◌, ◌+◌, Bool, true, false, ◌||◌, ◌==◌, eqb, nat_lt, is_none, Option, Some, None, List, [], ◌∷◌, ◌++◌, length, map, take, drop, get_or, true≢false}
-use Rattle.std.specs.List.{list_any, filter_map}
-use Rattle.std.proofs.lemmas.Bool.{eqb-true, eq-eqb, lt-ltb, ltb-true, cases_Bool}
+use Rattle.std.proofs.Common.{arith, ◌≡◌, ◌≢◌, ◌⊎◌, inl, inr, refl, sym, ap, ◌∙◌, subst, ℕ, suc, ◌<◌, ◌≤◌, ◌+◌, Bool, true, false, ◌||◌, ◌==◌, nat_lt, is_none, Option, Some, None, List, [], ◌∷◌, ◌++◌, length, map, take, drop, get_or, true≢false}
+use Rattle.std.specs.List.{list_any}
+use Rattle.std.proofs.lemmas.Bool.{eqb-true, eq-eqb, lt-ltb, ltb-true}
 use Rattle.std.proofs.lemmas.List.{take_more, take_all, append_assoc, length-map, map-append, take-map}
 use Rattle.std.proofs.Math.ListN.{get_or-map}
 use Rattle.std.proofs.lemmas.List.Elements.{filter_map-append}
@@ -15,7 +15,7 @@ use Rattle.audit_serve_passes.specs.declared.rights.Rights.{Rights}
 use Rattle.audit_cli_daemon.specs.Rights.{rights_of_readers, source_rights, rights_at, modes_at}
 use Rattle.audit_cli_daemon.specs.Sources.{SourceData, words_of, source_in, sources_in, has_kind, has_kind_twice, are_no_sources}
 
-or_true : (a b : Bool) → (a || b) ≡ true → (a ≡ true) ⊎ (b ≡ true)
+pub or_true : (a b : Bool) → (a || b) ≡ true → (a ≡ true) ⊎ (b ≡ true)
 or_true true b either = inl refl
 or_true false b either = inr either
 

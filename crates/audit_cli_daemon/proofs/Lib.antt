@@ -1,4 +1,6 @@
 pub mod Daemon
+pub mod Listening
+pub mod Ending
 pub mod State
 pub mod Carried
 pub mod JudgedSources

@@ -5,6 +5,8 @@ use Rattle.audit_disk_model.specs.declared.sectors.Sectors as sectors
 use Rattle.audit_disk.specs.declared.files.TheConstants.{OWNER_ONLY}
 use Rattle.audit_store.specs.Store.{active_header}
 use Rattle.audit_store.specs.declared.store.Store.{Store}
+use Rattle.audit_text.specs.Writing.{WritesInPart}
+use Rattle.audit_server_model.specs.Serving.{StoreKeepsOn}
 use Rattle.audit_serve_passes.specs.Streams.{CallModel}
 use Rattle.audit_serve_ready.specs.Door.{DoorModel}
 use Rattle.audit_cli_base.specs.Arguments.{number_asked}
@@ -15,7 +17,9 @@ use Rattle.audit_cli_base.specs.declared.status.Status.TheVariants as ends
 use Rattle.audit_cli_base.specs.declared.fault.CommandError.{CommandError}
 use Rattle.audit_cli_daemon.specs.declared.arguments.TheConstants.{DEFAULT_IDLE, DEFAULT_RESERVE}
 use Rattle.audit_cli_daemon.specs.declared.request.Settings.{Settings}
+use Rattle.mio.specs.declared.net.uds.listener.UnixListener.{UnixListener}
 use Rattle.audit_serve_door.specs.declared.socket_door.SocketDoor.{SocketDoor}
+use Rattle.audit_serve_sockets.specs.Bound.{SocketFacts}
 use Rattle.audit_cli_daemon.specs.declared.gauge.GaugedDoor.{GaugedDoor}
 use Rattle.audit_cli_daemon.specs.Rights.{rights_at, rights_of_others, modes_at, IsDoorFor}
 use Rattle.audit_serve_passes.specs.declared.bound_kinds.BoundKinds.{BoundKinds}
@@ -23,6 +27,7 @@ use Rattle.audit_serve_passes.specs.declared.rights.Rights.{Rights}
 use Rattle.audit_serve_passes.specs.Rights.{is_bound}
 use Rattle.audit_cli_daemon.specs.Sources.{SourceData, words_of, sources_in, has_kind}
 use Rattle.audit_cli_daemon.specs.Running.{ServesStore}
+use Rattle.audit_cli_daemon.specs.Sockets.{paths_at, ListenAt}
 use Rattle.audit_cli_daemon.specs.State.{ready_line, stopped_line}
 use Rattle.audit_cli_daemon.specs.Words.{backlog_asked}
 
@@ -41,6 +46,14 @@ module _ {D : Type 0} {g : sectors.Ghosts D} {S E : Type 0} (N : CallModel S) (d
     pub served : ServesAtDoor reserve backlog opened left
     pub lines : Appends before after (ready_line (active_header opened) ++ stopped_line (active_header left))
 
+-- It ended with an error over this store, which was left with the events that it had, and maybe more; a prefix of the
+-- lines about its first and its last state was written.
+pub record EndsEarly {D : Type 0} {g : sectors.Ghosts D} (opened : Store D g) (before after : Option (List ℕ)) : Type 0
+  where
+    pub left : Store D g
+    pub kept : StoreKeepsOn opened left
+    pub part : WritesInPart before after (ready_line (active_header opened) ++ stopped_line (active_header left))
+
 -- the sources that the words of a command ask for
 abbrev pub sources_asked : Settings → List SourceData
 sources_asked settings = sources_in (words_of settings.writers.now)
@@ -50,39 +63,46 @@ abbrev pub rights_asked : Settings → BoundKinds → List Rights
 rights_asked settings bound =
     rights_at settings.reader (sources_asked settings) (rights_of_others settings.may_close bound)
 
--- `At` says at which path a store was opened.
-module _ {D : Type 0} (g : sectors.Ghosts D) (At : List ℕ → Store D g → Type 0) {S C J W L Q F T : Type 0}
-    (N : CallModel S) (doors : DoorModel (GaugedDoor (SocketDoor C J W L Q) F T) S) where
-  -- So were they over the store that was opened in the file that was named, with the reserve and the backlog that were
-  -- asked for, and came in by sockets with the rights, the permissions and the time for idle clients that were asked
-  -- for.
-  pub record ServesClientsAsked (settings : Settings) (before after : Option (List ℕ)) : Type 0 where
-    pub reserve : ℕ
-    pub reserve_is : number_asked settings.reserve DEFAULT_RESERVE ≡ Ok reserve
-    pub backlog : ℕ
-    pub backlog_is : backlog_asked settings.backlog ≡ Ok backlog
-    pub idle : ℕ
-    pub idle_is : number_asked settings.idle DEFAULT_IDLE ≡ Ok idle
-    pub mode : ℕ
-    pub owner : settings.socket_mode ≡ None → mode ≡ OWNER_ONLY
-    pub mode_is : IfSome settings.socket_mode (λ word. IsMode word.now mode)
-    pub opened : Store D g
-    pub at : At settings.file.now opened
-    pub bound : BoundKinds
-    pub bound_are : (kind : ℕ) → is_bound bound kind ≡ has_kind (sources_asked settings) kind
-    pub served : ServesBetween N doors
-        (IsDoorFor (rights_asked settings bound) (modes_at (rights_asked settings bound) mode) idle) reserve backlog
-        opened before after
+-- and their paths
+abbrev pub paths_asked : Settings → List (List ℕ)
+paths_asked settings = paths_at settings.reader (sources_asked settings) settings.socket.now
 
-  abbrev pub IsDaemonDone : Settings → Option (List ℕ) → Option (List ℕ) → Result (Unit {0}) CommandError → Type 0
-  IsDaemonDone settings before after (Ok done) = ServesClientsAsked settings before after
-  IsDaemonDone settings before after (Err fault) = Unit {0}
+-- `At` says at which path a store was opened, and `facts` what calls of the system established of sockets.
+module _ {D : Type 0} (g : sectors.Ghosts D) (At : List ℕ → Store D g → Type 0) (facts : SocketFacts)
+    {S C J W Q F T : Type 0} (N : CallModel S) (doors : DoorModel (GaugedDoor (SocketDoor C J W UnixListener Q) F T) S)
+  where
+    -- So were they over the store that was opened in the file that was named, with the reserve and the backlog that were
+    -- asked for, and came in by sockets at the paths, with the rights, the permissions and the time for idle clients that
+    -- were asked for.
+    pub record ServesClientsAsked (settings : Settings) (before after : Option (List ℕ)) : Type 0 where
+      pub reserve : ℕ
+      pub reserve_is : number_asked settings.reserve DEFAULT_RESERVE ≡ Ok reserve
+      pub backlog : ℕ
+      pub backlog_is : backlog_asked settings.backlog ≡ Ok backlog
+      pub idle : ℕ
+      pub idle_is : number_asked settings.idle DEFAULT_IDLE ≡ Ok idle
+      pub mode : ℕ
+      pub owner : settings.socket_mode ≡ None → mode ≡ OWNER_ONLY
+      pub mode_is : IfSome settings.socket_mode (λ word. IsMode word.now mode)
+      pub opened : Store D g
+      pub at : At settings.file.now opened
+      pub bound : BoundKinds
+      pub bound_are : (kind : ℕ) → is_bound bound kind ≡ has_kind (sources_asked settings) kind
+      pub served : ServesBetween N doors
+          (IsDoorFor (rights_asked settings bound) (modes_at (rights_asked settings bound) mode)
+          (ListenAt facts mode (paths_asked settings)) idle) reserve backlog opened before after
 
-  -- A daemon ran with this result, and the output was then flushed. The program's status is that of the result, or that
-  -- of an output that couldn't be flushed.
-  pub record IsDaemonCarriedOut (settings : Settings) (before after : Option (List ℕ)) (status : Status) : Type 0 where
-    pub done : Result (Unit {0}) CommandError
-    pub written : Option (List ℕ)
-    pub served : IsDaemonDone settings before written done
-    pub flushed : Keeps written after
-    pub status_is : (status ≡ status_of_end done) ⊎ (status ≡ ends.Device)
+    -- After an error nothing was written; or it ended early over the store that was opened in the file that was named.
+    abbrev pub IsDaemonDone : Settings → Option (List ℕ) → Option (List ℕ) → Result (Unit {0}) CommandError → Type 0
+    IsDaemonDone settings before after (Ok done) = ServesClientsAsked settings before after
+    IsDaemonDone settings before after (Err fault) = Keeps before after
+        ⊎ ((opened : Store D g) × At settings.file.now opened × EndsEarly opened before after)
+
+    -- A daemon ran with this result, and the output was then flushed. The program's status is that of the result, or that
+    -- of an output that couldn't be flushed.
+    pub record IsDaemonCarriedOut (settings : Settings) (before after : Option (List ℕ)) (status : Status) : Type 0 where
+      pub done : Result (Unit {0}) CommandError
+      pub written : Option (List ℕ)
+      pub served : IsDaemonDone settings before written done
+      pub flushed : Keeps written after
+      pub status_is : (status ≡ status_of_end done) ⊎ (status ≡ ends.Device)

@@ -1,12 +1,14 @@
 -- What the clients of a daemon may ask for, by the socket that they come by.
-use Rattle.std.specs.Prelude.{◌≡◌, ◌<◌, ◌*◌, ℕ, Bool, true, false, Option, Some, None, List, [], ◌∷◌, ◌++◌, map}
+use Rattle.std.specs.Prelude.{◌≡◌, ◌<◌, ◌*◌, ℕ, ℤ, Bool, true, false, Option, Some, None, List, [], ◌∷◌, ◌++◌, map}
 use Rattle.std.specs.Duration.{as_nanos}
 use Rattle.std.specs.declared.time.Duration.{Duration}
 use Rattle.audit_serve_passes.specs.declared.bound_kinds.BoundKinds.{BoundKinds}
 use Rattle.audit_serve_passes.specs.declared.rights.Rights.{Rights}
 use Rattle.audit_serve_passes.specs.declared.rights.Rights.TheVariants as rights
-use Rattle.audit_serve_door.specs.Entrances.{rights_of_door, modes_of_door, idle_of_door}
-use Rattle.audit_serve_door.specs.Comings.{who_waits}
+use Rattle.mio.specs.declared.net.uds.listener.UnixListener.{UnixListener}
+use Rattle.audit_serve_door.specs.Entrances.{rights_of_door, modes_of_door, descriptors_of_door, idle_of_door}
+use Rattle.audit_serve_door.specs.Comings.{who_waits, places_of}
+use Rattle.audit_serve_door.specs.Idle.{IsVacant}
 use Rattle.audit_serve_door.specs.Waits.{NobodyWaits}
 use Rattle.audit_serve_door.specs.declared.socket_door.SocketDoor.{SocketDoor}
 use Rattle.audit_cli_daemon.specs.Sources.{SourceData}
@@ -39,11 +41,13 @@ abbrev pub IsIdleTime : ℕ → Option Duration → Type 0
 IsIdleTime seconds None = seconds ≡ 0
 IsIdleTime seconds (Some time) = (0 < seconds) × (as_nanos time ≡ seconds * 1_000_000_000)
 
--- a door with sockets for clients of these rights, whose files have these permissions, which dismisses clients that are
--- idle for so long, and at which nobody waits yet
-pub record IsDoorFor {C J W L S F M : Type 0} (allowed : List Rights) (modes : List ℕ) (seconds : ℕ)
-    (door : GaugedDoor (SocketDoor C J W L S) F M) : Type 0 where
+-- a door with sockets for clients of these rights, whose files have these permissions, and which listen as `Listen` says
+-- of their descriptors; it dismisses clients that are idle for so long, and nobody waits at it or has a place yet
+pub record IsDoorFor {C J W S F M : Type 0} (allowed : List Rights) (modes : List ℕ) (Listen : List ℤ → Type 0)
+    (seconds : ℕ) (door : GaugedDoor (SocketDoor C J W UnixListener S) F M) : Type 0 where
   pub rights_are : rights_of_door door.door ≡ allowed
   pub modes_are : modes_of_door door.door ≡ modes
+  pub listen : Listen (descriptors_of_door door.door)
   pub idle : IsIdleTime seconds (idle_of_door door.door)
   pub nobody : NobodyWaits (who_waits door.door)
+  pub vacant : IsVacant (idle_of_door door.door) (places_of door.door)

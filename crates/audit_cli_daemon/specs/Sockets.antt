@@ -1,10 +1,31 @@
--- The rights at the sockets of a daemon.
-use Rattle.std.specs.Prelude.{List}
+-- The sockets of a daemon: at which paths they listen, and the rights of those who come by them.
+use denote.Ref.{Bor}
+use Rattle.std.specs.Prelude.{ℕ, ℤ, Option, Some, None, List, [], ◌∷◌, ◌++◌, map}
+use Rattle.std.specs.List.{AllZip}
 use Rattle.audit_serve_passes.specs.declared.rights.Rights.{Rights}
+use Rattle.audit_serve_sockets.specs.Bound.{SocketFacts, ListensAt}
 use Rattle.audit_cli_daemon.specs.Rights.{rights_at}
-use Rattle.audit_cli_daemon.specs.Sources.{words_of, sources_in}
+use Rattle.audit_cli_daemon.specs.Sources.{SourceData, words_of, sources_in}
 use Rattle.audit_cli_daemon.specs.declared.sockets.Sockets.{Sockets}
 
--- those that clients have who come by them; those of the last one are these
+-- the rights that clients have who come by them; those of the last one are these
 abbrev pub rights_served : Sockets → Rights → List Rights
 rights_served sockets others = rights_at sockets.readers (sources_in (words_of sockets.sources.now)) others
+
+-- their paths, in the same order: that for readers, those of the sources, and that for all others
+abbrev pub path_of_readers : Option (Bor (List ℕ)) → List (List ℕ)
+path_of_readers None = []
+path_of_readers (Some path) = path.now ∷ []
+
+abbrev pub path_of_source : SourceData → List ℕ
+path_of_source source = source.path
+
+abbrev pub paths_at : Option (Bor (List ℕ)) → List SourceData → List ℕ → List (List ℕ)
+paths_at readers sources others = path_of_readers readers ++ (map path_of_source sources ++ others ∷ [])
+
+abbrev pub paths_served : Sockets → List (List ℕ)
+paths_served sockets = paths_at sockets.readers (sources_in (words_of sockets.sources.now)) sockets.clients.now
+
+-- at each of these paths a socket listens, whose file has these permission bits; these are their descriptors, in order
+abbrev pub ListenAt : SocketFacts → ℕ → List (List ℕ) → List ℤ → Type 0
+ListenAt facts mode paths descriptors = AllZip (λ path descriptor. ListensAt facts path mode descriptor) paths descriptors

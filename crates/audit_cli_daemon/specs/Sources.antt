@@ -1,6 +1,6 @@
 -- Sources: kinds of events that are bound to sockets of their own.
 use denote.Ref.{Bor}
-use Rattle.std.specs.Prelude.{ℕ, Bool, true, false, ◌||◌, ◌==◌, is_none, nat_lt, Option, Some, None, List, [], ◌∷◌}
+use Rattle.std.specs.Prelude.{ℕ, Bool, false, ◌||◌, ◌==◌, is_none, nat_lt, Option, Some, None, List, [], ◌∷◌}
 use Rattle.std.specs.Prelude.{if◌then◌else◌, length, map}
 use Rattle.std.specs.List.{list_any, filter_map, before_first, after_first}
 use Rattle.audit_text.specs.LineEvents.{kind_in_word}

@@ -1,6 +1,6 @@
 //! Laws of requests to a daemon. Each function does nothing: its contract is the law, which may stand on another one.
-ghost use Rattle.std.specs.Prelude.{◌≡◌, ◌≢◌, ◌≤◌, ℕ, true, List, ◌∷◌, Contains, length};
-ghost use Rattle.audit_base.specs.declared.limits.TheConstants.{RESERVED_KIND, SESSIONS};
+ghost use Rattle.std.specs.Prelude.{◌≡◌, ◌≤◌, ℕ, true, List, ◌∷◌, Contains, length};
+ghost use Rattle.audit_base.specs.declared.limits.TheConstants.{SESSIONS};
 ghost use Rattle.audit_serve_passes.specs.declared.bound_kinds.BoundKinds.{BoundKinds};
 ghost use Rattle.audit_serve_passes.specs.declared.bound_kinds.TheConstants.{MAX_BOUND_KINDS};
 ghost use Rattle.audit_serve_passes.specs.declared.rights.Rights.TheVariants.{Source};
@@ -39,7 +39,7 @@ pub fn bound_kinds_come_by_their_sockets<D: Sectors, S: ReadyStream>(old: &Core<
     ensures { (settings : Settings) (bound : BoundKinds) (kind k : ℕ) (client : Newcomer S)
         (changes : List (ClientChange S)) (before after : List (SlotData S)) (backlog first : ℕ) (append : Append)
         → ((one : ℕ) → is_bound bound one ≡ has_kind (sources_asked settings) one)
-        → has_kind (sources_asked settings) kind ≡ true → kind ≢ RESERVED_KIND
+        → has_kind (sources_asked settings) kind ≡ true
         → Contains (rights_asked settings bound) client.rights → length before ≤ SESSIONS
         → AreChanges core_model S.calls backlog first (a_coming k client ∷ changes) old.now new.now before after
         → StaysAt k changes

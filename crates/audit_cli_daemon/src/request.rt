@@ -1,5 +1,5 @@
 //! The requests to run a daemon and to stop it, and how they are carried out.
-ghost use Rattle.std.specs.Prelude.{◌≡◌, ◌⊎◌, ◌≤◌, ℕ, None, Ok, Err, IfSome, IfOk, IfErr, OnOk, IsOk, codes};
+ghost use Rattle.std.specs.Prelude.{◌≡◌, ◌⊎◌, ◌≤◌, ℕ, None, Ok, Err, IfSome, IfOk, IfErr, OnOk, OnErr, IsOk, codes};
 ghost use Rattle.std.specs.Prelude.{map};
 ghost use Rattle.std.specs.Io.KnownBytes.{Keeps, Appends};
 ghost use Rattle.audit_serve_ready.specs.declared.limits.TheConstants.{MAX_BACKLOG};
@@ -11,19 +11,24 @@ ghost use Rattle.audit_cli_daemon.specs.declared.request.Settings.{Settings};
 ghost use Rattle.audit_disk.specs.declared.files.TheConstants.{OWNER_ONLY};
 ghost use Rattle.audit_cli_daemon.specs.declared.arguments.TheConstants.{DEFAULT_IDLE, DEFAULT_RESERVE};
 ghost use Rattle.audit_cli_daemon.specs.Words.{HasBadSetting, HasBadWord, backlog_asked};
-ghost use Rattle.audit_cli_daemon.specs.Carried.{ServesAtDoor, ServesBetween, IsDaemonDone, IsDaemonCarriedOut};
+ghost use Rattle.audit_cli_daemon.specs.Carried.{ServesAtDoor, ServesBetween, EndsEarly, IsDaemonDone};
+ghost use Rattle.audit_cli_daemon.specs.Carried.{IsDaemonCarriedOut};
 ghost use Rattle.audit_serve_passes.specs.declared.bound_kinds.BoundKinds.{BoundKinds};
 ghost use Rattle.audit_serve_passes.specs.Rights.{is_bound};
 ghost use Rattle.audit_cli_daemon.specs.Rights.{rights_of_others, modes_at, IsIdleTime, IsDoorFor};
 ghost use Rattle.audit_cli_daemon.specs.Sources.{has_kind};
 ghost use Rattle.audit_cli_daemon.specs.Carried.{sources_asked};
-ghost use Rattle.audit_cli_daemon.specs.Sockets.{rights_served};
+ghost use Rattle.audit_cli_daemon.specs.Sockets.{rights_served, paths_served, ListenAt};
 ghost use Rattle.audit_cli_daemon.specs.State.{ready_line};
 ghost use Rattle.audit_serve_door.specs.Entrances.{rights_of, rights_of_door, mode_of, modes_of_door, idle_of_door};
-ghost use Rattle.audit_serve_door.specs.Comings.{who_waits};
+ghost use Rattle.audit_serve_door.specs.Entrances.{descriptor_of, descriptors_of_door};
+ghost use Rattle.audit_serve_door.specs.Comings.{who_waits, places_of};
+ghost use Rattle.audit_serve_door.specs.Idle.{IsVacant};
 ghost use Rattle.audit_serve_door.specs.Waits.{NobodyWaits};
 ghost use Rattle.audit_store.specs.Store.{active_header};
 ghost use Rattle.audit_text.specs.NumberedLine.{numbered_line};
+ghost use Rattle.audit_text.specs.Writing.{WritesInPart};
+ghost use Rattle.audit_server_model.specs.Serving.{StoreKeepsOn};
 
 use crate::arguments::{DEFAULT_IDLE, DEFAULT_RESERVE, backlog_asked};
 use crate::client_journal::ClientJournal;
@@ -46,6 +51,7 @@ use audit_proof::Commitment;
 use audit_serve_door::{Client, ClientDoor, Room, SocketDoor, StopOrders};
 use audit_serve_passes::Rights;
 use audit_serve_ready::{Door, ReadyStream};
+use audit_serve_sockets::SystemSockets;
 use audit_store::{Store, StoreError};
 use std::alloc::Global;
 use std::cell::RefCell;
@@ -108,7 +114,7 @@ struct Judged {
 /// Carries out a request. Lines that begin with `audit: ` are written to `messages`, all others to `output`. If
 /// `explains` is set, there is a line for each client that was dropped or cut off, and their counts. Returns the status
 /// with which the program exits.
-pub fn run<F: SystemFiles + Net + Dial + Clock, W: Write, M: Write>(
+pub fn run<F: SystemFiles + SystemSockets + Dial + Clock, W: Write, M: Write>(
     rt: &F,
     alloc: Global,
     request: Request<'_>,
@@ -124,10 +130,11 @@ where
         → HasBadSetting settings }
     ensures unwritten { HasBadWord request.entry → Keeps (W.contents output.old) (W.contents output.new) }
     // The status is that of the result. On success clients were served over the store that was opened in the file that
-    // was named, with the reserve and the backlog that were asked for, and its first and last state were written.
+    // was named, with the reserve and the backlog that were asked for, and its first and last state were written. After
+    // an error nothing was written, or that store has kept its events, and a prefix of these lines was written.
     ensures carried { (settings : Settings) → request.entry ≡ Request.Run settings
         → IsDaemonCarriedOut ⟦<FileDevice<F::File> as Sectors>⟧
-        (IsStoreAt F.File.facts F.File.positioned) ⟦<Client as ReadyStream>⟧.calls
+        (IsStoreAt F.File.facts F.File.positioned) (F.sockets rt.now) ⟦<Client as ReadyStream>⟧.calls
         ⟦<DaemonDoor<F, F::File, Sparing<'static, M>> as Door>⟧.calls settings
         (W.contents output.old) (W.contents output.new) result }
 {
@@ -141,7 +148,7 @@ where
 }
 
 // Once the words are judged, no message waits for its reader.
-fn run_daemon<F: SystemFiles + Net + Clock, W: Write, M: Write>(
+fn run_daemon<F: SystemFiles + SystemSockets + Clock, W: Write, M: Write>(
     rt: &F,
     alloc: Global,
     settings: Settings<'_>,
@@ -155,7 +162,7 @@ where
     ensures only { result ≡ Status.Usage → HasBadSetting settings.entry }
     ensures unwritten { HasBadSetting settings.entry → Keeps (W.contents output.old) (W.contents output.new) }
     ensures carried { IsDaemonCarriedOut ⟦<FileDevice<F::File> as Sectors>⟧
-        (IsStoreAt F.File.facts F.File.positioned) ⟦<Client as ReadyStream>⟧.calls
+        (IsStoreAt F.File.facts F.File.positioned) (F.sockets rt.now) ⟦<Client as ReadyStream>⟧.calls
         ⟦<DaemonDoor<F, F::File, Sparing<'static, M>> as Door>⟧.calls settings.entry
         (W.contents output.old) (W.contents output.new) result }
 {
@@ -166,7 +173,7 @@ where
 }
 
 // Whoever ordered the daemon to stop is answered last.
-fn run_sparing<F: SystemFiles + Net + Clock, W: Write, M: Write>(
+fn run_sparing<F: SystemFiles + SystemSockets + Clock, W: Write, M: Write>(
     rt: &F,
     alloc: Global,
     settings: Settings<'_>,
@@ -180,7 +187,7 @@ where
     ensures only { result ≡ Status.Usage → HasBadSetting settings.entry }
     ensures unwritten { HasBadSetting settings.entry → Keeps (W.contents output.old) (W.contents output.new) }
     ensures carried { IsDaemonCarriedOut ⟦<FileDevice<F::File> as Sectors>⟧
-        (IsStoreAt F.File.facts F.File.positioned) ⟦<Client as ReadyStream>⟧.calls
+        (IsStoreAt F.File.facts F.File.positioned) (F.sockets rt.now) ⟦<Client as ReadyStream>⟧.calls
         ⟦<DaemonDoor<F, F::File, Sparing<'static, M>> as Door>⟧.calls settings.entry
         (W.contents output.old) (W.contents output.new) result }
 {
@@ -194,7 +201,7 @@ where
 }
 
 // The words are judged before the store is opened, and the store is opened before the sockets' files are made.
-fn perform<F: SystemFiles + Net + Clock, W: Write, M: Write>(
+fn perform<F: SystemFiles + SystemSockets + Clock, W: Write, M: Write>(
     rt: &F,
     alloc: Global,
     settings: Settings<'_>,
@@ -209,7 +216,7 @@ where
     ensures only { result ≡ Err CommandError.BadArgument → HasBadSetting settings.entry }
     ensures unwritten { HasBadSetting settings.entry → Keeps (W.contents output.old) (W.contents output.new) }
     ensures served { IsDaemonDone ⟦<FileDevice<F::File> as Sectors>⟧
-        (IsStoreAt F.File.facts F.File.positioned) ⟦<Client as ReadyStream>⟧.calls
+        (IsStoreAt F.File.facts F.File.positioned) (F.sockets rt.now) ⟦<Client as ReadyStream>⟧.calls
         ⟦<DaemonDoor<F, F::File, Sparing<'static, M>> as Door>⟧.calls settings.entry
         (W.contents output.old) (W.contents output.new) result }
 {
@@ -277,7 +284,7 @@ fn fault_of(kind: ErrorKind) -> CommandError
 }
 
 // Serves the store, and removes the sockets' files at the end. The store stays locked until then.
-fn serve_store<F: SystemFiles + Net + Clock, D: Sectors + Drop, W: Write, M: Write>(
+fn serve_store<F: SystemFiles + SystemSockets + Clock, D: Sectors + Drop, W: Write, M: Write>(
     rt: &F,
     alloc: Global,
     store: Store<D>,
@@ -296,8 +303,10 @@ where
     ensures served { OnOk result (ServesBetween ⟦<Client as ReadyStream>⟧.calls
         ⟦<DaemonDoor<F, F::File, Sparing<'static, M>> as Door>⟧.calls
         (IsDoorFor (rights_served sockets.now judged.rights) (modes_at (rights_served sockets.now judged.rights)
-        judged.mode) judged.idle) judged.reserve judged.most store
+        judged.mode) (ListenAt (F.sockets rt.now) judged.mode (paths_served sockets.now)) judged.idle)
+        judged.reserve judged.most store
         (W.contents output.old) (W.contents output.new)) }
+    ensures ended { OnErr result (EndsEarly store (W.contents output.old) (W.contents output.new)) }
 {
     let shared = RefCell::new(messages);
     let mut made = Made::none(alloc);
@@ -330,6 +339,9 @@ fn report_stopped<N: Net, W: Write>(
 ) -> Result<(), CommandError>
     ensures cause { IfErr served IsNoWordFault → IfErr result IsNoWordFault }
     ensures served { OnOk result (IsOk served) }
+    ensures kept { OnErr served (Keeps (W.contents output.old) (W.contents output.new)) }
+    ensures part { OnErr result (WritesInPart (W.contents output.old) (W.contents output.new)
+        (numbered_line (codes "stopped ") state.count state.root)) }
     ensures written { OnOk result (Appends (W.contents output.old) (W.contents output.new)
         (numbered_line (codes "stopped ") state.count state.root)) }
 {
@@ -354,7 +366,7 @@ fn answer_without_room<N: Net>(rt: &N, alloc: Global, orders: &mut Option<StopOr
     }
 }
 
-fn serve_listening<F: SystemFiles + Net + Clock, D: Sectors + Drop, W: Write, M: Write>(
+fn serve_listening<F: SystemFiles + SystemSockets + Clock, D: Sectors + Drop, W: Write, M: Write>(
     rt: &F,
     alloc: Global,
     store: Store<D>,
@@ -370,11 +382,16 @@ where
     F::File: SystemFile,
     requires { judged.most ≤ MAX_BACKLOG }
     ensures cause { IfErr result.1 IsNoWordFault }
+    ensures kept { StoreKeepsOn store result.0 }
+    ensures part { OnErr result.1 (WritesInPart (W.contents output.old) (W.contents output.new)
+        (ready_line (active_header store))) }
     ensures ready { OnOk result.1 (Appends (W.contents output.old) (W.contents output.new)
         (ready_line (active_header store))) }
     ensures served { OnOk result.1 (ServesAtDoor ⟦<Client as ReadyStream>⟧.calls
         ⟦<DaemonDoor<F, F::File, M> as Door>⟧.calls (IsDoorFor (map rights_of listening.entrances.items)
-        (map mode_of listening.entrances.items) judged.idle) judged.reserve judged.most store result.0) }
+        (map mode_of listening.entrances.items)
+        (λ descriptors. descriptors ≡ map descriptor_of listening.entrances.items) judged.idle)
+        judged.reserve judged.most store result.0) }
 {
     let gauge = gauge_of(&watch, judged.reserve, messages);
     let journal = ClientJournal::new(messages, explains);
@@ -438,8 +455,11 @@ fn open_door<'a, 'b, 'c, F: Files + Net + Clock, M: Write>(
     ensures cause { IfErr result IsNoWordFault }
     ensures rights { IfOk result (λ door. rights_of_door door ≡ map rights_of listening.entrances.items) }
     ensures modes { IfOk result (λ door. modes_of_door door ≡ map mode_of listening.entrances.items) }
+    ensures sockets { IfOk result (λ door. descriptors_of_door door
+        ≡ map descriptor_of listening.entrances.items) }
     ensures idle { IfOk result (λ door. idle_of_door door ≡ idle) }
     ensures nobody { IfOk result (λ door. NobodyWaits (who_waits door)) }
+    ensures vacant { IfOk result (λ door. IsVacant idle (places_of door)) }
 {
     let Listening { entrances, orders } = listening;
     match SocketDoor::new(rt, rt, alloc, entrances, orders, idle, journal, watch) {

@@ -1,18 +1,18 @@
-ghost use Rattle.std.specs.Prelude.{◌≡◌, ◌++◌, [], ◌∷◌, map, IfOk, OnOk};
-ghost use Rattle.audit_serve_door.specs.Entrances.{rights_of, mode_of};
+ghost use Rattle.std.specs.Prelude.{◌≡◌, ◌++◌, [], ◌∷◌, ℕ, List, map, IfOk, OnOk};
+ghost use Rattle.audit_serve_door.specs.Entrances.{rights_of, mode_of, descriptor_of};
+ghost use Rattle.audit_serve_sockets.specs.Bound.{ListensAt};
 ghost use Rattle.audit_cli_daemon.specs.Rights.{modes_at, source_rights};
-ghost use Rattle.audit_cli_daemon.specs.Sockets.{rights_served};
+ghost use Rattle.audit_cli_daemon.specs.Sockets.{rights_served, paths_served, path_of_source, ListenAt};
 ghost use Rattle.audit_cli_daemon.specs.Sources.{words_of, sources_in};
 
 use crate::sources::source_in;
 use audit_disk::{OWNER_ONLY, SystemFile};
 use audit_serve_door::{ClientEntrance, Entrance, StopOrders};
 use audit_serve_passes::Rights;
-use audit_serve_sockets::{SocketFile, SocketLock, SocketName};
+use audit_serve_sockets::{SocketFile, SocketLock, SocketName, SystemSockets};
 use std::alloc::{AllocError, Global};
 use std::fs::Files;
 use std::io::{self, ErrorKind};
-use std::net::Net;
 use std::os::unix::net::UnixListener;
 
 // What follows a socket's path in the path of the socket for stop orders.
@@ -89,6 +89,7 @@ impl<'a> Sockets<'a> {
         readers: Option<&'a str>,
         sources: &'a [&'a str],
     ) -> Result<Sockets<'a>, AllocError>
+        ensures clients { IfOk result (λ sockets. sockets.clients ≡ clients.entry) }
         ensures readers { IfOk result (λ sockets. sockets.readers ≡ readers.entry) }
         ensures sources { IfOk result (λ sockets. sockets.sources ≡ sources.entry) }
     {
@@ -102,7 +103,7 @@ impl<'a> Sockets<'a> {
 
     /// Makes the sockets' files, those for clients with this mode. What was made is noted in `made`, whatever happens,
     /// and has to be removed in the end.
-    pub fn bind<R: Files + Net>(
+    pub fn bind<R: SystemSockets>(
         &self,
         rt: &R,
         alloc: Global,
@@ -118,6 +119,9 @@ impl<'a> Sockets<'a> {
             ≡ rights_served self.now rights) }
         ensures modes { IfOk result (λ listening. map mode_of listening.entrances.items
             ≡ modes_at (rights_served self.now rights) mode) }
+        // Each listens at its own path.
+        ensures listen { IfOk result (λ listening. ListenAt (R.sockets rt.now) mode (paths_served self.now)
+            (map descriptor_of listening.entrances.items)) }
     {
         let clients = open_entrance(rt, alloc, self.clients, mode, rights, &mut made.sockets)?;
         let orders = self.bind_stop(rt, alloc, made)?;
@@ -135,7 +139,7 @@ impl<'a> Sockets<'a> {
     }
 
     // The lock of the clients' socket covers it.
-    fn bind_stop<R: Files + Net>(
+    fn bind_stop<R: SystemSockets>(
         &self,
         rt: &R,
         alloc: Global,
@@ -153,7 +157,7 @@ impl<'a> Sockets<'a> {
     }
 
     // The words were judged, so each of them asks for a source.
-    fn bind_sources<R: Files + Net>(
+    fn bind_sources<R: SystemSockets>(
         &self,
         rt: &R,
         alloc: Global,
@@ -167,6 +171,11 @@ impl<'a> Sockets<'a> {
             ++ map source_rights (sources_in (words_of self.now.sources.now))) }
         ensures modes { OnOk result (map mode_of entrances.new.items ≡ map mode_of entrances.old.items
             ++ map (λ source. mode) (sources_in (words_of self.now.sources.now))) }
+        ensures listen { OnOk result ((paths : List (List ℕ))
+            → ListenAt (R.sockets rt.now) mode paths (map descriptor_of entrances.old.items)
+            → ListenAt (R.sockets rt.now) mode
+            (paths ++ map path_of_source (sources_in (words_of self.now.sources.now)))
+            (map descriptor_of entrances.new.items)) }
     {
         for word in self.sources {
             let Some(source) = source_in(word) else {
@@ -196,7 +205,7 @@ impl<'a> Sockets<'a> {
 }
 
 // Makes the file of a socket, whose clients have these rights, and listens. What was made is noted.
-fn open_entrance<'a, R: Files + Net>(
+fn open_entrance<'a, R: SystemSockets>(
     rt: &R,
     alloc: Global,
     path: &'a str,
@@ -208,6 +217,7 @@ where
     R::File: SystemFile,
     ensures rights { IfOk result (λ entrance. rights_of entrance ≡ rights) }
     ensures mode { IfOk result (λ entrance. mode_of entrance ≡ mode) }
+    ensures listens { IfOk result (λ entrance. ListensAt (R.sockets rt.now) path.now mode (descriptor_of entrance)) }
 {
     made.reserve(1)?;
     let (bound, lock) = SocketFile::bind(rt, alloc, path, mode)?;

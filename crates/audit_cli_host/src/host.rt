@@ -2,13 +2,14 @@ use crate::dial::Dial;
 use crate::noted_file::NotedFile;
 use crate::notes::Notes;
 use audit_disk::{SystemFile, SystemFiles};
+use audit_serve_sockets::SystemSockets;
 use mio::net::UnixStream as Dialed;
 use std::alloc::{Allocator, Global};
 use std::fs::{Files, Metadata, OpenFile, OpenOptions, Permissions, TryLockError};
 use std::io::{self, ErrorKind};
 use std::net::{Net, SocketAddr};
 use std::os::fd::{BorrowedFd, OwnedFd};
-use std::os::unix::net::{self as unix, UnixStream};
+use std::os::unix::net::{self as unix, UnixListener, UnixStream};
 use std::path::PathBuf;
 use std::time::{Clock, Duration};
 
@@ -167,10 +168,25 @@ where
         self.noted(path, self.rt.set_permissions(path, permissions))
     }
 
-    // A server opens its store before it makes its sockets.
     fn bind_unix(&self, socket: BorrowedFd<'_>, address: &unix::SocketAddr) -> io::Result<()> {
-        self.notes.end_opening();
         self.noted(path_of(address), self.rt.bind_unix(socket, address))
+    }
+}
+
+impl<R: SystemSockets> SystemSockets for Host<'_, '_, R>
+where
+    R::File: SystemFile,
+{
+    ghost sockets = { λ host. R.sockets host.rt.now };
+
+    // A server opens its store before it makes its sockets.
+    fn listen(&self, alloc: Global, path: &str) -> io::Result<UnixListener> {
+        self.notes.end_opening();
+        self.noted(path, self.rt.listen(alloc, path))
+    }
+
+    fn permit(&self, path: &str, mode: u32) -> io::Result<()> {
+        self.noted(path, self.rt.permit(path, mode))
     }
 }
 

@@ -93,11 +93,11 @@ module _ {D : Type 0} {g : sectors.Ghosts D} where
         spelled = at.spelled;
       }
 
-  pub loops_opened : {L : Type 0} (At : List ℕ → Store D g → Type 0) (bits : L → ℕ) (path : List ℕ) (mode : ℕ) (one other : GName) (input was old new end : Option (List ℕ)) (opened : Store D g) (done : Ending) → At path opened → was ≡ after_reference one old → (one ≡ other → end ≡ new)
-      → OnOk done (LoopsAt input was (after_reference other new) opened) → OnOk done ((bound : L) × (bits bound ≡ mode)) → OnOk done (LoopsOpened g At bits path mode input old end)
-  loops_opened At bits path mode one other input was old new end opened (Err fault) at is same looped bound = tt
-  loops_opened At bits path mode one other input was old new end opened (Ok done) at is same looped bound =
-      record { opened = opened; at = at; bound = bound.0; mode_is = bound.1; looped = loops_plain one other input was old new end opened is same looped }
+  pub loops_opened : {L : Type 0} (At : List ℕ → Store D g → Type 0) (Bound : List ℕ → ℕ → L → Type 0) (path socket : List ℕ) (mode : ℕ) (one other : GName) (input was old new end : Option (List ℕ)) (opened : Store D g) (done : Ending) → At path opened → was ≡ after_reference one old → (one ≡ other → end ≡ new)
+      → OnOk done (LoopsAt input was (after_reference other new) opened) → OnOk done ((bound : L) × Bound socket mode bound) → OnOk done (LoopsOpened g At Bound path socket mode input old end)
+  loops_opened At Bound path socket mode one other input was old new end opened (Err fault) at is same looped bound = tt
+  loops_opened At Bound path socket mode one other input was old new end opened (Ok done) at is same looped bound =
+      record { opened = opened; at = at; bound = bound.0; listens = bound.1; looped = loops_plain one other input was old new end opened is same looped }
 
 module _ {D : Type 0} {g : sectors.Ghosts D} {T L : Type 0} (M : CallModel T) (N : ListenerModel L T) where
   -- all rounds
@@ -108,72 +108,72 @@ module _ {D : Type 0} {g : sectors.Ghosts D} {T L : Type 0} (M : CallModel T) (N
   abbrev ServesUpTo : (sessions : ℕ) (opened left : Store D g) (bound last : L) (before after : Option (List ℕ)) (fault : ServingError) → Type 0
   ServesUpTo sessions opened left bound last before after fault = (text : List ℕ) × Appends before after text × StopsRounds M N sessions opened left bound last text fault
 
-  pub serves_at : (bits : L → ℕ) (mode rounds sessions : ℕ) (opened left : Store D g) (bound last : L) (before mid after : Option (List ℕ)) (result : Ending) → bits bound ≡ mode → after ≡ mid → OnOk result (ServesAll sessions rounds opened left bound last before mid)
-      → OnOk result ((turns : List ℕ) × (length turns ≡ rounds) × ServesAt M N bits mode sessions turns opened × Appends before after (round_lines 1 turns))
-  serves_at bits mode rounds sessions opened left bound last before mid after (Err fault) mode_is same served = tt
-  serves_at bits mode rounds sessions opened left bound last before mid after (Ok done) mode_is same (turns, count, all, lines) =
-      (turns, count, record { left = left; bound = bound; mode_is = mode_is; last = last; served = all }, subst (λ (known : Option (List ℕ)). Appends before known (round_lines 1 turns)) (sym same) lines)
+  pub serves_at : (Bound : L → Type 0) (rounds sessions : ℕ) (opened left : Store D g) (bound last : L) (before mid after : Option (List ℕ)) (result : Ending) → Bound bound → after ≡ mid → OnOk result (ServesAll sessions rounds opened left bound last before mid)
+      → OnOk result ((turns : List ℕ) × (length turns ≡ rounds) × ServesAt M N Bound sessions turns opened × Appends before after (round_lines 1 turns))
+  serves_at Bound rounds sessions opened left bound last before mid after (Err fault) listens same served = tt
+  serves_at Bound rounds sessions opened left bound last before mid after (Ok done) listens same (turns, count, all, lines) =
+      (turns, count, record { left = left; bound = bound; listens = listens; last = last; served = all }, subst (λ (known : Option (List ℕ)). Appends before known (round_lines 1 turns)) (sym same) lines)
 
   -- what was printed, however serving ended
-  abbrev Prints : (sessions : ℕ) (opened : Store D g) (before after : Option (List ℕ)) → Type 0
-  Prints sessions opened before after = (text : List ℕ) × Appends before after text × ServesWithLines M N sessions opened text
+  abbrev Prints : (Bound : L → Type 0) (sessions : ℕ) (opened : Store D g) (before after : Option (List ℕ)) → Type 0
+  Prints Bound sessions opened before after = (text : List ℕ) × Appends before after text × ServesWithLines M N Bound sessions opened text
 
-  printed : (sessions rounds : ℕ) (opened left : Store D g) (bound last : L) (before after : Option (List ℕ)) (served : Ending) → OnOk served (ServesAll sessions rounds opened left bound last before after) → IfErr served (ServesUpTo sessions opened left bound last before after) → Prints sessions opened before after
-  printed sessions rounds opened left bound last before after (Ok done) (turns, count, all, lines) stopped =
-      (round_lines 1 turns, lines, record { turns = turns; left = left; bound = bound; last = last; served = all; lines = inl refl })
-  printed sessions rounds opened left bound last before after (Err fault) served (text, appends, stops) =
-      (text, appends, record { turns = stops.turns; left = stops.mid; bound = bound; last = stops.between; served = stops.served; lines = by stops.stops })
+  printed : (Bound : L → Type 0) (sessions rounds : ℕ) (opened left : Store D g) (bound last : L) (before after : Option (List ℕ)) (served : Ending) → Bound bound → OnOk served (ServesAll sessions rounds opened left bound last before after) → IfErr served (ServesUpTo sessions opened left bound last before after) → Prints Bound sessions opened before after
+  printed Bound sessions rounds opened left bound last before after (Ok done) listens (turns, count, all, lines) stopped =
+      (round_lines 1 turns, lines, record { turns = turns; left = left; bound = bound; listens = listens; last = last; served = all; lines = inl refl })
+  printed Bound sessions rounds opened left bound last before after (Err fault) listens served (text, appends, stops) =
+      (text, appends, record { turns = stops.turns; left = stops.mid; bound = bound; listens = listens; last = stops.between; served = stops.served; lines = by stops.stops })
     where
       by : {A B C : Type 0} → (A × (text ≡ round_lines 1 stops.turns)) ⊎ (B × C × AreCutOff stops.turns text) → (text ≡ round_lines 1 stops.turns) ⊎ AreCutOff stops.turns text
       by (inl (round, is)) = inl is
       by (inr (lost, same, cut)) = inr cut
 
-  pub stops_at : (sessions rounds : ℕ) (opened left : Store D g) (bound last : L) (before mid after : Option (List ℕ)) (replaced : Bool) (served watched result : Ending) → after ≡ mid → OnOk served (ServesAll sessions rounds opened left bound last before mid) → IfErr served (ServesUpTo sessions opened left bound last before mid)
-      → (replaced ≡ true → watched ≡ Err (Command Replaced)) → (replaced ≡ false → watched ≡ served) → IfErr result (λ fault. (watched ≡ Err fault) ⊎ (fault ≡ Command File)) → IfErr result (IsStoppedWith M N sessions opened before after)
-  stops_at sessions rounds opened left bound last before mid after replaced served watched (Ok done) same all stopped is not ends = tt
-  stops_at sessions rounds opened left bound last before mid after replaced served watched (Err fault) same all stopped is not ends =
-      subst (λ (known : Option (List ℕ)). IsStoppedWith M N sessions opened before known fault) (sym same) (by ends)
+  pub stops_at : (Bound : L → Type 0) (sessions rounds : ℕ) (opened left : Store D g) (bound last : L) (before mid after : Option (List ℕ)) (replaced : Bool) (served watched result : Ending) → Bound bound → after ≡ mid → OnOk served (ServesAll sessions rounds opened left bound last before mid) → IfErr served (ServesUpTo sessions opened left bound last before mid)
+      → (replaced ≡ true → watched ≡ Err (Command Replaced)) → (replaced ≡ false → watched ≡ served) → IfErr result (λ fault. (watched ≡ Err fault) ⊎ (fault ≡ Command File)) → IfErr result (IsStoppedWith M N Bound sessions opened before after)
+  stops_at Bound sessions rounds opened left bound last before mid after replaced served watched (Ok done) listens same all stopped is not ends = tt
+  stops_at Bound sessions rounds opened left bound last before mid after replaced served watched (Err fault) listens same all stopped is not ends =
+      subst (λ (known : Option (List ℕ)). IsStoppedWith M N Bound sessions opened before known fault) (sym same) (by ends)
     where
-      prints : Prints sessions opened before mid
-      prints = printed sessions rounds opened left bound last before mid served all stopped
+      prints : Prints Bound sessions opened before mid
+      prints = printed Bound sessions rounds opened left bound last before mid served listens all stopped
 
-      stopped_by : (replaced : Bool) → IsWatched replaced served watched → watched ≡ Err fault → IsStoppedWith M N sessions opened before mid fault
+      stopped_by : (replaced : Bool) → IsWatched replaced served watched → watched ≡ Err fault → IsStoppedWith M N Bound sessions opened before mid fault
       stopped_by true gone same = (prints.0, prints.1, inr (inl (cc (sym same ∙ gone)), inr prints.2))
       stopped_by false not same =
           let why = subst (λ (ending : Ending). IfErr ending (ServesUpTo sessions opened left bound last before mid)) (sym not ∙ same) stopped in
-          (why.0, why.1, inl (record { left = left; bound = bound; last = last; stops = why.2 }))
+          (why.0, why.1, inl (record { left = left; bound = bound; listens = listens; last = last; stops = why.2 }))
 
-      by : (watched ≡ Err fault) ⊎ (fault ≡ Command File) → IsStoppedWith M N sessions opened before mid fault
+      by : (watched ≡ Err fault) ⊎ (fault ≡ Command File) → IsStoppedWith M N Bound sessions opened before mid fault
       by (inl same) = stopped_by replaced (is_watched replaced served watched is not) same
       by (inr file) = (prints.0, prints.1, inr (inr file, inr prints.2))
 
   -- there was no socket
-  pub no_socket : (sessions : ℕ) (opened : Store D g) (known : Option (List ℕ)) (result : Ending) → IfErr result (λ fault. fault ≡ Command File) → IfErr result (IsStoppedWith M N sessions opened known known)
-  no_socket sessions opened known (Ok done) file = tt
-  no_socket sessions opened known (Err fault) file = ([], nothing known, inr (inr file, inl refl))
+  pub no_socket : (Bound : L → Type 0) (sessions : ℕ) (opened : Store D g) (known : Option (List ℕ)) (result : Ending) → IfErr result (λ fault. fault ≡ Command File) → IfErr result (IsStoppedWith M N Bound sessions opened known known)
+  no_socket Bound sessions opened known (Ok done) file = tt
+  no_socket Bound sessions opened known (Err fault) file = ([], nothing known, inr (inr file, inl refl))
 
   -- over the store that was opened, once the output isn't watched any more
-  module _ (At : List ℕ → Store D g → Type 0) (bits : L → ℕ) (path : List ℕ) (mode sessions : ℕ) (one other : GName) (was old new end : Option (List ℕ)) (opened : Store D g) (at : At path opened) (is : was ≡ after_reference one old) (same : one ≡ other → end ≡ new) where
-    pub serves_opened : (rounds : ℕ) (result : Ending) → OnOk result ((turns : List ℕ) × (length turns ≡ rounds) × ServesAt M N bits mode sessions turns opened × Appends was (after_reference other new) (round_lines 1 turns)) → OnOk result (ServesOpened g At M N bits path mode sessions rounds old end)
+  module _ (At : List ℕ → Store D g → Type 0) (Bound : List ℕ → ℕ → L → Type 0) (path socket : List ℕ) (mode sessions : ℕ) (one other : GName) (was old new end : Option (List ℕ)) (opened : Store D g) (at : At path opened) (is : was ≡ after_reference one old) (same : one ≡ other → end ≡ new) where
+    pub serves_opened : (rounds : ℕ) (result : Ending) → OnOk result ((turns : List ℕ) × (length turns ≡ rounds) × ServesAt M N (Bound socket mode) sessions turns opened × Appends was (after_reference other new) (round_lines 1 turns)) → OnOk result (ServesOpened g At M N Bound path socket mode sessions rounds old end)
     serves_opened rounds (Err fault) served = tt
     serves_opened rounds (Ok done) (turns, count, served, lines) =
         record { opened = opened; at = at; turns = turns; count = count; served = served; lines = plain one other was old new end (round_lines 1 turns) is same lines }
 
-    pub stops_opened : (result : Ending) → IfErr result (IsStoppedWith M N sessions opened was (after_reference other new)) → IfErr result (λ fault. Keeps old end ⊎ StopsOpened g At M N bits path sessions old end fault)
+    pub stops_opened : (result : Ending) → IfErr result (IsStoppedWith M N (Bound socket mode) sessions opened was (after_reference other new)) → IfErr result (λ fault. Keeps old end ⊎ StopsOpened g At M N Bound path socket mode sessions old end fault)
     stops_opened (Ok done) stopped = tt
     stops_opened (Err fault) (text, appends, why) = inr (record { opened = opened; at = at; stopped = (text, plain one other was old new end text is same appends, why) })
 
-module _ {D : Type 0} (g : sectors.Ghosts D) (At : List ℕ → Store D g → Type 0) {T L : Type 0} (M : CallModel T) (N : ListenerModel L T) (bits : L → ℕ) where
+module _ {D : Type 0} (g : sectors.Ghosts D) (At : List ℕ → Store D g → Type 0) {T L : Type 0} (M : CallModel T) (N : ListenerModel L T) (Bound : List ℕ → ℕ → L → Type 0) where
   pub loop_performed : (input before after : Option (List ℕ)) (request : Request) (file socket : Bor (List ℕ)) (socket_mode : Option (Bor (List ℕ))) (mode : ℕ) (done : Ending) → request ≡ Loop file socket socket_mode → (socket_mode ≡ None → mode ≡ OWNER_ONLY) → IfSome socket_mode (λ word. IsMode word.now mode)
-      → OnOk done (LoopsOpened g At bits file.now mode input before after) → IsServingDone g At M N bits request input before after done
-  loop_performed input before after request file socket socket_mode mode done is owner mode_is looped = subst (λ (one : Request). IsServingDone g At M N bits one input before after done) (sym is) (by done looped)
+      → OnOk done (LoopsOpened g At Bound file.now socket.now mode input before after) → IsServingDone g At M N Bound request input before after done
+  loop_performed input before after request file socket socket_mode mode done is owner mode_is looped = subst (λ (one : Request). IsServingDone g At M N Bound one input before after done) (sym is) (by done looped)
     where
-      by : (done : Ending) → OnOk done (LoopsOpened g At bits file.now mode input before after) → IsServingDone g At M N bits (Loop file socket socket_mode) input before after done
+      by : (done : Ending) → OnOk done (LoopsOpened g At Bound file.now socket.now mode input before after) → IsServingDone g At M N Bound (Loop file socket socket_mode) input before after done
       by (Ok done) looped = record { mode = mode; owner = owner; mode_is = mode_is; looped = looped }
       by (Err fault) looped = inr tt
 
   pub performed : (input before after : Option (List ℕ)) (file socket rounds : Bor (List ℕ)) (sessions socket_mode : Option (Bor (List ℕ))) (count each mode : ℕ) (done : Ending) → rounds_asked rounds.now ≡ Ok count → sessions_wanted sessions ≡ Ok each → (socket_mode ≡ None → mode ≡ OWNER_ONLY) → IfSome socket_mode (λ word. IsMode word.now mode)
-      → OnOk done (ServesOpened g At M N bits file.now mode each count before after) → IfErr done (λ fault. Keeps before after ⊎ StopsOpened g At M N bits file.now each before after fault) → IsServingDone g At M N bits (Serve file socket rounds sessions socket_mode) input before after done
+      → OnOk done (ServesOpened g At M N Bound file.now socket.now mode each count before after) → IfErr done (λ fault. Keeps before after ⊎ StopsOpened g At M N Bound file.now socket.now mode each before after fault) → IsServingDone g At M N Bound (Serve file socket rounds sessions socket_mode) input before after done
   performed input before after file socket rounds sessions socket_mode count each mode (Ok done) asked wanted owner mode_is served stopped = record { count = count; rounds_are = asked; each = each; sessions_are = wanted; mode = mode; owner = owner; mode_is = mode_is; served = served }
   performed input before after file socket rounds sessions socket_mode count each mode (Err fault) asked wanted owner mode_is served (inl kept) = inl kept
-  performed input before after file socket rounds sessions socket_mode count each mode (Err fault) asked wanted owner mode_is served (inr stopped) = inr (each, wanted, stopped)
+  performed input before after file socket rounds sessions socket_mode count each mode (Err fault) asked wanted owner mode_is served (inr stopped) = inr (each, wanted, (mode, stopped))

@@ -38,13 +38,14 @@ module _ {D : Type 0} {g : sectors.Ghosts D} where
     pub looped : LoopsOver opened left before after (IsWholeLoop lines)
     pub spelled : IfSome input (SpellsInput lines)
 
-module _ {D : Type 0} {g : sectors.Ghosts D} {T L : Type 0} (M : CallModel T) (N : ListenerModel L T) where
-  -- These rounds were served over a store, and this many sessions in each, by a socket of this program, whose file has
-  -- these permission bits.
-  pub record ServesAt (bits : L → ℕ) (mode sessions : ℕ) (turns : List ℕ) (opened : Store D g) : Type 0 where
+-- `Bound` says where a socket was bound.
+module _ {D : Type 0} {g : sectors.Ghosts D} {T L : Type 0} (M : CallModel T) (N : ListenerModel L T)
+    (Bound : L → Type 0) where
+  -- These rounds were served over a store, and this many sessions in each, by a socket that was bound there.
+  pub record ServesAt (sessions : ℕ) (turns : List ℕ) (opened : Store D g) : Type 0 where
     pub left : Store D g
     pub bound : L
-    pub mode_is : bits bound ≡ mode
+    pub listens : Bound bound
     pub last : L
     pub served : ServesRounds M N sessions turns opened left bound last
 
@@ -52,6 +53,7 @@ module _ {D : Type 0} {g : sectors.Ghosts D} {T L : Type 0} (M : CallModel T) (N
   pub record StopsAt (sessions : ℕ) (opened : Store D g) (text : List ℕ) (fault : ServingError) : Type 0 where
     pub left : Store D g
     pub bound : L
+    pub listens : Bound bound
     pub last : L
     pub stops : StopsRounds M N sessions opened left bound last text fault
 
@@ -60,6 +62,7 @@ module _ {D : Type 0} {g : sectors.Ghosts D} {T L : Type 0} (M : CallModel T) (N
     pub turns : List ℕ
     pub left : Store D g
     pub bound : L
+    pub listens : Bound bound
     pub last : L
     pub served : ServesRounds M N sessions turns opened left bound last
     pub lines : (text ≡ round_lines 1 turns) ⊎ AreCutOff turns text
@@ -76,38 +79,41 @@ module _ {D : Type 0} {g : sectors.Ghosts D} {T L : Type 0} (M : CallModel T) (N
   IsStoppedWith sessions opened before after fault =
       (text : List ℕ) × Appends before after text × IsStoppedAt sessions opened text fault
 
--- ---- over the store that was opened, whose device has these ghost members. `At` says at which path it was.
+-- ---- over the store that was opened, whose device has these ghost members. `At` says at which path it was, and `Bound`
+-- at which path a socket listens, and which permission bits its file has.
 
-module _ {D : Type 0} (g : sectors.Ghosts D) (At : List ℕ → Store D g → Type 0) {L : Type 0} (bits : L → ℕ) where
-  -- a whole session was served over it, and a socket of this program was bound, whose file has these permission bits
-  pub record LoopsOpened (path : List ℕ) (mode : ℕ) (input before after : Option (List ℕ)) : Type 0 where
+module _ {D : Type 0} (g : sectors.Ghosts D) (At : List ℕ → Store D g → Type 0) {L : Type 0}
+    (Bound : List ℕ → ℕ → L → Type 0) where
+  -- a whole session was served over it, and such a socket was bound
+  pub record LoopsOpened (path socket : List ℕ) (mode : ℕ) (input before after : Option (List ℕ)) : Type 0 where
     pub opened : Store D g
     pub at : At path opened
     pub bound : L
-    pub mode_is : bits bound ≡ mode
+    pub listens : Bound socket mode bound
     pub looped : LoopsAt input before after opened
 
   -- the same with the permissions that were asked for
-  pub record LoopsAsked (path : List ℕ) (socket_mode : Option (Bor (List ℕ))) (input before after : Option (List ℕ))
-      : Type 0 where
+  pub record LoopsAsked (path socket : List ℕ) (socket_mode : Option (Bor (List ℕ)))
+      (input before after : Option (List ℕ)) : Type 0 where
     pub mode : ℕ
     pub owner : socket_mode ≡ None → mode ≡ OWNER_ONLY
     pub mode_is : IfSome socket_mode (λ word. IsMode word.now mode)
-    pub looped : LoopsOpened path mode input before after
+    pub looped : LoopsOpened path socket mode input before after
 
 module _ {D : Type 0} (g : sectors.Ghosts D) (At : List ℕ → Store D g → Type 0) {T L : Type 0} (M : CallModel T)
-    (N : ListenerModel L T) (bits : L → ℕ) where
+    (N : ListenerModel L T) (Bound : List ℕ → ℕ → L → Type 0) where
   -- this many rounds were served over it, and the line of each was written, in order
-  pub record ServesOpened (path : List ℕ) (mode sessions rounds : ℕ) (before after : Option (List ℕ)) : Type 0 where
-    pub opened : Store D g
-    pub at : At path opened
-    pub turns : List ℕ
-    pub count : length turns ≡ rounds
-    pub served : ServesAt M N bits mode sessions turns opened
-    pub lines : Appends before after (round_lines 1 turns)
+  pub record ServesOpened (path socket : List ℕ) (mode sessions rounds : ℕ) (before after : Option (List ℕ)) : Type 0
+    where
+      pub opened : Store D g
+      pub at : At path opened
+      pub turns : List ℕ
+      pub count : length turns ≡ rounds
+      pub served : ServesAt M N (Bound socket mode) sessions turns opened
+      pub lines : Appends before after (round_lines 1 turns)
 
-  -- as many as asked for, each of as many sessions, on a socket with the permissions that were asked for
-  pub record ServesRoundsAsked (path rounds : List ℕ) (sessions socket_mode : Option (Bor (List ℕ)))
+  -- as many as asked for, each of as many sessions, on a socket at the path and with the permissions that were asked for
+  pub record ServesRoundsAsked (path socket rounds : List ℕ) (sessions socket_mode : Option (Bor (List ℕ)))
       (before after : Option (List ℕ)) : Type 0 where
     pub count : ℕ
     pub rounds_are : rounds_asked rounds ≡ Ok count
@@ -116,25 +122,28 @@ module _ {D : Type 0} (g : sectors.Ghosts D) (At : List ℕ → Store D g → Ty
     pub mode : ℕ
     pub owner : socket_mode ≡ None → mode ≡ OWNER_ONLY
     pub mode_is : IfSome socket_mode (λ word. IsMode word.now mode)
-    pub served : ServesOpened path mode each count before after
+    pub served : ServesOpened path socket mode each count before after
 
   -- serving over the store that was opened stopped with this error
-  pub record StopsOpened (path : List ℕ) (sessions : ℕ) (before after : Option (List ℕ)) (fault : ServingError) : Type 0
-    where
-      pub opened : Store D g
-      pub at : At path opened
-      pub stopped : IsStoppedWith M N sessions opened before after fault
+  pub record StopsOpened (path socket : List ℕ) (mode sessions : ℕ) (before after : Option (List ℕ))
+      (fault : ServingError) : Type 0 where
+    pub opened : Store D g
+    pub at : At path opened
+    pub stopped : IsStoppedWith M N (Bound socket mode) sessions opened before after fault
 
-  -- as many sessions as asked for were served in each round over it, up to this error
+  -- as many sessions as asked for were served in each round over it, on a socket at the path that was asked for, up to
+  -- this error
   abbrev pub StopsAsked : Request → Option (List ℕ) → Option (List ℕ) → ServingError → Type 0
   StopsAsked (Serve file socket rounds sessions mode) before after fault =
-      (each : ℕ) × (sessions_wanted sessions ≡ Ok each) × StopsOpened file.now each before after fault
+      (each : ℕ) × (sessions_wanted sessions ≡ Ok each)
+      × ((bits : ℕ) × StopsOpened file.now socket.now bits each before after fault)
   StopsAsked (Loop file socket mode) before after fault = Unit {0}
 
   abbrev pub IsServedAsAsked : Request → Option (List ℕ) → Option (List ℕ) → Option (List ℕ) → Type 0
   IsServedAsAsked (Serve file socket rounds sessions mode) input before after =
-      ServesRoundsAsked file.now rounds.now sessions mode before after
-  IsServedAsAsked (Loop file socket mode) input before after = LoopsAsked g At bits file.now mode input before after
+      ServesRoundsAsked file.now socket.now rounds.now sessions mode before after
+  IsServedAsAsked (Loop file socket mode) input before after =
+      LoopsAsked g At Bound file.now socket.now mode input before after
 
   -- A request was carried out with this result. On success what it asks for was served and written; otherwise nothing
   -- was written, or the lines of rounds that were served.

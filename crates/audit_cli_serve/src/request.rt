@@ -4,7 +4,7 @@ ghost use Rattle.std.specs.Io.KnownBytes.{Keeps, Appends};
 ghost use Rattle.audit_base.specs.declared.limits.TheConstants.{SESSIONS};
 ghost use Rattle.audit_cli_base.specs.Arguments.{RefusesWords};
 ghost use Rattle.audit_cli_base.specs.declared.fault.CommandError.TheVariants.{File, Replaced};
-ghost use Rattle.audit_serve_sockets.specs.Bound.{mode_of_socket};
+ghost use Rattle.audit_serve_sockets.specs.Bound.{IsBound};
 ghost use Rattle.audit_serve_sockets.specs.declared.socket_file.SocketFile.{SocketFile};
 ghost use Rattle.audit_cli_serve.specs.Arguments.{rounds_asked, sessions_wanted};
 ghost use Rattle.audit_cli_base.specs.OpenedStore.{IsStoreAt};
@@ -27,7 +27,7 @@ use audit_cli_base::{
 use audit_disk::{SystemFile, SystemFiles};
 use audit_disk_model::Sectors;
 use audit_serve_passes::Duplex;
-use audit_serve_sockets::{Link, Listener, SocketFile};
+use audit_serve_sockets::{Link, Listener, SocketFile, SystemSockets};
 use audit_store::Store;
 use audit_text::LinesError;
 use std::alloc::Global;
@@ -74,7 +74,7 @@ pub enum Request<'a> {
 /// output is flushed after each round, after the replies to each line, and at the end. Once the store isn't in its place,
 /// no line is written any more ([`WatchedOutput`]), and that is the fault. Returns the status with which the program
 /// exits.
-pub fn run<F: SystemFiles + Net + Clock, R: Read, W: Write, M: Write>(
+pub fn run<F: SystemFiles + SystemSockets + Clock, R: Read, W: Write, M: Write>(
     rt: &F,
     alloc: Global,
     request: Request<'_>,
@@ -92,8 +92,8 @@ where
     // file that was named; whatever happens, the output has the lines of what was served, in order.
     ensures carried { IsServingCarriedOut ⟦<FileDevice<F::File> as Sectors>⟧
         (IsStoreAt F.File.facts F.File.positioned) ⟦<UnixStream as Duplex>⟧.calls
-        ⟦<SocketFile as Listener<UnixStream>>⟧.model mode_of_socket request.entry (R.remaining input.old)
-        (W.contents output.old) (W.contents output.new) result }
+        ⟦<SocketFile as Listener<UnixStream>>⟧.model (IsBound (F.sockets rt.now)) request.entry
+        (R.remaining input.old) (W.contents output.old) (W.contents output.new) result }
 {
     let done = perform(rt, alloc, request, input, output);
     let flushed = output.flush();
@@ -106,7 +106,7 @@ where
 
 // The words are checked before the store is opened, and the store is opened before the socket's file is made. The
 // socket's file is removed at the end.
-fn perform<F: SystemFiles + Net + Clock, R: Read, W: Write>(
+fn perform<F: SystemFiles + SystemSockets + Clock, R: Read, W: Write>(
     rt: &F,
     alloc: Global,
     request: Request<'_>,
@@ -119,8 +119,8 @@ where
     ensures only { result ≡ Err (ServingError.Command CommandError.BadArgument) → HasWrongWord request.entry }
     ensures served { IsServingDone ⟦<FileDevice<F::File> as Sectors>⟧
         (IsStoreAt F.File.facts F.File.positioned) ⟦<UnixStream as Duplex>⟧.calls
-        ⟦<SocketFile as Listener<UnixStream>>⟧.model mode_of_socket request.entry (R.remaining input.old)
-        (W.contents output.old) (W.contents output.new) result }
+        ⟦<SocketFile as Listener<UnixStream>>⟧.model (IsBound (F.sockets rt.now)) request.entry
+        (R.remaining input.old) (W.contents output.old) (W.contents output.new) result }
 {
     match request {
         Request::Serve {
@@ -160,7 +160,7 @@ fn sessions_or_one(word: Option<&str>) -> Result<usize, CommandError>
     }
 }
 
-fn serve_file<F: SystemFiles + Net + Clock, W: Write>(
+fn serve_file<F: SystemFiles + SystemSockets + Clock, W: Write>(
     rt: &F,
     alloc: Global,
     file: &str,
@@ -176,12 +176,12 @@ where
     ensures words { IfErr result IsNoWordError }
     ensures served { OnOk result (ServesOpened ⟦<FileDevice<F::File> as Sectors>⟧
         (IsStoreAt F.File.facts F.File.positioned) ⟦<UnixStream as Duplex>⟧.calls
-        ⟦<SocketFile as Listener<UnixStream>>⟧.model mode_of_socket file.now mode sessions rounds
-        (W.contents output.old) (W.contents output.new)) }
+        ⟦<SocketFile as Listener<UnixStream>>⟧.model (IsBound (F.sockets rt.now)) file.now socket.now mode sessions
+        rounds (W.contents output.old) (W.contents output.new)) }
     ensures stopped { IfErr result (λ fault. Keeps (W.contents output.old) (W.contents output.new)
         ⊎ StopsOpened ⟦<FileDevice<F::File> as Sectors>⟧ (IsStoreAt F.File.facts F.File.positioned)
-        ⟦<UnixStream as Duplex>⟧.calls ⟦<SocketFile as Listener<UnixStream>>⟧.model mode_of_socket
-        file.now sessions (W.contents output.old) (W.contents output.new) fault) }
+        ⟦<UnixStream as Duplex>⟧.calls ⟦<SocketFile as Listener<UnixStream>>⟧.model (IsBound (F.sockets rt.now))
+        file.now socket.now mode sessions (W.contents output.old) (W.contents output.new) fault) }
 {
     let Opened { content, identity } = open_store(rt, alloc, file)?;
     let watch = StoreWatch::new(rt, file, identity, content.sectors());
@@ -198,7 +198,7 @@ where
     )
 }
 
-fn serve_store<F: SystemFiles + Net + Clock, D: Sectors + Drop, W: Write>(
+fn serve_store<F: SystemFiles + SystemSockets + Clock, D: Sectors + Drop, W: Write>(
     rt: &F,
     alloc: Global,
     store: Store<D>,
@@ -215,10 +215,10 @@ where
     // Nothing else is done to the store.
     ensures served { OnOk result ((turns : List ℕ) × (length turns ≡ rounds)
         × ServesAt ⟦<UnixStream as Duplex>⟧.calls ⟦<SocketFile as Listener<UnixStream>>⟧.model
-        mode_of_socket mode sessions turns store
+        (IsBound (F.sockets rt.now) socket.now mode) sessions turns store
         × Appends (watched_bytes W.contents output.old) (watched_bytes W.contents output.new) (round_lines 1 turns)) }
     ensures stopped { IfErr result (IsStoppedWith ⟦<UnixStream as Duplex>⟧.calls
-        ⟦<SocketFile as Listener<UnixStream>>⟧.model sessions store
+        ⟦<SocketFile as Listener<UnixStream>>⟧.model (IsBound (F.sockets rt.now) socket.now mode) sessions store
         (watched_bytes W.contents output.old) (watched_bytes W.contents output.new)) }
 {
     let (mut bound, lock) = SocketFile::bind(rt, alloc, socket, mode)?;
@@ -253,7 +253,7 @@ fn after_removing(
     Ok(removed?)
 }
 
-fn loop_file<F: SystemFiles + Net + Clock, R: Read, W: Write>(
+fn loop_file<F: SystemFiles + SystemSockets + Clock, R: Read, W: Write>(
     rt: &F,
     alloc: Global,
     file: &str,
@@ -266,8 +266,8 @@ where
     F::File: SystemFile,
     ensures words { IfErr result IsNoWordError }
     ensures looped { OnOk result (LoopsOpened ⟦<FileDevice<F::File> as Sectors>⟧
-        (IsStoreAt F.File.facts F.File.positioned) mode_of_socket file.now mode (R.remaining input.old)
-        (W.contents output.old) (W.contents output.new)) }
+        (IsStoreAt F.File.facts F.File.positioned) (IsBound (F.sockets rt.now)) file.now socket.now mode
+        (R.remaining input.old) (W.contents output.old) (W.contents output.new)) }
 {
     let Opened { content, identity } = open_store(rt, alloc, file)?;
     let watch = StoreWatch::new(rt, file, identity, content.sectors());
@@ -275,7 +275,7 @@ where
     loop_store(rt, alloc, content, socket, mode, input, &mut watched)
 }
 
-fn loop_store<F: SystemFiles + Net + Clock, D: Sectors + Drop, R: Read, W: Write>(
+fn loop_store<F: SystemFiles + SystemSockets + Clock, D: Sectors + Drop, R: Read, W: Write>(
     rt: &F,
     alloc: Global,
     store: Store<D>,
@@ -290,7 +290,7 @@ where
     // Nothing else is done to the store.
     ensures looped { OnOk result (LoopsAt (R.remaining input.old) (watched_bytes W.contents output.old)
         (watched_bytes W.contents output.new) store) }
-    ensures bound { OnOk result ((bound : SocketFile) × (mode_of_socket bound ≡ mode)) }
+    ensures bound { OnOk result ((bound : SocketFile) × IsBound (F.sockets rt.now) socket.now mode bound) }
 {
     // The input's buffer is allocated before the socket's file is made, so that the file is removed whatever is
     // refused later.

@@ -28,7 +28,8 @@ pub(crate) struct Arrival<S> {
 
 impl Entrance<UnixListener> {
     ghost use Rattle.std.specs.Prelude.{◌≡◌, IfOk};
-    ghost use Rattle.audit_serve_door.specs.Entrances.{rights_of, mode_of};
+    ghost use Rattle.std.specs.Net.Unix.{unix_listener_raw_fd};
+    ghost use Rattle.audit_serve_door.specs.Entrances.{rights_of, mode_of, descriptor_of};
 
     /// Makes an entrance of a socket that listens, whose file has these permission bits.
     pub fn new(
@@ -38,6 +39,7 @@ impl Entrance<UnixListener> {
     ) -> io::Result<Entrance<UnixListener>>
         ensures rights { IfOk result (λ entrance. rights_of entrance ≡ rights) }
         ensures mode { IfOk result (λ entrance. mode_of entrance ≡ mode) }
+        ensures socket { IfOk result (λ entrance. descriptor_of entrance ≡ unix_listener_raw_fd listener) }
     {
         Ok(Entrance {
             incoming: Incoming::new(listener)?,

@@ -24,8 +24,15 @@ pub(crate) enum Accepted<T> {
 }
 
 impl Incoming<UnixListener> {
+    ghost use Rattle.std.specs.Prelude.{◌≡◌, IfOk};
+    ghost use Rattle.std.specs.Net.Unix.{unix_listener_raw_fd};
+    ghost use Rattle.mio.specs.Net.{unix_listener_fd};
+    ghost use Rattle.audit_serve_door.specs.Entrances.{listener_of};
+
     /// Takes connections from a socket that listens.
-    pub(crate) fn new(listener: net::UnixListener) -> io::Result<Incoming<UnixListener>> {
+    pub(crate) fn new(listener: net::UnixListener) -> io::Result<Incoming<UnixListener>>
+        ensures { IfOk result (λ incoming. unix_listener_fd (listener_of incoming) ≡ unix_listener_raw_fd listener) }
+    {
         listener.set_nonblocking(true)?;
         Ok(Incoming {
             listener: UnixListener::from_std(listener),

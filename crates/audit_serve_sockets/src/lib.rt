@@ -16,6 +16,7 @@ mod replying;
 mod round_line;
 mod socket_file;
 mod socket_lock;
+mod system_sockets;
 
 pub use frame_line::bytes_of_line;
 pub use input_line::next_line;
@@ -28,3 +29,4 @@ pub use replying::write_frames;
 pub use round_line::write_round;
 pub use socket_file::{SocketFile, SocketName};
 pub use socket_lock::SocketLock;
+pub use system_sockets::SystemSockets;

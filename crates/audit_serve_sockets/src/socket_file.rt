@@ -1,14 +1,15 @@
-ghost use Rattle.std.specs.Prelude.{◌≡◌, IfOk};
-ghost use Rattle.audit_serve_sockets.specs.Bound.{mode_of_name, mode_of_socket};
+ghost use Rattle.std.specs.Prelude.{◌≡◌, ◌⊎◌, IfOk};
+ghost use Rattle.std.specs.Net.Unix.{unix_listener_raw_fd};
+ghost use Rattle.audit_disk.specs.declared.files.TheConstants.{OWNER_ONLY};
+ghost use Rattle.audit_serve_sockets.specs.Bound.{IsBound, descriptor_of_socket, mode_of_name, mode_of_socket};
 
-use crate::owner_only::OwnerOnly;
 use crate::socket_lock::{SocketLock, Taking, own_user, remove_own};
+use crate::system_sockets::SystemSockets;
 use audit_disk::{FileIdentity, OWNER_ONLY, SystemFile};
 use std::alloc::Global;
-use std::fs::{self, Files, Permissions};
+use std::fs::{self, Files};
 use std::io::{self, ErrorKind};
-use std::net::Net;
-use std::os::unix::fs::{FileTypeExt, MetadataExt, PermissionsExt};
+use std::os::unix::fs::{FileTypeExt, MetadataExt};
 use std::os::unix::net::{UnixListener, UnixStream};
 
 /// A Unix socket at a path, on which connections arrive.
@@ -44,12 +45,13 @@ impl SocketName {
 
 impl SocketFile {
     ghost use Rattle.std.specs.Prelude.{◌≡◌, IfOk};
-    ghost use Rattle.audit_serve_sockets.specs.Bound.{mode_of_name, mode_of_socket};
+    ghost use Rattle.std.specs.Net.Unix.{unix_listener_raw_fd};
+    ghost use Rattle.audit_serve_sockets.specs.Bound.{IsBound, descriptor_of_socket, mode_of_name, mode_of_socket};
 
     /// Makes the socket's file, and takes the lock beside it (`SOCKET.lock`) until its end. Only its owner has access
     /// when it is created; then `mode` is set if it differs. A socket of this user beside a lock that nobody holds is
     /// replaced: a program that was killed leaves such files. Any other existing file is an error, and is kept.
-    pub fn bind<R: Files + Net>(
+    pub fn bind<R: SystemSockets>(
         rt: &R,
         alloc: Global,
         path: &str,
@@ -57,7 +59,9 @@ impl SocketFile {
     ) -> io::Result<(SocketFile, SocketLock<R::File>)>
     where
         R::File: SystemFile,
-        ensures { IfOk result (λ bound. mode_of_socket bound.0 ≡ mode) }
+        ensures mode { IfOk result (λ bound. mode_of_socket bound.0 ≡ mode) }
+        // It listens at this path, and its file has this mode.
+        ensures listens { IfOk result (λ bound. IsBound (R.sockets rt.now) path.now mode bound.0) }
     {
         match SocketLock::<R::File>::take(rt, alloc, path)? {
             Taking::Taken(mut lock) => match bind_under(rt, alloc, path, mode, lock.was_left()) {
@@ -75,7 +79,7 @@ impl SocketFile {
     }
 
     /// Makes a further socket, which the lock of another one covers. Without a lock nothing is replaced.
-    pub fn bind_beside<R: Files + Net>(
+    pub fn bind_beside<R: SystemSockets>(
         rt: &R,
         alloc: Global,
         path: &str,
@@ -84,7 +88,8 @@ impl SocketFile {
     ) -> io::Result<SocketFile>
     where
         R::File: SystemFile,
-        ensures { IfOk result (λ bound. mode_of_socket bound ≡ mode) }
+        ensures mode { IfOk result (λ bound. mode_of_socket bound ≡ mode) }
+        ensures listens { IfOk result (λ bound. IsBound (R.sockets rt.now) path.now mode bound) }
     {
         let was_left = match lock {
             Some(lock) => lock.was_left(),
@@ -101,7 +106,8 @@ impl SocketFile {
 
     /// The listening socket, and its file, which is left to the caller to remove.
     pub fn into_parts(self) -> (UnixListener, SocketName)
-        ensures { mode_of_name result.1 ≡ mode_of_socket self }
+        ensures mode { mode_of_name result.1 ≡ mode_of_socket self }
+        ensures same { unix_listener_raw_fd result.0 ≡ descriptor_of_socket self }
     {
         (self.listener, self.name)
     }
@@ -118,14 +124,15 @@ impl SocketFile {
 }
 
 // Makes a socket's file under a lock. If a program that was killed left the lock, it left the socket there, too.
-fn bind_under<R: Files + Net>(
+fn bind_under<R: SystemSockets>(
     rt: &R,
     alloc: Global,
     path: &str,
     mode: u32,
     was_left: bool,
 ) -> io::Result<SocketFile>
-    ensures { IfOk result (λ bound. mode_of_socket bound ≡ mode) }
+    ensures mode { IfOk result (λ bound. mode_of_socket bound ≡ mode) }
+    ensures listens { IfOk result (λ bound. IsBound (R.sockets rt.now) path.now mode bound) }
 {
     let bound = bind_new(rt, alloc, path, mode);
     if !is_in_use(&bound) || !was_left || !is_own_socket(rt, path).unwrap_or(false) {
@@ -137,7 +144,7 @@ fn bind_under<R: Files + Net>(
 
 // Makes a socket's file although its lock is held, if there is none: somebody removed that of the program that holds
 // the lock. That program goes on, and the new socket gets a lock of its own.
-fn bind_displaced<R: Files + Net>(
+fn bind_displaced<R: SystemSockets>(
     rt: &R,
     alloc: Global,
     path: &str,
@@ -145,7 +152,8 @@ fn bind_displaced<R: Files + Net>(
 ) -> io::Result<(SocketFile, SocketLock<R::File>)>
 where
     R::File: SystemFile,
-    ensures { IfOk result (λ bound. mode_of_socket bound.0 ≡ mode) }
+    ensures mode { IfOk result (λ bound. mode_of_socket bound.0 ≡ mode) }
+    ensures listens { IfOk result (λ bound. IsBound (R.sockets rt.now) path.now mode bound.0) }
 {
     let bound = bind_new(rt, alloc, path, mode)?;
     match take_anew(rt, alloc, path) {
@@ -172,10 +180,16 @@ where
 }
 
 // Makes a socket's file if no file exists at the path.
-fn bind_new<R: Files + Net>(rt: &R, alloc: Global, path: &str, mode: u32) -> io::Result<SocketFile>
-    ensures { IfOk result (λ bound. mode_of_socket bound ≡ mode) }
+fn bind_new<R: SystemSockets>(
+    rt: &R,
+    alloc: Global,
+    path: &str,
+    mode: u32,
+) -> io::Result<SocketFile>
+    ensures mode { IfOk result (λ bound. mode_of_socket bound ≡ mode) }
+    ensures listens { IfOk result (λ bound. IsBound (R.sockets rt.now) path.now mode bound) }
 {
-    let listener = UnixListener::bind(&OwnerOnly::new(rt, alloc), path)?;
+    let listener = rt.listen(alloc, path)?;
     match named(rt, path, mode) {
         Ok(name) => Ok(SocketFile { listener, name }),
         Err(error) => {
@@ -186,12 +200,13 @@ fn bind_new<R: Files + Net>(rt: &R, alloc: Global, path: &str, mode: u32) -> io:
 }
 
 // The file of a socket that was just made, with these permissions.
-fn named<R: Files>(rt: &R, path: &str, mode: u32) -> io::Result<SocketName>
-    ensures { IfOk result (λ name. mode_of_name name ≡ mode) }
+fn named<R: SystemSockets>(rt: &R, path: &str, mode: u32) -> io::Result<SocketName>
+    ensures mode { IfOk result (λ name. mode_of_name name ≡ mode) }
+    ensures permitted { IfOk result (λ _. (mode ≡ OWNER_ONLY) ⊎ (R.sockets rt.now).permits path.now mode) }
 {
     let identity = FileIdentity::of(&fs::symlink_metadata(rt, path)?);
     if mode != OWNER_ONLY {
-        fs::set_permissions(rt, path, Permissions::from_mode(mode))?;
+        rt.permit(path, mode)?;
     }
     Ok(SocketName { identity, mode })
 }

@@ -1,29 +1,48 @@
-use Rattle.std.specs.Prelude.{OnOk}
-use Rattle.std.proofs.Common.{◌∙◌, map, sym, ap, subst}
-use Rattle.audit_serve_door.specs.Entrances.{rights_of, rights_of_door, mode_of, modes_of_door, idle_of_door}
+use Rattle.std.specs.Prelude.{OnOk, OnErr}
+use Rattle.std.proofs.Common.{◌≡◌, ◌∙◌, map, sym, ap, subst}
+use Rattle.audit_serve_door.specs.Entrances.{rights_of, rights_of_door, mode_of, modes_of_door, descriptor_of, descriptors_of_door, idle_of_door}
 use Rattle.audit_serve_door.specs.Metered.{metered_calls}
 use Rattle.audit_serve_door.specs.Nonblocking.{nonblocking_calls, unknown_prompt}
 use Rattle.audit_serve_door.specs.Accepting.{unknown_accepting}
 use Rattle.audit_serve_door.specs.Notes.{unknown_notes}
-use Rattle.audit_serve_door.specs.Comings.{who_waits, socket_door_calls}
+use Rattle.audit_serve_door.specs.Comings.{who_waits, places_of, socket_door_calls}
+use Rattle.audit_serve_door.specs.Idle.{IsVacant}
 use Rattle.audit_serve_door.specs.Waits.{NobodyWaits}
 use Rattle.audit_cli_daemon.specs.Carried.{ServesAtDoor}
 use Rattle.audit_cli_daemon.specs.Gauged.{gauged_calls}
 use Rattle.audit_cli_daemon.specs.Rights.{IsIdleTime, IsDoorFor}
 use Rattle.audit_cli_daemon.proofs.Carried.{serves_at_door}
+use Rattle.audit_text.specs.Writing.{WritesInPart}
+use Rattle.audit_store.specs.Store.{active_header}
+use Rattle.audit_server_model.proofs.Serving.{kept_none}
+use Rattle.audit_cli_daemon.specs.State.{ready_line}
+use Rattle.audit_cli_daemon.proofs.Ending.{part_of_both, whole_of}
 use Rattle.audit_cli_daemon.proofs.request.serve_listening.Goals as goal
 
 pub returns-clause-served : goal.returns-clause-served
 returns-clause-served g c =
     let N = metered_calls (nonblocking_calls unknown_prompt) in
     let doors = gauged_calls (socket_door_calls unknown_accepting unknown_notes) in
-    let opens = IsDoorFor (map rights_of c.args.listening.entrances.items) (map mode_of c.args.listening.entrances.items) c.args.judged.idle in
+    let opens = IsDoorFor (map rights_of c.args.listening.entrances.items) (map mode_of c.args.listening.entrances.items) (λ descriptors. descriptors ≡ map descriptor_of c.args.listening.entrances.items) c.args.judged.idle in
     let first : opens c.new-gauged.result = record {
       rights_are = ap rights_of_door c.new-gauged.ensures ∙ c.in-Ok.ensures.rights;
       modes_are = ap modes_of_door c.new-gauged.ensures ∙ c.in-Ok.ensures.modes;
+      listen = ap descriptors_of_door c.new-gauged.ensures ∙ c.in-Ok.ensures.sockets;
       idle = subst (IsIdleTime c.args.judged.idle) (sym (ap idle_of_door c.new-gauged.ensures ∙ c.in-Ok.ensures.idle)) c.time_of.ensures;
       nobody = subst (λ door. NobodyWaits (who_waits door)) (sym c.new-gauged.ensures) c.in-Ok.ensures.nobody;
+      vacant = subst (λ door. IsVacant (idle_of_door door) (places_of door)) (sym c.new-gauged.ensures) (subst (λ idle. IsVacant idle (places_of c.in-Ok.door)) (sym c.in-Ok.ensures.idle) c.in-Ok.ensures.vacant);
     } in
     subst (λ ending. OnOk ending (ServesAtDoor N doors opens c.args.judged.reserve c.args.judged.most c.args.store c.serve_until_stopped-store.result.0)) (sym c.and.ensures)
     (serves_at_door N doors opens c.args.judged.reserve c.args.judged.most c.new-gauged.result c.serve_until_stopped-store.new.door c.args.store c.serve_until_stopped-store.result.0 c.serve_until_stopped-store.result.1 _ first
     c.serve_until_stopped-store.ensures.served)
+
+pub returns-in-Err-clause-kept : goal.returns-in-Err-clause-kept
+returns-in-Err-clause-kept g c = kept_none c.args.store
+
+pub returns-clause-part : goal.returns-clause-part
+returns-clause-part g c =
+    let before = g.W.Write.contents c.args.output.now in
+    let after = g.W.Write.contents c.serve_until_stopped-store.new.writer in
+    let line = ready_line (active_header c.args.store) in
+    subst (λ ending. OnErr ending (WritesInPart before after line)) (sym c.and.ensures)
+    (part_of_both (WritesInPart before after line) c.serve_until_stopped-store.result.1 _ c.serve_until_stopped-store.ensures.part (whole_of before after line c.serve_until_stopped-store.result.1 c.serve_until_stopped-store.ensures.ready))

@@ -1,8 +1,7 @@
-use Rattle.std.specs.Prelude.{OnOk}
+use Rattle.std.specs.Prelude.{OnOk, OnErr}
 use Rattle.std.specs.Io.KnownBytes.{Appends}
-use Rattle.std.proofs.Common.{map, sym, subst}
+use Rattle.std.proofs.Common.{sym, subst}
 use Rattle.audit_store.specs.Store.{active_header}
-use Rattle.audit_serve_door.specs.Entrances.{mode_of}
 use Rattle.audit_serve_door.specs.Metered.{metered_calls}
 use Rattle.audit_serve_door.specs.Nonblocking.{nonblocking_calls, unknown_prompt}
 use Rattle.audit_serve_door.specs.Accepting.{unknown_accepting}
@@ -11,9 +10,13 @@ use Rattle.audit_serve_door.specs.Comings.{socket_door_calls}
 use Rattle.audit_cli_daemon.specs.Gauged.{gauged_calls}
 use Rattle.audit_cli_daemon.specs.Carried.{ServesAtDoor}
 use Rattle.audit_cli_daemon.specs.Rights.{modes_at, IsDoorFor}
-use Rattle.audit_cli_daemon.specs.Sockets.{rights_served}
+use Rattle.audit_cli_daemon.specs.Sockets.{rights_served, paths_served, ListenAt}
 use Rattle.audit_cli_daemon.specs.State.{ready_line}
-use Rattle.audit_cli_daemon.proofs.Carried.{serves_between}
+use Rattle.audit_text.specs.Writing.{WritesInPart}
+use Rattle.audit_server_model.specs.Serving.{StoreKeepsOn}
+use Rattle.audit_server_model.proofs.Serving.{kept_none}
+use Rattle.audit_cli_daemon.proofs.Carried.{serves_between, served_there}
+use Rattle.audit_cli_daemon.proofs.Ending.{ends_early, nothing_yet}
 use Rattle.audit_cli_daemon.proofs.request.serve_store.Goals.{in-Ok, in-Err}
 use Rattle.audit_cli_daemon.proofs.request.serve_store.Goals as goal
 
@@ -21,7 +24,8 @@ pub returns-clause-served : goal.returns-clause-served
 returns-clause-served g c =
     let N = metered_calls (nonblocking_calls unknown_prompt) in
     let doors = gauged_calls (socket_door_calls unknown_accepting unknown_notes) in
-    let opens = IsDoorFor (rights_served c.args.sockets.now c.args.judged.rights) (modes_at (rights_served c.args.sockets.now c.args.judged.rights) c.args.judged.mode) c.args.judged.idle in
+    let there = ListenAt (g.F.SystemSockets.sockets c.args.rt.now) c.args.judged.mode (paths_served c.args.sockets.now) in
+    let opens = IsDoorFor (rights_served c.args.sockets.now c.args.judged.rights) (modes_at (rights_served c.args.sockets.now c.args.judged.rights) c.args.judged.mode) there c.args.judged.idle in
     let begun = g.W.Write.contents c.args.output.now in
     let pair = c.match-bind.store in
     serves_between N doors opens c.args.judged.reserve c.args.judged.most c.args.store pair.0 begun (g.W.Write.contents c.match-bind.output) (g.W.Write.contents c.report_stopped.new.output) pair.1 c.report_stopped.result c.closed.result.count c.closed.result.root
@@ -30,8 +34,7 @@ returns-clause-served g c =
         subst (λ both. OnOk both.1 (Appends begun (g.W.Write.contents c.match-bind.output) (ready_line (active_header c.args.store)))) (sym w.store-is)
             (subst (λ output. OnOk w.serve_listening.result.1 (Appends begun (g.W.Write.contents output) (ready_line (active_header c.args.store)))) (sym w.output-is) w.serve_listening.ensures.ready),
         subst (λ both. OnOk both.1 (ServesAtDoor N doors opens c.args.judged.reserve c.args.judged.most c.args.store both.0)) (sym w.store-is)
-            (subst (λ modes. OnOk w.serve_listening.result.1 (ServesAtDoor N doors (IsDoorFor (rights_served c.args.sockets.now c.args.judged.rights) modes c.args.judged.idle) c.args.judged.reserve c.args.judged.most c.args.store w.serve_listening.result.0)) w.in-Ok.ensures.modes
-            (subst (λ allowed. OnOk w.serve_listening.result.1 (ServesAtDoor N doors (IsDoorFor allowed (map mode_of w.in-Ok.listening.entrances.items) c.args.judged.idle) c.args.judged.reserve c.args.judged.most c.args.store w.serve_listening.result.0)) w.in-Ok.ensures.rights w.serve_listening.ensures.served)),
+            (served_there N doors _ _ _ _ _ there c.args.judged.idle c.args.judged.reserve c.args.judged.most c.args.store w.serve_listening.result.0 w.serve_listening.result.1 w.in-Ok.ensures.rights w.in-Ok.ensures.modes w.in-Ok.ensures.listen w.serve_listening.ensures.served),
       )
       | in-Err w ↦ (
         subst (λ both. OnOk both.1 (Appends begun (g.W.Write.contents c.match-bind.output) (ready_line (active_header c.args.store)))) (sym w.store-is) tt,
@@ -39,3 +42,29 @@ returns-clause-served g c =
       )
     ])
     c.report_stopped.ensures.served c.report_stopped.ensures.written c.closed.ensures.count c.closed.ensures.root
+
+pub returns-clause-ended : goal.returns-clause-ended
+returns-clause-ended g c =
+    let begun = g.W.Write.contents c.args.output.now in
+    let line = ready_line (active_header c.args.store) in
+    let pair = c.match-bind.store in
+    ends_early c.args.store pair.0 begun (g.W.Write.contents c.match-bind.output) (g.W.Write.contents c.report_stopped.new.output) pair.1 c.report_stopped.result c.closed.result.count c.closed.result.root
+    (elim c.match-bind.branch [
+      | in-Ok w ↦ subst (λ both. StoreKeepsOn c.args.store both.0) (sym w.store-is) w.serve_listening.ensures.kept
+      | in-Err w ↦ subst (λ both. StoreKeepsOn c.args.store both.0) (sym w.store-is) (kept_none c.args.store)
+    ])
+    (elim c.match-bind.branch [
+      | in-Ok w ↦
+          subst (λ both. OnErr both.1 (WritesInPart begun (g.W.Write.contents c.match-bind.output) line)) (sym w.store-is)
+          (subst (λ output. OnErr w.serve_listening.result.1 (WritesInPart begun (g.W.Write.contents output) line)) (sym w.output-is) w.serve_listening.ensures.part)
+      | in-Err w ↦
+          subst (λ both. OnErr both.1 (WritesInPart begun (g.W.Write.contents c.match-bind.output) line)) (sym w.store-is)
+          (subst (λ output. WritesInPart begun (g.W.Write.contents output) line) (sym w.output-is) (nothing_yet begun line))
+    ])
+    (elim c.match-bind.branch [
+      | in-Ok w ↦
+          subst (λ both. OnOk both.1 (Appends begun (g.W.Write.contents c.match-bind.output) line)) (sym w.store-is)
+          (subst (λ output. OnOk w.serve_listening.result.1 (Appends begun (g.W.Write.contents output) line)) (sym w.output-is) w.serve_listening.ensures.ready)
+      | in-Err w ↦ subst (λ both. OnOk both.1 (Appends begun (g.W.Write.contents c.match-bind.output) line)) (sym w.store-is) tt
+    ])
+    c.report_stopped.ensures.kept c.report_stopped.ensures.part c.closed.ensures.count c.closed.ensures.root

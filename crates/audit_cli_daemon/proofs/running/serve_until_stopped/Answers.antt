@@ -7,6 +7,7 @@ use Rattle.audit_server.specs.NewCore.{IsNewCore}
 use Rattle.audit_cli_daemon.specs.State.{ready_line}
 use Rattle.audit_cli_daemon.specs.Running.{no_clients}
 use Rattle.audit_cli_daemon.proofs.Daemon.{kept_same, kept_either, store_served, daemon_stopped, whatever_came, keeps_same}
+use Rattle.audit_cli_daemon.proofs.Ending.{on_error, all_written}
 use Rattle.audit_cli_daemon.proofs.running.serve_until_stopped.Goals as goal
 
 -- no core was made, and the store is handed back as it was
@@ -55,3 +56,12 @@ returns-clause-fault g c =
     c.in_default-write_state.ensures.written in
     daemon_stopped g.E.Stream.ReadyStream.calls c.args.most c.args.reserve c.args.store c.into_store-2.result c.in-Ok-with_reserve.core c.serve_slots-served.new.core c.deref_mut.result.now c.serve_slots-served.new.slots vacant made c.into_store-2.ensures
     (g.W.Write.contents c.args.writer.now) (g.W.Write.contents c.write_state.new.writer) c.serve_slots-served.result line c.serve_slots-served.ensures.stopped
+
+pub returns-clause-part : goal.returns-clause-part
+returns-clause-part g c =
+    let line : Appends (g.W.Write.contents c.args.writer.now) (g.W.Write.contents c.write_state.new.writer) (ready_line (active_header c.args.store)) =
+    subst (Appends (g.W.Write.contents c.args.writer.now) (g.W.Write.contents c.write_state.new.writer))
+    (ap (λ count. numbered_line (codes "ready ") count c.commitment-begun.result.root) c.commitment-begun.ensures.count
+    ∙ ap (λ root. numbered_line (codes "ready ") (active_header c.args.store).count root) c.commitment-begun.ensures.root)
+    c.in_default-write_state.ensures.written in
+    on_error _ c.serve_slots-served.result (all_written (g.W.Write.contents c.args.writer.now) (g.W.Write.contents c.write_state.new.writer) (ready_line (active_header c.args.store)) line)

@@ -1,9 +1,9 @@
 use denote.Ref.{Bor}
-use Rattle.std.proofs.Common.{rules, arith, ◌≡◌, refl, sym, ap, ◌∙◌, subst, ℕ, ◌<◌, true≢false, Option, Some, None, List, length}
+use Rattle.std.proofs.Common.{arith, refl, sym, ap, ◌∙◌, ℕ, true≢false, List}
 use Rattle.std.specs.Prelude.{option_map}
 use Rattle.std.proofs.lemmas.List.{length-map}
-use Rattle.audit_cli_daemon.specs.Sources.{words_of, source_in, source_shown}
-use Rattle.audit_cli_daemon.proofs.JudgedSources.{no_word, word_at, word_within, judged_more, judged_twice, judged_none, judged_many, judged_all, judged_kinds}
+use Rattle.audit_cli_daemon.specs.Sources.{words_of, source_shown}
+use Rattle.audit_cli_daemon.proofs.JudgedSources.{word_at, word_within, judged_more, judged_twice, judged_none, judged_many, judged_all, judged_kinds}
 use Rattle.audit_cli_daemon.proofs.sources.kinds_bound_by.Goals as goal
 
 pub loop-word-init : goal.loop-word-init

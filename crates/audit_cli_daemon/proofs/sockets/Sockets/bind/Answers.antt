@@ -1,8 +1,10 @@
-use Rattle.std.proofs.Common.{◌≡◌, ◌∙◌, ◌++◌, [], ◌∷◌, map, sym, ap}
+use Rattle.std.proofs.Common.{◌∙◌, ◌++◌, [], ◌∷◌, map, sym, ap, subst}
 use Rattle.std.proofs.lemmas.List.{map-append}
-use Rattle.audit_serve_door.specs.Entrances.{mode_of}
+use Rattle.audit_serve_door.specs.Entrances.{mode_of, descriptor_of}
 use Rattle.audit_cli_daemon.specs.Rights.{rights_of_readers}
 use Rattle.audit_cli_daemon.specs.Sources.{words_of, sources_in}
+use Rattle.audit_cli_daemon.specs.Sockets.{path_of_readers, paths_at, ListenAt}
+use Rattle.audit_cli_daemon.proofs.Listening.{listen_last}
 use Rattle.audit_cli_daemon.proofs.JudgedSources.{modes_joined}
 use Rattle.audit_cli_daemon.proofs.sockets.Sockets.bind.Goals.{in-Some+in_ok-readers+in_ok-push, in_default}
 use Rattle.audit_cli_daemon.proofs.sockets.Sockets.bind.Goals as goal
@@ -28,3 +30,23 @@ returns-clause-modes g c =
           ∙ ap (map mode_of) c.new-entrances.ensures.items
           ∙ ap (λ readers. map (λ one. mode) (rights_of_readers readers)) (sym w.in_default.is)
     ])
+
+pub returns-clause-listen : goal.returns-clause-listen
+returns-clause-listen g c =
+    let facts = g.R.SystemSockets.sockets c.args.rt.now in
+    let mode = c.args.mode in
+    let sources = sources_in (words_of c.args.self.now.sources.now) in
+    let readers = c.args.self.now.readers in
+    subst (λ entrances. ListenAt facts mode (paths_at readers sources c.args.self.now.clients.now) (map descriptor_of entrances)) (sym c.in_ok-push-2.ensures.items)
+    (listen_last facts mode descriptor_of readers sources c.args.self.now.clients.now c.bind_sources.new.entrances.items c.in_ok-clients.clients
+    (c.in_ok-bind_sources.ensures.listen (path_of_readers readers) (elim c.match-self.branch [
+      | in-Some+in_ok-readers+in_ok-push w ↦
+          subst (λ entrances. ListenAt facts mode (path_of_readers readers) (map descriptor_of entrances))
+          (sym (ap (λ entrances. entrances.items) w.entrances-is ∙ w.in_ok-push.ensures.items ∙ ap (λ none. none ++ w.in_ok-readers.readers ∷ []) c.new-entrances.ensures.items))
+          (subst (λ there. ListenAt facts mode (path_of_readers there) (descriptor_of w.in_ok-readers.readers ∷ [])) (sym w.in-Some.is) (w.in_ok-readers.ensures.listens, tt))
+      | in_default w ↦
+          subst (λ entrances. ListenAt facts mode (path_of_readers readers) (map descriptor_of entrances))
+          (sym (ap (λ entrances. entrances.items) w.entrances-is ∙ c.new-entrances.ensures.items))
+          (subst (λ there. ListenAt facts mode (path_of_readers there) []) (sym w.in_default.is) tt)
+    ]))
+    c.in_ok-clients.ensures.listens)

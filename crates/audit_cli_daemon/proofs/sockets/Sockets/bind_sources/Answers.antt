@@ -1,9 +1,11 @@
 use Rattle.std.specs.Prelude.{option_map}
-use Rattle.std.proofs.Common.{◌≡◌, ◌∙◌, ◌++◌, ◌∷◌, [], map, sym, ap, take}
+use Rattle.std.proofs.Common.{◌∙◌, ◌+◌, ◌++◌, map, sym, ap, subst, take}
 use Rattle.std.proofs.lemmas.List.{append-nil, take_all}
-use Rattle.audit_serve_door.specs.Entrances.{rights_of, mode_of}
+use Rattle.audit_serve_door.specs.Entrances.{rights_of, mode_of, descriptor_of}
 use Rattle.audit_cli_daemon.specs.Rights.{source_rights}
 use Rattle.audit_cli_daemon.specs.Sources.{words_of, sources_in, source_shown}
+use Rattle.audit_cli_daemon.specs.Sockets.{path_of_source, ListenAt}
+use Rattle.audit_cli_daemon.proofs.Listening.{listen_source}
 use Rattle.audit_cli_daemon.proofs.JudgedSources.{sources_taken, pushed}
 use Rattle.audit_cli_daemon.proofs.sockets.Sockets.bind_sources.Goals as goal
 
@@ -11,6 +13,7 @@ pub loop-word-init : goal.loop-word-init
 loop-word-init g c = record {
   rights = sym (append-nil (map rights_of c.args.entrances.now.items));
   modes = sym (append-nil (map mode_of c.args.entrances.now.items));
+  listen = λ paths all. subst (λ places. ListenAt (g.R.SystemSockets.sockets c.args.rt.now) c.args.mode places (map descriptor_of c.args.entrances.now.items)) (sym (append-nil paths)) all;
 }
 
 pub loop-word-preserved : goal.loop-word-preserved
@@ -23,6 +26,8 @@ loop-word-preserved g c =
     record {
       rights = ap (map rights_of) c.in_ok-push.ensures.items ∙ pushed rights_of source_rights c.args.entrances.now.items c.loop-word.entrances.items c.in_ok-open_entrance.field-0 before _ s c.loop-word.invariant.rights c.in_ok-open_entrance.ensures.rights more;
       modes = ap (map mode_of) c.in_ok-push.ensures.items ∙ pushed mode_of (λ source. c.args.mode) c.args.entrances.now.items c.loop-word.entrances.items c.in_ok-open_entrance.field-0 before _ s c.loop-word.invariant.modes c.in_ok-open_entrance.ensures.mode more;
+      listen = λ paths all. subst (λ entrances. ListenAt (g.R.SystemSockets.sockets c.args.rt.now) c.args.mode (paths ++ map path_of_source (sources_in (words_of (take (i + 1) words)))) (map descriptor_of entrances)) (sym c.in_ok-push.ensures.items)
+          (listen_source (g.R.SystemSockets.sockets c.args.rt.now) c.args.mode descriptor_of paths before _ c.loop-word.entrances.items s c.in_ok-open_entrance.field-0 more (c.loop-word.invariant.listen paths all) c.in_ok-open_entrance.ensures.listens);
     }
 
 pub returns-clause-rights : goal.returns-clause-rights
@@ -32,3 +37,7 @@ returns-clause-rights g c =
 pub returns-clause-modes : goal.returns-clause-modes
 returns-clause-modes g c =
     c.loop-word.invariant.modes ∙ ap (λ words. map mode_of c.args.entrances.now.items ++ map (λ source. c.args.mode) (sources_in (words_of words))) (take_all c.loop-word.word-index c.args.self.now.sources.now c.loop-word-test.false)
+
+pub returns-clause-listen : goal.returns-clause-listen
+returns-clause-listen g c paths all =
+    subst (λ words. ListenAt (g.R.SystemSockets.sockets c.args.rt.now) c.args.mode (paths ++ map path_of_source (sources_in (words_of words))) (map descriptor_of c.loop-word.entrances.items)) (take_all c.loop-word.word-index c.args.self.now.sources.now c.loop-word-test.false) (c.loop-word.invariant.listen paths all)

@@ -1,0 +1,93 @@
+-- What a daemon that ended with an error has written, and done to its store.
+use Rattle.std.specs.Prelude.{OnErr, OnOk, codes}
+use Rattle.std.specs.Result.{result_and}
+use Rattle.std.specs.Io.KnownBytes.{Appends, Keeps}
+use Rattle.std.proofs.Common.{◌≡◌, ◌∙◌, ℕ, Option, Some, None, Result, Ok, Err, List, [], ◌++◌, append-nil, refl, sym, ap, subst}
+use Rattle.std.proofs.KnownBytes.{Appends-trans}
+use Rattle.std.proofs.lemmas.List.{append_assoc}
+use Rattle.audit_disk_model.specs.declared.sectors.Sectors as sectors
+use Rattle.audit_store.specs.Store.{active_header}
+use Rattle.audit_store.specs.declared.store.Store.{Store}
+use Rattle.audit_server_model.specs.Serving.{StoreKeepsOn}
+use Rattle.audit_text.specs.NumberedLine.{numbered_line}
+use Rattle.audit_text.specs.Writing.{WritesInPart}
+use Rattle.audit_cli_base.specs.declared.fault.CommandError.{CommandError}
+use Rattle.audit_cli_daemon.specs.Carried.{EndsEarly}
+use Rattle.audit_cli_daemon.specs.State.{ready_line, stopped_line}
+
+abbrev Ending : Type 0
+Ending = Result (Unit {0}) CommandError
+
+pub kept_bytes : (known : Option (List ℕ)) → Keeps known known
+kept_bytes None = tt
+kept_bytes (Some bytes) = refl
+
+-- nothing is written yet
+pub nothing_yet : (known : Option (List ℕ)) (text : List ℕ) → WritesInPart known known text
+nothing_yet known text = record { written = []; rest = text; split = refl; appended = by known }
+  where
+    by : (known : Option (List ℕ)) → Appends known known []
+    by None = tt
+    by (Some bytes) = sym (append-nil bytes)
+
+-- all of the text is
+pub all_written : (old new : Option (List ℕ)) (text : List ℕ) → Appends old new text → WritesInPart old new text
+all_written old new text appended = record { written = text; rest = []; split = sym (append-nil text); appended = appended }
+
+-- a prefix of a text is one of a longer text
+of_longer : (old new : Option (List ℕ)) (text more : List ℕ) → WritesInPart old new text → WritesInPart old new (text ++ more)
+of_longer old new text more part = record {
+  written = part.written;
+  rest = part.rest ++ more;
+  split = ap (λ (front : List ℕ). front ++ more) part.split ∙ append_assoc part.written part.rest more;
+  appended = part.appended;
+}
+
+-- and after a whole text
+after_whole : (old mid new : Option (List ℕ)) (text more : List ℕ) → Appends old mid text → WritesInPart mid new more → WritesInPart old new (text ++ more)
+after_whole old mid new text more first part = record {
+  written = text ++ part.written;
+  rest = part.rest;
+  split = ap (λ (later : List ℕ). text ++ later) part.split ∙ sym (append_assoc text part.written part.rest);
+  appended = Appends-trans old mid new text part.written first part.appended;
+}
+
+kept_after : (old now new : Option (List ℕ)) (text : List ℕ) → Appends old now text → Keeps now new → Appends old new text
+kept_after None now new text appended kept = tt
+kept_after (Some bytes) None new text appended kept = absurd appended
+kept_after (Some bytes) (Some held) None text appended kept = absurd kept
+kept_after (Some bytes) (Some held) (Some last) text appended kept = kept ∙ appended
+
+part_kept : (old mid new : Option (List ℕ)) (text : List ℕ) → WritesInPart old mid text → Keeps mid new → WritesInPart old new text
+part_kept old mid new text part kept = record { written = part.written; rest = part.rest; split = part.split; appended = kept_after old mid new part.written part.appended kept }
+
+pub on_error : (P : Type 0) (done : Ending) → P → OnErr done P
+on_error P (Ok done) holds = tt
+on_error P (Err fault) holds = holds
+
+pub whole_of : (old new : Option (List ℕ)) (text : List ℕ) (done : Ending) → OnOk done (Appends old new text) → OnOk done (WritesInPart old new text)
+whole_of old new text (Ok done) appended = all_written old new text appended
+whole_of old new text (Err fault) appended = tt
+
+-- of two results, whichever is the error
+pub part_of_both : (P : Type 0) (first other : Ending) → OnErr first P → OnOk first P → OnErr (result_and first other) P
+part_of_both P (Err fault) other failed done = failed
+part_of_both P (Ok first) (Err fault) failed done = done
+part_of_both P (Ok first) (Ok second) failed done = tt
+
+pub ends_early : {D : Type 0} {g : sectors.Ghosts D} (opened left : Store D g) (before mid after : Option (List ℕ)) (served result : Ending) (count : ℕ) (root : List ℕ) → StoreKeepsOn opened left
+    → OnErr served (WritesInPart before mid (ready_line (active_header opened))) → OnOk served (Appends before mid (ready_line (active_header opened)))
+    → OnErr served (Keeps mid after) → OnErr result (WritesInPart mid after (numbered_line (codes "stopped ") count root)) → count ≡ (active_header left).count → root ≡ (active_header left).root
+    → OnErr result (EndsEarly opened before after)
+ends_early opened left before mid after served (Ok done) count root keeps part whole kept stopped count_is root_is = tt
+ends_early opened left before mid after (Err cause) (Err fault) count root keeps part whole kept stopped count_is root_is = record {
+  left = left;
+  kept = keeps;
+  part = of_longer before after (ready_line (active_header opened)) (stopped_line (active_header left)) (part_kept before mid after (ready_line (active_header opened)) part kept);
+}
+ends_early opened left before mid after (Ok done) (Err fault) count root keeps part whole kept stopped count_is root_is = record {
+  left = left;
+  kept = keeps;
+  part = after_whole before mid after (ready_line (active_header opened)) (stopped_line (active_header left)) whole
+      (subst (WritesInPart mid after) (ap (λ n. numbered_line (codes "stopped ") n root) count_is ∙ ap (numbered_line (codes "stopped ") (active_header left).count) root_is) stopped);
+}
