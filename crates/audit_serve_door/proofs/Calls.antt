@@ -1,12 +1,12 @@
 -- The calls of a door, one by one.
-use Rattle.std.specs.Prelude.{if◌then◌else◌}
+use Rattle.std.specs.Prelude.{if◌then◌else◌, ◌&&◌}
 use Rattle.std.specs.declared.time.Instant.{Instant}
-use Rattle.std.proofs.Common.{◌≡◌, ◌⊎◌, inl, inr, ◌∙◌, ℕ, is_some, Bool, true, false, Option, Some, None, List, [], ◌∷◌, length, refl, sym, ap, subst, true≢false}
+use Rattle.std.proofs.Common.{◌≡◌, ◌≢◌, ◌⊎◌, inl, inr, ◌∙◌, ◌++◌, ℕ, is_some, Bool, true, false, Option, Some, None, List, [], ◌∷◌, length, refl, sym, ap, subst, true≢false}
 use Rattle.audit_serve_ready.specs.declared.departure.Departure.TheVariants.{Memory}
 use Rattle.audit_serve_ready.specs.declared.newcomer.Newcomer.{Newcomer}
 use Rattle.audit_serve_ready.specs.declared.next.Next.{Next}
 use Rattle.audit_serve_ready.specs.declared.next.Next.TheVariants as next
-use Rattle.audit_serve_ready.specs.Door.{an_offer}
+use Rattle.audit_serve_ready.specs.Door.{a_judging, an_offer}
 use Rattle.audit_serve_door.specs.Accepting.{AcceptModel}
 use Rattle.audit_serve_door.specs.Notes.{a_note, a_silent_note, NoteModel}
 use Rattle.audit_serve_door.specs.declared.entrance.Arrival.{Arrival}
@@ -16,8 +16,14 @@ use Rattle.audit_serve_door.specs.declared.waiting.Waiting.{Waiting}
 use Rattle.audit_serve_door.specs.declared.socket_door.SocketDoor.{SocketDoor}
 use Rattle.audit_serve_door.specs.Waits.{NoArrival, Passes, ChangesWaiters}
 use Rattle.audit_serve_door.specs.Finishing.{IsFinishingTime, IsOver, has_order, SaysNext}
-use Rattle.audit_serve_door.specs.Comings.{Receives, KeepsWaiters, KeepsSockets, IsPauseOfDoor, AreDoorCalls}
-use Rattle.audit_serve_door.proofs.Passing.{turned_one, turned_none, passes_out, passes_gone, changes_refl, changes_as}
+use Rattle.audit_serve_door.specs.Comings.{Receives, KeepsWaiters, KeepsSockets, IsPauseOfDoor, AreDoorCalls, IsGivenOut, ChangesSeats, PausesPlaces, candidates_of}
+use Rattle.audit_serve_door.specs.Idle.{ChoosesDue, places_held, seated, is_idle, is_due, noted}
+use Rattle.audit_serve_door.specs.Entering.{NobodyEnters}
+use Rattle.audit_serve_door.specs.Metered.{moves_of_metered}
+use Rattle.audit_serve_passes.specs.Rights.{only_reads}
+use Rattle.audit_serve_door.specs.declared.places.Candidates.{Candidates}
+use Rattle.audit_serve_door.specs.declared.places.Places.{Places}
+use Rattle.audit_serve_door.proofs.Passing.{turned_one, turned_none, turned_then, passes_then, passes_as, passes_out, passes_gone, changes_refl, changes_as}
 
 never_again : {A : Type 0} → next.Stop ≡ next.Again → A
 never_again same = absurd (cc same)
@@ -75,13 +81,48 @@ none_here None none = refl
 none_here (Some one) none = absurd (true≢false none)
 
 module _ {C J W L S : Type 0} where
-  pub kept_call : (old new : SocketDoor C J W L S) → new.entrances ≡ old.entrances → new.waiting ≡ old.waiting → new.journal ≡ old.journal → new.until ≡ old.until → (mid : SocketDoor C J W L S) × KeepsWaiters old mid × (new ≡ mid)
-  kept_call old new entrances waiting journal until = (new, record { entrances = entrances; waiting = waiting; journal = journal; until = until }, refl)
+  pub kept_call : (old new : SocketDoor C J W L S) → new.entrances ≡ old.entrances → new.waiting ≡ old.waiting → new.journal ≡ old.journal → new.until ≡ old.until → new.places ≡ old.places → (mid : SocketDoor C J W L S) × (KeepsWaiters old mid × (mid.places ≡ old.places)) × (new ≡ mid)
+  kept_call old new entrances waiting journal until places = (new, (record { entrances = entrances; waiting = waiting; journal = journal; until = until }, places), refl)
 
-  pub sockets_call : (Waits : Waiting S → Waiting S → J → J → Type 0) (old new : SocketDoor C J W L S) → new.entrances ≡ old.entrances → new.until ≡ old.until → Waits old.waiting new.waiting old.journal new.journal → (mid : SocketDoor C J W L S) × KeepsSockets Waits old mid × (new ≡ mid)
-  sockets_call Waits old new entrances until waits = (new, record { entrances = entrances; until = until; waits = waits }, refl)
+  -- a client was judged
+  pub judged_call : (place : ℕ) (client : Metered (Nonblocking S)) (said : Bool) (old new : SocketDoor C J W L S) → new.entrances ≡ old.entrances → new.waiting ≡ old.waiting → new.journal ≡ old.journal → new.until ≡ old.until → said ≡ (is_idle place (moves_of_metered client) old.places && is_due place old.places)
+      → new.places ≡ noted place (moves_of_metered client) old.now old.places → (mid : SocketDoor C J W L S) × (KeepsWaiters old mid × ChangesSeats old (a_judging place client said) mid) × (new ≡ mid)
+  judged_call place client said old new entrances waiting journal until is places = (new, (record { entrances = entrances; waiting = waiting; journal = journal; until = until }, (is, places)), refl)
+
+  pub sockets_call : (Waits : Waiting S → Waiting S → J → J → Type 0) (seats : Places) (old new : SocketDoor C J W L S) → new.entrances ≡ old.entrances → new.until ≡ old.until → new.places ≡ seats → Waits old.waiting new.waiting old.journal new.journal → (mid : SocketDoor C J W L S) × (KeepsSockets Waits old mid × (mid.places ≡ seats)) × (new ≡ mid)
+  sockets_call Waits seats old new entrances until places waits = (new, (record { entrances = entrances; until = until; waits = waits }, places), refl)
+
+-- a pause that doesn't choose leaves the places
+pub places_kept : (answer : Next) (until : Option Instant) (who : Candidates) (now : Instant) (old new : Places) → (until ≡ None → answer ≡ next.Stop) → new ≡ old → PausesPlaces answer until who now old new
+places_kept next.Stop until who now old new stops same = same
+places_kept next.Again None who now old new stops same = never_again (sym (stops refl))
+places_kept next.Again (Some last) who now old new stops same = same
+
+-- before the order to stop it does
+pub places_chosen : (until : Option Instant) (who : Candidates) (now : Instant) (old new : Places) → until ≡ None → ChoosesDue who now old new → PausesPlaces next.Again until who now old new
+places_chosen None who now old new none chosen = chosen
+places_chosen (Some last) who now old new none chosen = absurd (cc none)
+
+some_end : {A : Type 0} (gone : List A) (one : A) → gone ++ one ∷ [] ≢ []
+some_end [] one none = absurd (cc none)
+some_end (first ∷ gone) one none = absurd (cc none)
 
 module _ {S J : Type 0} (N : NoteModel J) where
+  -- after others a further one was taken out and turned away
+  pub turned_further : (arrival : Arrival S) (old mid left new : Waiting S) (was between now : J) → ChangesWaiters N NoArrival old mid was between → Passes NoArrival (arrival ∷ []) mid left → Passes NoArrival [] left new → N.DidNote between now (a_note Memory ∷ []) → (turned : ChangesWaiters N NoArrival old new was now) × (turned.gone ≢ [])
+  turned_further arrival old mid left new was between now first out stay noted = (
+    record {
+      gone = first.gone ++ arrival ∷ [];
+      passes = passes_as (λ one. NoArrival one ⊎ NoArrival one) NoArrival (first.gone ++ arrival ∷ []) old new
+          (λ one either. elim either [ inl none ↦ none | inr none ↦ none ]) (λ one none. inl none)
+          (passes_then NoArrival NoArrival first.gone (arrival ∷ []) old mid new first.passes (passes_out NoArrival (arrival ∷ []) mid left new out stay));
+      notes = first.notes ++ a_note Memory ∷ [];
+      noted = N.more_noted was between now first.notes (a_note Memory ∷ []) first.noted noted;
+      each = turned_then first.gone (arrival ∷ []) first.notes (a_note Memory ∷ []) first.each (tt, tt);
+    },
+    some_end first.gone arrival,
+  )
+
   -- the oldest one that had sent nothing was dropped
   pub dropped : (is : Bool) (old new : Waiting S) (was now : J) → is ≡ true → (gone : List (Arrival S)) × Passes NoArrival gone old new × (length gone ≡ (if is then 1 else 0)) → N.DidNote was now (a_silent_note ∷ []) → ChangesWaiters N NoArrival old new was now
   dropped is old new was now there passes noted = record {
@@ -158,12 +199,19 @@ module _ {S J : Type 0} (N : NoteModel J) where
 
 module _ {C J W L S : Type 0} (A : AcceptModel L S) (N : NoteModel J) where
   -- an offer that nobody took
-  pub none_given : (old new : SocketDoor C J W L S) (place : ℕ) (given : Option (Newcomer (Metered (Nonblocking S)))) → given ≡ None → new.entrances ≡ old.entrances → new.until ≡ old.until → ChangesWaiters N NoArrival old.waiting new.waiting old.journal new.journal
-      → AreDoorCalls A N old (an_offer place given ∷ []) new
-  none_given old new place given is entrances until waits =
+  pub none_given : (old new : SocketDoor C J W L S) (place : ℕ) (given : Option (Newcomer (Metered (Nonblocking S)))) → given ≡ None → new.entrances ≡ old.entrances → new.until ≡ old.until → new.places ≡ old.places → (turned : ChangesWaiters N NoArrival old.waiting new.waiting old.journal new.journal)
+      → NobodyEnters (places_held old.places) new.waiting ⊎ (turned.gone ≢ []) → AreDoorCalls A N old (an_offer place given ∷ []) new
+  none_given old new place given is entrances until places turned why =
       subst (λ (answer : Option (Newcomer (Metered (Nonblocking S)))). AreDoorCalls A N old (an_offer place answer ∷ []) new) (sym is)
-      (new, record { entrances = entrances; until = until; waits = waits }, refl)
+      (new, (record { entrances = entrances; until = until; waits = record { turned = turned; why = why } }, places), refl)
+
+  -- an offer that somebody took who was next
+  pub one_given : (old new : SocketDoor C J W L S) (place number : ℕ) (newcomer : Newcomer (Metered (Nonblocking S))) → new.entrances ≡ old.entrances → new.until ≡ old.until → IsGivenOut N (places_held old.places) newcomer old.waiting new.waiting old.journal new.journal
+      → new.places ≡ seated place number (only_reads newcomer.rights) old.now old.places → AreDoorCalls A N old (an_offer place (Some newcomer) ∷ []) new
+  one_given old new place number newcomer entrances until given places =
+      (new, (record { entrances = entrances; until = until; waits = given }, (number, places)), refl)
 
   pub pause_call : (answer : Next) (old new : SocketDoor C J W L S) → Receives A N old.entrances.items new.entrances.items old.waiting new.waiting old.journal new.journal → SaysNext answer old.is_replaced new.has_failed (has_order new.orders) new.now old.until new.until
-      → (mid : SocketDoor C J W L S) × IsPauseOfDoor A N answer old mid × (new ≡ mid)
-  pause_call answer old new received says = (new, record { received = received; says = says }, refl)
+      → PausesPlaces answer old.until (candidates_of new) new.now old.places new.places
+      → (mid : SocketDoor C J W L S) × (IsPauseOfDoor A N answer old mid × PausesPlaces answer old.until (candidates_of mid) mid.now old.places mid.places) × (new ≡ mid)
+  pause_call answer old new received says places = (new, (record { received = received; says = says }, places), refl)

@@ -72,19 +72,19 @@ module _ {C J W L S : Type 0} (A : AcceptModel L S) (N : NoteModel J) (allowed :
   kept_allowed old new keeps before = same_sockets old new keeps.entrances (subst (AreAllowed allowed) (sym keeps.waiting) before.1) before
 
   step_allowed : (old new : SocketDoor C J W L S) (call : DoorCall (Metered (Nonblocking S))) → IsDoorCall A N old call new → HoldsAllowed old → HoldsAllowed new × GivesAllowed allowed call
-  step_allowed old new (a_judging place client answer) did before = (kept_allowed old new did before, tt)
-  step_allowed old new (an_asking found answer) did before = (kept_allowed old new did before, tt)
-  step_allowed old new (a_release answer) did before = (kept_allowed old new did before, tt)
-  step_allowed old new (a_parting place client departure) did before = (same_sockets old new did.entrances (nobody_allowed allowed [] old.waiting new.waiting did.waits.passes before.1) before, tt)
-  step_allowed old new (an_offer place None) did before = (same_sockets old new did.entrances (nobody_allowed allowed did.waits.gone old.waiting new.waiting did.waits.passes before.1) before, tt)
+  step_allowed old new (a_judging place client answer) did before = (kept_allowed old new did.0 before, tt)
+  step_allowed old new (an_asking found answer) did before = (kept_allowed old new did.0 before, tt)
+  step_allowed old new (a_release answer) did before = (kept_allowed old new did.0 before, tt)
+  step_allowed old new (a_parting place client departure) did before = (same_sockets old new did.0.entrances (nobody_allowed allowed [] old.waiting new.waiting did.0.waits.passes before.1) before, tt)
+  step_allowed old new (an_offer place None) did before = (same_sockets old new did.0.entrances (nobody_allowed allowed did.0.waits.turned.gone old.waiting new.waiting did.0.waits.turned.passes before.1) before, tt)
   step_allowed old new (an_offer place (Some newcomer)) did before =
-      let given = did.waits in
+      let given = did.0.waits in
       let left = nobody_allowed allowed given.turned.gone old.waiting given.left given.turned.passes before.1 in (
-        same_sockets old new did.entrances (nobody_allowed allowed _ given.left new.waiting given.out.passes left) before,
+        same_sockets old new did.0.entrances (nobody_allowed allowed _ given.left new.waiting given.out.passes left) before,
         subst (Contains allowed) (sym given.client.rights) (left given.number given.arrival (inr (heard_waits _ _ given.arrival given.waited))),
       )
   step_allowed old new (a_pause moved answer) did before =
-      let received = did.received in (
+      let received = did.0.received in (
         (
           rights_stay A received.each old.entrances.items new.entrances.items received.accepted ∙ before.0,
           passes_allowed allowed _ received.waits.gone old.waiting new.waiting received.waits.passes (came_allowed allowed A received.each old.entrances.items new.entrances.items received.accepted before.0) before.1,

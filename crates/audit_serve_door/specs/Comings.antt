@@ -1,15 +1,26 @@
 -- The calls of a door over sockets: who comes in, who waits, and who is given a place.
-use Rattle.std.specs.Prelude.{◌≡◌, ℕ, Some, None, List, [], ◌∷◌, ◌++◌, length, Contains}
+use Rattle.std.specs.Prelude.{◌≡◌, ℕ, ◌&&◌, Option, Some, None, List, [], ◌∷◌, ◌++◌, length, Contains}
+use Rattle.std.specs.List.{list_all}
+use Rattle.std.specs.declared.time.Instant.{Instant}
 use Rattle.std.proofs.Common.{refl, subst}
 use Rattle.audit_serve_passes.specs.declared.rights.Rights.{Rights}
 use Rattle.audit_serve_ready.specs.declared.departure.Departure.{Departure}
 use Rattle.audit_serve_ready.specs.declared.newcomer.Newcomer.{Newcomer}
 use Rattle.audit_serve_ready.specs.declared.next.Next.{Next}
-use Rattle.audit_serve_ready.specs.Door.{DoorCall, an_offer, a_parting, a_pause, DoorModel}
+use Rattle.audit_serve_ready.specs.declared.next.Next.TheVariants as next
+use Rattle.audit_serve_ready.specs.Door.{DoorCall, a_judging, an_offer, a_parting, a_pause, DoorModel}
+use Rattle.audit_serve_passes.specs.Rights.{only_reads}
 use Rattle.audit_serve_door.specs.Accepting.{AcceptModel}
 use Rattle.audit_serve_door.specs.Notes.{NoteModel, a_note}
 use Rattle.audit_serve_door.specs.Nonblocking.{inner_of_nonblocking}
-use Rattle.audit_serve_door.specs.Metered.{inner_of_metered}
+use Rattle.audit_serve_door.specs.Metered.{inner_of_metered, moves_of_metered}
+use Rattle.audit_serve_door.specs.Choice.{next_entry}
+use Rattle.audit_serve_door.specs.Idle.{places_held, is_taken, seated, vacated, is_idle, is_due, noted, candidates_for}
+use Rattle.audit_serve_door.specs.Idle.{ChoosesDue}
+use Rattle.audit_serve_door.specs.Entering.{has_reader, has_other, heads_of, LeavesVacant}
+use Rattle.audit_serve_door.specs.declared.choice.Taken.{Taken}
+use Rattle.audit_serve_door.specs.declared.places.Candidates.{Candidates}
+use Rattle.audit_serve_door.specs.declared.places.Places.{Places}
 use Rattle.audit_serve_door.specs.declared.entrance.Arrival.{Arrival}
 use Rattle.audit_serve_door.specs.declared.entrance.Entrance.{Entrance}
 use Rattle.audit_serve_door.specs.declared.metered.Metered.{Metered}
@@ -32,13 +43,14 @@ GivesAllowed allowed (an_offer place (Some newcomer)) = Contains allowed newcome
 GivesAllowed allowed _ = Unit {0}
 
 module _ {J S : Type 0} (N : NoteModel J) where
-  -- A connection that waited, and had sent something, was given out: it was taken out of those that waited. Others may
-  -- have been turned away before it.
-  pub record IsGivenOut (newcomer : Newcomer (Metered (Nonblocking S))) (old new : Waiting S) (before after : J)
-      : Type 0 where
+  -- A connection that waited, and had sent something, was given out, since it was next: it was taken out of those that
+  -- waited. Others may have been turned away before it.
+  pub record IsGivenOut (taken : Taken) (newcomer : Newcomer (Metered (Nonblocking S))) (old new : Waiting S)
+      (before after : J) : Type 0 where
     pub left : Waiting S
     pub turned : ChangesWaiters N NoArrival old left before after
     pub number : ℕ
+    pub next : next_entry (heads_of left) taken ≡ Some number
     pub arrival : Arrival S
     pub waited : heard_at left number ≡ Some arrival
     pub client : IsClientOf arrival newcomer
@@ -55,6 +67,18 @@ pub record Receives {L S J : Type 0} (A : AcceptModel L S) (N : NoteModel J) (be
   pub each : ℕ → List (Arrival S)
   pub accepted : ComeIn A each before after
   pub waits : ChangesWaiters N (IsOneOf (length before) each) old new was now
+
+-- the places behind a door
+abbrev pub places_of : {C J W L S : Type 0} → SocketDoor C J W L S → Places
+places_of door = door.places
+
+-- whose leaving would give a place to one that waits for want of one
+abbrev pub candidates_at : {S : Type 0} → Waiting S → Places → Candidates
+candidates_at waiting places = candidates_for (has_reader waiting) (has_other waiting)
+    (list_all is_taken places.places) (places_held places)
+
+abbrev pub candidates_of : {C J W L S : Type 0} → SocketDoor C J W L S → Candidates
+candidates_of door = candidates_at door.waiting door.places
 
 -- the connections that wait at a door
 abbrev pub who_waits : {C J W L S : Type 0} → SocketDoor C J W L S → Waiting S
@@ -74,18 +98,43 @@ pub record KeepsSockets {C J W L S : Type 0} (Waits : Waiting S → Waiting S �
   pub until : new.until ≡ old.until
   pub waits : Waits old.waiting new.waiting old.journal new.journal
 
+-- What a pause does to the places: if it goes on before the order to stop, the client that has to make room is chosen.
+abbrev pub PausesPlaces : Next → Option Instant → Candidates → Instant → Places → Places → Type 0
+PausesPlaces next.Stop until who now old new = new ≡ old
+PausesPlaces next.Again None who now old new = ChoosesDue who now old new
+PausesPlaces next.Again (Some last) who now old new = new ≡ old
+
+-- What a call does to the places. The client of a place is dismissed exactly if it has to make room, and hasn't moved a
+-- byte since that was chosen.
+abbrev pub ChangesSeats : {C J W L S : Type 0} → SocketDoor C J W L S → DoorCall (Metered (Nonblocking S))
+    → SocketDoor C J W L S → Type 0
+ChangesSeats old (a_judging place client said) new =
+    (said ≡ (is_idle place (moves_of_metered client) old.places && is_due place old.places))
+    × (new.places ≡ noted place (moves_of_metered client) old.now old.places)
+ChangesSeats old (an_offer place (Some newcomer)) new =
+    (number : ℕ) × (new.places ≡ seated place number (only_reads newcomer.rights) old.now old.places)
+ChangesSeats old (a_parting place client departure) new = new.places ≡ vacated place old.places
+ChangesSeats old (a_pause moved answer) new =
+    PausesPlaces answer old.until (candidates_of new) new.now old.places new.places
+ChangesSeats old _ new = new.places ≡ old.places
+
 module _ {C J W L S : Type 0} (A : AcceptModel L S) (N : NoteModel J) where
   pub record IsPauseOfDoor (answer : Next) (old new : SocketDoor C J W L S) : Type 0 where
     pub received : Receives A N old.entrances.items new.entrances.items old.waiting new.waiting old.journal new.journal
     pub says : SaysNext answer (old.is_replaced) (new.has_failed) (has_order new.orders) new.now old.until new.until
 
   -- what a call does to those that wait
+  abbrev pub ChangesDoor : SocketDoor C J W L S → DoorCall (Metered (Nonblocking S)) → SocketDoor C J W L S → Type 0
+  ChangesDoor old (an_offer place (Some newcomer)) new =
+      KeepsSockets (IsGivenOut N (places_held old.places) newcomer) old new
+  ChangesDoor old (an_offer place None) new = KeepsSockets (LeavesVacant N (places_held old.places)) old new
+  ChangesDoor old (a_parting place client departure) new = KeepsSockets (IsParting N departure) old new
+  ChangesDoor old (a_pause moved answer) new = IsPauseOfDoor answer old new
+  ChangesDoor old _ new = KeepsWaiters old new
+
+  -- and to the places
   abbrev pub IsDoorCall : SocketDoor C J W L S → DoorCall (Metered (Nonblocking S)) → SocketDoor C J W L S → Type 0
-  IsDoorCall old (an_offer place (Some newcomer)) new = KeepsSockets (IsGivenOut N newcomer) old new
-  IsDoorCall old (an_offer place None) new = KeepsSockets (ChangesWaiters N NoArrival) old new
-  IsDoorCall old (a_parting place client departure) new = KeepsSockets (IsParting N departure) old new
-  IsDoorCall old (a_pause moved answer) new = IsPauseOfDoor answer old new
-  IsDoorCall old _ new = KeepsWaiters old new
+  IsDoorCall old call new = ChangesDoor old call new × ChangesSeats old call new
 
   abbrev pub AreDoorCalls : SocketDoor C J W L S → List (DoorCall (Metered (Nonblocking S))) → SocketDoor C J W L S
       → Type 0

@@ -1,7 +1,9 @@
 -- The sockets on which clients come in.
-use Rattle.std.specs.Prelude.{◌≡◌, ℕ, ◌<◌, Option, List, [], ◌∷◌, length, map, Contains, get_or}
+use Rattle.std.specs.Prelude.{◌≡◌, ℕ, ℤ, ◌<◌, Option, List, [], ◌∷◌, length, map, Contains, get_or}
 use Rattle.std.specs.List.{AllByRecursion}
 use Rattle.std.specs.declared.time.Duration.{Duration}
+use Rattle.mio.specs.Net.{unix_listener_fd}
+use Rattle.mio.specs.declared.net.uds.listener.UnixListener.{UnixListener}
 use Rattle.audit_serve_passes.specs.declared.rights.Rights.{Rights}
 use Rattle.audit_serve_door.specs.Accepting.{AcceptModel}
 use Rattle.audit_serve_door.specs.declared.entrance.Arrival.{Arrival}
@@ -25,6 +27,10 @@ listener_of incoming = incoming.listener
 
 abbrev pub socket_of : {L : Type 0} → Entrance L → L
 socket_of entrance = listener_of entrance.incoming
+
+-- the descriptor of a socket of the system
+abbrev pub descriptor_of : Entrance UnixListener → ℤ
+descriptor_of entrance = unix_listener_fd (socket_of entrance)
 
 abbrev pub rights_at_arrival : {S : Type 0} → Arrival S → Rights
 rights_at_arrival arrival = arrival.rights
@@ -72,6 +78,10 @@ modes_of_door door = map mode_of door.entrances.items
 abbrev pub sockets_of_door : {C J W L S : Type 0} → SocketDoor C J W L S → List L
 sockets_of_door door = map socket_of door.entrances.items
 
+-- and their descriptors
+abbrev pub descriptors_of_door : {C J W S : Type 0} → SocketDoor C J W UnixListener S → List ℤ
+descriptors_of_door door = map unix_listener_fd (sockets_of_door door)
+
 -- how long a client of a door may be idle while another one waits
 abbrev pub idle_of_door : {C J W L S : Type 0} → SocketDoor C J W L S → Option Duration
-idle_of_door door = door.idle
+idle_of_door door = door.places.idle

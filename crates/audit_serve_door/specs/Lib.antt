@@ -8,4 +8,6 @@ pub mod Choice
 pub mod Nonblocking
 pub mod Waits
 pub mod Finishing
+pub mod Idle
+pub mod Entering
 pub mod Comings

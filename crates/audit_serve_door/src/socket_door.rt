@@ -4,7 +4,7 @@ ghost use Rattle.audit_serve_ready.specs.declared.next.Next.TheVariants as next;
 ghost use Rattle.audit_serve_door.specs.Finishing.{IsFinishingTime, IsOver};
 ghost use Rattle.audit_serve_door.specs.Entrances.{rights_of, mode_of, socket_of};
 ghost use Rattle.audit_serve_door.specs.Waits.{NoArrival, ChangesWaiters};
-ghost use Rattle.audit_serve_door.specs.Comings.{Receives};
+ghost use Rattle.audit_serve_door.specs.Comings.{Receives, candidates_at};
 
 use crate::accepts::{Accepts, Watched};
 use crate::choice::next_entry;
@@ -69,10 +69,6 @@ pub struct SocketDoor<'a, C, J, W, L, S> {
     next_client: usize,
     // Whether a connection couldn't be accepted in the last pause.
     is_short: bool,
-    // How long a client may be idle while another one waits.
-    idle: Option<Duration>,
-    // The place whose client is to be dismissed.
-    due: Option<usize>,
     now: Instant,
     // When a reading last found something.
     found: Instant,
@@ -98,7 +94,10 @@ where
     ghost use Rattle.audit_serve_door.specs.Entrances.{mode_of, modes_of_door, socket_of, sockets_of_door};
     ghost use Rattle.audit_serve_door.specs.Notes.{a_note};
     ghost use Rattle.audit_serve_door.specs.Waits.{NobodyWaits, NoArrival, Passes, ChangesWaiters};
-    ghost use Rattle.audit_serve_door.specs.Comings.{IsClientOf, Receives, KeepsWaiters, who_waits};
+    ghost use Rattle.audit_serve_door.specs.Comings.{IsClientOf, Receives, KeepsWaiters, who_waits, places_of};
+    ghost use Rattle.audit_serve_door.specs.Comings.{candidates_of};
+    ghost use Rattle.audit_serve_passes.specs.Rights.{only_reads};
+    ghost use Rattle.audit_serve_door.specs.Idle.{seated, vacated, ChoosesDue, IsVacant};
 
     /// Makes a door with these entrances: those of clients that only read come before the others. A client that moves
     /// no byte for the time `idle` is dismissed when another one waits; without that time no client is. No reply leaves
@@ -119,6 +118,7 @@ where
         ensures idle { IfOk result (λ door. idle_of_door door ≡ idle) }
         ensures sockets { IfOk result (λ door. sockets_of_door door ≡ map socket_of entrances.items) }
         ensures nobody { IfOk result (λ door. NobodyWaits (who_waits door)) }
+        ensures vacant { IfOk result (λ door. IsVacant idle (places_of door)) }
     {
         let mut entrances = entrances;
         let mut orders = orders;
@@ -146,12 +146,10 @@ where
             orders,
             spare: None,
             waiting: Waiting::new(alloc),
-            places: Places::new(most, now),
+            places: Places::new(most, idle, now),
             next_order: FIRST_ORDER,
             next_client: FIRST_CLIENT,
             is_short: false,
-            idle,
-            due: None,
             now,
             found: now,
             looked: now,
@@ -178,7 +176,8 @@ where
 
     // Looks whether what is served is in its place.
     fn look(&mut self) -> bool
-        ensures { KeepsWaiters self.old self.new }
+        ensures kept { KeepsWaiters self.old self.new }
+        ensures places { self.new.places ≡ self.old.places }
     {
         let is_in_place = self.watch.is_in_place();
         self.is_replaced |= !is_in_place;
@@ -191,6 +190,7 @@ where
         ensures turned { ChangesWaiters J.notes NoArrival self.old.waiting self.new.waiting
             self.old.journal self.new.journal }
         ensures until { self.new.until ≡ self.old.until }
+        ensures places { self.new.places ≡ self.old.places }
     {
         self.keep_spare();
         for _ in 0..MAX_ORDERS {
@@ -201,7 +201,8 @@ where
     }
 
     fn keep_spare(&mut self)
-        ensures { KeepsWaiters self.old self.new }
+        ensures kept { KeepsWaiters self.old self.new }
+        ensures places { self.new.places ≡ self.old.places }
     {
         if self.spare.is_none() {
             self.spare = self.poll.registry().try_clone().ok();
@@ -214,6 +215,7 @@ where
         ensures turned { ChangesWaiters J.notes NoArrival self.old.waiting self.new.waiting
             self.old.journal self.new.journal }
         ensures until { self.new.until ≡ self.old.until }
+        ensures places { self.new.places ≡ self.old.places }
     {
         match self.orders.incoming.accept() {
             Accepted::One(stream) => {
@@ -234,6 +236,7 @@ where
         ensures turned { ChangesWaiters J.notes NoArrival self.old.waiting self.new.waiting
             self.old.journal self.new.journal }
         ensures until { self.new.until ≡ self.old.until }
+        ensures places { self.new.places ≡ self.old.places }
     {
         if self.spare.take().is_some() {
             return true;
@@ -251,6 +254,7 @@ where
         ensures received { Receives L.model J.notes self.old.entrances.items self.new.entrances.items
             self.old.waiting self.new.waiting self.old.journal self.new.journal }
         ensures until { self.new.until ≡ self.old.until }
+        ensures places { self.new.places ≡ self.old.places }
     {
         let entrances = self.entrances.len();
         for place in 0..entrances {
@@ -271,6 +275,7 @@ where
         ensures received { Receives L.model J.notes self.old.entrances.items self.new.entrances.items
             self.old.waiting self.new.waiting self.old.journal self.new.journal }
         ensures until { self.new.until ≡ self.old.until }
+        ensures places { self.new.places ≡ self.old.places }
     {
         for at in 0..MAX_ACCEPTED {
             if !self.accept_one(place, first.wrapping_add(at)) {
@@ -284,6 +289,7 @@ where
         ensures received { Receives L.model J.notes self.old.entrances.items self.new.entrances.items
             self.old.waiting self.new.waiting self.old.journal self.new.journal }
         ensures until { self.new.until ≡ self.old.until }
+        ensures places { self.new.places ≡ self.old.places }
     {
         for _ in 0..2 {
             if place >= self.entrances.len() {
@@ -313,6 +319,7 @@ where
         ensures turned { ChangesWaiters J.notes NoArrival self.old.waiting self.new.waiting
             self.old.journal self.new.journal }
         ensures until { self.new.until ≡ self.old.until }
+        ensures places { self.new.places ≡ self.old.places }
     {
         let is_dropped = self.waiting.drop_silent();
         if is_dropped {
@@ -326,6 +333,7 @@ where
         ensures waits { ChangesWaiters J.notes (λ one. one ≡ arrival) self.old.waiting self.new.waiting
             self.old.journal self.new.journal }
         ensures until { self.new.until ≡ self.old.until }
+        ensures places { self.new.places ≡ self.old.places }
     {
         let registry = self.poll.registry();
         if arrival.register(registry, Token(number)).is_err() {
@@ -342,6 +350,7 @@ where
         ensures entrances { self.new.entrances ≡ self.old.entrances }
         ensures journal { self.new.journal ≡ self.old.journal }
         ensures until { self.new.until ≡ self.old.until }
+        ensures places { self.new.places ≡ vacated place self.old.places }
         ensures stay { Passes NoArrival [] self.old.waiting self.new.waiting }
     {
         let Some(number) = self.places.leave(place) else {
@@ -363,6 +372,10 @@ where
         ensures journal { IsSome result → self.new.journal ≡ self.old.journal }
         ensures stay { Passes NoArrival [] self.old.waiting self.new.waiting }
         ensures until { self.new.until ≡ self.old.until }
+        ensures seated { IfSome result (λ newcomer. self.new.places
+            ≡ seated place number (only_reads newcomer.rights) self.old.now self.old.places) }
+        ensures vacant { IfNone result (self.new.places ≡ self.old.places) }
+        ensures now { self.new.now ≡ self.old.now }
         ensures noted { IfNone result (J.notes.DidNote self.old.journal self.new.journal (a_note Memory ∷ [])) }
     {
         let registry = self.poll.registry();
@@ -400,25 +413,10 @@ where
                 .any(|entrance| entrance.incoming.may_have_some())
     }
 
-    // Whose leaving would give a place to one that has sent something and waits for want of one.
-    fn candidates(&self) -> Candidates {
-        let taken = self.places.taken();
-        let is_full = taken.readers.wrapping_add(taken.others) >= SESSIONS;
-        let readers_full = taken.readers >= taken.most;
-        let others_full = taken.others >= taken.most;
-        let reader_waits = self.waiting.has_reader() && (is_full || readers_full);
-        let other_waits = self.waiting.has_other() && (is_full || others_full);
-        Candidates {
-            readers: reader_waits || other_waits && !others_full,
-            others: other_waits || reader_waits && !readers_full,
-        }
-    }
-
     // When the client that has been idle for the longest time is to be dismissed, if another one waits.
     fn time_to_dismissal(&self) -> Option<Duration> {
-        let idle = self.idle?;
-        let (_, since) = self.places.longest_idle(self.candidates())?;
-        Some(idle.saturating_sub(self.now.duration_since(since)))
+        let candidates = candidates(&self.waiting, &self.places);
+        self.places.time_to_dismissal(candidates, self.now)
     }
 
     // Waits for the system to report that something is ready.
@@ -426,6 +424,7 @@ where
         ensures received { Receives L.model J.notes self.old.entrances.items self.new.entrances.items
             self.old.waiting self.new.waiting self.old.journal self.new.journal }
         ensures until { self.new.until ≡ self.old.until }
+        ensures places { self.new.places ≡ self.old.places }
     {
         let limit = if moved {
             Some(Duration::ZERO)
@@ -447,15 +446,28 @@ where
 
     // Chooses the client that is to be dismissed.
     fn choose_idle(&mut self)
-        ensures { KeepsWaiters self.old self.new }
+        ensures kept { KeepsWaiters self.old self.new }
+        ensures now { self.new.now ≡ self.old.now }
+        ensures due { ChoosesDue (candidates_of self.old) self.old.now self.old.places self.new.places }
     {
-        self.due = None;
-        let found = self.places.longest_idle(self.candidates());
-        if let (Some(idle), Some((place, since))) = (self.idle, found) {
-            if self.now.duration_since(since) >= idle {
-                self.due = Some(place);
-            }
-        }
+        let candidates = candidates(&self.waiting, &self.places);
+        self.places.choose(candidates, self.now);
+    }
+}
+
+// Whose leaving would give a place to one that has sent something and waits for want of one.
+fn candidates<S: Drop>(waiting: &Waiting<S>, places: &Places) -> Candidates
+    ensures { result ≡ candidates_at waiting.now places.now }
+{
+    let taken = places.taken();
+    let is_full = places.is_full();
+    let readers_full = taken.readers >= taken.most;
+    let others_full = taken.others >= taken.most;
+    let reader_waits = waiting.has_reader() && (is_full || readers_full);
+    let other_waits = waiting.has_other() && (is_full || others_full);
+    Candidates {
+        readers: reader_waits || other_waits && !others_full,
+        others: other_waits || reader_waits && !readers_full,
     }
 }
 
@@ -582,12 +594,15 @@ where
     type Stream = Metered<Nonblocking<S>>;
 
     fn next_client(&mut self, place: usize) -> Option<Newcomer<Metered<Nonblocking<S>>>> {
-        for _ in 0..SESSIONS {
+        for tries in 0..SESSIONS {
             // Each free place is offered in each round, and mostly nobody waits.
             if !self.waiting.has_reader() && !self.waiting.has_other() {
                 return None;
             }
             let number = next_entry(self.waiting.heads(), self.places.taken())?;
+            if !self.waiting.has(number) {
+                return None;
+            }
             let arrival = self.waiting.take(number)?;
             if let Some(newcomer) = self.seat(place, number, arrival) {
                 return Some(newcomer);
@@ -598,7 +613,7 @@ where
 
     fn dismisses(&mut self, place: usize, client: &Metered<Nonblocking<S>>) -> bool {
         let is_idle = self.places.note(place, client.moves(), self.now);
-        is_idle && self.due == Some(place)
+        is_idle && self.places.is_due(place)
     }
 
     fn asks_again(&mut self, found: bool) -> bool {

@@ -1,3 +1,5 @@
+ghost use Rattle.std.specs.Prelude.{◌≡◌};
+ghost use Rattle.audit_serve_door.specs.Entering.{first_number, first_of_all};
 ghost use Rattle.audit_serve_door.specs.Waits.{IsPut};
 
 use crate::choice::Heads;
@@ -18,12 +20,13 @@ pub(crate) struct Waiting<S> {
 }
 
 impl<S: Drop> Waiting<S> {
-    ghost use Rattle.std.specs.Prelude.{◌≡◌, List, [], ◌∷◌, length, true, Some, None, if◌then◌else◌};
+    ghost use Rattle.std.specs.Prelude.{◌≡◌, List, [], ◌∷◌, length, true, Some, None, is_some, if◌then◌else◌};
     ghost use Rattle.audit_serve_passes.specs.Rights.{only_reads};
     ghost use Rattle.audit_serve_door.specs.declared.entrance.Arrival.{Arrival};
     ghost use Rattle.audit_serve_door.specs.Entrances.{rights_at_arrival};
     ghost use Rattle.audit_serve_door.specs.Waits.{silent_at, heard_among, heard_at, KeepsOthers};
     ghost use Rattle.audit_serve_door.specs.Waits.{NobodyWaits, NoArrival, Passes, IsTakenOut};
+    ghost use Rattle.audit_serve_door.specs.Entering.{has_reader, has_other, waits_as_other, heads_of};
 
     /// Nobody.
     pub(crate) fn new(alloc: Global) -> Waiting<S>
@@ -68,7 +71,9 @@ impl<S: Drop> Waiting<S> {
     }
 
     /// Whether a connection waits that has sent something and doesn't only read.
-    pub(crate) fn is_other(&self, number: usize) -> bool {
+    pub(crate) fn is_other(&self, number: usize) -> bool
+        ensures { result ≡ waits_as_other (Some number) self.now }
+    {
         self.others.contains_key(&number)
     }
 
@@ -98,27 +103,46 @@ impl<S: Drop> Waiting<S> {
     }
 
     /// Whether one waits that has sent something and only reads.
-    pub(crate) fn has_reader(&self) -> bool {
+    pub(crate) fn has_reader(&self) -> bool
+        ensures { result ≡ has_reader self.now }
+    {
         !self.readers.is_empty()
     }
 
     /// Whether another one waits that has sent something.
-    pub(crate) fn has_other(&self) -> bool {
+    pub(crate) fn has_other(&self) -> bool
+        ensures { result ≡ has_other self.now }
+    {
         !self.others.is_empty()
     }
 
     /// Those that come next.
-    pub(crate) fn heads(&self) -> Heads {
-        let closing = self.closing.first().copied();
+    pub(crate) fn heads(&self) -> Heads
+        ensures { result ≡ heads_of self.now }
+    {
+        let closing = first_closing(&self.closing);
         Heads {
             reader: first_of(&self.readers),
             other: first_of(&self.others),
             closing,
-            closing_waits: match closing {
-                Some(number) => self.is_other(number),
-                None => false,
-            },
+            closing_waits: self.is_waiting(closing),
         }
+    }
+
+    fn is_waiting(&self, closing: Option<usize>) -> bool
+        ensures { result ≡ waits_as_other closing self.now }
+    {
+        match closing {
+            Some(number) => self.is_other(number),
+            None => false,
+        }
+    }
+
+    /// Whether one waits with this number that has sent something.
+    pub(crate) fn has(&self, number: usize) -> bool
+        ensures { result ≡ is_some (heard_at self.now number) }
+    {
+        self.others.contains_key(&number) || self.readers.contains_key(&number)
     }
 
     /// Gives away a connection that has sent something.
@@ -150,9 +174,20 @@ fn put<S: Drop>(
     }
 }
 
-fn first_of<S>(connections: &BTreeMap<usize, Arrival<S>>) -> Option<usize> {
+fn first_of<S>(connections: &BTreeMap<usize, Arrival<S>>) -> Option<usize>
+    ensures { result ≡ first_number connections.now.entries }
+{
     match connections.first_key_value() {
         Some((number, _)) => Some(*number),
+        None => None,
+    }
+}
+
+fn first_closing(closing: &BTreeSet<usize>) -> Option<usize>
+    ensures { result ≡ first_of_all closing.now.keys }
+{
+    match closing.first() {
+        Some(number) => Some(*number),
         None => None,
     }
 }

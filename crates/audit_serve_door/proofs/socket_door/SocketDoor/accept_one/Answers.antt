@@ -4,7 +4,7 @@ use Rattle.audit_serve_door.proofs.Arriving.{comes_there, receives_refl, receive
 use Rattle.audit_serve_door.proofs.socket_door.SocketDoor.accept_one.Goals as goal
 
 pub loop-init : goal.loop-init
-loop-init g c = (receives_refl g.L.Accepts.model g.J.Journal.notes c.args.self.now.entrances.items c.args.self.now.waiting c.args.self.now.journal, refl)
+loop-init g c = (receives_refl g.L.Accepts.model g.J.Journal.notes c.args.self.now.entrances.items c.args.self.now.waiting c.args.self.now.journal, refl, refl)
 
 pub returns-in-One-clause-received : goal.returns-in-One-clause-received
 returns-in-One-clause-received g c =
@@ -30,6 +30,7 @@ loop-preserved g c =
           (received_quietly g.L.Accepts.model g.J.Journal.notes c.args.place c.loop.self.entrances.items c.accept.new.self _ _ _ _ there
           (comes_there g.L.Accepts.model [] c.loop.self.entrances.items c.args.place c.index_mut.result.now c.accept.new.self there c.index_mut.ensures.value c.in-Failed.ensures) c.drop_silent.ensures.turned)),
       c.drop_silent.ensures.until ∙ c.loop.invariant.1,
+      c.drop_silent.ensures.places ∙ c.loop.invariant.2,
     )
 
 pub returns-then-not-drop_silent-clause-received : goal.returns-then-not-drop_silent-clause-received
