@@ -157,13 +157,13 @@ round_all {form = form} {i0 = i0} {i1 = i1} {w2 = w2} {end = end} {taken = taken
     }
 
 -- why it ended after this round
-pub round_ends : {form : LineForm} {i0 i1 i2 w0 w1 r0 r1 o0 o1 : Option (List ℕ)} {end : SendEnd} {frames : List ℕ} {taken : Taken} (r2 : Option (List ℕ)) (count : ℕ) (answers : Answers) (sent : Result (Unit {0}) ClientError) (a : Option SendError) (t : Option LinesError)
-    → (on : SendsOn form i0 i1 w0 w1 r0 r1 o0 o1 end) (takes : TakesRound form i1 i2 end.sent frames taken) → IfErr sent IsLost → IfSome a (LacksAnswer r1 r2 end.answered answers.count)
+pub round_ends : (failed : Type 0) {form : LineForm} {i0 i1 i2 w0 w1 r0 r1 o0 o1 : Option (List ℕ)} {end : SendEnd} {frames : List ℕ} {taken : Taken} (r2 : Option (List ℕ)) (count : ℕ) (answers : Answers) (sent : Result (Unit {0}) ClientError) (a : Option SendError) (t : Option LinesError)
+    → (on : SendsOn form i0 i1 w0 w1 r0 r1 o0 o1 end) (takes : TakesRound form i1 i2 end.sent frames taken) → IfErr sent IsLost → OnErr sent failed → IfSome a (LacksAnswer r1 r2 end.answered answers.count)
     → IfSome t (λ cause. (taken.more ≡ false) × (rest : Option (List ℕ)) × TakesEvents form i1 rest takes.events × IsTakingFault form rest (end.sent + taken.count + 1) cause)
     → (a ≡ None → answers.count ≡ count) → (IsOk sent → taken.more ≡ false → end.answered + count ≡ end.sent + taken.count) → ((is_ok sent ≡ false) → end.answered + count ≡ end.sent + taken.count)
-    → EndsFor form i0 r0 r2 (end.sent + taken.count) (end.answered + answers.count) (first_error sent a t)
-round_ends r2 count answers sent (Some (Input error)) t on takes lost lacks stops read over broken = absurd lacks
-round_ends {r0 = r0} {r1 = r1} {end = end} r2 count answers sent (Some (Client error)) t on takes lost lacks stops read over broken =
+    → EndsFor form i0 r0 r2 failed (end.sent + taken.count) (end.answered + answers.count) (first_error sent a t)
+round_ends failed r2 count answers sent (Some (Input error)) t on takes lost fails lacks stops read over broken = absurd lacks
+round_ends failed {r0 = r0} {r1 = r1} {end = end} r2 count answers sent (Some (Client error)) t on takes lost fails lacks stops read over broken =
     let place : end.answered + answers.count + 1 ≡ 0 + (end.answered + answers.count) + 1 = omega arith in
     inr (
       lacks.0,
@@ -172,10 +172,10 @@ round_ends {r0 = r0} {r1 = r1} {end = end} r2 count answers sent (Some (Client e
       replies_after r0 r1 lacks.0 on.prints.answers lacks.1 on.prints.read lacks.3,
       subst (λ (n : ℕ). IsNoLineAnswer lacks.0 r2 n error) place lacks.4,
     )
-round_ends r2 count answers sent (Some Output) t on takes lost lacks stops read over broken = tt
-round_ends r2 count answers (Err error) None t on takes lost lacks stops read over broken = inl (lost, omega (arith, read refl, broken refl))
-round_ends r2 count answers (Ok done) None None on takes lost lacks stops read over broken = tt
-round_ends {form = form} {i0 = i0} {i1 = i1} {end = end} {taken = taken} r2 count answers (Ok done) None (Some cause) on takes lost lacks stops read over broken = (
+round_ends failed r2 count answers sent (Some Output) t on takes lost fails lacks stops read over broken = tt
+round_ends failed r2 count answers (Err error) None t on takes lost fails lacks stops read over broken = inl (lost, omega (arith, read refl, broken refl), fails)
+round_ends failed r2 count answers (Ok done) None None on takes lost fails lacks stops read over broken = tt
+round_ends failed {form = form} {i0 = i0} {i1 = i1} {end = end} {taken = taken} r2 count answers (Ok done) None (Some cause) on takes lost fails lacks stops read over broken = (
   inr (omega (arith, read refl, over refl stops.0)),
   on.events ++ takes.events,
   stops.1,
@@ -184,10 +184,17 @@ round_ends {form = form} {i0 = i0} {i1 = i1} {end = end} {taken = taken} r2 coun
   stops.3,
 )
 
+-- where nothing was written, no write has failed
+pub ends_unwritten : (failed : Type 0) (form : LineForm) (i r r' : Option (List ℕ)) (sent answered : ℕ) (error : Option SendError) → EndsFor form i r r' ⊥ sent answered error → EndsFor form i r r' failed sent answered error
+ends_unwritten failed form i r r' sent answered None ends = ends
+ends_unwritten failed form i r r' sent answered (Some (Input cause)) ends = ends
+ends_unwritten failed form i r r' sent answered (Some (Client error)) ends = elim ends [ inl lost ↦ absurd lost.2 | inr lacks ↦ inr lacks ]
+ends_unwritten failed form i r r' sent answered (Some Output) ends = ends
+
 -- once 2 ^ 64 - 1 lines were sent, the input is too long
-pub ends_at_limit : {form : LineForm} {i0 i1 w0 w1 r0 r1 o0 o1 : Option (List ℕ)} {end : SendEnd} → SendsOn form i0 i1 w0 w1 r0 r1 o0 o1 end → 2 ^ 64 ≤ end.sent + 1
-    → EndsFor form i0 r0 r1 end.sent end.answered (Some (Input InputTooLong))
-ends_at_limit {i1 = i1} on far = (inl refl, on.events, i1, sym on.sent_is, on.taken, far)
+pub ends_at_limit : (failed : Type 0) {form : LineForm} {i0 i1 w0 w1 r0 r1 o0 o1 : Option (List ℕ)} {end : SendEnd} → SendsOn form i0 i1 w0 w1 r0 r1 o0 o1 end → 2 ^ 64 ≤ end.sent + 1
+    → EndsFor form i0 r0 r1 failed end.sent end.answered (Some (Input InputTooLong))
+ends_at_limit failed {i1 = i1} on far = (inl refl, on.events, i1, sym on.sent_is, on.taken, far)
 
 -- no other round is begun
 pub on_stopped : {form : LineForm} {i0 i1 w0 w1 r0 r1 o0 o1 : Option (List ℕ)} {end : SendEnd} (error : SendError) → SendsOn form i0 i1 w0 w1 r0 r1 o0 o1 end → Sends form 0 i0 w0 w1 r0 o0 o1 (record { sent = end.sent; answered = end.answered; refused = end.refused; error = Some error })

@@ -303,16 +303,18 @@ stops_at stop.End refused = false
 stops_at stop.Refusal refused = nat_lt 0 refused
 
 -- Why sending ended before the input did, after `sent` lines of which `answered` were answered. Either the next line is
--- no event or has no number; or the connection was lost after all lines were answered; or the next answer didn't come.
+-- no event or has no number; or the connection was lost after all lines were answered, and its last write failed
+-- (`failed`); or the next answer didn't come.
 -- Nothing is said here of a fault of the output: `Prints` says what was printed, and `BreaksOnlyIf` that it failed.
-abbrev pub EndsFor : LineForm → Option (List ℕ) → Option (List ℕ) → Option (List ℕ) → ℕ → ℕ → Option SendError → Type 0
-EndsFor form input read_old read_new sent answered None = Unit {0}
-EndsFor form input read_old read_new sent answered (Some (Input cause)) =
+abbrev pub EndsFor : LineForm → Option (List ℕ) → Option (List ℕ) → Option (List ℕ) → Type 0 → ℕ → ℕ → Option SendError
+    → Type 0
+EndsFor form input read_old read_new failed sent answered None = Unit {0}
+EndsFor form input read_old read_new failed sent answered (Some (Input cause)) =
     ((cause ≡ lines.InputTooLong) ⊎ (answered ≡ sent)) × (events : List EventData) × (rest : Option (List ℕ))
     × (length events ≡ sent) × TakesEvents form input rest events × IsTakingFault form rest (sent + 1) cause
-EndsFor form input read_old read_new sent answered (Some (Client error)) =
-    (IsLost error × (answered ≡ sent)) ⊎ LacksAnswer read_old read_new 0 answered (Client error)
-EndsFor form input read_old read_new sent answered (Some Output) = Unit {0}
+EndsFor form input read_old read_new failed sent answered (Some (Client error)) =
+    (IsLost error × (answered ≡ sent) × failed) ⊎ LacksAnswer read_old read_new 0 answered (Client error)
+EndsFor form input read_old read_new failed sent answered (Some Output) = Unit {0}
 
 -- an error of the output has this cause
 abbrev pub BreaksOnlyIf : Type 0 → Option SendError → Type 0

@@ -2,9 +2,11 @@
 ghost use Rattle.std.specs.Prelude.{◌≡◌, IfErr, OnOk, OnErr};
 ghost use Rattle.std.specs.Io.KnownBytes.{Appends, Keeps};
 ghost use Rattle.audit_client.specs.Exporting.{WritesFront};
+ghost use Rattle.audit_client.specs.Failing.{IsLost};
 ghost use Rattle.audit_text.specs.Writing.{WritesInPart};
 
-use crate::conversation::send_rest;
+use crate::conversation::{send_bytes, send_rest};
+use crate::fault::ClientError;
 use audit_text::LinesError;
 use std::io::{self, Write};
 
@@ -25,6 +27,13 @@ pub trait FallibleWrite: Write {
         ensures fault { IfErr result (λ fault. fault ≡ LinesError.Write) }
         ensures failed { OnErr result (failed self.new) };
 
+    /// Writes all bytes to a connection and flushes it, as `send_bytes` does. After an error a prefix was written.
+    fn send_text(&mut self, text: &[u8]) -> Result<(), ClientError>
+        ensures sent { OnOk result (Appends (Self.contents self.old) (Self.contents self.new) text.now) }
+        ensures part { OnErr result (WritesInPart (Self.contents self.old) (Self.contents self.new) text.now) }
+        ensures fault { IfErr result IsLost }
+        ensures failed { OnErr result (failed self.new) };
+
     /// Flushes, as `Write::flush` does.
     fn flush_text(&mut self) -> io::Result<()>
         ensures kept { Keeps (Self.contents self.old) (Self.contents self.new) }
@@ -42,6 +51,10 @@ impl<W: Write> FallibleWrite for W {
             Ok(()) => Ok(()),
             Err(_) => Err(LinesError::Write),
         }
+    }
+
+    fn send_text(&mut self, text: &[u8]) -> Result<(), ClientError> {
+        send_bytes(self, text)
     }
 
     fn flush_text(&mut self) -> io::Result<()> {

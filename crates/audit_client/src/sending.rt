@@ -5,7 +5,6 @@ ghost use Rattle.audit_client.specs.Sending.{Sends, SendsOn, SendsAll, EndsFor, 
 ghost use Rattle.audit_client.specs.Sending.{first_error, stops_at, BreaksOnlyIf, StaysNear, StopsNear};
 
 use crate::answering::{Answers, take_answers};
-use crate::conversation::send_bytes;
 use crate::fallible_write::FallibleWrite;
 use crate::fault::ClientError;
 use crate::send_error::SendError;
@@ -13,7 +12,7 @@ use crate::stop_at::StopAt;
 use crate::taking::{Taken, has_line, take_lines};
 use audit_text::{LineForm, LinesError};
 use std::alloc::Global;
-use std::io::{BufReader, Read, Write};
+use std::io::{BufReader, Read};
 
 // A round has as many lines, if the window has: a server commits its lines together, and fewer take about as long.
 const MIN_ROUND: u64 = 64;
@@ -36,7 +35,7 @@ pub struct SendEnd {
 /// answers. All answers that are due are read before the next read of the input. The input has no limit, and the memory
 /// that is taken doesn't grow with it. If it stops at a refusal, at most `window` lines more are sent than are answered
 /// before the first one, and each line that was sent is still answered.
-pub fn send_events<I: Read, W: Write, R: Read, O: FallibleWrite>(
+pub fn send_events<I: Read, W: FallibleWrite, R: Read, O: FallibleWrite>(
     alloc: Global,
     form: LineForm,
     input: &mut BufReader<I>,
@@ -51,9 +50,10 @@ pub fn send_events<I: Read, W: Write, R: Read, O: FallibleWrite>(
         (R.remaining from.old) (O.contents output.old) (O.contents output.new) result }
     // At most `window` lines are sent ahead of the answers that were read, whatever the next answer is.
     ensures ahead { result.sent ≤ result.answered + window }
-    // It ends only for a cause: the next line has no event or no number, or the next answer didn't come.
+    // It ends only for a cause: the next line has no event or no number, the next answer didn't come, or all lines were
+    // answered, and the last call that wrote to the connection failed.
     ensures cause { 0 < window → EndsFor form (reader_remaining I.remaining input.old) (R.remaining from.old)
-        (R.remaining from.new) result.sent result.answered result.error }
+        (R.remaining from.new) (W.failed to.new) result.sent result.answered result.error }
     // That the output failed is said only if its last call did.
     ensures broken { BreaksOnlyIf (O.failed output.new) result.error }
     // If it stops at a refusal, at most `window` more lines are sent than are answered before the first one.
@@ -123,7 +123,7 @@ fn take_last<R: Read, O: FallibleWrite>(
         → Sends form 0 i w v r o (O.contents output.new) result }
     ensures cause { (form : LineForm) (i rest w v r o : Option (List ℕ)) → SendsOn form i rest w v r
         (R.remaining from.old) o (O.contents output.old) end.now
-        → EndsFor form i r (R.remaining from.new) result.sent result.answered result.error }
+        → EndsFor form i r (R.remaining from.new) ⊥ result.sent result.answered result.error }
     ensures on { result.error ≡ None → (form : LineForm) (i rest w v r o : Option (List ℕ)) → SendsOn form i rest w v r
         (R.remaining from.old) o (O.contents output.old) end.now
         → SendsOn form i rest w v r (R.remaining from.new) o (O.contents output.new) result }
@@ -189,7 +189,7 @@ struct Round {
 
 // Sends the next lines, and then reads and prints answers. If the requests couldn't be written, the answers that the
 // server gave before are still read.
-fn send_round<I: Read, W: Write, R: Read, O: FallibleWrite>(
+fn send_round<I: Read, W: FallibleWrite, R: Read, O: FallibleWrite>(
     alloc: Global,
     form: LineForm,
     input: &mut BufReader<I>,
@@ -206,7 +206,8 @@ fn send_round<I: Read, W: Write, R: Read, O: FallibleWrite>(
     ensures more { 0 < window → result.more ≡ true → end.now.sent < result.end.sent }
     ensures cause { (i w r o : Option (List ℕ)) → SendsOn form i (reader_remaining I.remaining input.old)
         w (W.contents to.old) r (R.remaining from.old) o (O.contents output.old) end.now
-        → EndsFor form i r (R.remaining from.new) result.end.sent result.end.answered result.end.error }
+        → EndsFor form i r (R.remaining from.new) (W.failed to.new) result.end.sent result.end.answered
+        result.end.error }
     ensures broken { BreaksOnlyIf (O.failed output.new) result.end.error }
     ensures answered { result.more ≡ false → result.end.error ≡ None → result.end.answered ≡ result.end.sent }
     // If nothing was refused before.
@@ -237,7 +238,7 @@ fn send_round<I: Read, W: Write, R: Read, O: FallibleWrite>(
         &mut room.line,
         &mut room.frames,
     );
-    let sent = send_bytes(to, &room.frames);
+    let sent = to.send_text(&room.frames);
     let count = answers_to_read(input, window, due, &taken, sent.is_ok());
     let answers = take_answers(
         alloc,

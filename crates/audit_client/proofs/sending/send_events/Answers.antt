@@ -2,7 +2,7 @@ use Rattle.std.proofs.Common.{◌≡◌, ◌∙◌, Some, inl, inr, sym, arith, 
 use Rattle.std.specs.Io.Buffered.{reader_remaining}
 use Rattle.audit_text.specs.declared.fault.LinesError.TheVariants.{InputTooLong}
 use Rattle.audit_client.specs.declared.send_error.SendError.TheVariants.{Input}
-use Rattle.audit_client.proofs.SentLines.{sends_none, on_stopped, ends_at_limit}
+use Rattle.audit_client.proofs.SentLines.{sends_none, on_stopped, ends_at_limit, ends_unwritten}
 use Rattle.audit_client.proofs.NearRefusals.{stays_none, stops_stays, until_none, until_stays}
 use Rattle.audit_client.proofs.sending.send_events.Goals as goal
 
@@ -36,7 +36,7 @@ pub returns-clause-sends : goal.returns-clause-sends
 returns-clause-sends g c = rw c.with_error.ensures (on_stopped (Input InputTooLong) c.loop.invariant.on)
 
 pub returns-clause-cause : goal.returns-clause-cause
-returns-clause-cause g c = λ some. rw c.with_error.ensures (ends_at_limit c.loop.invariant.on (omega (arith, c.loop.invariant.further some, c.loop-test.false)))
+returns-clause-cause g c = λ some. rw c.with_error.ensures (ends_at_limit (g.W.FallibleWrite.failed c.loop.to) c.loop.invariant.on (omega (arith, c.loop.invariant.further some, c.loop-test.false)))
 
 pub returns-then-not-round-clause-cause : goal.returns-then-not-round-clause-cause
 returns-then-not-round-clause-cause g c = λ some. c.send_round-round.ensures.cause _ _ _ _ c.loop.invariant.on
@@ -51,7 +51,7 @@ pub returns-then-stops_at-clause-sends : goal.returns-then-stops_at-clause-sends
 returns-then-stops_at-clause-sends g c = c.take_last.ensures.sends _ _ _ _ _ _ _ c.loop.invariant.on
 
 pub returns-then-stops_at-clause-cause : goal.returns-then-stops_at-clause-cause
-returns-then-stops_at-clause-cause g c = λ some. c.take_last.ensures.cause _ _ _ _ _ _ _ c.loop.invariant.on
+returns-then-stops_at-clause-cause g c = λ some. ends_unwritten (g.W.FallibleWrite.failed c.loop.to) c.args.form (reader_remaining g.I.Read.remaining c.args.input.now) (g.R.Read.remaining c.args.from.now) (g.R.Read.remaining c.take_last.new.from) c.take_last.result.sent c.take_last.result.answered c.take_last.result.error (c.take_last.ensures.cause _ _ _ _ _ _ _ c.loop.invariant.on)
 
 pub returns-then-stops_at-clause-all : goal.returns-then-stops_at-clause-all
 returns-then-stops_at-clause-all g c = λ none goes.

@@ -25,7 +25,7 @@ returns-clause-within g c = λ more.
       answered = omega (arith, c.requires.within.answered, few.0, read);
       ahead = omega (arith, c.requires.within.answered, c.take_lines-taken.ensures.few, c.lines_of_round.ensures.within);
       room = λ some.
-          let printed = c.take_answers-answers.ensures.taken.all (first_none c.send_bytes-sent.result c.take_answers-answers.result.error c.take_lines-taken.result.error (sym c.first_error-error.ensures ∙ c.goes_on.ensures.right more)).1 in
+          let printed = c.take_answers-answers.ensures.taken.all (first_none c.send_text-sent.result c.take_answers-answers.result.error c.take_lines-taken.result.error (sym c.first_error-error.ensures ∙ c.goes_on.ensures.right more)).1 in
           let near = read_near c.answers_to_read-count.result (end.sent - end.answered) count c.args.window c.take_lines-taken.result.more _ c.answers_to_read-count.ensures some in
           omega (arith, c.requires.within.answered, printed.answered_is, near);
     })
@@ -33,11 +33,11 @@ returns-clause-within g c = λ more.
 pub returns-clause-sends : goal.returns-clause-sends
 returns-clause-sends g c = λ i w r o on.
     let end = c.args.end.now in
-    let sent = c.send_bytes-sent.result in
+    let sent = c.send_text-sent.result in
     let w1 = g.W.Write.contents c.args.to.now in
-    let w2 = g.W.Write.contents c.send_bytes-sent.new.to in
-    let whole = subst (λ (bytes : List ℕ). OnOk sent (Appends w1 w2 bytes)) c.deref.ensures.value c.send_bytes-sent.ensures.sent in
-    let part = subst (λ (bytes : List ℕ). OnErr sent (WritesInPart w1 w2 bytes)) c.deref.ensures.value c.send_bytes-sent.ensures.part in
+    let w2 = g.W.Write.contents c.send_text-sent.new.self in
+    let whole = subst (λ (bytes : List ℕ). OnOk sent (Appends w1 w2 bytes)) c.deref.ensures.value c.send_text-sent.ensures.sent in
+    let part = subst (λ (bytes : List ℕ). OnErr sent (WritesInPart w1 w2 bytes)) c.deref.ensures.value c.send_text-sent.ensures.part in
     let read = read_within c.answers_to_read-count.result (end.sent - end.answered) c.take_lines-taken.result.count c.args.window c.take_lines-taken.result.more _ c.answers_to_read-count.ensures in
     let within : end.answered + c.answers_to_read-count.result ≤ end.sent + c.take_lines-taken.result.count = omega (arith, c.requires.within.answered, read) in
     rw c.end_after.ensures (rw c.first_error-error.ensures (round_sends sent on c.take_lines-taken.ensures.taken whole part c.take_answers-answers.ensures.taken within))
@@ -45,10 +45,10 @@ returns-clause-sends g c = λ i w r o on.
 pub returns-clause-on : goal.returns-clause-on
 returns-clause-on g c = λ more i w r o on.
     let end = c.args.end.now in
-    let sent = c.send_bytes-sent.result in
+    let sent = c.send_text-sent.result in
     let w1 = g.W.Write.contents c.args.to.now in
-    let w2 = g.W.Write.contents c.send_bytes-sent.new.to in
-    let whole = subst (λ (bytes : List ℕ). OnOk sent (Appends w1 w2 bytes)) c.deref.ensures.value c.send_bytes-sent.ensures.sent in
+    let w2 = g.W.Write.contents c.send_text-sent.new.self in
+    let whole = subst (λ (bytes : List ℕ). OnOk sent (Appends w1 w2 bytes)) c.deref.ensures.value c.send_text-sent.ensures.sent in
     let read = read_within c.answers_to_read-count.result (end.sent - end.answered) c.take_lines-taken.result.count c.args.window c.take_lines-taken.result.more _ c.answers_to_read-count.ensures in
     let within : end.answered + c.answers_to_read-count.result ≤ end.sent + c.take_lines-taken.result.count = omega (arith, c.requires.within.answered, read) in
     let none = sym c.first_error-error.ensures ∙ c.goes_on.ensures.right more in
@@ -57,10 +57,10 @@ returns-clause-on g c = λ more i w r o on.
 pub returns-clause-all : goal.returns-clause-all
 returns-clause-all g c = λ over none i w r o on.
     let end = c.args.end.now in
-    let sent = c.send_bytes-sent.result in
+    let sent = c.send_text-sent.result in
     let w1 = g.W.Write.contents c.args.to.now in
-    let w2 = g.W.Write.contents c.send_bytes-sent.new.to in
-    let whole = subst (λ (bytes : List ℕ). OnOk sent (Appends w1 w2 bytes)) c.deref.ensures.value c.send_bytes-sent.ensures.sent in
+    let w2 = g.W.Write.contents c.send_text-sent.new.self in
+    let whole = subst (λ (bytes : List ℕ). OnOk sent (Appends w1 w2 bytes)) c.deref.ensures.value c.send_text-sent.ensures.sent in
     let right = sym (ap (λ (after : SendEnd). after.error) c.end_after.ensures) ∙ none in
     let last = c.goes_on.ensures.over over right in
     let read = read_all c.answers_to_read-count.result (end.sent - end.answered) c.take_lines-taken.result.count c.args.window c.take_lines-taken.result.more _ c.answers_to_read-count.ensures last in
@@ -83,13 +83,13 @@ returns-clause-cause g c = λ i w r o on.
     let count = c.answers_to_read-count.result in
     let answered = c.take_answers-answers.ensures.taken in
     rw c.end_after.ensures (rw c.first_error-error.ensures
-    (round_ends _ count c.take_answers-answers.result c.send_bytes-sent.result c.take_answers-answers.result.error c.take_lines-taken.result.error on c.take_lines-taken.ensures.taken c.send_bytes-sent.ensures.fault answered.fails c.take_lines-taken.ensures.taken.stops
+    (round_ends _ _ count c.take_answers-answers.result c.send_text-sent.result c.take_answers-answers.result.error c.take_lines-taken.result.error on c.take_lines-taken.ensures.taken c.send_text-sent.ensures.fault c.send_text-sent.ensures.failed answered.fails c.take_lines-taken.ensures.taken.stops
     (λ none. (answered.all none).answered_is)
     (λ _ over. let all = read_all count (end.sent - end.answered) c.take_lines-taken.result.count c.args.window c.take_lines-taken.result.more _ c.answers_to_read-count.ensures over in omega (arith, c.requires.within.answered, all))
     (λ broken. let all = read_unwritten count (end.sent - end.answered) c.take_lines-taken.result.count c.args.window c.take_lines-taken.result.more _ c.answers_to_read-count.ensures (c.is_ok.ensures.value ∙ broken) in omega (arith, c.requires.within.answered, all))))
 
 pub returns-clause-broken : goal.returns-clause-broken
-returns-clause-broken g c = rw c.end_after.ensures (rw c.first_error-error.ensures (first_breaks _ c.send_bytes-sent.result c.take_answers-answers.result.error c.take_lines-taken.result.error c.take_answers-answers.ensures.broken))
+returns-clause-broken g c = rw c.end_after.ensures (rw c.first_error-error.ensures (first_breaks _ c.send_text-sent.result c.take_answers-answers.result.error c.take_lines-taken.result.error c.take_answers-answers.ensures.broken))
 
 pub returns-clause-near : goal.returns-clause-near
 returns-clause-near g c = λ none r near.
@@ -99,5 +99,5 @@ returns-clause-near g c = λ none r near.
 pub returns-clause-stays : goal.returns-clause-stays
 returns-clause-stays g c = λ more none r near.
     let room : c.args.end.now.sent + c.take_lines-taken.result.count ≤ c.args.end.now.answered + c.args.window = omega (arith, c.requires.within.answered, c.take_lines-taken.ensures.few, c.lines_of_round.ensures.within) in
-    let right = first_none c.send_bytes-sent.result c.take_answers-answers.result.error c.take_lines-taken.result.error (sym c.first_error-error.ensures ∙ c.goes_on.ensures.right more) in
+    let right = first_none c.send_text-sent.result c.take_answers-answers.result.error c.take_lines-taken.result.error (sym c.first_error-error.ensures ∙ c.goes_on.ensures.right more) in
     rw c.end_after.ensures (stays_more c.take_lines-taken.result c.take_answers-answers.result _ near none (c.take_answers-answers.ensures.taken.all right.1) room)

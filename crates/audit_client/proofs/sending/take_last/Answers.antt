@@ -22,7 +22,7 @@ returns-clause-cause g c = λ form i rest w v r o on.
     let answered = c.take_answers-answers.ensures.taken in
     let all : end.answered + (end.sent - end.answered) ≡ end.sent + 0 = omega (arith, c.requires.within.answered) in
     rw c.end_after.ensures (rw c.first_error-error.ensures
-    (round_ends _ (end.sent - end.answered) c.take_answers-answers.result (Ok tt) c.take_answers-answers.result.error None on (takes_nothing form rest end.sent) tt answered.fails tt (λ none. (answered.all none).answered_is) (λ _ over. all) (λ broken. all)))
+    (round_ends _ _ (end.sent - end.answered) c.take_answers-answers.result (Ok tt) c.take_answers-answers.result.error None on (takes_nothing form rest end.sent) tt tt answered.fails tt (λ none. (answered.all none).answered_is) (λ _ over. all) (λ broken. all)))
 
 pub returns-clause-near : goal.returns-clause-near
 returns-clause-near g c = λ r near.
