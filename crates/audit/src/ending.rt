@@ -1,6 +1,7 @@
 //! What is printed when a command has ended.
 use crate::cause::explain_rest;
 use crate::command::Asked;
+use crate::disk_blocks::warn_of_blocks;
 use crate::explaining::explain_fault;
 use crate::heard::Said;
 use crate::warning::warn;
@@ -64,6 +65,9 @@ fn print_end<F: Files, M: Write>(
     }
     if explains {
         warn(rt, alloc, asked, notes, messages)?;
+    }
+    if explains && status == Status::Done {
+        warn_of_blocks(rt, alloc, asked, messages)?;
     }
     Ok(())
 }

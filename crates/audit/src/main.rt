@@ -7,6 +7,7 @@ mod cause;
 mod command;
 mod contents;
 mod continuing;
+mod disk_blocks;
 mod ending;
 mod existing;
 mod explaining;
