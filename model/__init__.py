@@ -1,10 +1,10 @@
 """An independent model of the formats and of the sessions, in plain Python: it computes the values that tests expect.
 
 It is written from docs/formats.md and docs/definitions.md, as recursions over whole lists, and shares no algorithm with the
-program. What an auditor's own programs already state (examples/auditor) is taken from there.
+program. What an auditor's own programs already state (auditor/) is taken from there.
 """
 import os
 import sys
 
 TOP = os.path.dirname(os.path.dirname(os.path.abspath(__file__)))
-sys.path.insert(0, os.path.join(TOP, "examples", "auditor"))
+sys.path.insert(0, os.path.join(TOP, "auditor"))

@@ -1,0 +1,24 @@
+"""Runs `audit daemon` with clients that behave well and clients that don't: how it begins and ends, who may do what,
+that nobody waits for a client that is idle, half done, greedy or gone, and that what a client was told is in the store,
+however the daemon ends.
+
+usage: bin/check daemon EXECUTABLE [--long] [SCENE ..]
+
+Beside each bad client 15 others append, each with one append in flight: with --long none of these may wait 50 ms longer
+than without the bad one, on a machine with nothing else to do. The short form may run beside other work, so it allows
+five seconds: what waits for a bad client waits for ever. With --long the daemon is killed 200 times, and a client asks
+for more than two million commitments.
+"""
+import signal
+
+from checks.daemon import bad_clients, lives, memory, places, replaced, rights, saying, sources, states
+from checks.parts.scenes import play_in_rooms, scenes_in, words_of
+
+SCENES = scenes_in(states, saying, lives, rights, bad_clients, places, memory, replaced, sources)
+
+
+def main(words):
+    _, names = words_of(words, SCENES)
+    # A shell starts what it puts in the background with SIGINT ignored, and a daemon would inherit that.
+    signal.signal(signal.SIGINT, signal.default_int_handler)
+    return play_in_rooms(SCENES, names)

@@ -1,0 +1,3 @@
+"""What the feeds share."""
+
+SMILE = "\U0001f600"

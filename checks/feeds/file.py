@@ -1,0 +1,115 @@
+"""Lines of a file that is rotated, by tools/file-feed."""
+import hashlib
+import os
+import random
+import shutil
+import subprocess
+import time
+
+from checks.parts import program
+from checks.parts.answers import expect_acknowledged_kept, kept_answers
+from checks.parts.daemons import FedDaemon
+from checks.parts.places import tool
+from checks.parts.processes import kill_group
+from checks.parts.scenes import scene
+from checks.parts.tools import needs
+from checks.parts.waiting import SECONDS, wait_for
+from checks.parts.wrong import expect_true
+
+
+class RotatedLog:
+    """A log file that is written and rotated, as logrotate does it: by a new file, by a copy, or packed."""
+
+    def __init__(self, path):
+        self.path, self.lines, self.file = path, [], open(path, "ab", buffering=0)
+
+    def write(self, count):
+        for _ in range(count):
+            self.lines.append(b"line %d %s" % (len(self.lines), b"x" * random.choice([0, 10, 200])))
+            self.file.write(self.lines[-1] + b"\n")
+
+    def rotate(self, how):
+        for number in range(50, 0, -1):
+            for packed in "", ".gz":
+                if os.path.exists("%s.%d%s" % (self.path, number, packed)):
+                    os.rename("%s.%d%s" % (self.path, number, packed), "%s.%d%s" % (self.path, number + 1, packed))
+        if how == "copied":
+            shutil.copy2(self.path, self.path + ".1")
+            os.truncate(self.path, 0)
+            return
+        os.rename(self.path, self.path + ".1")
+        # A program writes to the old file until it is told.
+        self.write(random.randrange(3))
+        self.file = open(self.path, "ab", buffering=0)
+        if how == "packed":
+            subprocess.run(["gzip", self.path + ".1"], check=True)
+
+
+@scene
+def scene_file():
+    """Lines of a file that is rotated come by tools/file-feed, which is killed, as is the daemon: no line is missing,
+    they come in their order, and a line that is too long is cut."""
+    needs("gzip")
+    folder = os.getcwd()
+    daemon, log = FedDaemon(folder), RotatedLog(os.path.join(folder, "some.log"))
+    wrapper, answers = kept_answers(folder)
+
+    def start():
+        return subprocess.Popen([tool("file-feed"), daemon.socket, "position", log.path, "7"],
+                                env=dict(os.environ, AUDIT=wrapper), start_new_session=True, stderr=subprocess.DEVNULL)
+
+    log.write(5)
+    feed = start()
+    try:
+        wait_for(lambda: daemon.count() >= 5, "the first line")
+        for turn in range(100 if program.LONG else 6):
+            log.write(random.randrange(100))
+            time.sleep(random.uniform(0.0, 0.5))
+            kill_group(feed)
+            if turn % 3 == 1:
+                daemon.kill()
+            log.write(random.randrange(30))
+            if turn % 2 == 0:
+                log.rotate(("renamed", "copied", "packed")[turn // 2 % 3])
+            log.write(random.randrange(30))
+            if turn % 3 == 1:
+                daemon.start()
+            feed = start()
+        log.file.write(b"long " * 10000 + b"\n")
+        log.write(1)
+
+        def has_last():
+            # A feed that met a killed daemon has ended, as its unit starts it again.
+            nonlocal feed
+            if feed.poll() is not None:
+                feed = start()
+            return log.lines[-1] in daemon.payloads(folder)
+        wait_for(has_last, "the last line")
+    finally:
+        kill_group(feed)
+    expect_file_stored(folder, log, daemon)
+    daemon.stop()
+    expect_bad_places_refused(log, daemon)
+    expect_acknowledged_kept(daemon.store, answers, folder)
+
+
+def expect_bad_places_refused(log, daemon):
+    """A store, a device or another file isn't taken as POSITION."""
+    for place, why in (daemon.store, "is a store"), ("/dev/null", "is no regular file"), (log.path, "has no place"):
+        done = subprocess.run([tool("file-feed"), daemon.socket, place, log.path, "7"],
+                              env=dict(os.environ, AUDIT=program.PATH), capture_output=True, timeout=SECONDS)
+        said = "file-feed: %s %s\n" % (place, why)
+        expect_true((done.returncode, done.stderr.decode()) == (1, said), "%s as POSITION: %r" % (place, done.stderr))
+
+
+def expect_file_stored(folder, log, daemon):
+    """Each line of the file is there, in order, and the long one is cut."""
+    found = list(dict.fromkeys(daemon.payloads(folder)))
+    cut = [payload for payload in found if payload.startswith(b"long ")]
+    expect_true(len(cut) == 1 and len(cut[0]) == 32688, "a long line has %r bytes" % [len(payload) for payload in cut])
+    said = b" [of 50000 bytes, SHA-256 %s]" % hashlib.sha256(b"long " * 10000).hexdigest().encode()
+    expect_true(cut[0].endswith(said), "a long line ends with %r" % cut[0][-100:])
+    found.remove(cut[0])
+    missing = [line for line in log.lines if line not in set(found)]
+    expect_true(not missing, "%d lines of %d are missing: %s .." % (len(missing), len(log.lines), missing[:3]))
+    expect_true(found == log.lines, "the lines come in another order, or others come")

@@ -1,0 +1,18 @@
+"""Hosts that log to a store of another machine, with real programs on loopback: rsyslogd over RELP and TLS, and stunnel
+in front of a daemon's sockets, with the configurations of packaging/.
+
+usage: bin/check network EXECUTABLE [--long] [SCENE ..]
+
+A scene whose tools aren't there is left out. Needed are openssl, and Debian's rsyslog and rsyslog-relp, or stunnel4.
+With --long more is killed, and what rsyslogd loses when it is killed itself is counted.
+"""
+from checks.network import relp, stunnel
+from checks.parts.scenes import play_all, scenes_in, words_of
+
+SCENES = scenes_in(relp, stunnel)
+SHORT = [name for name in SCENES if name != "relp_stopped"]
+
+
+def main(words):
+    _, names = words_of(words, SCENES, short=SHORT)
+    return play_all(SCENES, names)

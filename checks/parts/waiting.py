@@ -1,0 +1,79 @@
+"""Waiting for what comes, and what can be seen of other processes meanwhile."""
+import contextlib
+import os
+import socket
+import stat
+import time
+
+from checks.parts.wrong import expect_true
+
+SECONDS = 180
+
+
+def wait_until(holds, wrong, seconds=SECONDS, pause=0.002):
+    """Waits until something holds; `wrong` says what is wrong if it never does."""
+    end = time.monotonic() + seconds
+    while not holds():
+        expect_true(time.monotonic() < end, wrong)
+        time.sleep(pause)
+
+
+def wait_for(holds, what, seconds=SECONDS):
+    """Waits for what takes some time."""
+    wait_until(holds, what + " never comes", seconds, 0.02)
+
+
+def is_socket(path):
+    with contextlib.suppress(OSError):
+        return stat.S_ISSOCK(os.stat(path).st_mode)
+    return False
+
+
+def is_listening(path):
+    """Whether some program listens there. A connection isn't made, because it would take the place of a client."""
+    with open("/proc/net/unix") as sockets:
+        return any(line.rstrip("\n").endswith(" " + path) and line.split()[3] == "00010000" for line in sockets)
+
+
+def wait_listening(path, process):
+    """Waits until a program listens there, or has ended."""
+    wait_until(lambda: is_listening(path) or process.poll() is not None, "nobody listens at " + path)
+
+
+def has_locked(process, path):
+    """Whether a process holds the lock of a file. Asking takes no lock, which might keep the process from having it."""
+    number = str(os.stat(path).st_ino)
+    with open("/proc/locks", encoding="ascii") as locks:
+        words = [line.split() for line in locks]
+    return any(lock[4] == str(process.pid) and lock[5].endswith(":" + number) for lock in words if lock[1] == "FLOCK")
+
+
+def has_open(process, path):
+    """Whether a process has a file open."""
+    folder = "/proc/%d/fd" % process.pid
+    with contextlib.suppress(OSError):
+        for name in os.listdir(folder):
+            with contextlib.suppress(OSError):
+                if os.readlink("%s/%s" % (folder, name)) == os.path.realpath(path):
+                    return True
+    return False
+
+
+def is_alive(process):
+    """Whether the process of this number runs; one that ended and waits for its parent doesn't."""
+    try:
+        with open("/proc/%d/stat" % process, errors="replace") as file:
+            return file.read().rsplit(")", 1)[1].split()[0] != "Z"
+    except (FileNotFoundError, ProcessLookupError):
+        return False
+
+
+def free_port():
+    with socket.socket() as probe:
+        probe.bind(("127.0.0.1", 0))
+        return probe.getsockname()[1]
+
+
+def is_port_taken(port):
+    with socket.socket() as probe:
+        return probe.connect_ex(("127.0.0.1", port)) == 0

@@ -1,0 +1,94 @@
+"""A store on an image of Ceph with three replicas, on this machine: OSDs are killed while a daemon and its clients go
+on, and come back; then two machines take the image from each other.
+
+usage: bin/check replicated-ceph EXECUTABLE [--qemu] [KILLS [TAKEOVERS]]
+
+The defaults are 10 kills of an OSD and 100 takeovers, and the store has room for about 200 of both. With --qemu the
+image is attached by qemu-storage-daemon, otherwise by nbdkit with rbd-exclusive.py and nbdfuse. It needs Debian's
+ceph-mon, ceph-osd, ceph-common, fuse3, and nbdkit, nbdkit-plugin-python and libnbd-bin, or qemu-system-common and
+qemu-block-extra, and FUSE.
+
+What it shows, and fails if it isn't so:
+- while an OSD is away, the daemon acknowledges on, and each of the others by itself holds every acknowledged event. The
+one
+  that comes back is healed by Ceph: nothing is copied by hand;
+- with two OSDs away nothing is acknowledged; once one is back, the daemon goes on;
+- while one machine has the image, another can't attach it (not with --qemu, which doesn't keep the lock to itself);
+- a machine that fences the other first (fence-ceph) opens a store with every acknowledged event at its index, whether
+the
+  other hung as a whole, its client of the image, its daemon, or nothing. The fenced daemon ends with `11 Device`, status 3,
+  at its next append, also if it was idle. Until then it answers questions, with a past that its successor's log extends.
+"""
+import os
+import subprocess
+
+from checks.parts import ceph
+from checks.parts.files import folder_of_its_own
+from checks.parts.scenes import program_of
+from checks.parts.tools import needs
+from checks.parts.wrong import LeftOut, Usage, told
+from checks.replicated_ceph.common import CLIENTS, FEW, MANY, PATH, SIZES, good, how, say
+from checks.replicated_ceph.machines import Machine
+from checks.replicated_ceph.scenes import kill_osds, lose_two_osds, read_replicas, refuse_second
+from checks.replicated_ceph.takeovers import take_over
+
+
+def play(cluster, kills, takeovers):
+    cluster.begin()
+    cluster.make_image("store", how.sectors * 512)
+    say("the cluster is there")
+    with open("key", "w") as key:
+        key.write("%064d\n" % 7)
+    machine = Machine("first")
+    machine.attach()
+    good("format", "--in-place", machine.file, str(how.sectors), "key")
+    machine.start()
+    say("the store is formatted and served")
+    if kills:
+        kill_osds(cluster, machine, kills)
+    lose_two_osds(cluster, machine)
+    if not how.qemu:
+        refuse_second(machine)
+    machine = take_over(cluster, machine, takeovers)
+    read_replicas(cluster, machine)
+
+
+def expect_complete():
+    """All that is needed is there, or the check is left out."""
+    attach = ["qemu-storage-daemon"] if how.qemu else ["nbdkit", "nbdfuse"]
+    needs(*ceph.TOOLS, *attach, "fusermount3", devices=["/dev/fuse"])
+    if not how.qemu:
+        environment = dict(os.environ, PATH=PATH)
+        probe = subprocess.run(["nbdkit", "python", "--dump-plugin"], env=environment, capture_output=True)
+        modules = subprocess.run(["python3", "-c", "import rados, rbd"], env=environment, capture_output=True)
+        if probe.returncode or modules.returncode:
+            raise LeftOut("there is no Python of nbdkit with rados and rbd")
+
+
+def numbers_of(words):
+    """KILLS and TAKEOVERS, and the size of a store that holds the events of all."""
+    given = [int(word) for word in words]
+    kills, takeovers = given + [10, 100][len(given):]
+    events = CLIENTS * ((kills + 2 + takeovers) * MANY + takeovers * FEW)
+    return kills, takeovers, next(size for size in SIZES if size > events + 64)
+
+
+def main(words):
+    how.qemu = "--qemu" in words
+    try:
+        kills, takeovers, how.sectors = numbers_of(program_of([word for word in words if word != "--qemu"], 2))
+    except (StopIteration, ValueError):
+        raise Usage from None
+    expect_complete()
+    with folder_of_its_own("replicated-ceph-") as folder:
+        cluster = ceph.Cluster(os.path.join(folder, "ceph"))
+        try:
+            play(cluster, kills, takeovers)
+            return 0
+        except Exception as wrong:
+            print("replicated-ceph: %s" % told(wrong))
+            return 1
+        finally:
+            for machine in Machine.all:
+                machine.lose()
+            cluster.end()
