@@ -28,6 +28,7 @@ use Rattle.audit_serve_passes.specs.declared.bound_kinds.BoundKinds.{BoundKinds}
 use Rattle.audit_serve_passes.specs.Rights.{is_bound}
 use Rattle.audit_serve_door.specs.declared.socket_door.SocketDoor.{SocketDoor}
 use Rattle.audit_cli_daemon.specs.declared.gauge.GaugedDoor.{GaugedDoor}
+use Rattle.audit_cli_daemon.specs.Gauged.{IsTold}
 use Rattle.audit_cli_daemon.specs.Rights.{rights_at, rights_of_others, modes_at, IsDoorFor}
 use Rattle.audit_cli_daemon.specs.Running.{ServesStore}
 use Rattle.audit_cli_daemon.specs.State.{ready_line, stopped_line}
@@ -39,10 +40,10 @@ Ending = Result (Unit {0}) CommandError
 pub same_settings : (one other : Settings) → Run one ≡ Run other → one ≡ other
 same_settings one other same = cc same
 
-module _ {D : Type 0} {g : sectors.Ghosts D} {S E : Type 0} (N : CallModel S) (doors : DoorModel E S) (Opens : E → Type 0) (reserve backlog : ℕ) where
-  pub serves_between : (opened left : Store D g) (before mid after : Option (List ℕ)) (served result : Ending) (count : ℕ) (root : List ℕ) → OnOk served (Appends before mid (ready_line (active_header opened))) × OnOk served (ServesAtDoor N doors Opens reserve backlog opened left)
+module _ {D : Type 0} {g : sectors.Ghosts D} {S E : Type 0} (N : CallModel S) (doors : DoorModel E S) (Opens Ends : E → Type 0) (reserve backlog : ℕ) where
+  pub serves_between : (opened left : Store D g) (before mid after : Option (List ℕ)) (served result : Ending) (count : ℕ) (root : List ℕ) → OnOk served (Appends before mid (ready_line (active_header opened))) × OnOk served (ServesAtDoor N doors Opens Ends reserve backlog opened left)
       → OnOk result (IsOk served) → OnOk result (Appends mid after (numbered_line (codes "stopped ") count root)) → count ≡ (active_header left).count → root ≡ (active_header left).root
-      → OnOk result (ServesBetween N doors Opens reserve backlog opened before after)
+      → OnOk result (ServesBetween N doors Opens Ends reserve backlog opened before after)
   serves_between opened left before mid after served (Err fault) count root both ok stopped count_is root_is = tt
   serves_between opened left before mid after (Err fault) (Ok done) count root both ok stopped count_is root_is = absurd (cc ok)
   serves_between opened left before mid after (Ok served) (Ok done) count root (ready, store) ok stopped count_is root_is = record {
@@ -52,17 +53,17 @@ module _ {D : Type 0} {g : sectors.Ghosts D} {S E : Type 0} (N : CallModel S) (d
         (subst (Appends mid after) (ap (λ n. numbered_line (codes "stopped ") n root) count_is ∙ ap (numbered_line (codes "stopped ") (active_header left).count) root_is) stopped);
   }
 
-pub serves_at_door : {D : Type 0} {g : sectors.Ghosts D} {S E : Type 0} (N : CallModel S) (doors : DoorModel E S) (Opens : E → Type 0) (reserve backlog : ℕ) (was now : E) (opened left : Store D g) (first other : Ending) → Opens was
-    → OnOk first (ServesStore N doors reserve backlog was now opened left) → OnOk (result_and first other) (ServesAtDoor N doors Opens reserve backlog opened left)
-serves_at_door N doors Opens reserve backlog was now opened left (Err fault) other opens served = tt
-serves_at_door N doors Opens reserve backlog was now opened left (Ok first) (Err fault) opens served = tt
-serves_at_door N doors Opens reserve backlog was now opened left (Ok first) (Ok done) opens served = record { was = was; opens = opens; now = now; served = served }
+pub serves_at_door : {D : Type 0} {g : sectors.Ghosts D} {S E : Type 0} (N : CallModel S) (doors : DoorModel E S) (Opens Ends : E → Type 0) (reserve backlog : ℕ) (was now : E) (opened left : Store D g) (first other : Ending) → Opens was → OnOk other (Ends now)
+    → OnOk first (ServesStore N doors reserve backlog was now opened left) → OnOk (result_and first other) (ServesAtDoor N doors Opens Ends reserve backlog opened left)
+serves_at_door N doors Opens Ends reserve backlog was now opened left (Err fault) other opens ends served = tt
+serves_at_door N doors Opens Ends reserve backlog was now opened left (Ok first) (Err fault) opens ends served = tt
+serves_at_door N doors Opens Ends reserve backlog was now opened left (Ok first) (Ok done) opens ends served = record { was = was; opens = opens; now = now; ends = ends; served = served }
 
 -- served at a door whose sockets are these, it was served at one whose sockets are as was asked
-pub served_there : {D : Type 0} {g : sectors.Ghosts D} {S C J W Q F T : Type 0} (N : CallModel S) (doors : DoorModel (GaugedDoor (SocketDoor C J W UnixListener Q) F T) S) (one other : List Rights) (bits modes : List ℕ) (descriptors : List ℤ) (Listen : List ℤ → Type 0) (idle reserve backlog : ℕ) (opened left : Store D g) (done : Ending)
-    → one ≡ other → bits ≡ modes → Listen descriptors → OnOk done (ServesAtDoor N doors (IsDoorFor one bits (λ found. found ≡ descriptors) idle) reserve backlog opened left) → OnOk done (ServesAtDoor N doors (IsDoorFor other modes Listen idle) reserve backlog opened left)
-served_there N doors one other bits modes descriptors Listen idle reserve backlog opened left (Err fault) same alike there served = tt
-served_there N doors one other bits modes descriptors Listen idle reserve backlog opened left (Ok done) same alike there served = record {
+pub served_there : {D : Type 0} {g : sectors.Ghosts D} {S C J W Q F T : Type 0} (N : CallModel S) (doors : DoorModel (GaugedDoor (SocketDoor C J W UnixListener Q) F T) S) (Ends : GaugedDoor (SocketDoor C J W UnixListener Q) F T → Type 0) (one other : List Rights) (bits modes : List ℕ) (descriptors : List ℤ) (Listen : List ℤ → Type 0) (idle reserve backlog : ℕ) (opened left : Store D g) (done : Ending)
+    → one ≡ other → bits ≡ modes → Listen descriptors → OnOk done (ServesAtDoor N doors (IsDoorFor one bits (λ found. found ≡ descriptors) idle) Ends reserve backlog opened left) → OnOk done (ServesAtDoor N doors (IsDoorFor other modes Listen idle) Ends reserve backlog opened left)
+served_there N doors Ends one other bits modes descriptors Listen idle reserve backlog opened left (Err fault) same alike there served = tt
+served_there N doors Ends one other bits modes descriptors Listen idle reserve backlog opened left (Ok done) same alike there served = record {
   was = served.was;
   opens = record {
     rights_are = served.opens.rights_are ∙ same;
@@ -73,6 +74,7 @@ served_there N doors one other bits modes descriptors Listen idle reserve backlo
     vacant = served.opens.vacant;
   };
   now = served.now;
+  ends = served.ends;
   served = served.served;
 }
 
@@ -94,7 +96,7 @@ module _ {D : Type 0} (g : sectors.Ghosts D) (At : List ℕ → Store D g → Ty
   pub performed : (settings : Settings) (sockets : Sockets) (others : Rights) (bound : BoundKinds) (idle reserve backlog mode : ℕ) (opened : Store D g) (before after : Option (List ℕ)) (done : Ending) → sockets.clients ≡ settings.socket → sockets.readers ≡ settings.reader → sockets.sources ≡ settings.writers
       → ((kind : ℕ) → is_bound bound kind ≡ has_kind (sources_asked settings) kind) → others ≡ rights_of_others settings.may_close bound
       → number_asked settings.idle DEFAULT_IDLE ≡ Ok idle → number_asked settings.reserve DEFAULT_RESERVE ≡ Ok reserve → backlog_asked settings.backlog ≡ Ok backlog → (settings.socket_mode ≡ None → mode ≡ OWNER_ONLY) → IfSome settings.socket_mode (λ word. IsMode word.now mode) → At settings.file.now opened
-      → OnErr done (EndsEarly opened before after) → OnOk done (ServesBetween N doors (IsDoorFor (rights_served sockets others) (modes_at (rights_served sockets others) mode) (ListenAt facts mode (paths_served sockets)) idle) reserve backlog opened before after) → IsDaemonDone g At facts N doors settings before after done
+      → OnErr done (EndsEarly opened before after) → OnOk done (ServesBetween N doors (IsDoorFor (rights_served sockets others) (modes_at (rights_served sockets others) mode) (ListenAt facts mode (paths_served sockets)) idle) IsTold reserve backlog opened before after) → IsDaemonDone g At facts N doors settings before after done
   performed settings sockets others bound idle reserve backlog mode opened before after (Err fault) clients_are readers_are sources_are bound_are others_are idle_is reserve_is backlog_is owner mode_is at ended served = inr (opened, at, ended)
   performed settings sockets others bound idle reserve backlog mode opened before after (Ok done) clients_are readers_are sources_are bound_are others_are idle_is reserve_is backlog_is owner mode_is at ended served = record {
     reserve = reserve;
@@ -111,6 +113,6 @@ module _ {D : Type 0} (g : sectors.Ghosts D) (At : List ℕ → Store D g → Ty
     bound = bound;
     bound_are = bound_are;
     served =
-        subst (λ (paths : List (List ℕ)). ServesBetween N doors (IsDoorFor (rights_asked settings bound) (modes_at (rights_asked settings bound) mode) (ListenAt facts mode paths) idle) reserve backlog opened before after) (paths_same settings sockets clients_are readers_are sources_are)
-        (subst (λ (allowed : List Rights). ServesBetween N doors (IsDoorFor allowed (modes_at allowed mode) (ListenAt facts mode (paths_served sockets)) idle) reserve backlog opened before after) (rights_same settings sockets others bound readers_are sources_are others_are) served);
+        subst (λ (paths : List (List ℕ)). ServesBetween N doors (IsDoorFor (rights_asked settings bound) (modes_at (rights_asked settings bound) mode) (ListenAt facts mode paths) idle) IsTold reserve backlog opened before after) (paths_same settings sockets clients_are readers_are sources_are)
+        (subst (λ (allowed : List Rights). ServesBetween N doors (IsDoorFor allowed (modes_at allowed mode) (ListenAt facts mode (paths_served sockets)) idle) IsTold reserve backlog opened before after) (rights_same settings sockets others bound readers_are sources_are others_are) served);
   }

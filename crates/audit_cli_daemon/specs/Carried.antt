@@ -21,6 +21,7 @@ use Rattle.mio.specs.declared.net.uds.listener.UnixListener.{UnixListener}
 use Rattle.audit_serve_door.specs.declared.socket_door.SocketDoor.{SocketDoor}
 use Rattle.audit_serve_sockets.specs.Bound.{SocketFacts}
 use Rattle.audit_cli_daemon.specs.declared.gauge.GaugedDoor.{GaugedDoor}
+use Rattle.audit_cli_daemon.specs.Gauged.{IsTold}
 use Rattle.audit_cli_daemon.specs.Rights.{rights_at, rights_of_others, modes_at, IsDoorFor}
 use Rattle.audit_serve_passes.specs.declared.bound_kinds.BoundKinds.{BoundKinds}
 use Rattle.audit_serve_passes.specs.declared.rights.Rights.{Rights}
@@ -32,12 +33,13 @@ use Rattle.audit_cli_daemon.specs.State.{ready_line, stopped_line}
 use Rattle.audit_cli_daemon.specs.Words.{backlog_asked}
 
 module _ {D : Type 0} {g : sectors.Ghosts D} {S E : Type 0} (N : CallModel S) (doors : DoorModel E S)
-    (Opens : E → Type 0) where
-  -- clients that came in by such a door were served over a store, with this reserve and backlog
+    (Opens Ends : E → Type 0) where
+  -- clients that came in by such a door were served over a store, with this reserve and backlog, up to such an end
   pub record ServesAtDoor (reserve backlog : ℕ) (opened left : Store D g) : Type 0 where
     pub was : E
     pub opens : Opens was
     pub now : E
+    pub ends : Ends now
     pub served : ServesStore N doors reserve backlog was now opened left
 
   -- The store's state was written before the first and after the last of them.
@@ -73,7 +75,7 @@ module _ {D : Type 0} (g : sectors.Ghosts D) (At : List ℕ → Store D g → Ty
   where
     -- So were they over the store that was opened in the file that was named, with the reserve and the backlog that were
     -- asked for, and came in by sockets at the paths, with the rights, the permissions and the time for idle clients that
-    -- were asked for.
+    -- were asked for, until the order to stop came.
     pub record ServesClientsAsked (settings : Settings) (before after : Option (List ℕ)) : Type 0 where
       pub reserve : ℕ
       pub reserve_is : number_asked settings.reserve DEFAULT_RESERVE ≡ Ok reserve
@@ -90,7 +92,7 @@ module _ {D : Type 0} (g : sectors.Ghosts D) (At : List ℕ → Store D g → Ty
       pub bound_are : (kind : ℕ) → is_bound bound kind ≡ has_kind (sources_asked settings) kind
       pub served : ServesBetween N doors
           (IsDoorFor (rights_asked settings bound) (modes_at (rights_asked settings bound) mode)
-          (ListenAt facts mode (paths_asked settings)) idle) reserve backlog opened before after
+          (ListenAt facts mode (paths_asked settings)) idle) IsTold reserve backlog opened before after
 
     -- After an error nothing was written; or it ended early over the store that was opened in the file that was named.
     abbrev pub IsDaemonDone : Settings → Option (List ℕ) → Option (List ℕ) → Result (Unit {0}) CommandError → Type 0

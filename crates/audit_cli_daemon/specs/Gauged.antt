@@ -1,5 +1,8 @@
 -- A door behind which a gauge is read: its calls are those of the door.
+use Rattle.std.specs.Prelude.{◌≡◌, true}
 use Rattle.audit_serve_ready.specs.Door.{DoorModel}
+use Rattle.audit_serve_door.specs.Comings.{was_told}
+use Rattle.audit_serve_door.specs.declared.socket_door.SocketDoor.{SocketDoor}
 use Rattle.audit_cli_daemon.specs.declared.gauge.GaugedDoor.{GaugedDoor}
 
 abbrev pub gauged_calls : {E F M S : Type 0} → DoorModel E S → DoorModel (GaugedDoor E F M) S
@@ -9,3 +12,7 @@ gauged_calls N = record {
   more_called = λ old mid new calls later first second.
       N.more_called old.door mid.door new.door calls later first second;
 }
+
+-- at the door behind which it is read, the order to stop has come
+abbrev pub IsTold : {C J W L S F M : Type 0} → GaugedDoor (SocketDoor C J W L S) F M → Type 0
+IsTold gauged = was_told gauged.door ≡ true

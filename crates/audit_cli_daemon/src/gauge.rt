@@ -127,7 +127,9 @@ impl<'n, 'a, 'b, E, F: Drop, M> GaugedDoor<'n, 'a, 'b, E, F, M> {
     }
 
     /// The door alone.
-    pub fn into_door(self) -> E {
+    pub fn into_door(self) -> E
+        ensures { result ≡ self.entry.door }
+    {
         self.door
     }
 }

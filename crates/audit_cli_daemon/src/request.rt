@@ -1,6 +1,6 @@
 //! The requests to run a daemon and to stop it, and how they are carried out.
 ghost use Rattle.std.specs.Prelude.{◌≡◌, ◌⊎◌, ◌≤◌, ℕ, None, Ok, Err, IfSome, IfOk, IfErr, OnOk, OnErr, IsOk, codes};
-ghost use Rattle.std.specs.Prelude.{map};
+ghost use Rattle.std.specs.Prelude.{map, true};
 ghost use Rattle.std.specs.Io.KnownBytes.{Keeps, Appends};
 ghost use Rattle.audit_serve_ready.specs.declared.limits.TheConstants.{MAX_BACKLOG};
 ghost use Rattle.audit_cli_base.specs.Arguments.{number_asked};
@@ -13,6 +13,7 @@ ghost use Rattle.audit_cli_daemon.specs.declared.arguments.TheConstants.{DEFAULT
 ghost use Rattle.audit_cli_daemon.specs.Words.{HasBadSetting, HasBadWord, backlog_asked};
 ghost use Rattle.audit_cli_daemon.specs.Carried.{ServesAtDoor, ServesBetween, EndsEarly, IsDaemonDone};
 ghost use Rattle.audit_cli_daemon.specs.Carried.{IsDaemonCarriedOut};
+ghost use Rattle.audit_cli_daemon.specs.Gauged.{IsTold};
 ghost use Rattle.audit_serve_passes.specs.declared.bound_kinds.BoundKinds.{BoundKinds};
 ghost use Rattle.audit_serve_passes.specs.Rights.{is_bound};
 ghost use Rattle.audit_cli_daemon.specs.Rights.{rights_of_others, modes_at, IsIdleTime, IsDoorFor};
@@ -22,7 +23,7 @@ ghost use Rattle.audit_cli_daemon.specs.Sockets.{rights_served, paths_served, Li
 ghost use Rattle.audit_cli_daemon.specs.State.{ready_line};
 ghost use Rattle.audit_serve_door.specs.Entrances.{rights_of, rights_of_door, mode_of, modes_of_door, idle_of_door};
 ghost use Rattle.audit_serve_door.specs.Entrances.{descriptor_of, descriptors_of_door};
-ghost use Rattle.audit_serve_door.specs.Comings.{who_waits, places_of};
+ghost use Rattle.audit_serve_door.specs.Comings.{who_waits, places_of, was_told};
 ghost use Rattle.audit_serve_door.specs.Idle.{IsVacant};
 ghost use Rattle.audit_serve_door.specs.Waits.{NobodyWaits};
 ghost use Rattle.audit_store.specs.Store.{active_header};
@@ -130,8 +131,9 @@ where
         → HasBadSetting settings }
     ensures unwritten { HasBadWord request.entry → Keeps (W.contents output.old) (W.contents output.new) }
     // The status is that of the result. On success clients were served over the store that was opened in the file that
-    // was named, with the reserve and the backlog that were asked for, and its first and last state were written. After
-    // an error nothing was written, or that store has kept its events, and a prefix of these lines was written.
+    // was named, with the reserve and the backlog that were asked for, until the order to stop came, and its first and
+    // last state were written. After an error nothing was written, or that store has kept its events, and a prefix of
+    // these lines was written.
     ensures carried { (settings : Settings) → request.entry ≡ Request.Run settings
         → IsDaemonCarriedOut ⟦<FileDevice<F::File> as Sectors>⟧
         (IsStoreAt F.File.facts F.File.positioned) (F.sockets rt.now) ⟦<Client as ReadyStream>⟧.calls
@@ -303,7 +305,7 @@ where
     ensures served { OnOk result (ServesBetween ⟦<Client as ReadyStream>⟧.calls
         ⟦<DaemonDoor<F, F::File, Sparing<'static, M>> as Door>⟧.calls
         (IsDoorFor (rights_served sockets.now judged.rights) (modes_at (rights_served sockets.now judged.rights)
-        judged.mode) (ListenAt (F.sockets rt.now) judged.mode (paths_served sockets.now)) judged.idle)
+        judged.mode) (ListenAt (F.sockets rt.now) judged.mode (paths_served sockets.now)) judged.idle) IsTold
         judged.reserve judged.most store
         (W.contents output.old) (W.contents output.new)) }
     ensures ended { OnErr result (EndsEarly store (W.contents output.old) (W.contents output.new)) }
@@ -390,7 +392,7 @@ where
     ensures served { OnOk result.1 (ServesAtDoor ⟦<Client as ReadyStream>⟧.calls
         ⟦<DaemonDoor<F, F::File, M> as Door>⟧.calls (IsDoorFor (map rights_of listening.entrances.items)
         (map mode_of listening.entrances.items)
-        (λ descriptors. descriptors ≡ map descriptor_of listening.entrances.items) judged.idle)
+        (λ descriptors. descriptors ≡ map descriptor_of listening.entrances.items) judged.idle) IsTold
         judged.reserve judged.most store result.0) }
 {
     let gauge = gauge_of(&watch, judged.reserve, messages);
@@ -469,13 +471,15 @@ fn open_door<'a, 'b, 'c, F: Files + Net + Clock, M: Write>(
 }
 
 // Takes the orders to stop, which are answered last, and prints what clients did. A store that isn't in its place is a
-// fault, and so is a door that failed.
+// fault, and so is a door that failed, or an end that nobody ordered.
 fn close_door<F: Files + Clock, M: Write>(
     mut door: ServedDoor<'_, '_, '_, F, M>,
     orders: &mut Option<StopOrders>,
 ) -> Result<(), CommandError>
     ensures cause { IfErr result IsNoWordFault }
+    ensures told { OnOk result (was_told door.entry ≡ true) }
 {
+    let was_told = door.was_told();
     let is_replaced = door.is_replaced();
     let has_failed = door.has_failed();
     let (given, mut journal) = door.close();
@@ -483,7 +487,7 @@ fn close_door<F: Files + Clock, M: Write>(
     journal.print_counts();
     if is_replaced {
         Err(CommandError::Replaced)
-    } else if has_failed {
+    } else if has_failed || !was_told {
         Err(CommandError::File)
     } else {
         Ok(())

@@ -1,5 +1,5 @@
 -- The calls of a door over sockets: who comes in, who waits, and who is given a place.
-use Rattle.std.specs.Prelude.{◌≡◌, ℕ, ◌&&◌, Option, Some, None, List, [], ◌∷◌, ◌++◌, length, Contains}
+use Rattle.std.specs.Prelude.{◌≡◌, ℕ, ◌&&◌, Bool, Option, Some, None, List, [], ◌∷◌, ◌++◌, length, Contains}
 use Rattle.std.specs.List.{list_all}
 use Rattle.std.specs.declared.time.Instant.{Instant}
 use Rattle.std.proofs.Common.{refl, subst}
@@ -79,6 +79,10 @@ candidates_at waiting places = candidates_for (has_reader waiting) (has_other wa
 
 abbrev pub candidates_of : {C J W L S : Type 0} → SocketDoor C J W L S → Candidates
 candidates_of door = candidates_at door.waiting door.places
+
+-- the order to stop has come at a door
+abbrev pub was_told : {C J W L S : Type 0} → SocketDoor C J W L S → Bool
+was_told door = has_order door.orders
 
 -- the connections that wait at a door
 abbrev pub who_waits : {C J W L S : Type 0} → SocketDoor C J W L S → Waiting S

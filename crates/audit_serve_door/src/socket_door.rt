@@ -95,7 +95,7 @@ where
     ghost use Rattle.audit_serve_door.specs.Notes.{a_note};
     ghost use Rattle.audit_serve_door.specs.Waits.{NobodyWaits, NoArrival, Passes, ChangesWaiters};
     ghost use Rattle.audit_serve_door.specs.Comings.{IsClientOf, Receives, KeepsWaiters, who_waits, places_of};
-    ghost use Rattle.audit_serve_door.specs.Comings.{candidates_of};
+    ghost use Rattle.audit_serve_door.specs.Comings.{candidates_of, was_told};
     ghost use Rattle.audit_serve_passes.specs.Rights.{only_reads};
     ghost use Rattle.audit_serve_door.specs.Idle.{seated, vacated, ChoosesDue, IsVacant};
 
@@ -167,6 +167,13 @@ where
     /// Whether what is served isn't in its place, now or when it was last looked.
     pub fn is_replaced(&mut self) -> bool {
         self.is_replaced || !self.look()
+    }
+
+    /// Whether an order to stop has come.
+    pub fn was_told(&self) -> bool
+        ensures { result ≡ was_told self.entry.now }
+    {
+        self.orders.has_come()
     }
 
     /// Closes the door, and returns the orders to stop, which are to be answered, and the journal.
