@@ -66,6 +66,7 @@ BENCHES = entries("checks.bench", [
     ("read", "`read` of a million events, and of what is new after them", "5 min"),
     ("network", "hosts over TLS, and clients that are more than a daemon's places", "2 min"),
     ("fleet", "200 stores on one machine: daemons, looks, metrics, rotations", "3 min"),
+    ("peers", "durable appends and verification beside SQLite, journald, rsyslogd and Go's tlog", "2 min"),
 ])
 
 
