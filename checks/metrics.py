@@ -171,7 +171,7 @@ def names_are_labels(room):
     for words in ([], ["out.prom"], ["out.prom", "s"], ["out.prom", "=store"], ["out.prom", "s="],
                   ["out.prom", "s=store", "s=store"], ["", "s=store"],
                   ["out.prom", "s=store", "--witness"], ["out.prom", "--witness", "s"],
-                  ["out.prom", "--other", "s=store"], ["--help"],
+                  ["out.prom", "--other", "s=store"],
                   ["out.prom", b"\xff=store"], ["out.prom", "--witness", "s=a", "--witness", "s=b"]):
         expect(run(room, *words), USAGE, "the words %r" % (words,))
     expect_true(read(room.path("out.prom")) == before, "refused words change OUT")

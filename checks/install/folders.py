@@ -1,4 +1,5 @@
 """Installing in a folder and removing again: files, modes, links and prefixes."""
+import glob
 import os
 import re
 import shutil
@@ -7,6 +8,7 @@ import subprocess
 from checks.install.common import expect_files, files_below, install, run, wanted_below
 from checks.parts import program
 from checks.parts.files import mode_of, read, read_text, write
+from checks.parts.places import TOOLS
 from checks.parts.scenes import scene
 from checks.parts.wrong import expect, expect_true
 
@@ -124,7 +126,14 @@ def scene_prefixes():
 
 @scene
 def scene_usages():
-    """Each script of bin/ prints its usage, and does nothing else."""
+    """Each script of bin/ and each tool prints its usage, and does nothing else."""
     for name in "try", "audit", "check", "bench", "attack", "statement", "install", "package":
         status, out, err = run(name, "--help")
         expect((status, err, b"usage: bin/" + name.encode() in out), (0, b"", True), "bin/%s --help" % name)
+    for path in sorted(glob.glob(os.path.join(TOOLS, "*"))):
+        name = os.path.basename(path)
+        if os.access(path, os.X_OK):
+            done = subprocess.run([path, "--help"], stdin=subprocess.DEVNULL, stdout=subprocess.PIPE,
+                                  stderr=subprocess.PIPE, timeout=60)
+            expect((done.returncode, done.stderr, b"usage: " + name.encode() in done.stdout), (0, b"", True),
+                   "%s --help" % name)
