@@ -34,6 +34,7 @@ CHECKS = entries("checks", [
     ("feeds", "a daemon fed by a real rsyslogd, a file and a journal that are killed, under its unit's rules", "30 s"),
     ("network", "hosts over RELP and TLS, and through stunnel with client certificates", "30 s"),
     ("siem", "verified events get into SQLite once, each day those that are new", "1 s"),
+    ("sealing", "first keys that are sealed to an auditor by age and gpg, and by commands that fail", "5 s"),
     ("chain", "logs that continue each other are verified in order, and broken chains are reported", "5 s"),
     ("metrics", "what `metrics` writes of stores and witnesses, and that its rules raise each alert", "10 s"),
     ("units", "the package and its units on a systemd that is booted in namespaces", "2 min"),
