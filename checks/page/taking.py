@@ -92,6 +92,21 @@ def expect_words_taken(roots, key, export, witness, page, drop):
         found = drop("export", ("STATE", text), ("first.key", key), ("events.export", export))
         expect_true(said in found, "a witness's file: " + short(found))
         expect(page.call("pressed", "export")["verdict"], "verified 5 open", "under a witness's file")
+    expect_notes_taken(roots, key, export, page, drop)
+
+
+def expect_notes_taken(roots, key, export, page, drop):
+    """A note as a commitment, and texts that are nearly one."""
+    count, root = history_word(roots[5])
+    note = "audit-note 1\nname acme<b>/2026\ncount %d\nroot %s\n" % (count, root)
+    said = drop("export", ("day.note", note), ("first.key", key), ("events.export", export))
+    expect_true(said.startswith("day.note is taken as the commitment. It is a note of the log acme<b>/2026: this page "
+                                "doesn't check its signature. first.key"), "a note: " + said)
+    expect(page.call("pressed", "export")["verdict"], "verified 5 open", "under a note")
+    for text in (note.replace("note 1", "note 2"), note.replace("count ", "count 0"), note.replace("acme", "ac me"),
+                 note[:-2], note.replace("\nroot", "\n\nroot"), note + "x"):
+        said = drop("export", ("day.note", text))
+        expect_true("as the commitment" not in said, "a text that is nearly a note: " + said)
 
 
 def expect_others_taken(room, entries, roots, key, export, increment, member, page, drop, open_panel):
