@@ -1,5 +1,5 @@
 -- The calls of a door, one by one.
-use Rattle.std.specs.Prelude.{if◌then◌else◌, ◌&&◌}
+use Rattle.std.specs.Prelude.{if◌then◌else◌, ◌&&◌, ◌||◌, not}
 use Rattle.std.specs.declared.time.Instant.{Instant}
 use Rattle.std.proofs.Common.{◌≡◌, ◌≢◌, ◌⊎◌, inl, inr, ◌∙◌, ◌++◌, ℕ, is_some, Bool, true, false, Option, Some, None, List, [], ◌∷◌, length, refl, sym, ap, subst, true≢false}
 use Rattle.audit_serve_ready.specs.declared.departure.Departure.TheVariants.{Memory}
@@ -16,7 +16,7 @@ use Rattle.audit_serve_door.specs.declared.waiting.Waiting.{Waiting}
 use Rattle.audit_serve_door.specs.declared.socket_door.SocketDoor.{SocketDoor}
 use Rattle.audit_serve_door.specs.Waits.{NoArrival, Passes, ChangesWaiters}
 use Rattle.audit_serve_door.specs.Finishing.{IsFinishingTime, IsOver, has_order, SaysNext}
-use Rattle.audit_serve_door.specs.Comings.{Receives, KeepsWaiters, KeepsSockets, IsPauseOfDoor, AreDoorCalls, IsGivenOut, ChangesSeats, PausesPlaces, candidates_of}
+use Rattle.audit_serve_door.specs.Comings.{flags_of, KeepsFlags, IsRelease, IsPauseOfFlags, Receives, KeepsWaiters, KeepsSockets, IsPauseOfDoor, AreDoorCalls, IsGivenOut, ChangesSeats, PausesPlaces, candidates_of}
 use Rattle.audit_serve_door.specs.Idle.{ChoosesDue, places_held, seated, is_idle, is_due, noted}
 use Rattle.audit_serve_door.specs.Entering.{NobodyEnters}
 use Rattle.audit_serve_door.specs.Metered.{moves_of_metered}
@@ -81,16 +81,46 @@ none_here None none = refl
 none_here (Some one) none = absurd (true≢false none)
 
 module _ {C J W L S : Type 0} where
-  pub kept_call : (old new : SocketDoor C J W L S) → new.entrances ≡ old.entrances → new.waiting ≡ old.waiting → new.journal ≡ old.journal → new.until ≡ old.until → new.places ≡ old.places → (mid : SocketDoor C J W L S) × (KeepsWaiters old mid × (mid.places ≡ old.places)) × (new ≡ mid)
-  kept_call old new entrances waiting journal until places = (new, (record { entrances = entrances; waiting = waiting; journal = journal; until = until }, places), refl)
+  pub kept_call : (old new : SocketDoor C J W L S) → new.entrances ≡ old.entrances → new.waiting ≡ old.waiting → new.journal ≡ old.journal → new.until ≡ old.until → new.places ≡ old.places → KeepsFlags old new → (mid : SocketDoor C J W L S) × (KeepsWaiters old mid × ((mid.places ≡ old.places) × KeepsFlags old mid)) × (new ≡ mid)
+  kept_call old new entrances waiting journal until places flags = (new, (record { entrances = entrances; waiting = waiting; journal = journal; until = until }, (places, flags)), refl)
+
+  -- it was asked whether replies may leave
+  pub release_call : (Left : W → Type 0) (lets : Bool) (old new : SocketDoor C J W L S) → new.entrances ≡ old.entrances → new.waiting ≡ old.waiting → new.journal ≡ old.journal → new.until ≡ old.until → new.places ≡ old.places → IsRelease Left lets old new → (mid : SocketDoor C J W L S) × (KeepsWaiters old mid × ((mid.places ≡ old.places) × IsRelease Left lets old mid)) × (new ≡ mid)
+  release_call Left lets old new entrances waiting journal until places flags = (new, (record { entrances = entrances; waiting = waiting; journal = journal; until = until }, (places, flags)), refl)
+
+  -- what is served was found in its place, or wasn't looked for
+  pub lets_leave : (Left : W → Type 0) (old new : SocketDoor C J W L S) → old.is_replaced ≡ false → new.is_replaced ≡ old.is_replaced → new.has_failed ≡ old.has_failed → IsRelease Left true old new
+  lets_leave Left old new there same failed = record {
+    lets_is = sym (ap not (same ∙ there));
+    found = λ gone. inl (sym same ∙ gone);
+    noted = λ gone. same ∙ gone;
+    failed = failed;
+  }
+
+  -- it was looked for
+  pub looked : (Left : W → Type 0) (lets : Bool) (old new : SocketDoor C J W L S) → old.is_replaced ≡ false → new.is_replaced ≡ (old.is_replaced || not lets) → (lets ≡ false → Left new.watch) → new.has_failed ≡ old.has_failed → IsRelease Left lets old new
+  looked Left true old new there is found failed = lets_leave Left old new there (is ∙ ap (λ (was : Bool). was || false) there ∙ sym there) failed
+  looked Left false old new there is found failed = record {
+    lets_is = sym (ap not (is ∙ ap (λ (was : Bool). was || true) there));
+    found = λ gone. inr (found refl);
+    noted = λ gone. absurd (true≢false (sym gone ∙ there));
+    failed = failed;
+  }
+
+  flags_kept : (old new : SocketDoor C J W L S) → flags_of new ≡ flags_of old → KeepsFlags old new
+  flags_kept old new same = record { replaced = ap (λ flags. flags.1.0) same; failed = ap (λ flags. flags.1.1) same }
+
+  -- a pause that noted nothing
+  pub noted_nothing : (answer : Next) (old new : SocketDoor C J W L S) → new.is_replaced ≡ old.is_replaced → new.has_failed ≡ old.has_failed → IsPauseOfFlags answer old new
+  noted_nothing answer old new replaced failed = record { replaced = replaced; failed = λ now. inl (sym failed ∙ now); noted = λ was. failed ∙ was }
 
   -- a client was judged
   pub judged_call : (place : ℕ) (client : Metered (Nonblocking S)) (said : Bool) (old new : SocketDoor C J W L S) → new.entrances ≡ old.entrances → new.waiting ≡ old.waiting → new.journal ≡ old.journal → new.until ≡ old.until → said ≡ (is_idle place (moves_of_metered client) old.places && is_due place old.places)
-      → new.places ≡ noted place (moves_of_metered client) old.now old.places → (mid : SocketDoor C J W L S) × (KeepsWaiters old mid × ChangesSeats old (a_judging place client said) mid) × (new ≡ mid)
-  judged_call place client said old new entrances waiting journal until is places = (new, (record { entrances = entrances; waiting = waiting; journal = journal; until = until }, (is, places)), refl)
+      → new.places ≡ noted place (moves_of_metered client) old.now old.places → KeepsFlags old new → (mid : SocketDoor C J W L S) × (KeepsWaiters old mid × (ChangesSeats old (a_judging place client said) mid × KeepsFlags old mid)) × (new ≡ mid)
+  judged_call place client said old new entrances waiting journal until is places flags = (new, (record { entrances = entrances; waiting = waiting; journal = journal; until = until }, ((is, places), flags)), refl)
 
-  pub sockets_call : (Waits : Waiting S → Waiting S → J → J → Type 0) (seats : Places) (old new : SocketDoor C J W L S) → new.entrances ≡ old.entrances → new.until ≡ old.until → new.places ≡ seats → Waits old.waiting new.waiting old.journal new.journal → (mid : SocketDoor C J W L S) × (KeepsSockets Waits old mid × (mid.places ≡ seats)) × (new ≡ mid)
-  sockets_call Waits seats old new entrances until places waits = (new, (record { entrances = entrances; until = until; waits = waits }, places), refl)
+  pub sockets_call : (Waits : Waiting S → Waiting S → J → J → Type 0) (seats : Places) (old new : SocketDoor C J W L S) → new.entrances ≡ old.entrances → flags_of new ≡ flags_of old → new.places ≡ seats → Waits old.waiting new.waiting old.journal new.journal → (mid : SocketDoor C J W L S) × (KeepsSockets Waits old mid × ((mid.places ≡ seats) × KeepsFlags old mid)) × (new ≡ mid)
+  sockets_call Waits seats old new entrances flags places waits = (new, (record { entrances = entrances; until = ap (λ noted. noted.0) flags; waits = waits }, (places, flags_kept old new flags)), refl)
 
 -- a pause that doesn't choose leaves the places
 pub places_kept : (answer : Next) (until : Option Instant) (who : Candidates) (now : Instant) (old new : Places) → (until ≡ None → answer ≡ next.Stop) → new ≡ old → PausesPlaces answer until who now old new
@@ -197,21 +227,21 @@ module _ {S J : Type 0} (N : NoteModel J) where
     each = first.each;
   }
 
-module _ {C J W L S : Type 0} (A : AcceptModel L S) (N : NoteModel J) where
+module _ {C J W L S : Type 0} (A : AcceptModel L S) (N : NoteModel J) (Left : W → Type 0) where
   -- an offer that nobody took
-  pub none_given : (old new : SocketDoor C J W L S) (place : ℕ) (given : Option (Newcomer (Metered (Nonblocking S)))) → given ≡ None → new.entrances ≡ old.entrances → new.until ≡ old.until → new.places ≡ old.places → (turned : ChangesWaiters N NoArrival old.waiting new.waiting old.journal new.journal)
-      → NobodyEnters (places_held old.places) new.waiting ⊎ (turned.gone ≢ []) → AreDoorCalls A N old (an_offer place given ∷ []) new
-  none_given old new place given is entrances until places turned why =
-      subst (λ (answer : Option (Newcomer (Metered (Nonblocking S)))). AreDoorCalls A N old (an_offer place answer ∷ []) new) (sym is)
-      (new, (record { entrances = entrances; until = until; waits = record { turned = turned; why = why } }, places), refl)
+  pub none_given : (old new : SocketDoor C J W L S) (place : ℕ) (given : Option (Newcomer (Metered (Nonblocking S)))) → given ≡ None → new.entrances ≡ old.entrances → flags_of new ≡ flags_of old → new.places ≡ old.places → (turned : ChangesWaiters N NoArrival old.waiting new.waiting old.journal new.journal)
+      → NobodyEnters (places_held old.places) new.waiting ⊎ (turned.gone ≢ []) → AreDoorCalls A N Left old (an_offer place given ∷ []) new
+  none_given old new place given is entrances flags places turned why =
+      subst (λ (answer : Option (Newcomer (Metered (Nonblocking S)))). AreDoorCalls A N Left old (an_offer place answer ∷ []) new) (sym is)
+      (new, (record { entrances = entrances; until = ap (λ noted. noted.0) flags; waits = record { turned = turned; why = why } }, (places, flags_kept old new flags)), refl)
 
   -- an offer that somebody took who was next
-  pub one_given : (old new : SocketDoor C J W L S) (place number : ℕ) (newcomer : Newcomer (Metered (Nonblocking S))) → new.entrances ≡ old.entrances → new.until ≡ old.until → IsGivenOut N (places_held old.places) newcomer old.waiting new.waiting old.journal new.journal
-      → new.places ≡ seated place number (only_reads newcomer.rights) old.now old.places → AreDoorCalls A N old (an_offer place (Some newcomer) ∷ []) new
-  one_given old new place number newcomer entrances until given places =
-      (new, (record { entrances = entrances; until = until; waits = given }, (number, places)), refl)
+  pub one_given : (old new : SocketDoor C J W L S) (place number : ℕ) (newcomer : Newcomer (Metered (Nonblocking S))) → new.entrances ≡ old.entrances → flags_of new ≡ flags_of old → IsGivenOut N (places_held old.places) newcomer old.waiting new.waiting old.journal new.journal
+      → new.places ≡ seated place number (only_reads newcomer.rights) old.now old.places → AreDoorCalls A N Left old (an_offer place (Some newcomer) ∷ []) new
+  one_given old new place number newcomer entrances flags given places =
+      (new, (record { entrances = entrances; until = ap (λ noted. noted.0) flags; waits = given }, ((number, places), flags_kept old new flags)), refl)
 
   pub pause_call : (answer : Next) (old new : SocketDoor C J W L S) → Receives A N old.entrances.items new.entrances.items old.waiting new.waiting old.journal new.journal → SaysNext answer old.is_replaced new.has_failed (has_order new.orders) new.now old.until new.until
-      → PausesPlaces answer old.until (candidates_of new) new.now old.places new.places
-      → (mid : SocketDoor C J W L S) × (IsPauseOfDoor A N answer old mid × PausesPlaces answer old.until (candidates_of mid) mid.now old.places mid.places) × (new ≡ mid)
-  pause_call answer old new received says places = (new, (record { received = received; says = says }, places), refl)
+      → PausesPlaces answer old.until (candidates_of new) new.now old.places new.places → IsPauseOfFlags answer old new
+      → (mid : SocketDoor C J W L S) × (IsPauseOfDoor A N answer old mid × (PausesPlaces answer old.until (candidates_of mid) mid.now old.places mid.places × IsPauseOfFlags answer old mid)) × (new ≡ mid)
+  pause_call answer old new received says places flags = (new, (record { received = received; says = says }, (places, flags)), refl)

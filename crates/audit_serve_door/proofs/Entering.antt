@@ -1,13 +1,11 @@
 -- Nobody enters where nobody waits.
 use Rattle.std.specs.Prelude.{is_some, IfSome, nat_lt, if◌then◌else◌}
-use Rattle.std.proofs.Common.{◌≡◌, ℕ, Bool, true, false, Option, Some, None, List, [], ◌∷◌, refl, sym, ap, subst, ◌∙◌, true≢false}
+use Rattle.std.proofs.Common.{◌≡◌, ℕ, Bool, true, false, Option, Some, None, List, [], ◌∷◌, refl, sym, ap, subst, true≢false}
 use Rattle.std.specs.Ordering.{nat_cmp}
 use Rattle.std.specs.BTreeMap.{BTreeMap, get}
-use Rattle.audit_serve_door.specs.declared.choice.Heads.{Heads}
 use Rattle.audit_serve_door.specs.declared.choice.Taken.{Taken}
-use Rattle.audit_serve_door.specs.declared.entrance.Arrival.{Arrival}
 use Rattle.audit_serve_door.specs.declared.waiting.Waiting.{Waiting}
-use Rattle.audit_serve_door.specs.Choice.{if_first, earlier, next_reader, next_other, next_entry}
+use Rattle.audit_serve_door.specs.Choice.{if_first, earlier, next_entry}
 use Rattle.audit_serve_door.specs.Entering.{first_number, first_of_all, has_some, has_reader, has_other, waits_as_other, heads_of, NobodyEnters}
 use Rattle.audit_serve_door.specs.Waits.{heard_at}
 

@@ -2,12 +2,12 @@
 use Rattle.std.specs.Prelude.{◌&&◌, if◌then◌else◌, slice_get}
 use Rattle.std.specs.Time.{instant_nanos}
 use Rattle.std.specs.declared.time.Instant.{Instant}
-use Rattle.std.proofs.Common.{◌≡◌, ◌⊎◌, inl, inr, ℕ, ◌+◌, ◌<◌, ◌≤◌, Bool, true, false, Option, Some, None, List, [], ◌∷◌, length, refl, sym, ap, subst, ◌∙◌, ⊎_elim, arith, true≢false}
+use Rattle.std.proofs.Common.{◌≡◌, ◌⊎◌, inl, inr, ℕ, ◌+◌, ◌<◌, ◌≤◌, Bool, true, false, Option, Some, None, List, length, refl, sym, ap, subst, ◌∙◌, ⊎_elim, arith, true≢false}
 use Rattle.std.proofs.lemmas.Option.{slice_get_within}
 use Rattle.std.proofs.lemmas.Bool.{cases_lt, ltb-true, ltb-false}
 use Rattle.audit_serve_door.specs.declared.places.Candidates.{Candidates}
 use Rattle.audit_serve_door.specs.declared.places.Occupancy.{Occupancy}
-use Rattle.audit_serve_door.specs.Idle.{is_candidate, is_before, earlier_of, IsLongestIdle, FindsIdle}
+use Rattle.audit_serve_door.specs.Idle.{is_candidate, is_before, earlier_of, FindsIdle}
 
 -- of the candidates at the first `count` places
 abbrev pub IsFoundBelow : ℕ → Candidates → List Occupancy → Option (ℕ × Instant) → Type 0

@@ -1,11 +1,10 @@
 -- Everybody who waits at a door, and everybody who is given a place, has the rights of one of its sockets.
 use Rattle.std.specs.Prelude.{Contains}
 use Rattle.std.specs.List.{AllByRecursion}
-use Rattle.std.proofs.Common.{◌≡◌, ◌⊎◌, inl, inr, ◌∙◌, ℕ, ◌<◌, Option, Some, None, List, [], ◌∷◌, length, map, get_or, slice_index_or, refl, sym, ap, subst, arith}
+use Rattle.std.proofs.Common.{◌≡◌, ◌⊎◌, inl, inr, ◌∙◌, ℕ, ◌<◌, Option, Some, None, List, [], ◌∷◌, length, map, get_or, refl, sym, ap, subst, arith}
 use Rattle.std.proofs.lemmas.List.{length-map, get_or-map, same_lists}
 use Rattle.std.proofs.lemmas.List.Elements.{All-from_recursion}
 use Rattle.audit_serve_passes.specs.declared.rights.Rights.{Rights}
-use Rattle.audit_serve_ready.specs.declared.newcomer.Newcomer.{Newcomer}
 use Rattle.audit_serve_ready.specs.Door.{DoorCall, a_judging, an_asking, a_release, a_parting, an_offer, a_pause}
 use Rattle.audit_serve_door.specs.Accepting.{AcceptModel}
 use Rattle.audit_serve_door.specs.Notes.{NoteModel}
@@ -17,7 +16,7 @@ use Rattle.audit_serve_door.specs.declared.socket_door.SocketDoor.{SocketDoor}
 use Rattle.audit_serve_door.specs.declared.waiting.Waiting.{Waiting}
 use Rattle.audit_serve_door.specs.Entrances.{rights_of, ComeIn, IsOneOf}
 use Rattle.audit_serve_door.specs.Waits.{first_found, WaitsWith, NobodyWaits, NoArrival, Passes}
-use Rattle.audit_serve_door.specs.Comings.{GivesAllowed, IsGivenOut, Receives, KeepsWaiters, IsDoorCall, AreDoorCalls}
+use Rattle.audit_serve_door.specs.Comings.{GivesAllowed, KeepsWaiters, IsDoorCall, AreDoorCalls}
 
 heard_waits : {S : Type 0} (other reader : Option (Arrival S)) (arrival : Arrival S) → first_found other reader ≡ Some arrival → (reader ≡ Some arrival) ⊎ (other ≡ Some arrival)
 heard_waits None reader arrival is = inl is
@@ -61,7 +60,7 @@ module _ {S : Type 0} (allowed : List Rights) where
       subst (λ (those : List Rights). Contains those arrival.rights) same
       (subst (Contains (map rights_of before)) (sym rights) (k, subst (λ (n : ℕ). k < n) (sym (length-map before rights_of)) one.1, get_or-map rights_of before k none (rights_of (get_or before k none)) one.1))
 
-module _ {C J W L S : Type 0} (A : AcceptModel L S) (N : NoteModel J) (allowed : List Rights) where
+module _ {C J W L S : Type 0} (A : AcceptModel L S) (N : NoteModel J) (Left : W → Type 0) (allowed : List Rights) where
   abbrev pub HoldsAllowed : SocketDoor C J W L S → Type 0
   HoldsAllowed door = (map rights_of door.entrances.items ≡ allowed) × AreAllowed allowed door.waiting
 
@@ -71,7 +70,7 @@ module _ {C J W L S : Type 0} (A : AcceptModel L S) (N : NoteModel J) (allowed :
   kept_allowed : (old new : SocketDoor C J W L S) → KeepsWaiters old new → HoldsAllowed old → HoldsAllowed new
   kept_allowed old new keeps before = same_sockets old new keeps.entrances (subst (AreAllowed allowed) (sym keeps.waiting) before.1) before
 
-  step_allowed : (old new : SocketDoor C J W L S) (call : DoorCall (Metered (Nonblocking S))) → IsDoorCall A N old call new → HoldsAllowed old → HoldsAllowed new × GivesAllowed allowed call
+  step_allowed : (old new : SocketDoor C J W L S) (call : DoorCall (Metered (Nonblocking S))) → IsDoorCall A N Left old call new → HoldsAllowed old → HoldsAllowed new × GivesAllowed allowed call
   step_allowed old new (a_judging place client answer) did before = (kept_allowed old new did.0 before, tt)
   step_allowed old new (an_asking found answer) did before = (kept_allowed old new did.0 before, tt)
   step_allowed old new (a_release answer) did before = (kept_allowed old new did.0 before, tt)
@@ -92,9 +91,9 @@ module _ {C J W L S : Type 0} (A : AcceptModel L S) (N : NoteModel J) (allowed :
         tt,
       )
 
-  pub all_allowed : (old new : SocketDoor C J W L S) (calls : List (DoorCall (Metered (Nonblocking S)))) → AreDoorCalls A N old calls new → HoldsAllowed old → AllByRecursion (GivesAllowed allowed) calls
+  pub all_allowed : (old new : SocketDoor C J W L S) (calls : List (DoorCall (Metered (Nonblocking S)))) → AreDoorCalls A N Left old calls new → HoldsAllowed old → AllByRecursion (GivesAllowed allowed) calls
   all_allowed old new [] did before = tt
   all_allowed old new (call ∷ calls) did before = let step = step_allowed old did.0 call did.1 before in (step.1, all_allowed did.0 new calls did.2 step.0)
 
-pub from_nobody : {C J W L S : Type 0} (A : AcceptModel L S) (N : NoteModel J) (old new : SocketDoor C J W L S) (calls : List (DoorCall (Metered (Nonblocking S)))) → NobodyWaits old.waiting → AreDoorCalls A N old calls new → AllByRecursion (GivesAllowed (map rights_of old.entrances.items)) calls
-from_nobody A N old new calls nobody did = all_allowed A N (map rights_of old.entrances.items) old new calls did (refl, λ number arrival waits. absurd (nobody number arrival waits))
+pub from_nobody : {C J W L S : Type 0} (A : AcceptModel L S) (N : NoteModel J) (Left : W → Type 0) (old new : SocketDoor C J W L S) (calls : List (DoorCall (Metered (Nonblocking S)))) → NobodyWaits old.waiting → AreDoorCalls A N Left old calls new → AllByRecursion (GivesAllowed (map rights_of old.entrances.items)) calls
+from_nobody A N Left old new calls nobody did = all_allowed A N Left (map rights_of old.entrances.items) old new calls did (refl, λ number arrival waits. absurd (nobody number arrival waits))

@@ -1,5 +1,6 @@
 -- The calls of a door over sockets: who comes in, who waits, and who is given a place.
-use Rattle.std.specs.Prelude.{◌≡◌, ℕ, ◌&&◌, Bool, Option, Some, None, List, [], ◌∷◌, ◌++◌, length, Contains}
+use Rattle.std.specs.Prelude.{◌≡◌, ◌⊎◌, ℕ, ◌&&◌, not, Bool, true, Option, Some, None, List, [], ◌∷◌, ◌++◌, length}
+use Rattle.std.specs.Prelude.{Contains}
 use Rattle.std.specs.List.{list_all}
 use Rattle.std.specs.declared.time.Instant.{Instant}
 use Rattle.std.proofs.Common.{refl, subst}
@@ -8,7 +9,7 @@ use Rattle.audit_serve_ready.specs.declared.departure.Departure.{Departure}
 use Rattle.audit_serve_ready.specs.declared.newcomer.Newcomer.{Newcomer}
 use Rattle.audit_serve_ready.specs.declared.next.Next.{Next}
 use Rattle.audit_serve_ready.specs.declared.next.Next.TheVariants as next
-use Rattle.audit_serve_ready.specs.Door.{DoorCall, a_judging, an_offer, a_parting, a_pause, DoorModel}
+use Rattle.audit_serve_ready.specs.Door.{DoorCall, a_judging, a_release, an_offer, a_parting, a_pause, DoorModel}
 use Rattle.audit_serve_passes.specs.Rights.{only_reads}
 use Rattle.audit_serve_door.specs.Accepting.{AcceptModel}
 use Rattle.audit_serve_door.specs.Notes.{NoteModel, a_note}
@@ -88,6 +89,21 @@ was_told door = has_order door.orders
 abbrev pub who_waits : {C J W L S : Type 0} → SocketDoor C J W L S → Waiting S
 who_waits door = door.waiting
 
+-- what watches whether that which is served is in its place; whether it was found not to be; and whether the system's
+-- readiness or clock failed
+abbrev pub watch_of : {C J W L S : Type 0} → SocketDoor C J W L S → W
+watch_of door = door.watch
+
+abbrev pub is_replaced : {C J W L S : Type 0} → SocketDoor C J W L S → Bool
+is_replaced door = door.is_replaced
+
+abbrev pub has_failed : {C J W L S : Type 0} → SocketDoor C J W L S → Bool
+has_failed door = door.has_failed
+
+-- what a door has noted: until when clients may take their replies after the order to stop, and these two
+abbrev pub flags_of : {C J W L S : Type 0} → SocketDoor C J W L S → Option Instant × (Bool × Bool)
+flags_of door = (door.until, (door.is_replaced, door.has_failed))
+
 -- nobody came in, who waits is the same, and so is the time until when clients may take their replies
 pub record KeepsWaiters {C J W L S : Type 0} (old new : SocketDoor C J W L S) : Type 0 where
   pub entrances : new.entrances ≡ old.entrances
@@ -122,6 +138,32 @@ ChangesSeats old (a_pause moved answer) new =
     PausesPlaces answer old.until (candidates_of new) new.now old.places new.places
 ChangesSeats old _ new = new.places ≡ old.places
 
+-- nothing is noted of what is served, or of the system
+pub record KeepsFlags {C J W L S : Type 0} (old new : SocketDoor C J W L S) : Type 0 where
+  pub replaced : new.is_replaced ≡ old.is_replaced
+  pub failed : new.has_failed ≡ old.has_failed
+
+-- Replies may leave unless what is served was found out of its place, now or before. It is found so by the watch alone.
+pub record IsRelease {C J W L S : Type 0} (Left : W → Type 0) (lets : Bool) (old new : SocketDoor C J W L S) : Type 0
+  where
+    pub lets_is : lets ≡ not new.is_replaced
+    pub found : new.is_replaced ≡ true → (old.is_replaced ≡ true) ⊎ Left new.watch
+    pub noted : old.is_replaced ≡ true → new.is_replaced ≡ true
+    pub failed : new.has_failed ≡ old.has_failed
+
+-- A pause notes nothing of what is served. One that goes on notes no failure of the system.
+pub record IsPauseOfFlags {C J W L S : Type 0} (answer : Next) (old new : SocketDoor C J W L S) : Type 0 where
+  pub replaced : new.is_replaced ≡ old.is_replaced
+  pub failed : new.has_failed ≡ true → (old.has_failed ≡ true) ⊎ (answer ≡ next.Stop)
+  pub noted : old.has_failed ≡ true → new.has_failed ≡ true
+
+-- what a call notes
+abbrev pub ChangesFlags : {C J W L S : Type 0} → (W → Type 0) → SocketDoor C J W L S
+    → DoorCall (Metered (Nonblocking S)) → SocketDoor C J W L S → Type 0
+ChangesFlags Left old (a_release lets) new = IsRelease Left lets old new
+ChangesFlags Left old (a_pause moved answer) new = IsPauseOfFlags answer old new
+ChangesFlags Left old _ new = KeepsFlags old new
+
 module _ {C J W L S : Type 0} (A : AcceptModel L S) (N : NoteModel J) where
   pub record IsPauseOfDoor (answer : Next) (old new : SocketDoor C J W L S) : Type 0 where
     pub received : Receives A N old.entrances.items new.entrances.items old.waiting new.waiting old.journal new.journal
@@ -136,9 +178,11 @@ module _ {C J W L S : Type 0} (A : AcceptModel L S) (N : NoteModel J) where
   ChangesDoor old (a_pause moved answer) new = IsPauseOfDoor answer old new
   ChangesDoor old _ new = KeepsWaiters old new
 
-  -- and to the places
+-- `Left` says of the watch that it found what is served out of its place.
+module _ {C J W L S : Type 0} (A : AcceptModel L S) (N : NoteModel J) (Left : W → Type 0) where
+  -- what a call does: to those that wait, to the places, and to what is noted
   abbrev pub IsDoorCall : SocketDoor C J W L S → DoorCall (Metered (Nonblocking S)) → SocketDoor C J W L S → Type 0
-  IsDoorCall old call new = ChangesDoor old call new × ChangesSeats old call new
+  IsDoorCall old call new = ChangesDoor A N old call new × (ChangesSeats old call new × ChangesFlags Left old call new)
 
   abbrev pub AreDoorCalls : SocketDoor C J W L S → List (DoorCall (Metered (Nonblocking S))) → SocketDoor C J W L S
       → Type 0

@@ -4,7 +4,6 @@ use Rattle.std.specs.Ordering.{nat_cmp}
 use Rattle.std.specs.BTreeMap.{get}
 use Rattle.audit_serve_door.specs.declared.choice.Heads.{Heads}
 use Rattle.audit_serve_door.specs.declared.choice.Taken.{Taken}
-use Rattle.audit_serve_door.specs.declared.entrance.Arrival.{Arrival}
 use Rattle.audit_serve_door.specs.declared.waiting.Waiting.{Waiting}
 use Rattle.audit_serve_door.specs.Choice.{next_entry}
 use Rattle.audit_serve_door.specs.Notes.{NoteModel}

@@ -1,7 +1,6 @@
 -- Who holds the places, and whose client has to make room for a connection that waits.
 use Rattle.std.specs.Prelude.{◌≡◌, ◌≤◌, ◌-◌, ℕ, Bool, true, false, ◌&&◌, ◌||◌, not, ◌==◌, nat_le, nat_lt, if◌then◌else◌}
 use Rattle.std.specs.Prelude.{Option, Some, None, List, slice_get, slice_set, count_by}
-use Rattle.std.specs.List.{list_all}
 use Rattle.std.specs.Duration.{as_nanos}
 use Rattle.std.specs.Time.{instant_nanos}
 use Rattle.std.specs.declared.time.Duration.{Duration}
@@ -48,7 +47,7 @@ vacated_by (Some here) place these = with_place place (record here { is_taken = 
 abbrev pub vacated : ℕ → Places → Places
 vacated place these = vacated_by (slice_get these.places place) place these
 
--- so many calls of the stream of a client have moved bytes by now, as when that was last noted
+-- the number of calls that moved bytes of a client's stream is the one that was last noted
 abbrev pub is_unmoved : Option Occupancy → ℕ → Bool
 is_unmoved None moves = false
 is_unmoved (Some here) moves = here.moves == moves
@@ -56,7 +55,7 @@ is_unmoved (Some here) moves = here.moves == moves
 abbrev pub is_idle : ℕ → ℕ → Places → Bool
 is_idle place moves these = is_unmoved (slice_get these.places place) moves
 
--- they are noted: since now, unless they are as many as before
+-- that number is noted, as reached now, unless it is the one that was noted before
 abbrev pub noted_by : Option Occupancy → ℕ → ℕ → Instant → Places → Places
 noted_by None place moves now these = these
 noted_by (Some here) place moves now these =

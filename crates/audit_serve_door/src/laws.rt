@@ -11,10 +11,11 @@ ghost use Rattle.audit_serve_door.specs.declared.socket_door.SocketDoor.{SocketD
 
 use crate::accepts::Accepts;
 use crate::journal::Journal;
+use crate::watch::Watch;
 
 /// Whoever is given a place by a door at which nobody waited in the beginning has the rights of one of its sockets.
-pub fn each_client_has_the_rights_of_a_socket<C, J: Journal, W, L: Accepts<S>, S>()
+pub fn each_client_has_the_rights_of_a_socket<C, J: Journal, W: Watch, L: Accepts<S>, S>()
     ensures { (old new : SocketDoor C J W L S) (calls : List (DoorCall (Metered (Nonblocking S))))
-        → NobodyWaits (who_waits old) → AreDoorCalls L.model J.notes old calls new
+        → NobodyWaits (who_waits old) → AreDoorCalls L.model J.notes W.left old calls new
         → AllByRecursion (GivesAllowed (rights_of_door old)) calls }
 {}

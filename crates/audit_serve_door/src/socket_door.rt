@@ -88,14 +88,15 @@ where
     L: Accepts<S> + Watched + Drop,
     S: Prompt + Watched + Drop,
 {
-    ghost use Rattle.std.specs.Prelude.{◌≡◌, [], ◌∷◌, map, IfOk, IfSome, IfNone, IsSome};
+    ghost use Rattle.std.specs.Prelude.{◌≡◌, ◌⊎◌, [], ◌∷◌, map, true, false, not, ◌||◌, IfOk, IfSome, IfNone, IsSome};
     ghost use Rattle.audit_serve_ready.specs.declared.departure.Departure.TheVariants.{Memory};
     ghost use Rattle.audit_serve_door.specs.Entrances.{rights_of, rights_of_door, idle_of_door};
     ghost use Rattle.audit_serve_door.specs.Entrances.{mode_of, modes_of_door, socket_of, sockets_of_door};
     ghost use Rattle.audit_serve_door.specs.Notes.{a_note};
     ghost use Rattle.audit_serve_door.specs.Waits.{NobodyWaits, NoArrival, Passes, ChangesWaiters};
     ghost use Rattle.audit_serve_door.specs.Comings.{IsClientOf, Receives, KeepsWaiters, who_waits, places_of};
-    ghost use Rattle.audit_serve_door.specs.Comings.{candidates_of, was_told};
+    ghost use Rattle.audit_serve_door.specs.Comings.{candidates_of, was_told, watch_of, is_replaced, has_failed};
+    ghost use Rattle.audit_serve_door.specs.Comings.{flags_of};
     ghost use Rattle.audit_serve_passes.specs.Rights.{only_reads};
     ghost use Rattle.audit_serve_door.specs.Idle.{seated, vacated, ChoosesDue, IsVacant};
 
@@ -119,6 +120,8 @@ where
         ensures sockets { IfOk result (λ door. sockets_of_door door ≡ map socket_of entrances.items) }
         ensures nobody { IfOk result (λ door. NobodyWaits (who_waits door)) }
         ensures vacant { IfOk result (λ door. IsVacant idle (places_of door)) }
+        ensures in_place { IfOk result (λ door. is_replaced door ≡ false) }
+        ensures works { IfOk result (λ door. has_failed door ≡ false) }
     {
         let mut entrances = entrances;
         let mut orders = orders;
@@ -160,12 +163,19 @@ where
     }
 
     /// Whether serving ended because the system's readiness or clock failed, without an order.
-    pub fn has_failed(&self) -> bool {
+    pub fn has_failed(&self) -> bool
+        ensures { result ≡ has_failed self.entry.now }
+    {
         self.has_failed
     }
 
     /// Whether what is served isn't in its place, now or when it was last looked.
-    pub fn is_replaced(&mut self) -> bool {
+    pub fn is_replaced(&mut self) -> bool
+        ensures found { result ≡ true → (is_replaced self.old ≡ true) ⊎ W.left (watch_of self.new) }
+        ensures noted { is_replaced self.old ≡ true → result ≡ true }
+        ensures kept { KeepsWaiters self.old self.new }
+        ensures failed { has_failed self.new ≡ has_failed self.old }
+    {
         self.is_replaced || !self.look()
     }
 
@@ -185,6 +195,9 @@ where
     fn look(&mut self) -> bool
         ensures kept { KeepsWaiters self.old self.new }
         ensures places { self.new.places ≡ self.old.places }
+        ensures failed { self.new.has_failed ≡ self.old.has_failed }
+        ensures replaced { self.new.is_replaced ≡ (self.old.is_replaced || not result) }
+        ensures found { result ≡ false → W.left self.new.watch }
     {
         let is_in_place = self.watch.is_in_place();
         self.is_replaced |= !is_in_place;
@@ -196,7 +209,7 @@ where
         ensures entrances { self.new.entrances ≡ self.old.entrances }
         ensures turned { ChangesWaiters J.notes NoArrival self.old.waiting self.new.waiting
             self.old.journal self.new.journal }
-        ensures until { self.new.until ≡ self.old.until }
+        ensures flags { flags_of self.new ≡ flags_of self.old }
         ensures places { self.new.places ≡ self.old.places }
     {
         self.keep_spare();
@@ -209,6 +222,7 @@ where
 
     fn keep_spare(&mut self)
         ensures kept { KeepsWaiters self.old self.new }
+        ensures flags { flags_of self.new ≡ flags_of self.old }
         ensures places { self.new.places ≡ self.old.places }
     {
         if self.spare.is_none() {
@@ -221,7 +235,7 @@ where
         ensures entrances { self.new.entrances ≡ self.old.entrances }
         ensures turned { ChangesWaiters J.notes NoArrival self.old.waiting self.new.waiting
             self.old.journal self.new.journal }
-        ensures until { self.new.until ≡ self.old.until }
+        ensures flags { flags_of self.new ≡ flags_of self.old }
         ensures places { self.new.places ≡ self.old.places }
     {
         match self.orders.incoming.accept() {
@@ -242,7 +256,7 @@ where
         ensures entrances { self.new.entrances ≡ self.old.entrances }
         ensures turned { ChangesWaiters J.notes NoArrival self.old.waiting self.new.waiting
             self.old.journal self.new.journal }
-        ensures until { self.new.until ≡ self.old.until }
+        ensures flags { flags_of self.new ≡ flags_of self.old }
         ensures places { self.new.places ≡ self.old.places }
     {
         if self.spare.take().is_some() {
@@ -260,7 +274,7 @@ where
     fn accept_clients(&mut self)
         ensures received { Receives L.model J.notes self.old.entrances.items self.new.entrances.items
             self.old.waiting self.new.waiting self.old.journal self.new.journal }
-        ensures until { self.new.until ≡ self.old.until }
+        ensures flags { flags_of self.new ≡ flags_of self.old }
         ensures places { self.new.places ≡ self.old.places }
     {
         let entrances = self.entrances.len();
@@ -281,7 +295,7 @@ where
     fn accept_at(&mut self, place: usize, first: usize)
         ensures received { Receives L.model J.notes self.old.entrances.items self.new.entrances.items
             self.old.waiting self.new.waiting self.old.journal self.new.journal }
-        ensures until { self.new.until ≡ self.old.until }
+        ensures flags { flags_of self.new ≡ flags_of self.old }
         ensures places { self.new.places ≡ self.old.places }
     {
         for at in 0..MAX_ACCEPTED {
@@ -295,7 +309,7 @@ where
     fn accept_one(&mut self, place: usize, number: usize) -> bool
         ensures received { Receives L.model J.notes self.old.entrances.items self.new.entrances.items
             self.old.waiting self.new.waiting self.old.journal self.new.journal }
-        ensures until { self.new.until ≡ self.old.until }
+        ensures flags { flags_of self.new ≡ flags_of self.old }
         ensures places { self.new.places ≡ self.old.places }
     {
         for _ in 0..2 {
@@ -325,7 +339,7 @@ where
         ensures entrances { self.new.entrances ≡ self.old.entrances }
         ensures turned { ChangesWaiters J.notes NoArrival self.old.waiting self.new.waiting
             self.old.journal self.new.journal }
-        ensures until { self.new.until ≡ self.old.until }
+        ensures flags { flags_of self.new ≡ flags_of self.old }
         ensures places { self.new.places ≡ self.old.places }
     {
         let is_dropped = self.waiting.drop_silent();
@@ -339,7 +353,7 @@ where
         ensures entrances { self.new.entrances ≡ self.old.entrances }
         ensures waits { ChangesWaiters J.notes (λ one. one ≡ arrival) self.old.waiting self.new.waiting
             self.old.journal self.new.journal }
-        ensures until { self.new.until ≡ self.old.until }
+        ensures flags { flags_of self.new ≡ flags_of self.old }
         ensures places { self.new.places ≡ self.old.places }
     {
         let registry = self.poll.registry();
@@ -356,7 +370,7 @@ where
     fn leave(&mut self, place: usize)
         ensures entrances { self.new.entrances ≡ self.old.entrances }
         ensures journal { self.new.journal ≡ self.old.journal }
-        ensures until { self.new.until ≡ self.old.until }
+        ensures flags { flags_of self.new ≡ flags_of self.old }
         ensures places { self.new.places ≡ vacated place self.old.places }
         ensures stay { Passes NoArrival [] self.old.waiting self.new.waiting }
     {
@@ -378,7 +392,7 @@ where
         ensures waiting { IsSome result → self.new.waiting ≡ self.old.waiting }
         ensures journal { IsSome result → self.new.journal ≡ self.old.journal }
         ensures stay { Passes NoArrival [] self.old.waiting self.new.waiting }
-        ensures until { self.new.until ≡ self.old.until }
+        ensures flags { flags_of self.new ≡ flags_of self.old }
         ensures seated { IfSome result (λ newcomer. self.new.places
             ≡ seated place number (only_reads newcomer.rights) self.old.now self.old.places) }
         ensures vacant { IfNone result (self.new.places ≡ self.old.places) }
@@ -430,7 +444,7 @@ where
     fn wait(&mut self, moved: bool) -> io::Result<()>
         ensures received { Receives L.model J.notes self.old.entrances.items self.new.entrances.items
             self.old.waiting self.new.waiting self.old.journal self.new.journal }
-        ensures until { self.new.until ≡ self.old.until }
+        ensures flags { flags_of self.new ≡ flags_of self.old }
         ensures places { self.new.places ≡ self.old.places }
     {
         let limit = if moved {
@@ -454,6 +468,7 @@ where
     // Chooses the client that is to be dismissed.
     fn choose_idle(&mut self)
         ensures kept { KeepsWaiters self.old self.new }
+        ensures flags { flags_of self.new ≡ flags_of self.old }
         ensures now { self.new.now ≡ self.old.now }
         ensures due { ChoosesDue (candidates_of self.old) self.old.now self.old.places self.new.places }
     {
@@ -596,7 +611,7 @@ where
 {
     ghost use Rattle.audit_serve_door.specs.Comings.{socket_door_calls};
 
-    ghost calls = { socket_door_calls L.model J.notes };
+    ghost calls = { socket_door_calls L.model J.notes W.left };
 
     type Stream = Metered<Nonblocking<S>>;
 

@@ -9,4 +9,4 @@ pub returns-then-not-accept_one-clause-received : goal.returns-then-not-accept_o
 returns-then-not-accept_one-clause-received g c = receives_then g.L.Accepts.model g.J.Journal.notes _ _ _ _ _ _ _ _ _ c.loop-at.invariant.0 c.accept_one.ensures.received
 
 pub loop-at-preserved : goal.loop-at-preserved
-loop-at-preserved g c = (receives_then g.L.Accepts.model g.J.Journal.notes _ _ _ _ _ _ _ _ _ c.loop-at.invariant.0 c.accept_one.ensures.received, c.accept_one.ensures.until ∙ c.loop-at.invariant.1, c.accept_one.ensures.places ∙ c.loop-at.invariant.2)
+loop-at-preserved g c = (receives_then g.L.Accepts.model g.J.Journal.notes _ _ _ _ _ _ _ _ _ c.loop-at.invariant.0 c.accept_one.ensures.received, c.accept_one.ensures.flags ∙ c.loop-at.invariant.1, c.accept_one.ensures.places ∙ c.loop-at.invariant.2)

@@ -29,7 +29,7 @@ loop-preserved g c =
           (receives_on g.L.Accepts.model g.J.Journal.notes _ _ _ _ _ _ _ (ap (λ entrances. entrances.items) c.drop_silent.ensures.entrances)
           (received_quietly g.L.Accepts.model g.J.Journal.notes c.args.place c.loop.self.entrances.items c.accept.new.self _ _ _ _ there
           (comes_there g.L.Accepts.model [] c.loop.self.entrances.items c.args.place c.index_mut.result.now c.accept.new.self there c.index_mut.ensures.value c.in-Failed.ensures) c.drop_silent.ensures.turned)),
-      c.drop_silent.ensures.until ∙ c.loop.invariant.1,
+      c.drop_silent.ensures.flags ∙ c.loop.invariant.1,
       c.drop_silent.ensures.places ∙ c.loop.invariant.2,
     )
 

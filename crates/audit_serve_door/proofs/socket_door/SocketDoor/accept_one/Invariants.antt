@@ -1,6 +1,6 @@
 use Rattle.std.specs.Prelude.{◌≡◌}
-use Rattle.audit_serve_door.specs.Comings.{Receives}
+use Rattle.audit_serve_door.specs.Comings.{Receives, flags_of}
 use Rattle.audit_serve_door.proofs.socket_door.SocketDoor.accept_one.Given as goal
 
 abbrev pub invariant-loop : goal.invariant-loop
-invariant-loop g l = Receives g.L.Accepts.model g.J.Journal.notes l.fn.self.entrances.items l.self.entrances.items l.fn.self.waiting l.self.waiting l.fn.self.journal l.self.journal × (l.self.until ≡ l.fn.self.until) × (l.self.places ≡ l.fn.self.places)
+invariant-loop g l = Receives g.L.Accepts.model g.J.Journal.notes l.fn.self.entrances.items l.self.entrances.items l.fn.self.waiting l.self.waiting l.fn.self.journal l.self.journal × (flags_of l.self ≡ flags_of l.fn.self) × (l.self.places ≡ l.fn.self.places)
