@@ -6,3 +6,4 @@ pub mod Looping
 pub mod RoundLine
 pub mod Listening
 pub mod Bound
+pub mod Carrying

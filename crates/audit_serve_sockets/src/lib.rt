@@ -17,6 +17,7 @@ mod round_line;
 mod socket_file;
 mod socket_lock;
 mod system_sockets;
+mod tried;
 
 pub use frame_line::bytes_of_line;
 pub use input_line::next_line;
@@ -30,3 +31,4 @@ pub use round_line::write_round;
 pub use socket_file::{SocketFile, SocketName};
 pub use socket_lock::SocketLock;
 pub use system_sockets::SystemSockets;
+pub use tried::{TriedRead, TriedWrite};

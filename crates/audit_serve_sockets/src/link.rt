@@ -1,7 +1,8 @@
-ghost use Rattle.std.specs.Prelude.{◌≡◌, ◌≤◌, length, IfOk};
+ghost use Rattle.std.specs.Prelude.{◌≡◌, ◌≤◌, length, IfOk, OnErr};
+ghost use Rattle.audit_serve_sockets.specs.Carrying.{LosesPiece};
 
 use crate::carrying::{ConnectionError, carry};
-use std::io::{Read, Write};
+use crate::tried::{TriedRead, TriedWrite};
 
 /// A connection with both ends in this process. A piece is written to one end and then read at the other. Neither end
 /// blocks if the pieces are short enough for the connection to buffer.
@@ -11,7 +12,7 @@ pub struct Link<A, B> {
     server: B,
 }
 
-impl<A: Read + Write, B: Read + Write> Link<A, B> {
+impl<A: TriedRead + TriedWrite, B: TriedRead + TriedWrite> Link<A, B> {
     /// Makes a link of the two ends of a connection.
     pub fn new(client: A, server: B) -> Link<A, B> {
         Link { client, server }
@@ -26,6 +27,7 @@ impl<A: Read + Write, B: Read + Write> Link<A, B> {
     ) -> Result<&'a [u8], ConnectionError>
         requires room { length piece.now ≤ length buffer.old }
         ensures arrived { IfOk result (λ arrived. arrived.now ≡ piece.now) }
+        ensures lost { OnErr result (LosesPiece A.unwritten B.unread B.gave piece.now self.new.client self.new.server) }
     {
         carry(&mut self.client, &mut self.server, piece, buffer)
     }
@@ -39,6 +41,7 @@ impl<A: Read + Write, B: Read + Write> Link<A, B> {
     ) -> Result<&'a [u8], ConnectionError>
         requires room { length piece.now ≤ length buffer.old }
         ensures arrived { IfOk result (λ arrived. arrived.now ≡ piece.now) }
+        ensures lost { OnErr result (LosesPiece B.unwritten A.unread A.gave piece.now self.new.server self.new.client) }
     {
         carry(&mut self.server, &mut self.client, piece, buffer)
     }

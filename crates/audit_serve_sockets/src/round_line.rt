@@ -1,16 +1,16 @@
 ghost use Rattle.std.specs.Prelude.{◌≡◌, ◌⊎◌, OnOk, OnErr, IfOk, IfErr};
-ghost use Rattle.std.specs.Io.KnownBytes.{Appends};
+ghost use Rattle.std.specs.Io.KnownBytes.{Appends, Keeps};
 ghost use Rattle.audit_text.specs.Writing.{WritesInPart};
 ghost use Rattle.audit_text.specs.declared.fault.LinesError.TheVariants as fault;
 ghost use Rattle.audit_serve_sockets.specs.RoundLine.{round_line};
 
-use audit_text::{LinesError, push_number, write_whole};
+use crate::tried::TriedWrite;
+use audit_text::{LinesError, push_number};
 use std::alloc::{AllocError, Global};
-use std::io::Write;
 
 /// Writes the line that reports the number of a round and how many passes it had, and flushes the writer. Errors:
-/// `Write` and `Memory`. A part of the line may then have been written.
-pub fn write_round<W: Write>(
+/// `Write`, if a call of the writer failed; a part of the line may then have been written. `Memory`, before that.
+pub fn write_round<W: TriedWrite>(
     alloc: Global,
     round: u64,
     turns: u64,
@@ -19,14 +19,11 @@ pub fn write_round<W: Write>(
     ensures written { OnOk result (Appends (W.contents writer.old) (W.contents writer.new) (round_line round turns)) }
     ensures part { OnErr result (WritesInPart (W.contents writer.old) (W.contents writer.new)
         (round_line round turns)) }
-    ensures fault { IfErr result (λ cause. (cause ≡ fault.Write) ⊎ (cause ≡ fault.Memory)) }
+    ensures fault { IfErr result (λ cause. ((cause ≡ fault.Write) × W.unwritten writer.new)
+        ⊎ ((cause ≡ fault.Memory) × Keeps (W.contents writer.old) (W.contents writer.new))) }
 {
     let line = line_of(alloc, round, turns)?;
-    write_whole(writer, &line)?;
-    if writer.flush().is_err() {
-        return Err(LinesError::Write);
-    }
-    Ok(())
+    writer.write_through(&line)
 }
 
 #[tactic(auto, unfolding(crate::specs::RoundLine::round_line))]
