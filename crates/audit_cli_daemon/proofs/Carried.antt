@@ -1,8 +1,8 @@
 -- What running a daemon comes to.
-use Rattle.std.specs.Prelude.{OnOk, OnErr, IsOk, IfSome, codes}
+use Rattle.std.specs.Prelude.{OnOk, OnErr, IsOk, IsErr, IfSome, codes}
 use Rattle.std.specs.Result.{result_and}
 use Rattle.std.specs.Io.KnownBytes.{Appends}
-use Rattle.std.proofs.Common.{◌≡◌, ◌∙◌, inr, ℕ, ℤ, Option, None, Result, Ok, Err, List, sym, ap, subst}
+use Rattle.std.proofs.Common.{◌≡◌, ◌∙◌, inl, inr, ℕ, ℤ, Option, None, Result, Ok, Err, List, [], ◌∷◌, sym, ap, subst}
 use Rattle.std.proofs.KnownBytes.{Appends-trans}
 use Rattle.audit_disk_model.specs.declared.sectors.Sectors as sectors
 use Rattle.audit_store.specs.Store.{active_header}
@@ -12,6 +12,7 @@ use Rattle.audit_serve_ready.specs.Door.{DoorModel}
 use Rattle.audit_text.specs.NumberedLine.{numbered_line}
 use Rattle.audit_cli_base.specs.Arguments.{number_asked}
 use Rattle.audit_cli_base.specs.Mode.{IsMode}
+use Rattle.audit_cli_calls.specs.StoreCalls.{StoresModel, LetsGo, OpensAndLetsGo, an_opening, a_letting_go}
 use Rattle.audit_disk.specs.declared.files.TheConstants.{OWNER_ONLY}
 use Rattle.audit_cli_base.specs.declared.fault.CommandError.{CommandError}
 use Rattle.audit_cli_daemon.specs.declared.arguments.TheConstants.{DEFAULT_IDLE, DEFAULT_RESERVE}
@@ -32,6 +33,7 @@ use Rattle.audit_cli_daemon.specs.Gauged.{IsTold}
 use Rattle.audit_cli_daemon.specs.Rights.{rights_at, rights_of_others, modes_at, IsDoorFor}
 use Rattle.audit_cli_daemon.specs.Running.{ServesStore}
 use Rattle.audit_cli_daemon.specs.State.{ready_line, stopped_line}
+use Rattle.audit_cli_daemon.proofs.Ending.{kept_bytes}
 use Rattle.audit_cli_daemon.specs.Words.{backlog_asked}
 
 abbrev Ending : Type 0
@@ -40,14 +42,15 @@ Ending = Result (Unit {0}) CommandError
 pub same_settings : (one other : Settings) → Run one ≡ Run other → one ≡ other
 same_settings one other same = cc same
 
-module _ {D : Type 0} {g : sectors.Ghosts D} {S E : Type 0} (N : CallModel S) (doors : DoorModel E S) (Opens Ends : E → Type 0) (reserve backlog : ℕ) where
+module _ {D : Type 0} {g : sectors.Ghosts D} {S E : Type 0} (N : CallModel S) (doors : DoorModel E S) (Opens Ends : E → Type 0) (LetGo : Store D g → Type 0) (reserve backlog : ℕ) where
   pub serves_between : (opened left : Store D g) (before mid after : Option (List ℕ)) (served result : Ending) (count : ℕ) (root : List ℕ) → OnOk served (Appends before mid (ready_line (active_header opened))) × OnOk served (ServesAtDoor N doors Opens Ends reserve backlog opened left)
       → OnOk result (IsOk served) → OnOk result (Appends mid after (numbered_line (codes "stopped ") count root)) → count ≡ (active_header left).count → root ≡ (active_header left).root
-      → OnOk result (ServesBetween N doors Opens Ends reserve backlog opened before after)
-  serves_between opened left before mid after served (Err fault) count root both ok stopped count_is root_is = tt
-  serves_between opened left before mid after (Err fault) (Ok done) count root both ok stopped count_is root_is = absurd (cc ok)
-  serves_between opened left before mid after (Ok served) (Ok done) count root (ready, store) ok stopped count_is root_is = record {
+      → LetGo left → OnOk result (ServesBetween N doors Opens Ends LetGo reserve backlog opened before after)
+  serves_between opened left before mid after served (Err fault) count root both ok stopped count_is root_is gone = tt
+  serves_between opened left before mid after (Err fault) (Ok done) count root both ok stopped count_is root_is gone = absurd (cc ok)
+  serves_between opened left before mid after (Ok served) (Ok done) count root (ready, store) ok stopped count_is root_is gone = record {
     left = left;
+    let_go = gone;
     served = store;
     lines = Appends-trans before mid after (ready_line (active_header opened)) (stopped_line (active_header left)) ready
         (subst (Appends mid after) (ap (λ n. numbered_line (codes "stopped ") n root) count_is ∙ ap (numbered_line (codes "stopped ") (active_header left).count) root_is) stopped);
@@ -71,6 +74,8 @@ served_there N doors Ends one other bits modes descriptors Listen idle reserve b
     listen = subst Listen (sym served.opens.listen) there;
     idle = served.opens.idle;
     nobody = served.opens.nobody;
+    in_place = served.opens.in_place;
+    works = served.opens.works;
     vacant = served.opens.vacant;
   };
   now = served.now;
@@ -92,13 +97,17 @@ rights_same settings sockets others bound readers sources others_are =
     ∙ ap (λ words. rights_at settings.reader (sources_in (words_of words.now)) others) sources
     ∙ ap (λ (allowed : Rights). rights_at settings.reader (sources_in (words_of settings.writers.now)) allowed) others_are
 
-module _ {D : Type 0} (g : sectors.Ghosts D) (At : List ℕ → Store D g → Type 0) (facts : SocketFacts) {S C J W Q F T : Type 0} (N : CallModel S) (doors : DoorModel (GaugedDoor (SocketDoor C J W UnixListener Q) F T) S) where
-  pub performed : (settings : Settings) (sockets : Sockets) (others : Rights) (bound : BoundKinds) (idle reserve backlog mode : ℕ) (opened : Store D g) (before after : Option (List ℕ)) (done : Ending) → sockets.clients ≡ settings.socket → sockets.readers ≡ settings.reader → sockets.sources ≡ settings.writers
+module _ {D : Type 0} (g : sectors.Ghosts D) {O : Type 0} (stores : StoresModel O (Store D g)) (At : List ℕ → Store D g → Type 0) (facts : SocketFacts) {S C J W Q F T : Type 0} (N : CallModel S) (doors : DoorModel (GaugedDoor (SocketDoor C J W UnixListener Q) F T) S) where
+  -- opened before it was let go
+  opens_and_lets_go : (path : List ℕ) (was mid now : O) (opened left : Store D g) → stores.DidCalls was mid (an_opening path (Ok opened) ∷ []) → LetsGo stores mid now left → OpensAndLetsGo stores path was now opened left
+  opens_and_lets_go path was mid now opened left first second = stores.more_called was mid now (an_opening path (Ok opened) ∷ []) (a_letting_go left ∷ []) first second
+
+  pub performed : (was mid now : O) (settings : Settings) (sockets : Sockets) (others : Rights) (bound : BoundKinds) (idle reserve backlog mode : ℕ) (opened : Store D g) (before after : Option (List ℕ)) (done : Ending) → sockets.clients ≡ settings.socket → sockets.readers ≡ settings.reader → sockets.sources ≡ settings.writers
       → ((kind : ℕ) → is_bound bound kind ≡ has_kind (sources_asked settings) kind) → others ≡ rights_of_others settings.may_close bound
       → number_asked settings.idle DEFAULT_IDLE ≡ Ok idle → number_asked settings.reserve DEFAULT_RESERVE ≡ Ok reserve → backlog_asked settings.backlog ≡ Ok backlog → (settings.socket_mode ≡ None → mode ≡ OWNER_ONLY) → IfSome settings.socket_mode (λ word. IsMode word.now mode) → At settings.file.now opened
-      → OnErr done (EndsEarly opened before after) → OnOk done (ServesBetween N doors (IsDoorFor (rights_served sockets others) (modes_at (rights_served sockets others) mode) (ListenAt facts mode (paths_served sockets)) idle) IsTold reserve backlog opened before after) → IsDaemonDone g At facts N doors settings before after done
-  performed settings sockets others bound idle reserve backlog mode opened before after (Err fault) clients_are readers_are sources_are bound_are others_are idle_is reserve_is backlog_is owner mode_is at ended served = inr (opened, at, ended)
-  performed settings sockets others bound idle reserve backlog mode opened before after (Ok done) clients_are readers_are sources_are bound_are others_are idle_is reserve_is backlog_is owner mode_is at ended served = record {
+      → stores.DidCalls was mid (an_opening settings.file.now (Ok opened) ∷ []) → OnErr done (EndsEarly (LetsGo stores mid now) opened before after) → OnOk done (ServesBetween N doors (IsDoorFor (rights_served sockets others) (modes_at (rights_served sockets others) mode) (ListenAt facts mode (paths_served sockets)) idle) IsTold (LetsGo stores mid now) reserve backlog opened before after) → IsDaemonDone g stores At facts N doors settings was now before after done
+  performed was mid now settings sockets others bound idle reserve backlog mode opened before after (Err fault) clients_are readers_are sources_are bound_are others_are idle_is reserve_is backlog_is owner mode_is at called ended served = inr (opened, at, record { left = ended.left; let_go = opens_and_lets_go settings.file.now was mid now opened ended.left called ended.let_go; kept = ended.kept; part = ended.part })
+  performed was mid now settings sockets others bound idle reserve backlog mode opened before after (Ok done) clients_are readers_are sources_are bound_are others_are idle_is reserve_is backlog_is owner mode_is at called ended served = record {
     reserve = reserve;
     reserve_is = reserve_is;
     backlog = backlog;
@@ -113,6 +122,16 @@ module _ {D : Type 0} (g : sectors.Ghosts D) (At : List ℕ → Store D g → Ty
     bound = bound;
     bound_are = bound_are;
     served =
-        subst (λ (paths : List (List ℕ)). ServesBetween N doors (IsDoorFor (rights_asked settings bound) (modes_at (rights_asked settings bound) mode) (ListenAt facts mode paths) idle) IsTold reserve backlog opened before after) (paths_same settings sockets clients_are readers_are sources_are)
-        (subst (λ (allowed : List Rights). ServesBetween N doors (IsDoorFor allowed (modes_at allowed mode) (ListenAt facts mode (paths_served sockets)) idle) IsTold reserve backlog opened before after) (rights_same settings sockets others bound readers_are sources_are others_are) served);
+        subst (λ (paths : List (List ℕ)). ServesBetween N doors (IsDoorFor (rights_asked settings bound) (modes_at (rights_asked settings bound) mode) (ListenAt facts mode paths) idle) IsTold (OpensAndLetsGo stores settings.file.now was now opened) reserve backlog opened before after) (paths_same settings sockets clients_are readers_are sources_are)
+        (subst (λ (allowed : List Rights). ServesBetween N doors (IsDoorFor allowed (modes_at allowed mode) (ListenAt facts mode (paths_served sockets)) idle) IsTold (OpensAndLetsGo stores settings.file.now was now opened) reserve backlog opened before after) (rights_same settings sockets others bound readers_are sources_are others_are)
+        (record { left = served.left; let_go = opens_and_lets_go settings.file.now was mid now opened served.left called served.let_go; served = served.served; lines = served.lines }));
   }
+
+  -- an error before a store was opened
+  pub unopened : (was : O) (settings : Settings) (before : Option (List ℕ)) (done : Ending) → IsErr done → IsDaemonDone g stores At facts N doors settings was was before before done
+  unopened was settings before (Ok done) error = absurd (cc error)
+  unopened was settings before (Err fault) error = inl (inl (stores.nothing_called was), kept_bytes before)
+
+  -- the opening failed with this error
+  pub not_opened : (was now : O) (settings : Settings) (before : Option (List ℕ)) (fault : CommandError) (done : Ending) → done ≡ Err fault → stores.DidCalls was now (an_opening settings.file.now (Err fault) ∷ []) → IsDaemonDone g stores At facts N doors settings was now before before done
+  not_opened was now settings before fault done is called = subst (IsDaemonDone g stores At facts N doors settings was now before before) (sym is) (inl (inr called, kept_bytes before))

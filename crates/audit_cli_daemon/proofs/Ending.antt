@@ -75,18 +75,20 @@ part_of_both P (Err fault) other failed done = failed
 part_of_both P (Ok first) (Err fault) failed done = done
 part_of_both P (Ok first) (Ok second) failed done = tt
 
-pub ends_early : {D : Type 0} {g : sectors.Ghosts D} (opened left : Store D g) (before mid after : Option (List ℕ)) (served result : Ending) (count : ℕ) (root : List ℕ) → StoreKeepsOn opened left
+pub ends_early : {D : Type 0} {g : sectors.Ghosts D} (LetGo : Store D g → Type 0) (opened left : Store D g) (before mid after : Option (List ℕ)) (served result : Ending) (count : ℕ) (root : List ℕ) → StoreKeepsOn opened left
     → OnErr served (WritesInPart before mid (ready_line (active_header opened))) → OnOk served (Appends before mid (ready_line (active_header opened)))
     → OnErr served (Keeps mid after) → OnErr result (WritesInPart mid after (numbered_line (codes "stopped ") count root)) → count ≡ (active_header left).count → root ≡ (active_header left).root
-    → OnErr result (EndsEarly opened before after)
-ends_early opened left before mid after served (Ok done) count root keeps part whole kept stopped count_is root_is = tt
-ends_early opened left before mid after (Err cause) (Err fault) count root keeps part whole kept stopped count_is root_is = record {
+    → LetGo left → OnErr result (EndsEarly LetGo opened before after)
+ends_early LetGo opened left before mid after served (Ok done) count root keeps part whole kept stopped count_is root_is gone = tt
+ends_early LetGo opened left before mid after (Err cause) (Err fault) count root keeps part whole kept stopped count_is root_is gone = record {
   left = left;
+  let_go = gone;
   kept = keeps;
   part = of_longer before after (ready_line (active_header opened)) (stopped_line (active_header left)) (part_kept before mid after (ready_line (active_header opened)) part kept);
 }
-ends_early opened left before mid after (Ok done) (Err fault) count root keeps part whole kept stopped count_is root_is = record {
+ends_early LetGo opened left before mid after (Ok done) (Err fault) count root keeps part whole kept stopped count_is root_is gone = record {
   left = left;
+  let_go = gone;
   kept = keeps;
   part = after_whole before mid after (ready_line (active_header opened)) (stopped_line (active_header left)) whole
       (subst (WritesInPart mid after) (ap (λ n. numbered_line (codes "stopped ") n root) count_is ∙ ap (numbered_line (codes "stopped ") (active_header left).count) root_is) stopped);

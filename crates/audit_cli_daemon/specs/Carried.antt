@@ -10,6 +10,7 @@ use Rattle.audit_server_model.specs.Serving.{StoreKeepsOn}
 use Rattle.audit_serve_passes.specs.Streams.{CallModel}
 use Rattle.audit_serve_ready.specs.Door.{DoorModel}
 use Rattle.audit_cli_base.specs.Arguments.{number_asked}
+use Rattle.audit_cli_calls.specs.StoreCalls.{StoresModel, OpensAndLetsGo, OpensNone}
 use Rattle.audit_cli_base.specs.Mode.{IsMode}
 use Rattle.audit_cli_base.specs.Faults.{status_of_end}
 use Rattle.audit_cli_base.specs.declared.status.Status.{Status}
@@ -42,19 +43,22 @@ module _ {D : Type 0} {g : sectors.Ghosts D} {S E : Type 0} (N : CallModel S) (d
     pub ends : Ends now
     pub served : ServesStore N doors reserve backlog was now opened left
 
-  -- The store's state was written before the first and after the last of them.
-  pub record ServesBetween (reserve backlog : ℕ) (opened : Store D g) (before after : Option (List ℕ)) : Type 0 where
+  -- The store's state was written before the first and after the last of them, and it was let go as they left it.
+  pub record ServesBetween (LetGo : Store D g → Type 0) (reserve backlog : ℕ) (opened : Store D g)
+      (before after : Option (List ℕ)) : Type 0 where
     pub left : Store D g
+    pub let_go : LetGo left
     pub served : ServesAtDoor reserve backlog opened left
     pub lines : Appends before after (ready_line (active_header opened) ++ stopped_line (active_header left))
 
--- It ended with an error over this store, which was left with the events that it had, and maybe more; a prefix of the
+-- It ended with an error over this store, which was let go with the events that it had, and maybe more; a prefix of the
 -- lines about its first and its last state was written.
-pub record EndsEarly {D : Type 0} {g : sectors.Ghosts D} (opened : Store D g) (before after : Option (List ℕ)) : Type 0
-  where
-    pub left : Store D g
-    pub kept : StoreKeepsOn opened left
-    pub part : WritesInPart before after (ready_line (active_header opened) ++ stopped_line (active_header left))
+pub record EndsEarly {D : Type 0} {g : sectors.Ghosts D} (LetGo : Store D g → Type 0) (opened : Store D g)
+    (before after : Option (List ℕ)) : Type 0 where
+  pub left : Store D g
+  pub let_go : LetGo left
+  pub kept : StoreKeepsOn opened left
+  pub part : WritesInPart before after (ready_line (active_header opened) ++ stopped_line (active_header left))
 
 -- the sources that the words of a command ask for
 abbrev pub sources_asked : Settings → List SourceData
@@ -69,42 +73,49 @@ rights_asked settings bound =
 abbrev pub paths_asked : Settings → List (List ℕ)
 paths_asked settings = paths_at settings.reader (sources_asked settings) settings.socket.now
 
--- `At` says at which path a store was opened, and `facts` what calls of the system established of sockets.
-module _ {D : Type 0} (g : sectors.Ghosts D) (At : List ℕ → Store D g → Type 0) (facts : SocketFacts)
-    {S C J W Q F T : Type 0} (N : CallModel S) (doors : DoorModel (GaugedDoor (SocketDoor C J W UnixListener Q) F T) S)
-  where
-    -- So were they over the store that was opened in the file that was named, with the reserve and the backlog that were
-    -- asked for, and came in by sockets at the paths, with the rights, the permissions and the time for idle clients that
-    -- were asked for, until the order to stop came.
-    pub record ServesClientsAsked (settings : Settings) (before after : Option (List ℕ)) : Type 0 where
-      pub reserve : ℕ
-      pub reserve_is : number_asked settings.reserve DEFAULT_RESERVE ≡ Ok reserve
-      pub backlog : ℕ
-      pub backlog_is : backlog_asked settings.backlog ≡ Ok backlog
-      pub idle : ℕ
-      pub idle_is : number_asked settings.idle DEFAULT_IDLE ≡ Ok idle
-      pub mode : ℕ
-      pub owner : settings.socket_mode ≡ None → mode ≡ OWNER_ONLY
-      pub mode_is : IfSome settings.socket_mode (λ word. IsMode word.now mode)
-      pub opened : Store D g
-      pub at : At settings.file.now opened
-      pub bound : BoundKinds
-      pub bound_are : (kind : ℕ) → is_bound bound kind ≡ has_kind (sources_asked settings) kind
-      pub served : ServesBetween N doors
-          (IsDoorFor (rights_asked settings bound) (modes_at (rights_asked settings bound) mode)
-          (ListenAt facts mode (paths_asked settings)) idle) IsTold reserve backlog opened before after
+-- `At` says at which path a store was opened, `stores` which calls opened stores and let them go, and `facts` what calls
+-- of the system established of sockets.
+module _ {D : Type 0} (g : sectors.Ghosts D) {O : Type 0} (stores : StoresModel O (Store D g))
+    (At : List ℕ → Store D g → Type 0) (facts : SocketFacts) {S C J W Q F T : Type 0} (N : CallModel S)
+    (doors : DoorModel (GaugedDoor (SocketDoor C J W UnixListener Q) F T) S) where
+  -- So were they over the store that was opened in the file that was named, with the reserve and the backlog that were
+  -- asked for, and came in by sockets at the paths, with the rights, the permissions and the time for idle clients that
+  -- were asked for, until the order to stop came. Nothing else was done to the store, and none was opened besides.
+  pub record ServesClientsAsked (settings : Settings) (was now : O) (before after : Option (List ℕ)) : Type 0 where
+    pub reserve : ℕ
+    pub reserve_is : number_asked settings.reserve DEFAULT_RESERVE ≡ Ok reserve
+    pub backlog : ℕ
+    pub backlog_is : backlog_asked settings.backlog ≡ Ok backlog
+    pub idle : ℕ
+    pub idle_is : number_asked settings.idle DEFAULT_IDLE ≡ Ok idle
+    pub mode : ℕ
+    pub owner : settings.socket_mode ≡ None → mode ≡ OWNER_ONLY
+    pub mode_is : IfSome settings.socket_mode (λ word. IsMode word.now mode)
+    pub opened : Store D g
+    pub at : At settings.file.now opened
+    pub bound : BoundKinds
+    pub bound_are : (kind : ℕ) → is_bound bound kind ≡ has_kind (sources_asked settings) kind
+    pub served : ServesBetween N doors
+        (IsDoorFor (rights_asked settings bound) (modes_at (rights_asked settings bound) mode)
+        (ListenAt facts mode (paths_asked settings)) idle) IsTold
+        (OpensAndLetsGo stores settings.file.now was now opened) reserve backlog opened before after
 
-    -- After an error nothing was written; or it ended early over the store that was opened in the file that was named.
-    abbrev pub IsDaemonDone : Settings → Option (List ℕ) → Option (List ℕ) → Result (Unit {0}) CommandError → Type 0
-    IsDaemonDone settings before after (Ok done) = ServesClientsAsked settings before after
-    IsDaemonDone settings before after (Err fault) = Keeps before after
-        ⊎ ((opened : Store D g) × At settings.file.now opened × EndsEarly opened before after)
+  -- After an error either no store was opened, and nothing was written; or it ended early over the store that was opened
+  -- in the file that was named, and nothing else was done to it.
+  abbrev pub IsDaemonDone : Settings → O → O → Option (List ℕ) → Option (List ℕ) → Result (Unit {0}) CommandError
+      → Type 0
+  IsDaemonDone settings was now before after (Ok done) = ServesClientsAsked settings was now before after
+  IsDaemonDone settings was now before after (Err fault) =
+      (OpensNone stores settings.file.now was now fault × Keeps before after)
+      ⊎ ((opened : Store D g) × At settings.file.now opened
+      × EndsEarly (OpensAndLetsGo stores settings.file.now was now opened) opened before after)
 
-    -- A daemon ran with this result, and the output was then flushed. The program's status is that of the result, or that
-    -- of an output that couldn't be flushed.
-    pub record IsDaemonCarriedOut (settings : Settings) (before after : Option (List ℕ)) (status : Status) : Type 0 where
-      pub done : Result (Unit {0}) CommandError
-      pub written : Option (List ℕ)
-      pub served : IsDaemonDone settings before written done
-      pub flushed : Keeps written after
-      pub status_is : (status ≡ status_of_end done) ⊎ (status ≡ ends.Device)
+  -- A daemon ran with this result, and the output was then flushed. The program's status is that of the result, or that
+  -- of an output that couldn't be flushed.
+  pub record IsDaemonCarriedOut (settings : Settings) (was now : O) (before after : Option (List ℕ))
+      (Flushed Unflushed : Type 0) (status : Status) : Type 0 where
+    pub done : Result (Unit {0}) CommandError
+    pub written : Option (List ℕ)
+    pub served : IsDaemonDone settings was now before written done
+    pub flushed : Keeps written after
+    pub status_is : ((status ≡ status_of_end done) × Flushed) ⊎ ((status ≡ ends.Device) × Unflushed)

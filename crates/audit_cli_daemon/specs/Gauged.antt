@@ -16,3 +16,7 @@ gauged_calls N = record {
 -- at the door behind which it is read, the order to stop has come
 abbrev pub IsTold : {C J W L S F M : Type 0} → GaugedDoor (SocketDoor C J W L S) F M → Type 0
 IsTold gauged = was_told gauged.door ≡ true
+
+-- nothing is known of a look at the store's file
+abbrev pub watch_of_file : {W : Type 0} → W → Type 0
+watch_of_file watch = Unit {0}

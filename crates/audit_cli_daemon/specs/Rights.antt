@@ -7,7 +7,7 @@ use Rattle.audit_serve_passes.specs.declared.rights.Rights.{Rights}
 use Rattle.audit_serve_passes.specs.declared.rights.Rights.TheVariants as rights
 use Rattle.mio.specs.declared.net.uds.listener.UnixListener.{UnixListener}
 use Rattle.audit_serve_door.specs.Entrances.{rights_of_door, modes_of_door, descriptors_of_door, idle_of_door}
-use Rattle.audit_serve_door.specs.Comings.{who_waits, places_of}
+use Rattle.audit_serve_door.specs.Comings.{who_waits, places_of, is_replaced, has_failed}
 use Rattle.audit_serve_door.specs.Idle.{IsVacant}
 use Rattle.audit_serve_door.specs.Waits.{NobodyWaits}
 use Rattle.audit_serve_door.specs.declared.socket_door.SocketDoor.{SocketDoor}
@@ -50,4 +50,6 @@ pub record IsDoorFor {C J W S F M : Type 0} (allowed : List Rights) (modes : Lis
   pub listen : Listen (descriptors_of_door door.door)
   pub idle : IsIdleTime seconds (idle_of_door door.door)
   pub nobody : NobodyWaits (who_waits door.door)
+  pub in_place : is_replaced door.door ≡ false
+  pub works : has_failed door.door ≡ false
   pub vacant : IsVacant (idle_of_door door.door) (places_of door.door)

@@ -1,12 +1,13 @@
 //! The requests to run a daemon and to stop it, and how they are carried out.
 ghost use Rattle.std.specs.Prelude.{◌≡◌, ◌⊎◌, ◌≤◌, ℕ, None, Ok, Err, IfSome, IfOk, IfErr, OnOk, OnErr, IsOk, codes};
-ghost use Rattle.std.specs.Prelude.{map, true};
+ghost use Rattle.std.specs.Prelude.{map, true, false, [], List};
+ghost use denote.Ref.{Bor};
 ghost use Rattle.std.specs.Io.KnownBytes.{Keeps, Appends};
 ghost use Rattle.audit_serve_ready.specs.declared.limits.TheConstants.{MAX_BACKLOG};
 ghost use Rattle.audit_cli_base.specs.Arguments.{number_asked};
 ghost use Rattle.audit_cli_base.specs.Faults.{IsNoWordFault};
 ghost use Rattle.audit_cli_base.specs.Mode.{IsMode};
-ghost use Rattle.audit_cli_base.specs.OpenedStore.{IsStoreAt};
+ghost use Rattle.audit_cli_calls.specs.StoreCalls.{LetsGo};
 ghost use Rattle.audit_cli_daemon.specs.declared.request.Settings.{Settings};
 ghost use Rattle.audit_disk.specs.declared.files.TheConstants.{OWNER_ONLY};
 ghost use Rattle.audit_cli_daemon.specs.declared.arguments.TheConstants.{DEFAULT_IDLE, DEFAULT_RESERVE};
@@ -23,7 +24,7 @@ ghost use Rattle.audit_cli_daemon.specs.Sockets.{rights_served, paths_served, Li
 ghost use Rattle.audit_cli_daemon.specs.State.{ready_line};
 ghost use Rattle.audit_serve_door.specs.Entrances.{rights_of, rights_of_door, mode_of, modes_of_door, idle_of_door};
 ghost use Rattle.audit_serve_door.specs.Entrances.{descriptor_of, descriptors_of_door};
-ghost use Rattle.audit_serve_door.specs.Comings.{who_waits, places_of, was_told};
+ghost use Rattle.audit_serve_door.specs.Comings.{who_waits, places_of, was_told, is_replaced, has_failed};
 ghost use Rattle.audit_serve_door.specs.Idle.{IsVacant};
 ghost use Rattle.audit_serve_door.specs.Waits.{NobodyWaits};
 ghost use Rattle.audit_store.specs.Store.{active_header};
@@ -42,9 +43,10 @@ use crate::state_line::write_state;
 use crate::stopping::stop;
 use crate::watched_store::WatchedStore;
 use audit_cli_base::{
-    CommandError, FileDevice, Opened, Status, StoreWatch, number_asked, open_store, report,
+    CommandError, FileDevice, FileStore, Opened, Status, StoreWatch, number_asked, report,
     report_end, socket_mode_asked, socket_path_asked,
 };
+use audit_cli_calls::{FlushedOutput, Stores};
 use audit_cli_host::Dial;
 use audit_disk::{SystemFile, SystemFiles};
 use audit_disk_model::Sectors;
@@ -112,11 +114,13 @@ struct Judged {
     rights: Rights,
 }
 
-/// Carries out a request. Lines that begin with `audit: ` are written to `messages`, all others to `output`. If
+/// Carries out a request over the stores of a system, `stores`, which are those of `rt`. Lines that begin with `audit: `
+/// are written to `messages`, all others to `output`. If
 /// `explains` is set, there is a line for each client that was dropped or cut off, and their counts. Returns the status
 /// with which the program exits.
-pub fn run<F: SystemFiles + SystemSockets + Dial + Clock, W: Write, M: Write>(
+pub fn run<F, O, W, M>(
     rt: &F,
+    stores: &mut O,
     alloc: Global,
     request: Request<'_>,
     explains: bool,
@@ -124,24 +128,35 @@ pub fn run<F: SystemFiles + SystemSockets + Dial + Clock, W: Write, M: Write>(
     messages: &mut M,
 ) -> Status
 where
+    F: SystemFiles + SystemSockets + Dial + Clock,
     F::File: SystemFile,
-    // A wrong word ends the program before anything is written; an output that can't be flushed is another fault.
+    O: Stores<FileStore<F::File>>,
+    W: FlushedOutput,
+    M: Write,
+    // A wrong word ends the program before a store is opened or anything is written; an output that can't be flushed is
+    // another fault.
     ensures words { HasBadWord request.entry → (result ≡ Status.Usage) ⊎ (result ≡ Status.Device) }
     ensures only { (settings : Settings) → request.entry ≡ Request.Run settings → result ≡ Status.Usage
         → HasBadSetting settings }
     ensures unwritten { HasBadWord request.entry → Keeps (W.contents output.old) (W.contents output.new) }
-    // The status is that of the result. On success clients were served over the store that was opened in the file that
+    ensures unopened { HasBadWord request.entry → O.calls.DidCalls stores.old stores.new [] }
+    // To stop one no store is opened.
+    ensures stops { (socket : Bor (List ℕ)) → request.entry ≡ Request.Stop socket
+        → O.calls.DidCalls stores.old stores.new [] }
+    // The status is that of the result, or the output couldn't be flushed. On success clients were served over the store that was opened in the file that
     // was named, with the reserve and the backlog that were asked for, until the order to stop came, and its first and
-    // last state were written. After an error nothing was written, or that store has kept its events, and a prefix of
-    // these lines was written.
+    // last state were written. After an error no store was opened and nothing was written, or that store was let go
+    // with its events, and a prefix of these lines was written. In both cases nothing else was done to a store.
     ensures carried { (settings : Settings) → request.entry ≡ Request.Run settings
-        → IsDaemonCarriedOut ⟦<FileDevice<F::File> as Sectors>⟧
-        (IsStoreAt F.File.facts F.File.positioned) (F.sockets rt.now) ⟦<Client as ReadyStream>⟧.calls
-        ⟦<DaemonDoor<F, F::File, Sparing<'static, M>> as Door>⟧.calls settings
-        (W.contents output.old) (W.contents output.new) result }
+        → IsDaemonCarriedOut ⟦<FileDevice<F::File> as Sectors>⟧ O.calls O.at (F.sockets rt.now)
+        ⟦<Client as ReadyStream>⟧.calls ⟦<DaemonDoor<F, F::File, Sparing<'static, M>> as Door>⟧.calls settings
+        stores.old stores.new (W.contents output.old) (W.contents output.new) (W.flushed output.new)
+        (W.unflushed output.new) result }
 {
     match request {
-        Request::Run(settings) => run_daemon(rt, alloc, settings, explains, output, messages),
+        Request::Run(settings) => {
+            run_daemon(rt, stores, alloc, settings, explains, output, messages)
+        }
         Request::Stop { socket } => match stop(rt, alloc, socket) {
             Ok(status) => status,
             Err(fault) => report(fault, messages),
@@ -150,8 +165,9 @@ where
 }
 
 // Once the words are judged, no message waits for its reader.
-fn run_daemon<F: SystemFiles + SystemSockets + Clock, W: Write, M: Write>(
+fn run_daemon<F, O, W, M>(
     rt: &F,
+    stores: &mut O,
     alloc: Global,
     settings: Settings<'_>,
     explains: bool,
@@ -159,24 +175,30 @@ fn run_daemon<F: SystemFiles + SystemSockets + Clock, W: Write, M: Write>(
     messages: &mut M,
 ) -> Status
 where
+    F: SystemFiles + SystemSockets + Clock,
     F::File: SystemFile,
+    O: Stores<FileStore<F::File>>,
+    W: FlushedOutput,
+    M: Write,
     ensures words { HasBadSetting settings.entry → (result ≡ Status.Usage) ⊎ (result ≡ Status.Device) }
     ensures only { result ≡ Status.Usage → HasBadSetting settings.entry }
     ensures unwritten { HasBadSetting settings.entry → Keeps (W.contents output.old) (W.contents output.new) }
-    ensures carried { IsDaemonCarriedOut ⟦<FileDevice<F::File> as Sectors>⟧
-        (IsStoreAt F.File.facts F.File.positioned) (F.sockets rt.now) ⟦<Client as ReadyStream>⟧.calls
-        ⟦<DaemonDoor<F, F::File, Sparing<'static, M>> as Door>⟧.calls settings.entry
-        (W.contents output.old) (W.contents output.new) result }
+    ensures unopened { HasBadSetting settings.entry → O.calls.DidCalls stores.old stores.new [] }
+    ensures carried { IsDaemonCarriedOut ⟦<FileDevice<F::File> as Sectors>⟧ O.calls O.at (F.sockets rt.now)
+        ⟦<Client as ReadyStream>⟧.calls ⟦<DaemonDoor<F, F::File, Sparing<'static, M>> as Door>⟧.calls settings.entry
+        stores.old stores.new (W.contents output.old) (W.contents output.new) (W.flushed output.new)
+        (W.unflushed output.new) result }
 {
     let mut sparing = Sparing::new(messages);
-    let status = run_sparing(rt, alloc, settings, explains, output, &mut sparing);
+    let status = run_sparing(rt, stores, alloc, settings, explains, output, &mut sparing);
     sparing.report_left_out();
     status
 }
 
 // Whoever ordered the daemon to stop is answered last.
-fn run_sparing<F: SystemFiles + SystemSockets + Clock, W: Write, M: Write>(
+fn run_sparing<F, O, W, M>(
     rt: &F,
+    stores: &mut O,
     alloc: Global,
     settings: Settings<'_>,
     explains: bool,
@@ -184,18 +206,33 @@ fn run_sparing<F: SystemFiles + SystemSockets + Clock, W: Write, M: Write>(
     messages: &mut Sparing<'_, M>,
 ) -> Status
 where
+    F: SystemFiles + SystemSockets + Clock,
     F::File: SystemFile,
+    O: Stores<FileStore<F::File>>,
+    W: FlushedOutput,
+    M: Write,
     ensures words { HasBadSetting settings.entry → (result ≡ Status.Usage) ⊎ (result ≡ Status.Device) }
     ensures only { result ≡ Status.Usage → HasBadSetting settings.entry }
     ensures unwritten { HasBadSetting settings.entry → Keeps (W.contents output.old) (W.contents output.new) }
-    ensures carried { IsDaemonCarriedOut ⟦<FileDevice<F::File> as Sectors>⟧
-        (IsStoreAt F.File.facts F.File.positioned) (F.sockets rt.now) ⟦<Client as ReadyStream>⟧.calls
-        ⟦<DaemonDoor<F, F::File, Sparing<'static, M>> as Door>⟧.calls settings.entry
-        (W.contents output.old) (W.contents output.new) result }
+    ensures unopened { HasBadSetting settings.entry → O.calls.DidCalls stores.old stores.new [] }
+    ensures carried { IsDaemonCarriedOut ⟦<FileDevice<F::File> as Sectors>⟧ O.calls O.at (F.sockets rt.now)
+        ⟦<Client as ReadyStream>⟧.calls ⟦<DaemonDoor<F, F::File, Sparing<'static, M>> as Door>⟧.calls settings.entry
+        stores.old stores.new (W.contents output.old) (W.contents output.new) (W.flushed output.new)
+        (W.unflushed output.new) result }
 {
     let mut orders = None;
-    let done = perform(rt, alloc, settings, explains, output, messages, &mut orders);
-    let status = report_end(done, output.flush(), messages);
+    let done = perform(
+        rt,
+        stores,
+        alloc,
+        settings,
+        explains,
+        output,
+        messages,
+        &mut orders,
+    );
+    let flushed = output.flush_last();
+    let status = report_end(done, flushed, messages);
     if let Some(orders) = orders {
         orders.answer(status.code());
     }
@@ -203,8 +240,9 @@ where
 }
 
 // The words are judged before the store is opened, and the store is opened before the sockets' files are made.
-fn perform<F: SystemFiles + SystemSockets + Clock, W: Write, M: Write>(
+fn perform<F, O, W, M>(
     rt: &F,
+    stores: &mut O,
     alloc: Global,
     settings: Settings<'_>,
     explains: bool,
@@ -213,24 +251,28 @@ fn perform<F: SystemFiles + SystemSockets + Clock, W: Write, M: Write>(
     orders: &mut Option<StopOrders>,
 ) -> Result<(), CommandError>
 where
+    F: SystemFiles + SystemSockets + Clock,
     F::File: SystemFile,
+    O: Stores<FileStore<F::File>>,
+    W: Write,
+    M: Write,
     ensures words { HasBadSetting settings.entry → result ≡ Err CommandError.BadArgument }
     ensures only { result ≡ Err CommandError.BadArgument → HasBadSetting settings.entry }
     ensures unwritten { HasBadSetting settings.entry → Keeps (W.contents output.old) (W.contents output.new) }
-    ensures served { IsDaemonDone ⟦<FileDevice<F::File> as Sectors>⟧
-        (IsStoreAt F.File.facts F.File.positioned) (F.sockets rt.now) ⟦<Client as ReadyStream>⟧.calls
-        ⟦<DaemonDoor<F, F::File, Sparing<'static, M>> as Door>⟧.calls settings.entry
-        (W.contents output.old) (W.contents output.new) result }
+    ensures unopened { HasBadSetting settings.entry → O.calls.DidCalls stores.old stores.new [] }
+    ensures served { IsDaemonDone ⟦<FileDevice<F::File> as Sectors>⟧ O.calls O.at (F.sockets rt.now)
+        ⟦<Client as ReadyStream>⟧.calls ⟦<DaemonDoor<F, F::File, Sparing<'static, M>> as Door>⟧.calls settings.entry
+        stores.old stores.new (W.contents output.old) (W.contents output.new) result }
 {
     let judged = judge(settings)?;
     let sockets = Sockets::new(alloc, settings.socket, settings.reader, settings.writers)?;
     if let Err(error) = messages.spare(rt, alloc) {
         return Err(fault_of(error.kind()));
     }
-    let Opened { content, identity } = open_store(rt, alloc, settings.file)?;
+    let Opened { content, identity } = stores.open(alloc, settings.file)?;
     let watch = StoreWatch::new(rt, settings.file, identity, content.sectors());
     serve_store(
-        rt, alloc, content, watch, &sockets, judged, explains, output, messages, orders,
+        rt, stores, alloc, content, watch, &sockets, judged, explains, output, messages, orders,
     )
 }
 
@@ -286,8 +328,9 @@ fn fault_of(kind: ErrorKind) -> CommandError
 }
 
 // Serves the store, and removes the sockets' files at the end. The store stays locked until then.
-fn serve_store<F: SystemFiles + SystemSockets + Clock, D: Sectors + Drop, W: Write, M: Write>(
+fn serve_store<F, D, O, W, M>(
     rt: &F,
+    stores: &mut O,
     alloc: Global,
     store: Store<D>,
     watch: StoreWatch<'_, F>,
@@ -299,16 +342,22 @@ fn serve_store<F: SystemFiles + SystemSockets + Clock, D: Sectors + Drop, W: Wri
     orders: &mut Option<StopOrders>,
 ) -> Result<(), CommandError>
 where
+    F: SystemFiles + SystemSockets + Clock,
     F::File: SystemFile,
+    D: Sectors + Drop,
+    O: Stores<Store<D>>,
+    W: Write,
+    M: Write,
     requires { judged.most ≤ MAX_BACKLOG }
     ensures cause { IfErr result IsNoWordFault }
     ensures served { OnOk result (ServesBetween ⟦<Client as ReadyStream>⟧.calls
         ⟦<DaemonDoor<F, F::File, Sparing<'static, M>> as Door>⟧.calls
         (IsDoorFor (rights_served sockets.now judged.rights) (modes_at (rights_served sockets.now judged.rights)
         judged.mode) (ListenAt (F.sockets rt.now) judged.mode (paths_served sockets.now)) judged.idle) IsTold
-        judged.reserve judged.most store
+        (LetsGo O.calls stores.old stores.new) judged.reserve judged.most store
         (W.contents output.old) (W.contents output.new)) }
-    ensures ended { OnErr result (EndsEarly store (W.contents output.old) (W.contents output.new)) }
+    ensures ended { OnErr result (EndsEarly (LetsGo O.calls stores.old stores.new) store
+        (W.contents output.old) (W.contents output.new)) }
 {
     let shared = RefCell::new(messages);
     let mut made = Made::none(alloc);
@@ -319,15 +368,19 @@ where
         Err(error) => (store, Err(fault_of(error.kind()))),
     };
     let removed = sockets.remove(rt, made);
-    report_stopped(rt, alloc, served, removed, closed(store), output, orders)
+    let state = closed(stores, store);
+    report_stopped(rt, alloc, served, removed, state, output, orders)
 }
 
-// Closes the store, and returns its last state.
-fn closed<D: Sectors + Drop>(store: Store<D>) -> Commitment
+// Lets the store go, and returns its last state.
+fn closed<D: Sectors, O: Stores<Store<D>>>(stores: &mut O, store: Store<D>) -> Commitment
     ensures count { result.count ≡ (active_header store).count }
     ensures root { result.root ≡ (active_header store).root }
+    ensures let_go { LetsGo O.calls stores.old stores.new store }
 {
-    store.commitment()
+    let state = store.commitment();
+    stores.let_go(store);
+    state
 }
 
 fn report_stopped<N: Net, W: Write>(
@@ -462,6 +515,8 @@ fn open_door<'a, 'b, 'c, F: Files + Net + Clock, M: Write>(
     ensures idle { IfOk result (λ door. idle_of_door door ≡ idle) }
     ensures nobody { IfOk result (λ door. NobodyWaits (who_waits door)) }
     ensures vacant { IfOk result (λ door. IsVacant idle (places_of door)) }
+    ensures in_place { IfOk result (λ door. is_replaced door ≡ false) }
+    ensures works { IfOk result (λ door. has_failed door ≡ false) }
 {
     let Listening { entrances, orders } = listening;
     match SocketDoor::new(rt, rt, alloc, entrances, orders, idle, journal, watch) {

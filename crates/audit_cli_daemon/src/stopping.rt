@@ -1,5 +1,7 @@
 //! Stopping a daemon.
-ghost use Rattle.std.specs.Prelude.{◌≡◌, ◌↔◌, Some, Err};
+ghost use Rattle.std.specs.Prelude.{◌≡◌, ◌⊎◌, ◌↔◌, Some, Err, IfErr};
+ghost use Rattle.audit_store.specs.declared.store_error.StoreError.TheVariants.{Memory};
+ghost use Rattle.audit_cli_base.specs.declared.fault.CommandError.TheVariants.{BadArgument, File, Refused};
 ghost use Rattle.audit_cli_base.specs.Faults.{exit_status_of};
 ghost use Rattle.audit_cli_base.specs.declared.status.Status.{Status};
 ghost use Rattle.audit_cli_base.specs.SocketPath.{IsNoSocketPath};
@@ -18,9 +20,12 @@ const PATIENCE: u64 = 30;
 
 /// Orders the daemon at a socket to stop, waits for its end, and returns the status with which it exits. If no daemon
 /// is there, if it ends without a status, or if it took no order or hasn't ended after 30 seconds, the error is `File`;
-/// if the word is no socket's path, `BadArgument`.
+/// if the word is no socket's path, `BadArgument`; if memory was refused, `Refused`.
 pub fn stop<N: Dial + Clock>(rt: &N, alloc: Global, socket: &str) -> Result<Status, CommandError>
-    ensures { IsNoSocketPath socket.now STOP_SUFFIX_LEN → result ≡ Err CommandError.BadArgument }
+    ensures wrong { IsNoSocketPath socket.now STOP_SUFFIX_LEN → result ≡ Err BadArgument }
+    // Nothing else is called a wrong argument.
+    ensures fault { IfErr result (λ fault. ((fault ≡ BadArgument) × IsNoSocketPath socket.now STOP_SUFFIX_LEN)
+        ⊎ ((fault ≡ File) ⊎ (fault ≡ Refused Memory))) }
 {
     socket_path_asked(socket, STOP_SUFFIX_LEN)?;
     let path = stop_path(alloc, socket)?;

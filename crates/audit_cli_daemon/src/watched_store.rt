@@ -13,7 +13,12 @@ impl<'a, R: Files> WatchedStore<'a, R> {
     }
 }
 
+/// Nothing is known of the system's files.
 impl<R: Files> Watch for WatchedStore<'_, R> {
+    ghost use Rattle.audit_cli_daemon.specs.Gauged.{watch_of_file};
+
+    ghost left = { watch_of_file };
+
     fn is_in_place(&mut self) -> bool {
         self.0.is_in_place()
     }

@@ -5,11 +5,11 @@ use Rattle.audit_serve_door.specs.Metered.{metered_calls}
 use Rattle.audit_serve_door.specs.Nonblocking.{nonblocking_calls, unknown_prompt}
 use Rattle.audit_serve_door.specs.Accepting.{unknown_accepting}
 use Rattle.audit_serve_door.specs.Notes.{unknown_notes}
-use Rattle.audit_serve_door.specs.Comings.{who_waits, places_of, was_told, socket_door_calls}
+use Rattle.audit_serve_door.specs.Comings.{who_waits, places_of, was_told, is_replaced, has_failed, socket_door_calls}
 use Rattle.audit_serve_door.specs.Idle.{IsVacant}
 use Rattle.audit_serve_door.specs.Waits.{NobodyWaits}
 use Rattle.audit_cli_daemon.specs.Carried.{ServesAtDoor}
-use Rattle.audit_cli_daemon.specs.Gauged.{gauged_calls, IsTold}
+use Rattle.audit_cli_daemon.specs.Gauged.{gauged_calls, watch_of_file, IsTold}
 use Rattle.audit_cli_daemon.specs.Rights.{IsIdleTime, IsDoorFor}
 use Rattle.audit_cli_daemon.proofs.Carried.{serves_at_door}
 use Rattle.audit_text.specs.Writing.{WritesInPart}
@@ -22,7 +22,7 @@ use Rattle.audit_cli_daemon.proofs.request.serve_listening.Goals as goal
 pub returns-clause-served : goal.returns-clause-served
 returns-clause-served g c =
     let N = metered_calls (nonblocking_calls unknown_prompt) in
-    let doors = gauged_calls (socket_door_calls unknown_accepting unknown_notes) in
+    let doors = gauged_calls (socket_door_calls unknown_accepting unknown_notes watch_of_file) in
     let opens = IsDoorFor (map rights_of c.args.listening.entrances.items) (map mode_of c.args.listening.entrances.items) (λ descriptors. descriptors ≡ map descriptor_of c.args.listening.entrances.items) c.args.judged.idle in
     let first : opens c.new-gauged.result = record {
       rights_are = ap rights_of_door c.new-gauged.ensures ∙ c.in-Ok.ensures.rights;
@@ -30,6 +30,8 @@ returns-clause-served g c =
       listen = ap descriptors_of_door c.new-gauged.ensures ∙ c.in-Ok.ensures.sockets;
       idle = subst (IsIdleTime c.args.judged.idle) (sym (ap idle_of_door c.new-gauged.ensures ∙ c.in-Ok.ensures.idle)) c.time_of.ensures;
       nobody = subst (λ door. NobodyWaits (who_waits door)) (sym c.new-gauged.ensures) c.in-Ok.ensures.nobody;
+      in_place = ap (λ door. is_replaced door) c.new-gauged.ensures ∙ c.in-Ok.ensures.in_place;
+      works = ap (λ door. has_failed door) c.new-gauged.ensures ∙ c.in-Ok.ensures.works;
       vacant = subst (λ door. IsVacant (idle_of_door door) (places_of door)) (sym c.new-gauged.ensures) (subst (λ idle. IsVacant idle (places_of c.in-Ok.door)) (sym c.in-Ok.ensures.idle) c.in-Ok.ensures.vacant);
     } in
     subst (λ ending. OnOk ending (ServesAtDoor N doors opens IsTold c.args.judged.reserve c.args.judged.most c.args.store c.serve_until_stopped-store.result.0)) (sym c.and.ensures)

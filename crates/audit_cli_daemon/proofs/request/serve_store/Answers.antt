@@ -7,7 +7,8 @@ use Rattle.audit_serve_door.specs.Nonblocking.{nonblocking_calls, unknown_prompt
 use Rattle.audit_serve_door.specs.Accepting.{unknown_accepting}
 use Rattle.audit_serve_door.specs.Notes.{unknown_notes}
 use Rattle.audit_serve_door.specs.Comings.{socket_door_calls}
-use Rattle.audit_cli_daemon.specs.Gauged.{gauged_calls, IsTold}
+use Rattle.audit_cli_daemon.specs.Gauged.{gauged_calls, watch_of_file, IsTold}
+use Rattle.audit_cli_calls.specs.StoreCalls.{LetsGo}
 use Rattle.audit_cli_daemon.specs.Carried.{ServesAtDoor}
 use Rattle.audit_cli_daemon.specs.Rights.{modes_at, IsDoorFor}
 use Rattle.audit_cli_daemon.specs.Sockets.{rights_served, paths_served, ListenAt}
@@ -23,12 +24,12 @@ use Rattle.audit_cli_daemon.proofs.request.serve_store.Goals as goal
 pub returns-clause-served : goal.returns-clause-served
 returns-clause-served g c =
     let N = metered_calls (nonblocking_calls unknown_prompt) in
-    let doors = gauged_calls (socket_door_calls unknown_accepting unknown_notes) in
+    let doors = gauged_calls (socket_door_calls unknown_accepting unknown_notes watch_of_file) in
     let there = ListenAt (g.F.SystemSockets.sockets c.args.rt.now) c.args.judged.mode (paths_served c.args.sockets.now) in
     let opens = IsDoorFor (rights_served c.args.sockets.now c.args.judged.rights) (modes_at (rights_served c.args.sockets.now c.args.judged.rights) c.args.judged.mode) there c.args.judged.idle in
     let begun = g.W.Write.contents c.args.output.now in
     let pair = c.match-bind.store in
-    serves_between N doors opens IsTold c.args.judged.reserve c.args.judged.most c.args.store pair.0 begun (g.W.Write.contents c.match-bind.output) (g.W.Write.contents c.report_stopped.new.output) pair.1 c.report_stopped.result c.closed.result.count c.closed.result.root
+    serves_between N doors opens IsTold (LetsGo g.O.Stores.calls c.args.stores.now c.closed-state.new.stores) c.args.judged.reserve c.args.judged.most c.args.store pair.0 begun (g.W.Write.contents c.match-bind.output) (g.W.Write.contents c.report_stopped.new.output) pair.1 c.report_stopped.result c.closed-state.result.count c.closed-state.result.root
     (elim c.match-bind.branch [
       | in-Ok w ↦ (
         subst (λ both. OnOk both.1 (Appends begun (g.W.Write.contents c.match-bind.output) (ready_line (active_header c.args.store)))) (sym w.store-is)
@@ -41,14 +42,14 @@ returns-clause-served g c =
         subst (λ both. OnOk both.1 (ServesAtDoor N doors opens IsTold c.args.judged.reserve c.args.judged.most c.args.store both.0)) (sym w.store-is) tt,
       )
     ])
-    c.report_stopped.ensures.served c.report_stopped.ensures.written c.closed.ensures.count c.closed.ensures.root
+    c.report_stopped.ensures.served c.report_stopped.ensures.written c.closed-state.ensures.count c.closed-state.ensures.root c.closed-state.ensures.let_go
 
 pub returns-clause-ended : goal.returns-clause-ended
 returns-clause-ended g c =
     let begun = g.W.Write.contents c.args.output.now in
     let line = ready_line (active_header c.args.store) in
     let pair = c.match-bind.store in
-    ends_early c.args.store pair.0 begun (g.W.Write.contents c.match-bind.output) (g.W.Write.contents c.report_stopped.new.output) pair.1 c.report_stopped.result c.closed.result.count c.closed.result.root
+    ends_early (LetsGo g.O.Stores.calls c.args.stores.now c.closed-state.new.stores) c.args.store pair.0 begun (g.W.Write.contents c.match-bind.output) (g.W.Write.contents c.report_stopped.new.output) pair.1 c.report_stopped.result c.closed-state.result.count c.closed-state.result.root
     (elim c.match-bind.branch [
       | in-Ok w ↦ subst (λ both. StoreKeepsOn c.args.store both.0) (sym w.store-is) w.serve_listening.ensures.kept
       | in-Err w ↦ subst (λ both. StoreKeepsOn c.args.store both.0) (sym w.store-is) (kept_none c.args.store)
@@ -67,4 +68,4 @@ returns-clause-ended g c =
           (subst (λ output. OnOk w.serve_listening.result.1 (Appends begun (g.W.Write.contents output) line)) (sym w.output-is) w.serve_listening.ensures.ready)
       | in-Err w ↦ subst (λ both. OnOk both.1 (Appends begun (g.W.Write.contents c.match-bind.output) line)) (sym w.store-is) tt
     ])
-    c.report_stopped.ensures.kept c.report_stopped.ensures.part c.closed.ensures.count c.closed.ensures.root
+    c.report_stopped.ensures.kept c.report_stopped.ensures.part c.closed-state.ensures.count c.closed-state.ensures.root c.closed-state.ensures.let_go
