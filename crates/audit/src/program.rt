@@ -4,6 +4,7 @@ use crate::heard::Heard;
 use crate::places::key_file_of;
 use audit_cli_append::Request as Lines;
 use audit_cli_base::{CommandError, Status, report};
+use audit_cli_calls::SystemStores;
 use audit_cli_client::{Request as Remote, SystemServers};
 use audit_cli_daemon::{Request as Daemon, Settings};
 use audit_cli_host::{Dial, Extent, Notes, Screen, Subject};
@@ -233,7 +234,8 @@ fn serve<F: SystemFiles + SystemSockets + Clock, R: Read, W: Write, M: Write>(
 where
     F::File: SystemFile,
 {
-    audit_cli_serve::run(rt, alloc, request, input, output, messages)
+    let mut stores = SystemStores::new(rt);
+    audit_cli_serve::run(rt, &mut stores, alloc, request, input, output, messages)
 }
 
 #[inline(never)]
@@ -248,7 +250,8 @@ fn attend<F: SystemFiles + SystemSockets + Dial + Clock, W: Write, M: Write>(
 where
     F::File: SystemFile,
 {
-    audit_cli_daemon::run(rt, alloc, request, explains, output, messages)
+    let mut stores = SystemStores::new(rt);
+    audit_cli_daemon::run(rt, &mut stores, alloc, request, explains, output, messages)
 }
 
 // Whether payloads are printed as text.

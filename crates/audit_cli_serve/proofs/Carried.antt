@@ -4,7 +4,7 @@ use denote.Ref.{Bor}
 use Rattle.std.specs.List.{flat_map}
 use Rattle.std.specs.Prelude.{IfErr, OnOk, IsOk, IfSome}
 use Rattle.std.specs.Io.KnownBytes.{Appends, Keeps}
-use Rattle.std.proofs.Common.{◌≡◌, ◌⊎◌, ◌∙◌, inl, inr, ℕ, Bool, true, false, Option, Some, None, Result, Ok, Err, List, [], ◌++◌, length, append-nil, refl, sym, subst}
+use Rattle.std.proofs.Common.{◌≡◌, ◌⊎◌, ◌∙◌, inl, inr, ℕ, Bool, true, false, Option, Some, None, Result, Ok, Err, List, [], ◌∷◌, ◌++◌, length, append-nil, refl, sym, subst}
 use Rattle.audit_disk_model.specs.declared.sectors.Sectors as sectors
 use Rattle.audit_store.specs.declared.store.Store.{Store}
 use Rattle.audit_serve_passes.specs.Streams.{CallModel}
@@ -17,7 +17,10 @@ use Rattle.audit_cli_base.specs.Watched.{after_reference}
 use Rattle.audit_disk.specs.declared.files.TheConstants.{OWNER_ONLY}
 use Rattle.audit_cli_base.specs.declared.fault.CommandError.TheVariants.{File, Replaced}
 use Rattle.audit_cli_serve.specs.Arguments.{rounds_asked, sessions_wanted}
-use Rattle.audit_cli_serve.specs.Carried.{IsServingDone, LoopsAt, LoopsOpened, ServesAt, ServesWithLines, IsStoppedWith, ServesOpened, StopsOpened}
+use Rattle.audit_cli_base.specs.declared.fault.CommandError.{CommandError}
+use Rattle.audit_cli_calls.specs.StoreCalls.{StoresModel, an_opening, a_letting_go}
+use Rattle.audit_server_model.specs.Serving.{StoreKeepsOn}
+use Rattle.audit_cli_serve.specs.Carried.{IsServingDone, IsUnopened, KeepsOpened, KeepsSome, LoopsAt, LoopsOpened, ServesAt, ServesWithLines, IsStoppedWith, ServesOpened, StopsOpened}
 use Rattle.audit_cli_serve.specs.Rounds.{round_lines, AreCutOff}
 use Rattle.audit_cli_serve.specs.Served.{LoopsOver, ServesRounds, StopsRounds}
 use Rattle.audit_cli_serve.specs.declared.fault.ServingError.{ServingError}
@@ -61,20 +64,24 @@ plain one other was old new end text is same appends = by old new (subst (λ (fi
         let bytes : ys ≡ xs ++ text = cc appends in
         subst (λ (last : Option (List ℕ)). Appends (Some xs) last text) (sym (same reference)) bytes
 
+-- known bytes stay as they were
+kept_bytes : (known : Option (List ℕ)) → Keeps known known
+kept_bytes None = tt
+kept_bytes (Some bytes) = refl
+
 pub nothing : (known : Option (List ℕ)) → Appends known known []
 nothing None = tt
 nothing (Some bytes) = sym (append-nil bytes)
 
 module _ {D : Type 0} {g : sectors.Ghosts D} where
-  pub loops_at : (input before after : Option (List ℕ)) (opened left : Store D g) (done : Ending) → OnOk done ((lines : List (List ℕ)) × LoopsOver opened left before after (IsWholeLoop lines) × IfSome input (SpellsInput lines)) → OnOk done (LoopsAt input before after opened)
+  pub loops_at : (input before after : Option (List ℕ)) (opened left : Store D g) (done : Ending) → OnOk done ((lines : List (List ℕ)) × LoopsOver opened left before after (IsWholeLoop lines) × IfSome input (SpellsInput lines)) → OnOk done (LoopsAt input before after opened left)
   loops_at input before after opened left (Err fault) looped = tt
-  loops_at input before after opened left (Ok done) (lines, looped, spelled) = record { left = left; lines = lines; looped = looped; spelled = spelled }
+  loops_at input before after opened left (Ok done) (lines, looped, spelled) = record { lines = lines; looped = looped; spelled = spelled }
 
-  loops_plain : (one other : GName) (input was old new end : Option (List ℕ)) (opened : Store D g) → was ≡ after_reference one old → (one ≡ other → end ≡ new) → LoopsAt input was (after_reference other new) opened → LoopsAt input old end opened
-  loops_plain one other input was old new end opened is same at =
+  loops_plain : (one other : GName) (input was old new end : Option (List ℕ)) (opened left : Store D g) → was ≡ after_reference one old → (one ≡ other → end ≡ new) → LoopsAt input was (after_reference other new) opened left → LoopsAt input old end opened left
+  loops_plain one other input was old new end opened left is same at =
       let run = at.looped.run in
       let written = run.written in record {
-        left = at.left;
         lines = at.lines;
         looped = record {
           core = at.looped.core;
@@ -93,11 +100,19 @@ module _ {D : Type 0} {g : sectors.Ghosts D} where
         spelled = at.spelled;
       }
 
-  pub loops_opened : {L : Type 0} (At : List ℕ → Store D g → Type 0) (Bound : List ℕ → ℕ → L → Type 0) (path socket : List ℕ) (mode : ℕ) (one other : GName) (input was old new end : Option (List ℕ)) (opened : Store D g) (done : Ending) → At path opened → was ≡ after_reference one old → (one ≡ other → end ≡ new)
-      → OnOk done (LoopsAt input was (after_reference other new) opened) → OnOk done ((bound : L) × Bound socket mode bound) → OnOk done (LoopsOpened g At Bound path socket mode input old end)
-  loops_opened At Bound path socket mode one other input was old new end opened (Err fault) at is same looped bound = tt
-  loops_opened At Bound path socket mode one other input was old new end opened (Ok done) at is same looped bound =
-      record { opened = opened; at = at; bound = bound.0; listens = bound.1; looped = loops_plain one other input was old new end opened is same looped }
+  -- a store that was opened and let go
+  pub keeps_opened : {O : Type 0} (stores : StoresModel O (Store D g)) (At : List ℕ → Store D g → Type 0) (path : List ℕ) (first mid last : O) (opened left : Store D g) → At path opened → stores.DidCalls first mid (an_opening path (Ok opened) ∷ []) → stores.DidCalls mid last (a_letting_go left ∷ []) → StoreKeepsOn opened left → KeepsOpened g stores At path first last opened left
+  keeps_opened stores At path first mid last opened left at opens goes kept = record { at = at; calls = stores.more_called first mid last (an_opening path (Ok opened) ∷ []) (a_letting_go left ∷ []) opens goes; kept = kept }
+
+  pub loops_opened : {O L : Type 0} (stores : StoresModel O (Store D g)) (At : List ℕ → Store D g → Type 0) (Bound : List ℕ → ℕ → L → Type 0) (path socket : List ℕ) (mode : ℕ) (first last : O) (one other : GName) (input was old new end : Option (List ℕ)) (opened left : Store D g) (done : Ending) → KeepsOpened g stores At path first last opened left → was ≡ after_reference one old → (one ≡ other → end ≡ new)
+      → OnOk done (LoopsAt input was (after_reference other new) opened left) → OnOk done ((bound : L) × Bound socket mode bound) → OnOk done (LoopsOpened g stores At Bound path socket mode first last input old end)
+  loops_opened stores At Bound path socket mode first last one other input was old new end opened left (Err fault) kept is same looped bound = tt
+  loops_opened stores At Bound path socket mode first last one other input was old new end opened left (Ok done) kept is same looped bound =
+      record { opened = opened; left = left; kept = kept; bound = bound.0; listens = bound.1; looped = loops_plain one other input was old new end opened left is same looped }
+
+  pub loops_stopped : {O : Type 0} (stores : StoresModel O (Store D g)) (At : List ℕ → Store D g → Type 0) (path : List ℕ) (first last : O) (before after : Option (List ℕ)) (opened left : Store D g) (done : Ending) → KeepsOpened g stores At path first last opened left → IfErr done (λ fault. IsUnopened stores path first last before after fault ⊎ KeepsSome g stores At path first last)
+  loops_stopped stores At path first last before after opened left (Ok done) kept = tt
+  loops_stopped stores At path first last before after opened left (Err fault) kept = inr (opened, (left, kept))
 
 module _ {D : Type 0} {g : sectors.Ghosts D} {T L : Type 0} (M : CallModel T) (N : ListenerModel L T) where
   -- all rounds
@@ -109,10 +124,10 @@ module _ {D : Type 0} {g : sectors.Ghosts D} {T L : Type 0} (M : CallModel T) (N
   ServesUpTo sessions opened left bound last before after fault = (text : List ℕ) × Appends before after text × StopsRounds M N sessions opened left bound last text fault
 
   pub serves_at : (Bound : L → Type 0) (rounds sessions : ℕ) (opened left : Store D g) (bound last : L) (before mid after : Option (List ℕ)) (result : Ending) → Bound bound → after ≡ mid → OnOk result (ServesAll sessions rounds opened left bound last before mid)
-      → OnOk result ((turns : List ℕ) × (length turns ≡ rounds) × ServesAt M N Bound sessions turns opened × Appends before after (round_lines 1 turns))
+      → OnOk result ((turns : List ℕ) × (length turns ≡ rounds) × ServesAt M N Bound sessions turns opened left × Appends before after (round_lines 1 turns))
   serves_at Bound rounds sessions opened left bound last before mid after (Err fault) listens same served = tt
   serves_at Bound rounds sessions opened left bound last before mid after (Ok done) listens same (turns, count, all, lines) =
-      (turns, count, record { left = left; bound = bound; listens = listens; last = last; served = all }, subst (λ (known : Option (List ℕ)). Appends before known (round_lines 1 turns)) (sym same) lines)
+      (turns, count, record { bound = bound; listens = listens; last = last; served = all }, subst (λ (known : Option (List ℕ)). Appends before known (round_lines 1 turns)) (sym same) lines)
 
   -- what was printed, however serving ended
   abbrev Prints : (Bound : L → Type 0) (sessions : ℕ) (opened : Store D g) (before after : Option (List ℕ)) → Type 0
@@ -120,60 +135,69 @@ module _ {D : Type 0} {g : sectors.Ghosts D} {T L : Type 0} (M : CallModel T) (N
 
   printed : (Bound : L → Type 0) (sessions rounds : ℕ) (opened left : Store D g) (bound last : L) (before after : Option (List ℕ)) (served : Ending) → Bound bound → OnOk served (ServesAll sessions rounds opened left bound last before after) → IfErr served (ServesUpTo sessions opened left bound last before after) → Prints Bound sessions opened before after
   printed Bound sessions rounds opened left bound last before after (Ok done) listens (turns, count, all, lines) stopped =
-      (round_lines 1 turns, lines, record { turns = turns; left = left; bound = bound; listens = listens; last = last; served = all; lines = inl refl })
+      (round_lines 1 turns, lines, record { turns = turns; mid = left; bound = bound; listens = listens; last = last; served = all; lines = inl refl })
   printed Bound sessions rounds opened left bound last before after (Err fault) listens served (text, appends, stops) =
-      (text, appends, record { turns = stops.turns; left = stops.mid; bound = bound; listens = listens; last = stops.between; served = stops.served; lines = by stops.stops })
+      (text, appends, record { turns = stops.turns; mid = stops.mid; bound = bound; listens = listens; last = stops.between; served = stops.served; lines = by stops.stops })
     where
       by : {A B C : Type 0} → (A × (text ≡ round_lines 1 stops.turns)) ⊎ (B × C × AreCutOff stops.turns text) → (text ≡ round_lines 1 stops.turns) ⊎ AreCutOff stops.turns text
       by (inl (round, is)) = inl is
       by (inr (lost, same, cut)) = inr cut
 
   pub stops_at : (Bound : L → Type 0) (sessions rounds : ℕ) (opened left : Store D g) (bound last : L) (before mid after : Option (List ℕ)) (replaced : Bool) (served watched result : Ending) → Bound bound → after ≡ mid → OnOk served (ServesAll sessions rounds opened left bound last before mid) → IfErr served (ServesUpTo sessions opened left bound last before mid)
-      → (replaced ≡ true → watched ≡ Err (Command Replaced)) → (replaced ≡ false → watched ≡ served) → IfErr result (λ fault. (watched ≡ Err fault) ⊎ (fault ≡ Command File)) → IfErr result (IsStoppedWith M N Bound sessions opened before after)
+      → (replaced ≡ true → watched ≡ Err (Command Replaced)) → (replaced ≡ false → watched ≡ served) → IfErr result (λ fault. (watched ≡ Err fault) ⊎ (fault ≡ Command File)) → IfErr result (IsStoppedWith M N Bound sessions opened left before after)
   stops_at Bound sessions rounds opened left bound last before mid after replaced served watched (Ok done) listens same all stopped is not ends = tt
   stops_at Bound sessions rounds opened left bound last before mid after replaced served watched (Err fault) listens same all stopped is not ends =
-      subst (λ (known : Option (List ℕ)). IsStoppedWith M N Bound sessions opened before known fault) (sym same) (by ends)
+      subst (λ (known : Option (List ℕ)). IsStoppedWith M N Bound sessions opened left before known fault) (sym same) (by ends)
     where
       prints : Prints Bound sessions opened before mid
       prints = printed Bound sessions rounds opened left bound last before mid served listens all stopped
 
-      stopped_by : (replaced : Bool) → IsWatched replaced served watched → watched ≡ Err fault → IsStoppedWith M N Bound sessions opened before mid fault
+      stopped_by : (replaced : Bool) → IsWatched replaced served watched → watched ≡ Err fault → IsStoppedWith M N Bound sessions opened left before mid fault
       stopped_by true gone same = (prints.0, prints.1, inr (inl (cc (sym same ∙ gone)), inr prints.2))
       stopped_by false not same =
           let why = subst (λ (ending : Ending). IfErr ending (ServesUpTo sessions opened left bound last before mid)) (sym not ∙ same) stopped in
-          (why.0, why.1, inl (record { left = left; bound = bound; listens = listens; last = last; stops = why.2 }))
+          (why.0, why.1, inl (record { bound = bound; listens = listens; last = last; stops = why.2 }))
 
-      by : (watched ≡ Err fault) ⊎ (fault ≡ Command File) → IsStoppedWith M N Bound sessions opened before mid fault
+      by : (watched ≡ Err fault) ⊎ (fault ≡ Command File) → IsStoppedWith M N Bound sessions opened left before mid fault
       by (inl same) = stopped_by replaced (is_watched replaced served watched is not) same
       by (inr file) = (prints.0, prints.1, inr (inr file, inr prints.2))
 
   -- there was no socket
-  pub no_socket : (Bound : L → Type 0) (sessions : ℕ) (opened : Store D g) (known : Option (List ℕ)) (result : Ending) → IfErr result (λ fault. fault ≡ Command File) → IfErr result (IsStoppedWith M N Bound sessions opened known known)
+  pub no_socket : (Bound : L → Type 0) (sessions : ℕ) (opened : Store D g) (known : Option (List ℕ)) (result : Ending) → IfErr result (λ fault. fault ≡ Command File) → IfErr result (IsStoppedWith M N Bound sessions opened opened known known)
   no_socket Bound sessions opened known (Ok done) file = tt
   no_socket Bound sessions opened known (Err fault) file = ([], nothing known, inr (inr file, inl refl))
 
   -- over the store that was opened, once the output isn't watched any more
-  module _ (At : List ℕ → Store D g → Type 0) (Bound : List ℕ → ℕ → L → Type 0) (path socket : List ℕ) (mode sessions : ℕ) (one other : GName) (was old new end : Option (List ℕ)) (opened : Store D g) (at : At path opened) (is : was ≡ after_reference one old) (same : one ≡ other → end ≡ new) where
-    pub serves_opened : (rounds : ℕ) (result : Ending) → OnOk result ((turns : List ℕ) × (length turns ≡ rounds) × ServesAt M N (Bound socket mode) sessions turns opened × Appends was (after_reference other new) (round_lines 1 turns)) → OnOk result (ServesOpened g At M N Bound path socket mode sessions rounds old end)
+  module _ {O : Type 0} (stores : StoresModel O (Store D g)) (At : List ℕ → Store D g → Type 0) (Bound : List ℕ → ℕ → L → Type 0) (path socket : List ℕ) (mode sessions : ℕ) (first last : O) (one other : GName) (was old new end : Option (List ℕ)) (opened left : Store D g) (kept : KeepsOpened g stores At path first last opened left) (is : was ≡ after_reference one old) (same : one ≡ other → end ≡ new) where
+    pub serves_opened : (rounds : ℕ) (result : Ending) → OnOk result ((turns : List ℕ) × (length turns ≡ rounds) × ServesAt M N (Bound socket mode) sessions turns opened left × Appends was (after_reference other new) (round_lines 1 turns)) → OnOk result (ServesOpened g stores At M N Bound path socket mode sessions rounds first last old end)
     serves_opened rounds (Err fault) served = tt
     serves_opened rounds (Ok done) (turns, count, served, lines) =
-        record { opened = opened; at = at; turns = turns; count = count; served = served; lines = plain one other was old new end (round_lines 1 turns) is same lines }
+        record { opened = opened; left = left; kept = kept; turns = turns; count = count; served = served; lines = plain one other was old new end (round_lines 1 turns) is same lines }
 
-    pub stops_opened : (result : Ending) → IfErr result (IsStoppedWith M N (Bound socket mode) sessions opened was (after_reference other new)) → IfErr result (λ fault. Keeps old end ⊎ StopsOpened g At M N Bound path socket mode sessions old end fault)
+    pub stops_opened : (result : Ending) → IfErr result (IsStoppedWith M N (Bound socket mode) sessions opened left was (after_reference other new)) → IfErr result (λ fault. IsUnopened stores path first last old end fault ⊎ StopsOpened g stores At M N Bound path socket mode sessions first last old end fault)
     stops_opened (Ok done) stopped = tt
-    stops_opened (Err fault) (text, appends, why) = inr (record { opened = opened; at = at; stopped = (text, plain one other was old new end text is same appends, why) })
+    stops_opened (Err fault) (text, appends, why) = inr (record { opened = opened; left = left; kept = kept; stopped = (text, plain one other was old new end text is same appends, why) })
 
-module _ {D : Type 0} (g : sectors.Ghosts D) (At : List ℕ → Store D g → Type 0) {T L : Type 0} (M : CallModel T) (N : ListenerModel L T) (Bound : List ℕ → ℕ → L → Type 0) where
+module _ {D : Type 0} (g : sectors.Ghosts D) {O : Type 0} (stores : StoresModel O (Store D g)) (At : List ℕ → Store D g → Type 0) {T L : Type 0} (M : CallModel T) (N : ListenerModel L T) (Bound : List ℕ → ℕ → L → Type 0) (was now : O) where
   pub loop_performed : (input before after : Option (List ℕ)) (request : Request) (file socket : Bor (List ℕ)) (socket_mode : Option (Bor (List ℕ))) (mode : ℕ) (done : Ending) → request ≡ Loop file socket socket_mode → (socket_mode ≡ None → mode ≡ OWNER_ONLY) → IfSome socket_mode (λ word. IsMode word.now mode)
-      → OnOk done (LoopsOpened g At Bound file.now socket.now mode input before after) → IsServingDone g At M N Bound request input before after done
-  loop_performed input before after request file socket socket_mode mode done is owner mode_is looped = subst (λ (one : Request). IsServingDone g At M N Bound one input before after done) (sym is) (by done looped)
+      → OnOk done (LoopsOpened g stores At Bound file.now socket.now mode was now input before after) → IfErr done (λ fault. IsUnopened stores file.now was now before after fault ⊎ KeepsSome g stores At file.now was now) → IsServingDone g stores At M N Bound request was now input before after done
+  loop_performed input before after request file socket socket_mode mode done is owner mode_is looped stopped = subst (λ (one : Request). IsServingDone g stores At M N Bound one was now input before after done) (sym is) (by done looped stopped)
     where
-      by : (done : Ending) → OnOk done (LoopsOpened g At Bound file.now socket.now mode input before after) → IsServingDone g At M N Bound (Loop file socket socket_mode) input before after done
-      by (Ok done) looped = record { mode = mode; owner = owner; mode_is = mode_is; looped = looped }
-      by (Err fault) looped = inr tt
+      by : (done : Ending) → OnOk done (LoopsOpened g stores At Bound file.now socket.now mode was now input before after) → IfErr done (λ fault. IsUnopened stores file.now was now before after fault ⊎ KeepsSome g stores At file.now was now) → IsServingDone g stores At M N Bound (Loop file socket socket_mode) was now input before after done
+      by (Ok done) looped stopped = record { mode = mode; owner = owner; mode_is = mode_is; looped = looped }
+      by (Err fault) looped stopped = stopped
 
   pub performed : (input before after : Option (List ℕ)) (file socket rounds : Bor (List ℕ)) (sessions socket_mode : Option (Bor (List ℕ))) (count each mode : ℕ) (done : Ending) → rounds_asked rounds.now ≡ Ok count → sessions_wanted sessions ≡ Ok each → (socket_mode ≡ None → mode ≡ OWNER_ONLY) → IfSome socket_mode (λ word. IsMode word.now mode)
-      → OnOk done (ServesOpened g At M N Bound file.now socket.now mode each count before after) → IfErr done (λ fault. Keeps before after ⊎ StopsOpened g At M N Bound file.now socket.now mode each before after fault) → IsServingDone g At M N Bound (Serve file socket rounds sessions socket_mode) input before after done
+      → OnOk done (ServesOpened g stores At M N Bound file.now socket.now mode each count was now before after) → IfErr done (λ fault. IsUnopened stores file.now was now before after fault ⊎ StopsOpened g stores At M N Bound file.now socket.now mode each was now before after fault) → IsServingDone g stores At M N Bound (Serve file socket rounds sessions socket_mode) was now input before after done
   performed input before after file socket rounds sessions socket_mode count each mode (Ok done) asked wanted owner mode_is served stopped = record { count = count; rounds_are = asked; each = each; sessions_are = wanted; mode = mode; owner = owner; mode_is = mode_is; served = served }
-  performed input before after file socket rounds sessions socket_mode count each mode (Err fault) asked wanted owner mode_is served (inl kept) = inl kept
+  performed input before after file socket rounds sessions socket_mode count each mode (Err fault) asked wanted owner mode_is served (inl unopened) = inl unopened
   performed input before after file socket rounds sessions socket_mode count each mode (Err fault) asked wanted owner mode_is served (inr stopped) = inr (each, wanted, (mode, stopped))
+
+-- an error before a store was opened
+pub unopened : {D : Type 0} (g : sectors.Ghosts D) {O : Type 0} (stores : StoresModel O (Store D g)) (At : List ℕ → Store D g → Type 0) {T L : Type 0} (M : CallModel T) (N : ListenerModel L T) (Bound : List ℕ → ℕ → L → Type 0) (was : O) (request : Request) (cause : CommandError) (done : Ending) (input before : Option (List ℕ)) → done ≡ Err (Command cause) → IsServingDone g stores At M N Bound request was was input before before done
+unopened g stores At M N Bound was request cause done input before is = subst (λ (ending : Ending). IsServingDone g stores At M N Bound request was was input before before ending) (sym is) (inl (cause, refl, (inl (stores.nothing_called was), kept_bytes before)))
+
+-- the opening failed
+pub opening_failed : {O S : Type 0} (stores : StoresModel O S) (path : List ℕ) (was now : O) (cause : CommandError) (done : Ending) (before : Option (List ℕ)) → done ≡ Err (Command cause) → stores.DidCalls was now (an_opening path (Err cause) ∷ []) → IfErr done (λ fault. IsUnopened stores path was now before before fault)
+opening_failed stores path was now cause (Ok done) before is called = tt
+opening_failed stores path was now cause (Err fault) before is called = (cause, cc is, (inr called, kept_bytes before))

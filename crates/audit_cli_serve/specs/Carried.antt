@@ -9,7 +9,9 @@ use Rattle.audit_serve_passes.specs.Streams.{CallModel}
 use Rattle.audit_serve_sockets.specs.Input.{SpellsInput}
 use Rattle.audit_serve_sockets.specs.Listening.{ListenerModel}
 use Rattle.audit_serve_sockets.specs.Looping.{IsWholeLoop}
+use Rattle.audit_server_model.specs.Serving.{StoreKeepsOn}
 use Rattle.audit_cli_base.specs.Arguments.{RefusesWords}
+use Rattle.audit_cli_calls.specs.StoreCalls.{StoresModel, OpensAndLetsGo, OpensNone}
 use Rattle.audit_cli_base.specs.Mode.{IsMode}
 use Rattle.audit_cli_base.specs.declared.status.Status.{Status}
 use Rattle.audit_cli_base.specs.declared.status.Status.TheVariants as ends
@@ -25,6 +27,11 @@ use Rattle.audit_cli_serve.specs.declared.fault.ServingError.TheVariants.{Comman
 use Rattle.audit_cli_serve.specs.declared.request.Request.{Request}
 use Rattle.audit_cli_serve.specs.declared.request.Request.TheVariants.{Serve, Loop}
 
+-- the file that a request names
+abbrev pub file_named : Request → List ℕ
+file_named (Serve file socket rounds sessions mode) = file.now
+file_named (Loop file socket mode) = file.now
+
 -- the status if the output was written completely
 abbrev pub serving_end_status : Result (Unit {0}) ServingError → Status
 serving_end_status (Ok done) = ends.Done
@@ -32,8 +39,7 @@ serving_end_status (Err fault) = serving_status fault
 
 module _ {D : Type 0} {g : sectors.Ghosts D} where
   -- A whole session was served over a store, whose bytes the lines of the input spell, and its replies were written.
-  pub record LoopsAt (input before after : Option (List ℕ)) (opened : Store D g) : Type 0 where
-    pub left : Store D g
+  pub record LoopsAt (input before after : Option (List ℕ)) (opened left : Store D g) : Type 0 where
     pub lines : List (List ℕ)
     pub looped : LoopsOver opened left before after (IsWholeLoop lines)
     pub spelled : IfSome input (SpellsInput lines)
@@ -42,16 +48,14 @@ module _ {D : Type 0} {g : sectors.Ghosts D} where
 module _ {D : Type 0} {g : sectors.Ghosts D} {T L : Type 0} (M : CallModel T) (N : ListenerModel L T)
     (Bound : L → Type 0) where
   -- These rounds were served over a store, and this many sessions in each, by a socket that was bound there.
-  pub record ServesAt (sessions : ℕ) (turns : List ℕ) (opened : Store D g) : Type 0 where
-    pub left : Store D g
+  pub record ServesAt (sessions : ℕ) (turns : List ℕ) (opened left : Store D g) : Type 0 where
     pub bound : L
     pub listens : Bound bound
     pub last : L
     pub served : ServesRounds M N sessions turns opened left bound last
 
   -- Serving over a store ended with an error, and this text was written: a round stopped.
-  pub record StopsAt (sessions : ℕ) (opened : Store D g) (text : List ℕ) (fault : ServingError) : Type 0 where
-    pub left : Store D g
+  pub record StopsAt (sessions : ℕ) (opened left : Store D g) (text : List ℕ) (fault : ServingError) : Type 0 where
     pub bound : L
     pub listens : Bound bound
     pub last : L
@@ -60,61 +64,83 @@ module _ {D : Type 0} {g : sectors.Ghosts D} {T L : Type 0} (M : CallModel T) (N
   -- Rounds were served over a store, and this text was written: the line of each, or the last one is cut off.
   pub record ServesWithLines (sessions : ℕ) (opened : Store D g) (text : List ℕ) : Type 0 where
     pub turns : List ℕ
-    pub left : Store D g
+    pub mid : Store D g
     pub bound : L
     pub listens : Bound bound
     pub last : L
-    pub served : ServesRounds M N sessions turns opened left bound last
+    pub served : ServesRounds M N sessions turns opened mid bound last
     pub lines : (text ≡ round_lines 1 turns) ⊎ AreCutOff turns text
 
   -- Why serving over a store ended with an error: a round stopped; or there was no socket, and nothing was written; or
   -- the store wasn't in its place at the end, or the socket's file couldn't be removed.
-  abbrev pub IsStoppedAt : ℕ → Store D g → List ℕ → ServingError → Type 0
-  IsStoppedAt sessions opened text fault =
-      StopsAt sessions opened text fault
+  abbrev pub IsStoppedAt : ℕ → Store D g → Store D g → List ℕ → ServingError → Type 0
+  IsStoppedAt sessions opened left text fault =
+      StopsAt sessions opened left text fault
       ⊎ (((fault ≡ Command Replaced) ⊎ (fault ≡ Command File)) × ((text ≡ []) ⊎ ServesWithLines sessions opened text))
 
   -- the same, and the output has that text
-  abbrev pub IsStoppedWith : ℕ → Store D g → Option (List ℕ) → Option (List ℕ) → ServingError → Type 0
-  IsStoppedWith sessions opened before after fault =
-      (text : List ℕ) × Appends before after text × IsStoppedAt sessions opened text fault
+  abbrev pub IsStoppedWith : ℕ → Store D g → Store D g → Option (List ℕ) → Option (List ℕ) → ServingError → Type 0
+  IsStoppedWith sessions opened left before after fault =
+      (text : List ℕ) × Appends before after text × IsStoppedAt sessions opened left text fault
 
--- ---- over the store that was opened, whose device has these ghost members. `At` says at which path it was, and `Bound`
--- at which path a socket listens, and which permission bits its file has.
+-- ---- over the store that was opened, whose device has these ghost members. `At` says at which path it was, `stores`
+-- which calls opened stores and let them go, and `Bound` at which path a socket listens, and which permission bits its
+-- file has.
 
-module _ {D : Type 0} (g : sectors.Ghosts D) (At : List ℕ → Store D g → Type 0) {L : Type 0}
-    (Bound : List ℕ → ℕ → L → Type 0) where
-  -- a whole session was served over it, and such a socket was bound
-  pub record LoopsOpened (path socket : List ℕ) (mode : ℕ) (input before after : Option (List ℕ)) : Type 0 where
-    pub opened : Store D g
+module _ {O S : Type 0} (stores : StoresModel O S) where
+  -- No store was opened, this is why, and nothing was written: a word is wrong, or the opening failed.
+  abbrev pub IsUnopened : List ℕ → O → O → Option (List ℕ) → Option (List ℕ) → ServingError → Type 0
+  IsUnopened path was now before after fault = (cause : CommandError) × (fault ≡ Command cause)
+      × (OpensNone stores path was now cause × Keeps before after)
+
+module _ {D : Type 0} (g : sectors.Ghosts D) {O : Type 0} (stores : StoresModel O (Store D g))
+    (At : List ℕ → Store D g → Type 0) where
+  -- It was opened, and let go with the events that it had, and maybe more. No other call opened a store or let one go.
+  pub record KeepsOpened (path : List ℕ) (was now : O) (opened left : Store D g) : Type 0 where
     pub at : At path opened
+    pub calls : OpensAndLetsGo stores path was now opened left
+    pub kept : StoreKeepsOn opened left
+
+  abbrev pub KeepsSome : List ℕ → O → O → Type 0
+  KeepsSome path was now = (opened : Store D g) × ((left : Store D g) × KeepsOpened path was now opened left)
+
+module _ {D : Type 0} (g : sectors.Ghosts D) {O : Type 0} (stores : StoresModel O (Store D g))
+    (At : List ℕ → Store D g → Type 0) {L : Type 0} (Bound : List ℕ → ℕ → L → Type 0) where
+  -- a whole session was served over it, and such a socket was bound
+  pub record LoopsOpened (path socket : List ℕ) (mode : ℕ) (was now : O) (input before after : Option (List ℕ))
+      : Type 0 where
+    pub opened : Store D g
+    pub left : Store D g
+    pub kept : KeepsOpened g stores At path was now opened left
     pub bound : L
     pub listens : Bound socket mode bound
-    pub looped : LoopsAt input before after opened
+    pub looped : LoopsAt input before after opened left
 
   -- the same with the permissions that were asked for
-  pub record LoopsAsked (path socket : List ℕ) (socket_mode : Option (Bor (List ℕ)))
+  pub record LoopsAsked (path socket : List ℕ) (socket_mode : Option (Bor (List ℕ))) (was now : O)
       (input before after : Option (List ℕ)) : Type 0 where
     pub mode : ℕ
     pub owner : socket_mode ≡ None → mode ≡ OWNER_ONLY
     pub mode_is : IfSome socket_mode (λ word. IsMode word.now mode)
-    pub looped : LoopsOpened path socket mode input before after
+    pub looped : LoopsOpened path socket mode was now input before after
 
-module _ {D : Type 0} (g : sectors.Ghosts D) (At : List ℕ → Store D g → Type 0) {T L : Type 0} (M : CallModel T)
-    (N : ListenerModel L T) (Bound : List ℕ → ℕ → L → Type 0) where
+module _ {D : Type 0} (g : sectors.Ghosts D) {O : Type 0} (stores : StoresModel O (Store D g))
+    (At : List ℕ → Store D g → Type 0) {T L : Type 0} (M : CallModel T) (N : ListenerModel L T)
+    (Bound : List ℕ → ℕ → L → Type 0) where
   -- this many rounds were served over it, and the line of each was written, in order
-  pub record ServesOpened (path socket : List ℕ) (mode sessions rounds : ℕ) (before after : Option (List ℕ)) : Type 0
-    where
-      pub opened : Store D g
-      pub at : At path opened
-      pub turns : List ℕ
-      pub count : length turns ≡ rounds
-      pub served : ServesAt M N (Bound socket mode) sessions turns opened
-      pub lines : Appends before after (round_lines 1 turns)
+  pub record ServesOpened (path socket : List ℕ) (mode sessions rounds : ℕ) (was now : O)
+      (before after : Option (List ℕ)) : Type 0 where
+    pub opened : Store D g
+    pub left : Store D g
+    pub kept : KeepsOpened g stores At path was now opened left
+    pub turns : List ℕ
+    pub count : length turns ≡ rounds
+    pub served : ServesAt M N (Bound socket mode) sessions turns opened left
+    pub lines : Appends before after (round_lines 1 turns)
 
   -- as many as asked for, each of as many sessions, on a socket at the path and with the permissions that were asked for
   pub record ServesRoundsAsked (path socket rounds : List ℕ) (sessions socket_mode : Option (Bor (List ℕ)))
-      (before after : Option (List ℕ)) : Type 0 where
+      (was now : O) (before after : Option (List ℕ)) : Type 0 where
     pub count : ℕ
     pub rounds_are : rounds_asked rounds ≡ Ok count
     pub each : ℕ
@@ -122,43 +148,46 @@ module _ {D : Type 0} (g : sectors.Ghosts D) (At : List ℕ → Store D g → Ty
     pub mode : ℕ
     pub owner : socket_mode ≡ None → mode ≡ OWNER_ONLY
     pub mode_is : IfSome socket_mode (λ word. IsMode word.now mode)
-    pub served : ServesOpened path socket mode each count before after
+    pub served : ServesOpened path socket mode each count was now before after
 
   -- serving over the store that was opened stopped with this error
-  pub record StopsOpened (path socket : List ℕ) (mode sessions : ℕ) (before after : Option (List ℕ))
+  pub record StopsOpened (path socket : List ℕ) (mode sessions : ℕ) (was now : O) (before after : Option (List ℕ))
       (fault : ServingError) : Type 0 where
     pub opened : Store D g
-    pub at : At path opened
-    pub stopped : IsStoppedWith M N (Bound socket mode) sessions opened before after fault
+    pub left : Store D g
+    pub kept : KeepsOpened g stores At path was now opened left
+    pub stopped : IsStoppedWith M N (Bound socket mode) sessions opened left before after fault
 
-  -- as many sessions as asked for were served in each round over it, on a socket at the path that was asked for, up to
-  -- this error
-  abbrev pub StopsAsked : Request → Option (List ℕ) → Option (List ℕ) → ServingError → Type 0
-  StopsAsked (Serve file socket rounds sessions mode) before after fault =
+  -- A store was opened in the file that was named, and let go with its events. As many sessions as asked for were served
+  -- in each round over it, on a socket at the path that was asked for, up to this error.
+  abbrev pub StopsAsked : Request → O → O → Option (List ℕ) → Option (List ℕ) → ServingError → Type 0
+  StopsAsked (Serve file socket rounds sessions mode) was now before after fault =
       (each : ℕ) × (sessions_wanted sessions ≡ Ok each)
-      × ((bits : ℕ) × StopsOpened file.now socket.now bits each before after fault)
-  StopsAsked (Loop file socket mode) before after fault = Unit {0}
+      × ((bits : ℕ) × StopsOpened file.now socket.now bits each was now before after fault)
+  StopsAsked (Loop file socket mode) was now before after fault =
+      KeepsSome g stores At file.now was now
 
-  abbrev pub IsServedAsAsked : Request → Option (List ℕ) → Option (List ℕ) → Option (List ℕ) → Type 0
-  IsServedAsAsked (Serve file socket rounds sessions mode) input before after =
-      ServesRoundsAsked file.now socket.now rounds.now sessions mode before after
-  IsServedAsAsked (Loop file socket mode) input before after =
-      LoopsAsked g At Bound file.now socket.now mode input before after
+  abbrev pub IsServedAsAsked : Request → O → O → Option (List ℕ) → Option (List ℕ) → Option (List ℕ) → Type 0
+  IsServedAsAsked (Serve file socket rounds sessions mode) was now input before after =
+      ServesRoundsAsked file.now socket.now rounds.now sessions mode was now before after
+  IsServedAsAsked (Loop file socket mode) was now input before after =
+      LoopsAsked g stores At Bound file.now socket.now mode was now input before after
 
-  -- A request was carried out with this result. On success what it asks for was served and written; otherwise nothing
-  -- was written, or the lines of rounds that were served.
-  abbrev pub IsServingDone : Request → Option (List ℕ) → Option (List ℕ) → Option (List ℕ)
+  -- A request was carried out with this result. On success what it asks for was served and written; otherwise no store
+  -- was opened and nothing was written, or that one was which was named, and it was let go with its events.
+  abbrev pub IsServingDone : Request → O → O → Option (List ℕ) → Option (List ℕ) → Option (List ℕ)
       → Result (Unit {0}) ServingError → Type 0
-  IsServingDone request input before after (Ok done) = IsServedAsAsked request input before after
-  IsServingDone request input before after (Err fault) = Keeps before after ⊎ StopsAsked request before after fault
+  IsServingDone request was now input before after (Ok done) = IsServedAsAsked request was now input before after
+  IsServingDone request was now input before after (Err fault) =
+      IsUnopened stores (file_named request) was now before after fault ⊎ StopsAsked request was now before after fault
 
   -- A request was carried out with this result, and the output was then flushed. The program's status is that of the
   -- result, or that of an output that couldn't be flushed.
-  pub record IsServingCarriedOut (request : Request) (input before after : Option (List ℕ)) (status : Status) : Type 0
-    where
-      pub done : Result (Unit {0}) ServingError
-      pub written : Option (List ℕ)
-      pub words : RefusesWords (IsServingFault request) before written done
-      pub served : IsServingDone request input before written done
-      pub flushed : Keeps written after
-      pub status_is : (status ≡ serving_end_status done) ⊎ (status ≡ ends.Device)
+  pub record IsServingCarriedOut (request : Request) (was now : O) (input before after : Option (List ℕ))
+      (Flushed Unflushed : Type 0) (status : Status) : Type 0 where
+    pub done : Result (Unit {0}) ServingError
+    pub written : Option (List ℕ)
+    pub words : RefusesWords (IsServingFault request) before written done
+    pub served : IsServingDone request was now input before written done
+    pub flushed : Keeps written after
+    pub status_is : ((status ≡ serving_end_status done) × Flushed) ⊎ ((status ≡ ends.Device) × Unflushed)

@@ -1,5 +1,5 @@
 //! The requests to serve sessions, and how they are carried out.
-ghost use Rattle.std.specs.Prelude.{◌≡◌, ◌⊎◌, ◌≤◌, List, ℕ, length, IsOk, true, false, Ok, Err, IfOk, IfErr, OnOk};
+ghost use Rattle.std.specs.Prelude.{◌≡◌, ◌⊎◌, ◌≤◌, List, [], ℕ, length, IsOk, true, false, Ok, Err, IfOk, IfErr, OnOk};
 ghost use Rattle.std.specs.Io.KnownBytes.{Keeps, Appends};
 ghost use Rattle.audit_base.specs.declared.limits.TheConstants.{SESSIONS};
 ghost use Rattle.audit_cli_base.specs.Arguments.{RefusesWords};
@@ -7,10 +7,10 @@ ghost use Rattle.audit_cli_base.specs.declared.fault.CommandError.TheVariants.{F
 ghost use Rattle.audit_serve_sockets.specs.Bound.{IsBound};
 ghost use Rattle.audit_serve_sockets.specs.declared.socket_file.SocketFile.{SocketFile};
 ghost use Rattle.audit_cli_serve.specs.Arguments.{rounds_asked, sessions_wanted};
-ghost use Rattle.audit_cli_base.specs.OpenedStore.{IsStoreAt};
+ghost use Rattle.audit_server_model.specs.Serving.{StoreKeepsOn};
 ghost use Rattle.audit_cli_base.specs.Watched.{watched_bytes};
 ghost use Rattle.audit_cli_serve.specs.Carried.{ServesAt, ServesOpened, IsStoppedWith, StopsOpened, LoopsAt};
-ghost use Rattle.audit_cli_serve.specs.Carried.{LoopsOpened, IsServingDone, IsServingCarriedOut};
+ghost use Rattle.audit_cli_serve.specs.Carried.{LoopsOpened, IsUnopened, KeepsSome, IsServingDone, IsServingCarriedOut};
 ghost use Rattle.audit_cli_serve.specs.Rounds.{round_lines};
 ghost use Rattle.audit_cli_serve.specs.Faults.{IsNoWordError};
 ghost use Rattle.audit_cli_serve.specs.declared.fault.ServingError.TheVariants.{Command};
@@ -21,13 +21,14 @@ use crate::fault::ServingError;
 use crate::looping::loop_over;
 use crate::rounds::serve_rounds;
 use audit_cli_base::{
-    CommandError, FileDevice, Opened, Status, StoreWatch, WatchedOutput, open_store, report_flush,
+    CommandError, FileDevice, FileStore, Opened, Status, StoreWatch, WatchedOutput, report_flush,
     socket_mode_asked, socket_path_asked,
 };
+use audit_cli_calls::{FlushedOutput, Stores};
 use audit_disk::{SystemFile, SystemFiles};
 use audit_disk_model::Sectors;
 use audit_serve_passes::Duplex;
-use audit_serve_sockets::{Link, Listener, SocketFile, SystemSockets};
+use audit_serve_sockets::{Link, Listener, SocketFile, SocketLock, SystemSockets};
 use audit_store::Store;
 use audit_text::LinesError;
 use std::alloc::Global;
@@ -70,12 +71,13 @@ pub enum Request<'a> {
     },
 }
 
-/// Carries out a request. Lines that begin with `audit: ` are written to `messages`, all others to `output`. The
+/// Carries out a request over the stores of a system, `stores`, which are those of `rt`. Lines that begin with `audit: ` are written to `messages`, all others to `output`. The
 /// output is flushed after each round, after the replies to each line, and at the end. Once the store isn't in its place,
 /// no line is written any more ([`WatchedOutput`]), and that is the fault. Returns the status with which the program
 /// exits.
-pub fn run<F: SystemFiles + SystemSockets + Clock, R: Read, W: Write, M: Write>(
+pub fn run<F, O, R, W, M>(
     rt: &F,
+    stores: &mut O,
     alloc: Global,
     request: Request<'_>,
     input: &mut R,
@@ -83,20 +85,29 @@ pub fn run<F: SystemFiles + SystemSockets + Clock, R: Read, W: Write, M: Write>(
     messages: &mut M,
 ) -> Status
 where
+    F: SystemFiles + SystemSockets + Clock,
     F::File: SystemFile,
-    // A wrong word ends the program before anything is written. An output that can't be flushed is another fault.
+    O: Stores<FileStore<F::File>>,
+    R: Read,
+    W: FlushedOutput,
+    M: Write,
+    // A wrong word ends the program before a store is opened or anything is written. An output that can't be flushed is
+    // another fault.
     ensures words { HasWrongWord request.entry → (result ≡ Status.Usage) ⊎ (result ≡ Status.Device) }
     ensures only { result ≡ Status.Usage → HasWrongWord request.entry }
     ensures unwritten { HasWrongWord request.entry → Keeps (W.contents output.old) (W.contents output.new) }
-    // The status is that of the result. On success what was asked for was served, over the store that was opened in the
-    // file that was named; whatever happens, the output has the lines of what was served, in order.
-    ensures carried { IsServingCarriedOut ⟦<FileDevice<F::File> as Sectors>⟧
-        (IsStoreAt F.File.facts F.File.positioned) ⟦<UnixStream as Duplex>⟧.calls
-        ⟦<SocketFile as Listener<UnixStream>>⟧.model (IsBound (F.sockets rt.now)) request.entry
-        (R.remaining input.old) (W.contents output.old) (W.contents output.new) result }
+    ensures unopened { HasWrongWord request.entry → O.calls.DidCalls stores.old stores.new [] }
+    // The status is that of the result, or the output couldn't be flushed. On success what was asked for was served,
+    // over the store that was opened in the file that was named; whatever happens, the output has the lines of what was
+    // served, in order. After an error no store was opened, or that store was let go with its events. Nothing else was
+    // done to a store.
+    ensures carried { IsServingCarriedOut ⟦<FileDevice<F::File> as Sectors>⟧ O.calls O.at
+        ⟦<UnixStream as Duplex>⟧.calls ⟦<SocketFile as Listener<UnixStream>>⟧.model (IsBound (F.sockets rt.now))
+        request.entry stores.old stores.new (R.remaining input.old) (W.contents output.old) (W.contents output.new)
+        (W.flushed output.new) (W.unflushed output.new) result }
 {
-    let done = perform(rt, alloc, request, input, output);
-    let flushed = output.flush();
+    let done = perform(rt, stores, alloc, request, input, output);
+    let flushed = output.flush_last();
     let status = match done {
         Ok(()) => Status::Done,
         Err(fault) => fault.report(messages),
@@ -106,21 +117,27 @@ where
 
 // The words are checked before the store is opened, and the store is opened before the socket's file is made. The
 // socket's file is removed at the end.
-fn perform<F: SystemFiles + SystemSockets + Clock, R: Read, W: Write>(
+fn perform<F, O, R, W>(
     rt: &F,
+    stores: &mut O,
     alloc: Global,
     request: Request<'_>,
     input: &mut R,
     output: &mut W,
 ) -> Result<(), ServingError>
 where
+    F: SystemFiles + SystemSockets + Clock,
     F::File: SystemFile,
+    O: Stores<FileStore<F::File>>,
+    R: Read,
+    W: Write,
     ensures words { RefusesWords (IsServingFault request.entry) (W.contents output.old) (W.contents output.new) result }
     ensures only { result ≡ Err (ServingError.Command CommandError.BadArgument) → HasWrongWord request.entry }
-    ensures served { IsServingDone ⟦<FileDevice<F::File> as Sectors>⟧
-        (IsStoreAt F.File.facts F.File.positioned) ⟦<UnixStream as Duplex>⟧.calls
-        ⟦<SocketFile as Listener<UnixStream>>⟧.model (IsBound (F.sockets rt.now)) request.entry
-        (R.remaining input.old) (W.contents output.old) (W.contents output.new) result }
+    ensures unopened { HasWrongWord request.entry → O.calls.DidCalls stores.old stores.new [] }
+    ensures served { IsServingDone ⟦<FileDevice<F::File> as Sectors>⟧ O.calls O.at
+        ⟦<UnixStream as Duplex>⟧.calls ⟦<SocketFile as Listener<UnixStream>>⟧.model (IsBound (F.sockets rt.now))
+        request.entry stores.old stores.new (R.remaining input.old) (W.contents output.old) (W.contents output.new)
+        result }
 {
     match request {
         Request::Serve {
@@ -134,7 +151,9 @@ where
             let rounds = rounds_asked(rounds)?;
             let sessions = sessions_or_one(sessions)?;
             let mode = socket_mode_asked(socket_mode)?;
-            serve_file(rt, alloc, file, socket, mode, rounds, sessions, output)
+            serve_file(
+                rt, stores, alloc, file, socket, mode, rounds, sessions, output,
+            )
         }
         Request::Loop {
             file,
@@ -143,7 +162,7 @@ where
         } => {
             socket_path_asked(socket, 0)?;
             let mode = socket_mode_asked(socket_mode)?;
-            loop_file(rt, alloc, file, socket, mode, input, output)
+            loop_file(rt, stores, alloc, file, socket, mode, input, output)
         }
     }
 }
@@ -160,8 +179,9 @@ fn sessions_or_one(word: Option<&str>) -> Result<usize, CommandError>
     }
 }
 
-fn serve_file<F: SystemFiles + SystemSockets + Clock, W: Write>(
+fn serve_file<F, O, W>(
     rt: &F,
+    stores: &mut O,
     alloc: Global,
     file: &str,
     socket: &str,
@@ -171,22 +191,27 @@ fn serve_file<F: SystemFiles + SystemSockets + Clock, W: Write>(
     output: &mut W,
 ) -> Result<(), ServingError>
 where
+    F: SystemFiles + SystemSockets + Clock,
     F::File: SystemFile,
+    O: Stores<FileStore<F::File>>,
+    W: Write,
     requires { sessions ≤ SESSIONS }
     ensures words { IfErr result IsNoWordError }
-    ensures served { OnOk result (ServesOpened ⟦<FileDevice<F::File> as Sectors>⟧
-        (IsStoreAt F.File.facts F.File.positioned) ⟦<UnixStream as Duplex>⟧.calls
-        ⟦<SocketFile as Listener<UnixStream>>⟧.model (IsBound (F.sockets rt.now)) file.now socket.now mode sessions
-        rounds (W.contents output.old) (W.contents output.new)) }
-    ensures stopped { IfErr result (λ fault. Keeps (W.contents output.old) (W.contents output.new)
-        ⊎ StopsOpened ⟦<FileDevice<F::File> as Sectors>⟧ (IsStoreAt F.File.facts F.File.positioned)
+    ensures served { OnOk result (ServesOpened ⟦<FileDevice<F::File> as Sectors>⟧ O.calls O.at
         ⟦<UnixStream as Duplex>⟧.calls ⟦<SocketFile as Listener<UnixStream>>⟧.model (IsBound (F.sockets rt.now))
-        file.now socket.now mode sessions (W.contents output.old) (W.contents output.new) fault) }
+        file.now socket.now mode sessions rounds stores.old stores.new (W.contents output.old)
+        (W.contents output.new)) }
+    ensures stopped { IfErr result (λ fault. IsUnopened O.calls
+        file.now stores.old stores.new (W.contents output.old) (W.contents output.new) fault
+        ⊎ StopsOpened ⟦<FileDevice<F::File> as Sectors>⟧ O.calls O.at
+        ⟦<UnixStream as Duplex>⟧.calls ⟦<SocketFile as Listener<UnixStream>>⟧.model (IsBound (F.sockets rt.now))
+        file.now socket.now mode sessions stores.old stores.new (W.contents output.old) (W.contents output.new)
+        fault) }
 {
-    let Opened { content, identity } = open_store(rt, alloc, file)?;
+    let Opened { content, identity } = stores.open(alloc, file)?;
     let watch = StoreWatch::new(rt, file, identity, content.sectors());
     let mut watched = WatchedOutput::new(watch, output);
-    serve_store(
+    let (store, served) = serve_store(
         rt,
         alloc,
         content,
@@ -195,9 +220,12 @@ where
         rounds,
         sessions,
         &mut watched,
-    )
+    );
+    stores.let_go(store);
+    served
 }
 
+// Whatever happens, the store is returned as the rounds left it. It stays locked until the socket's file is removed.
 fn serve_store<F: SystemFiles + SystemSockets + Clock, D: Sectors + Drop, W: Write>(
     rt: &F,
     alloc: Global,
@@ -207,25 +235,60 @@ fn serve_store<F: SystemFiles + SystemSockets + Clock, D: Sectors + Drop, W: Wri
     rounds: u64,
     sessions: usize,
     output: &mut WatchedOutput<'_, '_, F, W>,
-) -> Result<(), ServingError>
+) -> (Store<D>, Result<(), ServingError>)
 where
     F::File: SystemFile,
     requires { sessions ≤ SESSIONS }
-    ensures words { IfErr result IsNoWordError }
+    ensures words { IfErr result.1 IsNoWordError }
     // Nothing else is done to the store.
-    ensures served { OnOk result ((turns : List ℕ) × (length turns ≡ rounds)
+    ensures kept { StoreKeepsOn store result.0 }
+    ensures served { OnOk result.1 ((turns : List ℕ) × (length turns ≡ rounds)
         × ServesAt ⟦<UnixStream as Duplex>⟧.calls ⟦<SocketFile as Listener<UnixStream>>⟧.model
-        (IsBound (F.sockets rt.now) socket.now mode) sessions turns store
+        (IsBound (F.sockets rt.now) socket.now mode) sessions turns store result.0
         × Appends (watched_bytes W.contents output.old) (watched_bytes W.contents output.new) (round_lines 1 turns)) }
-    ensures stopped { IfErr result (IsStoppedWith ⟦<UnixStream as Duplex>⟧.calls
+    ensures stopped { IfErr result.1 (IsStoppedWith ⟦<UnixStream as Duplex>⟧.calls
         ⟦<SocketFile as Listener<UnixStream>>⟧.model (IsBound (F.sockets rt.now) socket.now mode) sessions store
-        (watched_bytes W.contents output.old) (watched_bytes W.contents output.new)) }
+        result.0 (watched_bytes W.contents output.old) (watched_bytes W.contents output.new)) }
 {
-    let (mut bound, lock) = SocketFile::bind(rt, alloc, socket, mode)?;
-    // The store stays locked until the socket's file is removed.
-    let (_store, served) = serve_rounds(alloc, store, &mut bound, rounds, sessions, output);
+    match SocketFile::bind(rt, alloc, socket, mode) {
+        Ok((bound, lock)) => serve_bound(
+            rt, alloc, store, bound, lock, socket, mode, rounds, sessions, output,
+        ),
+        Err(error) => (store, Err(error.into())),
+    }
+}
+
+fn serve_bound<F: SystemFiles + SystemSockets + Clock, D: Sectors + Drop, W: Write>(
+    rt: &F,
+    alloc: Global,
+    store: Store<D>,
+    bound: SocketFile,
+    lock: SocketLock<F::File>,
+    socket: &str,
+    mode: u32,
+    rounds: u64,
+    sessions: usize,
+    output: &mut WatchedOutput<'_, '_, F, W>,
+) -> (Store<D>, Result<(), ServingError>)
+where
+    F::File: SystemFile,
+    requires few { sessions ≤ SESSIONS }
+    requires listens { IsBound (F.sockets rt.now) socket.now mode bound }
+    ensures words { IfErr result.1 IsNoWordError }
+    ensures kept { StoreKeepsOn store result.0 }
+    ensures served { OnOk result.1 ((turns : List ℕ) × (length turns ≡ rounds)
+        × ServesAt ⟦<UnixStream as Duplex>⟧.calls ⟦<SocketFile as Listener<UnixStream>>⟧.model
+        (IsBound (F.sockets rt.now) socket.now mode) sessions turns store result.0
+        × Appends (watched_bytes W.contents output.old) (watched_bytes W.contents output.new) (round_lines 1 turns)) }
+    ensures stopped { IfErr result.1 (IsStoppedWith ⟦<UnixStream as Duplex>⟧.calls
+        ⟦<SocketFile as Listener<UnixStream>>⟧.model (IsBound (F.sockets rt.now) socket.now mode) sessions store
+        result.0 (watched_bytes W.contents output.old) (watched_bytes W.contents output.new)) }
+{
+    let mut bound = bound;
+    let (store, served) = serve_rounds(alloc, store, &mut bound, rounds, sessions, output);
     let served = unless_replaced(served, output.is_replaced());
-    after_removing(served, bound.remove(rt, socket, lock))
+    let ended = after_removing(served, bound.remove(rt, socket, lock));
+    (store, ended)
 }
 
 // How serving ended. That the store isn't in its place counts before all else.
@@ -253,8 +316,9 @@ fn after_removing(
     Ok(removed?)
 }
 
-fn loop_file<F: SystemFiles + SystemSockets + Clock, R: Read, W: Write>(
+fn loop_file<F, O, R, W>(
     rt: &F,
+    stores: &mut O,
     alloc: Global,
     file: &str,
     socket: &str,
@@ -263,18 +327,28 @@ fn loop_file<F: SystemFiles + SystemSockets + Clock, R: Read, W: Write>(
     output: &mut W,
 ) -> Result<(), ServingError>
 where
+    F: SystemFiles + SystemSockets + Clock,
     F::File: SystemFile,
+    O: Stores<FileStore<F::File>>,
+    R: Read,
+    W: Write,
     ensures words { IfErr result IsNoWordError }
-    ensures looped { OnOk result (LoopsOpened ⟦<FileDevice<F::File> as Sectors>⟧
-        (IsStoreAt F.File.facts F.File.positioned) (IsBound (F.sockets rt.now)) file.now socket.now mode
+    ensures looped { OnOk result (LoopsOpened ⟦<FileDevice<F::File> as Sectors>⟧ O.calls O.at
+        (IsBound (F.sockets rt.now)) file.now socket.now mode stores.old stores.new
         (R.remaining input.old) (W.contents output.old) (W.contents output.new)) }
+    ensures stopped { IfErr result (λ fault. IsUnopened O.calls
+        file.now stores.old stores.new (W.contents output.old) (W.contents output.new) fault
+        ⊎ KeepsSome ⟦<FileDevice<F::File> as Sectors>⟧ O.calls O.at file.now stores.old stores.new) }
 {
-    let Opened { content, identity } = open_store(rt, alloc, file)?;
+    let Opened { content, identity } = stores.open(alloc, file)?;
     let watch = StoreWatch::new(rt, file, identity, content.sectors());
     let mut watched = WatchedOutput::new(watch, output);
-    loop_store(rt, alloc, content, socket, mode, input, &mut watched)
+    let (store, served) = loop_store(rt, alloc, content, socket, mode, input, &mut watched);
+    stores.let_go(store);
+    served
 }
 
+// Whatever happens, the store is returned as the session left it. It stays locked until the socket's file is removed.
 fn loop_store<F: SystemFiles + SystemSockets + Clock, D: Sectors + Drop, R: Read, W: Write>(
     rt: &F,
     alloc: Global,
@@ -283,25 +357,29 @@ fn loop_store<F: SystemFiles + SystemSockets + Clock, D: Sectors + Drop, R: Read
     mode: u32,
     input: &mut R,
     output: &mut WatchedOutput<'_, '_, F, W>,
-) -> Result<(), ServingError>
+) -> (Store<D>, Result<(), ServingError>)
 where
     F::File: SystemFile,
-    ensures words { IfErr result IsNoWordError }
+    ensures words { IfErr result.1 IsNoWordError }
     // Nothing else is done to the store.
-    ensures looped { OnOk result (LoopsAt (R.remaining input.old) (watched_bytes W.contents output.old)
-        (watched_bytes W.contents output.new) store) }
-    ensures bound { OnOk result ((bound : SocketFile) × IsBound (F.sockets rt.now) socket.now mode bound) }
+    ensures kept { StoreKeepsOn store result.0 }
+    ensures looped { OnOk result.1 (LoopsAt (R.remaining input.old) (watched_bytes W.contents output.old)
+        (watched_bytes W.contents output.new) store result.0) }
+    ensures bound { OnOk result.1 ((bound : SocketFile) × IsBound (F.sockets rt.now) socket.now mode bound) }
 {
     // The input's buffer is allocated before the socket's file is made, so that the file is removed whatever is
     // refused later.
     let Ok(mut reader) = BufReader::new(alloc, input) else {
-        return Err(LinesError::Memory.into());
+        return (store, Err(LinesError::Memory.into()));
     };
-    let (bound, lock) = SocketFile::bind(rt, alloc, socket, mode)?;
-    // The store stays locked until the socket's file is removed.
-    let (_store, served) = loop_bound(rt, alloc, store, &bound, socket, &mut reader, output);
+    let (bound, lock) = match SocketFile::bind(rt, alloc, socket, mode) {
+        Ok(made) => made,
+        Err(error) => return (store, Err(error.into())),
+    };
+    let (store, served) = loop_bound(rt, alloc, store, &bound, socket, &mut reader, output);
     let served = unless_replaced(served, output.is_replaced());
-    after_removing(served, bound.remove(rt, socket, lock))
+    let ended = after_removing(served, bound.remove(rt, socket, lock));
+    (store, ended)
 }
 
 fn loop_bound<F: Files + Net, D: Sectors + Drop, R: BufRead, W: Write>(
@@ -314,8 +392,9 @@ fn loop_bound<F: Files + Net, D: Sectors + Drop, R: BufRead, W: Write>(
     output: &mut W,
 ) -> (Store<D>, Result<(), ServingError>)
     ensures words { IfErr result.1 IsNoWordError }
+    ensures kept { StoreKeepsOn store result.0 }
     ensures looped { OnOk result.1 (LoopsAt (R.remaining reader.old) (W.contents output.old) (W.contents output.new)
-        store) }
+        store result.0) }
 {
     match connect(rt, bound, socket) {
         Ok(mut link) => loop_over(alloc, store, &mut link, reader, output),

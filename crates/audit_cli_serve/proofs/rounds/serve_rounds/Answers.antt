@@ -62,7 +62,7 @@ returns-in-Err-write_round-clause-fault g c =
         mid = left;
         between = after;
         served = rounds_more M N c.args.sessions c.in-Ok.turns before.0 c.args.store c.loop-round.store left c.args.socket.now between after before.2 round;
-        stops = inr (line_lost c.in-Err-write_round.fault c.into.result c.into.ensures c.in-Err-write_round.ensures.fault, refl, cut.2);
+        stops = inr (line_lost c.in-Err-write_round.fault c.into.result c.into.ensures (elim c.in-Err-write_round.ensures.fault [ inl write ↦ inl write.0 | inr memory ↦ inr memory.0 ]), refl, cut.2);
       },
     )
 
