@@ -1,0 +1,24 @@
+-- The judgment of the bytes of a proof under commitments.
+use Rattle.std.specs.Prelude.{◌≡◌, ◌⊎◌, ℕ, List, Option, None, Some}
+use Rattle.sha2.specs.Sha256.{sha256}
+use Rattle.audit_proof.specs.declared.commitment.Commitment.{Commitment}
+use Rattle.audit_proof.specs.Acceptance.{AcceptsMembership, AcceptsIncrement}
+use Rattle.audit_proof.specs.ProofBytes.{Member, Increment, member_of, increment_of}
+use Rattle.audit_c.specs.declared.answers.TheConstants.{OK, NOT_ACCEPTED, MEMORY, BAD_PROOF}
+
+-- The proof is of the commitment's count, and is accepted.
+pub record ProvesEntry (proof : Member) (commitment : Commitment) : Type 0 where
+  pub count : proof.count ≡ commitment.count
+  pub accepted : AcceptsMembership sha256 commitment proof.index proof.entry proof.hashes
+
+-- The proof is between the two commitments' counts, and is accepted.
+pub record ProvesExtension (proof : Increment) (older newer : Commitment) : Type 0 where
+  pub from : proof.older ≡ older.count
+  pub to : proof.newer ≡ newer.count
+  pub accepted : AcceptsIncrement sha256 older newer proof.hashes
+
+-- bytes that are no proof are refused, and otherwise the proof decides; or memory was refused for a proof's parts
+abbrev pub IsJudged : {Proof : Type 0} → (Proof → Type 0) → Option Proof → ℕ → Type 0
+IsJudged Proves None answer = answer ≡ BAD_PROOF
+IsJudged Proves (Some proof) answer = ((answer ≡ OK) × Proves proof)
+    ⊎ (((answer ≡ NOT_ACCEPTED) × ¬ Proves proof) ⊎ (answer ≡ MEMORY))

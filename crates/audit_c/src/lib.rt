@@ -1,0 +1,6 @@
+//! The checks of the store for programs in C: an archive whose exports are named `audit_store_*`.
+#![tactic(auto)]
+
+mod answers;
+mod commitment;
+mod proofs;
