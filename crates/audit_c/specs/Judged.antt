@@ -3,8 +3,10 @@ use Rattle.std.specs.Prelude.{◌≡◌, ◌⊎◌, ℕ, List, Option, None, Som
 use Rattle.sha2.specs.Sha256.{sha256}
 use Rattle.audit_proof.specs.declared.commitment.Commitment.{Commitment}
 use Rattle.audit_proof.specs.Acceptance.{AcceptsMembership, AcceptsIncrement}
-use Rattle.audit_proof.specs.ProofBytes.{Member, Increment, member_of, increment_of}
-use Rattle.audit_c.specs.declared.answers.TheConstants.{OK, NOT_ACCEPTED, MEMORY, BAD_PROOF}
+use Rattle.audit_proof.specs.ProofBytes.{Member, Increment}
+use Rattle.audit_c.specs.declared.answers.TheConstants.{OK, NOT_ACCEPTED, BAD_PROOF}
+use Rattle.audit_c.specs.declared.proof_views.MemberView.{MemberView}
+use Rattle.audit_c.specs.declared.proof_views.IncrementView.{IncrementView}
 
 -- The proof is of the commitment's count, and is accepted.
 pub record ProvesEntry (proof : Member) (commitment : Commitment) : Type 0 where
@@ -17,8 +19,14 @@ pub record ProvesExtension (proof : Increment) (older newer : Commitment) : Type
   pub to : proof.newer ≡ newer.count
   pub accepted : AcceptsIncrement sha256 older newer proof.hashes
 
--- bytes that are no proof are refused, and otherwise the proof decides; or memory was refused for a proof's parts
+-- bytes that are no proof are refused as such, and otherwise the proof decides
 abbrev pub IsJudged : {Proof : Type 0} → (Proof → Type 0) → Option Proof → ℕ → Type 0
 IsJudged Proves None answer = answer ≡ BAD_PROOF
-IsJudged Proves (Some proof) answer = ((answer ≡ OK) × Proves proof)
-    ⊎ (((answer ≡ NOT_ACCEPTED) × ¬ Proves proof) ⊎ (answer ≡ MEMORY))
+IsJudged Proves (Some proof) answer = ((answer ≡ OK) × Proves proof) ⊎ ((answer ≡ NOT_ACCEPTED) × ¬ Proves proof)
+
+-- the proofs that views of bytes show
+abbrev pub member_shown : MemberView → Member
+member_shown view = record { index = view.index; count = view.count; hashes = view.hashes.now; entry = view.entry.now }
+
+abbrev pub increment_shown : IncrementView → Increment
+increment_shown view = record { older = view.older; newer = view.newer; hashes = view.hashes.now }

@@ -6,8 +6,5 @@ pub const OK: u32 = 0;
 /// A proof is not accepted under the commitments.
 pub const NOT_ACCEPTED: u32 = 1;
 
-/// Memory was refused.
-pub const MEMORY: u32 = 12;
-
 /// The bytes are not those of a proof.
 pub const BAD_PROOF: u32 = 32;

@@ -3,4 +3,5 @@
 
 mod answers;
 mod commitment;
+mod proof_views;
 mod proofs;

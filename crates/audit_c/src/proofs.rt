@@ -1,39 +1,29 @@
 //! Proofs, checked under commitments.
 ghost use Rattle.std.specs.Prelude.{◌≡◌, ◌↔◌, IsTrue};
-ghost use Rattle.audit_proof.specs.ProofBytes.{member_in, increment_in, member_of, increment_of};
+ghost use Rattle.audit_proof.specs.ProofBytes.{member_of, increment_of};
 ghost use Rattle.audit_c.specs.Given.{given};
-ghost use Rattle.audit_c.specs.Judged.{IsJudged, ProvesEntry, ProvesExtension};
+ghost use Rattle.audit_c.specs.Judged.{IsJudged, ProvesEntry, ProvesExtension, member_shown, increment_shown};
 
-use crate::answers::{BAD_PROOF, MEMORY, NOT_ACCEPTED, OK};
+use crate::answers::{BAD_PROOF, NOT_ACCEPTED, OK};
 use crate::commitment::{GivenCommitment, commitment_of};
-use audit_proof::{
-    Commitment, IncrementProof, MemberProof, ProofError, accepts_increment, accepts_member,
-    read_increment, read_member,
-};
-use std::alloc::Global;
+use crate::proof_views::{IncrementView, MemberView, increment_view, member_view};
+use audit_proof::{Commitment, accepts_increment, accepts_member};
 
-/// Checks the bytes of an inclusion proof under a commitment, as `audit check` does. Returns `OK` if it is accepted,
-/// `NOT_ACCEPTED` if not, `BAD_PROOF` if the bytes are no inclusion proof, and `MEMORY` if memory was refused.
+/// Checks the bytes of an inclusion proof under a commitment, as `audit check` does. Returns `OK` if it is of the
+/// commitment's count and accepted, `NOT_ACCEPTED` if not, and `BAD_PROOF` if the bytes are no inclusion proof.
 #[unsafe(no_mangle)]
-pub extern "C" fn audit_store_check_inclusion(
-    alloc: Global,
-    proof: &[u8],
-    commitment: &GivenCommitment,
-) -> u32
+pub extern "C" fn audit_store_check_inclusion(proof: &[u8], commitment: &GivenCommitment) -> u32
     ensures { IsJudged (λ read. ProvesEntry read (given commitment.now)) (member_of proof.now) result }
 {
-    let commitment = commitment_of(commitment);
-    match read_member(alloc, proof) {
-        Ok(member) => judged(proves_entry(&member, &commitment)),
-        Err(ProofError::BadProof) => BAD_PROOF,
-        Err(ProofError::Memory) => MEMORY,
+    match member_view(proof) {
+        Some(view) => judged(proves_entry(view, &commitment_of(commitment))),
+        None => BAD_PROOF,
     }
 }
 
 /// Checks the bytes of a consistency proof under an older and a newer commitment, with the same answers.
 #[unsafe(no_mangle)]
 pub extern "C" fn audit_store_check_consistency(
-    alloc: Global,
     proof: &[u8],
     older: &GivenCommitment,
     newer: &GivenCommitment,
@@ -41,28 +31,29 @@ pub extern "C" fn audit_store_check_consistency(
     ensures { IsJudged (λ read. ProvesExtension read (given older.now) (given newer.now))
         (increment_of proof.now) result }
 {
-    let older = commitment_of(older);
-    let newer = commitment_of(newer);
-    match read_increment(alloc, proof) {
-        Ok(increment) => judged(proves_extension(&increment, &older, &newer)),
-        Err(ProofError::BadProof) => BAD_PROOF,
-        Err(ProofError::Memory) => MEMORY,
+    match increment_view(proof) {
+        Some(view) => judged(proves_extension(
+            view,
+            &commitment_of(older),
+            &commitment_of(newer),
+        )),
+        None => BAD_PROOF,
     }
 }
 
-fn proves_entry(proof: &MemberProof, commitment: &Commitment) -> bool
-    ensures { IsTrue result ↔ ProvesEntry (member_in proof.now) commitment.now }
+fn proves_entry(view: MemberView<'_>, commitment: &Commitment) -> bool
+    ensures { IsTrue result ↔ ProvesEntry (member_shown view.entry) commitment.now }
 {
-    proof.count == commitment.count
-        && accepts_member(commitment, proof.index, &proof.entry, &proof.hashes)
+    view.count == commitment.count
+        && accepts_member(commitment, view.index, view.entry, view.hashes)
 }
 
-fn proves_extension(proof: &IncrementProof, older: &Commitment, newer: &Commitment) -> bool
-    ensures { IsTrue result ↔ ProvesExtension (increment_in proof.now) older.now newer.now }
+fn proves_extension(view: IncrementView<'_>, older: &Commitment, newer: &Commitment) -> bool
+    ensures { IsTrue result ↔ ProvesExtension (increment_shown view.entry) older.now newer.now }
 {
-    proof.older == older.count
-        && proof.newer == newer.count
-        && accepts_increment(older, newer, &proof.hashes)
+    view.older == older.count
+        && view.newer == newer.count
+        && accepts_increment(older, newer, view.hashes)
 }
 
 fn judged(accepted: bool) -> u32
