@@ -1,2 +1,4 @@
 pub mod Given
 pub mod Judged
+pub mod Written
+pub mod Replied

@@ -5,3 +5,6 @@ mod answers;
 mod commitment;
 mod proof_views;
 mod proofs;
+mod replies;
+mod reply;
+mod requests;
