@@ -14,3 +14,15 @@ pub const MORE: u32 = 2;
 
 /// The bytes are not those of a reply.
 pub const MALFORMED: u32 = 20;
+
+/// A verifier isn't one that the exports made, or it has read too much, or a buffer is too short.
+pub const MISUSED: u32 = 3;
+
+/// The export ends within an entry.
+pub const SHORT: u32 = 40;
+
+/// All entries are valid, but the commitment isn't to them, or they are more than a log can have.
+pub const WRONG_COMMITMENT: u32 = 44;
+
+/// Bytes follow the entry that closes the log.
+pub const BAD_CLOSE: u32 = 46;

@@ -3,8 +3,13 @@
 
 mod answers;
 mod commitment;
+mod feeding;
+mod given_event;
+mod holding;
+mod judging;
 mod proof_views;
 mod proofs;
 mod replies;
 mod reply;
 mod requests;
+mod verifier;

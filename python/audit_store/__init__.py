@@ -1,0 +1,19 @@
+"""Clients and proved checks of an audit store.
+
+`Client` and `AsyncClient` append events to a daemon and check what it answers, `Handler` does so for `logging`,
+`verify` gives the events of an export, and `check` judges a proof. What is judged is judged by libauditstore, whose
+functions are proved; what this package adds is tested.
+
+    >>> log = Commitment.parse("1:1adb768b1a8442d111228c6b4ee67325246d75c87ac4a45dce6d4ed7a0cba265")
+    >>> log.count
+    1
+"""
+from audit_store._library import LIBRARY_VERSION
+from audit_store.checking import BadProof, Commitment, check
+from audit_store.client import Acknowledgement, Client, ConnectionEnded, Refused, State, StoreError, Unproved
+from audit_store.aio import AsyncClient
+from audit_store.exports import Event, NotVerified, verify
+from audit_store.handler import Handler
+
+__all__ = ["Acknowledgement", "AsyncClient", "BadProof", "Client", "Commitment", "ConnectionEnded", "Event", "Handler",
+           "LIBRARY_VERSION", "NotVerified", "Refused", "State", "StoreError", "Unproved", "check", "verify"]

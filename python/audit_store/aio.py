@@ -1,0 +1,157 @@
+"""A client of a daemon for asyncio."""
+import asyncio
+from ctypes import addressof, c_char
+from typing import Dict, Optional, Tuple
+
+from audit_store import _library as names
+from audit_store.checking import Commitment, check
+from audit_store.client import Acknowledgement, ConnectionEnded, Found, Frames, Refused, State, Unproved
+
+
+class AsyncClient:
+    """One connection to a daemon, for one event loop. Calls may overlap: each is sent at once, and gets its own reply.
+
+    After `ConnectionEnded` or a timeout the connection is over, and so are the calls that waited. Whether the event of a
+    failed append is in the log isn't known.
+
+        async with AsyncClient("/run/audit/log.sock") as log:
+            await asyncio.gather(*(log.append(b"%d" % number) for number in range(100)))
+    """
+
+    def __init__(self, path: str, timeout: Optional[float] = 30.0, in_flight: int = 256) -> None:
+        self._path, self._timeout = path, timeout
+        self._frames = Frames()
+        # The calls that wait: the kind of reply, the tag, and the reply itself.
+        self._waiting: Dict[int, Tuple[int, "asyncio.Future[Found]"]] = {}
+        self._places = asyncio.Semaphore(in_flight)
+        self._reader: Optional[asyncio.StreamReader] = None
+        self._writer: Optional[asyncio.StreamWriter] = None
+        self._receiver: Optional["asyncio.Task[None]"] = None
+        self._connecting = asyncio.Lock()
+
+    async def __aenter__(self) -> "AsyncClient":
+        await self._connected()
+        return self
+
+    async def __aexit__(self, *_: object) -> None:
+        await self.close()
+
+    async def close(self) -> None:
+        """Ends the connection."""
+        self._end(ConnectionEnded("the client ended the connection"))
+        receiver, self._receiver = self._receiver, None
+        if receiver is not None:
+            receiver.cancel()
+            await asyncio.gather(receiver, return_exceptions=True)
+
+    async def append(self, payload: bytes, kind: int = 1) -> Acknowledgement:
+        """Appends an event, and returns once it is on the disk."""
+        return (await self._ask(self._frames.append(kind, payload), names.ACKNOWLEDGEMENT)).acknowledgement()
+
+    async def commitment(self) -> Commitment:
+        """The newest commitment."""
+        return (await self._ask(self._frames.commitment(), names.COMMITMENT)).commitment
+
+    async def state(self) -> State:
+        """The state of the store."""
+        return (await self._ask(self._frames.state(), names.STATE)).state
+
+    async def entry(self, index: int) -> bytes:
+        """The entry of an event, unchecked."""
+        return (await self._ask(self._frames.entry(index), names.ENTRY)).entry()
+
+    async def prove(self, index: int, commitment: Optional[Commitment] = None) -> bytes:
+        """An inclusion proof that was checked, as `Client.prove`."""
+        commitment = commitment or await self.commitment()
+        found = await self._ask(self._frames.inclusion(index, commitment.count), names.INCLUSION)
+        proof = found.proof(1, index, commitment.count)
+        if not check(proof, commitment):
+            raise Unproved("the inclusion proof of event %d isn't accepted" % index)
+        return proof
+
+    async def extends(self, older: Commitment, newer: Optional[Commitment] = None) -> bytes:
+        """A consistency proof that was checked, as `Client.extends`."""
+        newer = newer or await self.commitment()
+        found = await self._ask(self._frames.consistency(older.count, newer.count), names.CONSISTENCY)
+        proof = found.proof(2, older.count, newer.count)
+        if not check(proof, older, newer):
+            raise Unproved("the log of %d events isn't shown to extend that of %d" % (newer.count, older.count))
+        return proof
+
+    async def _connected(self) -> asyncio.StreamWriter:
+        async with self._connecting:
+            if self._writer is None:
+                self._reader, self._writer = await asyncio.wait_for(
+                    asyncio.open_unix_connection(self._path), self._timeout)
+                self._receiver = asyncio.ensure_future(self._receive(self._reader))
+            return self._writer
+
+    async def _ask(self, request: bytes, kind: int) -> Found:
+        async with self._places:
+            writer = await self._connected()
+            tag = int.from_bytes(request[3:7], "big")
+            reply: "asyncio.Future[Found]" = asyncio.get_running_loop().create_future()
+            self._waiting[tag] = kind, reply
+            writer.write(request)
+            try:
+                await writer.drain()
+                return await asyncio.wait_for(reply, self._timeout)
+            except (asyncio.TimeoutError, OSError) as fault:
+                late = isinstance(fault, asyncio.TimeoutError)
+                self._end(ConnectionEnded("the connection was given up"))
+                raise (TimeoutError("no reply in time") if late else ConnectionEnded(str(fault))) from None
+
+    async def _receive(self, reader: asyncio.StreamReader) -> None:
+        """Hands out the replies as they come."""
+        held = bytearray()
+        try:
+            while True:
+                piece = await reader.read(1 << 16)
+                if not piece:
+                    raise ConnectionEnded("the server ended the connection")
+                held += piece
+                taken = 0
+                while taken < len(held):
+                    place = (c_char * len(held)).from_buffer(held)
+                    is_whole = self._frames.read(addressof(place) + taken, len(held) - taken)
+                    del place
+                    if not is_whole:
+                        break
+                    size = self._frames.reply.size
+                    self._hand_out(bytes(held[taken:taken + size]))
+                    taken += size
+                del held[:taken]
+        except asyncio.CancelledError:
+            raise
+        except Exception as fault:
+            self._end(fault if isinstance(fault, ConnectionEnded) else ConnectionEnded(str(fault)))
+
+    def _hand_out(self, frame: bytes) -> None:
+        """Gives a reply to the call that has its tag. A refusal with tag 0 ends the session."""
+        tag = self._frames.reply.tag
+        kind, reply = self._waiting.pop(tag, (0, None))
+        if reply is None:
+            self._frames.judged(0, tag, frame)
+            raise ConnectionEnded("the server answered a request that nobody made")
+        try:
+            found = self._frames.judged(kind, tag, frame)
+        except Refused as refused:
+            if not reply.done():
+                reply.set_exception(refused)
+            if refused.code in (16, 20):
+                raise ConnectionEnded(str(refused)) from None
+        else:
+            if not reply.done():
+                reply.set_result(found)
+
+    def _end(self, fault: Exception) -> None:
+        """Ends the connection and the calls that wait."""
+        if self._writer is not None:
+            self._writer.close()
+        self._reader = self._writer = None
+        waiting, self._waiting = self._waiting, {}
+        for _, reply in waiting.values():
+            if not reply.done():
+                reply.set_exception(fault)
+                # Those of calls that were given up are read by nobody.
+                reply.exception()

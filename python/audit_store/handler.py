@@ -1,0 +1,195 @@
+"""A handler for `logging` that appends records to a store."""
+import atexit
+import logging
+import os
+import threading
+import time
+import weakref
+from collections import deque
+from typing import Callable, Deque, List, Optional
+
+from audit_store._library import PAYLOAD_MAX
+from audit_store.client import Acknowledgement, Client, Refused, StoreError
+
+# What happens to a record that comes when the queue is full.
+POLICIES = ("block", "drop", "raise")
+
+
+class Handler(logging.Handler):
+    """Appends each record to the store of a daemon, from a thread of its own.
+
+    `emit` puts the record into a queue of at most `capacity` events and returns. The thread appends them in order, up to
+    64 at a time. While the daemon isn't there it tries again, after `retry` seconds and then up to 64 times as long. An
+    append that was cut off is sent again if its event isn't known to be in the log, so after a cut an event may be in
+    the log twice; none is left out.
+
+    When the queue is full, `full` decides: "block" waits for a place, up to `patience` seconds and then drops the record;
+    "drop" drops it; "raise" raises `queue.Full`. `dropped` counts the records that aren't in the log: those that were
+    dropped, that the store refused (`refused` is the last refusal), and that are left when `close` gives up.
+
+    `flush` returns once all records before it are on the disk, or after `patience` seconds; its result says which.
+    `acknowledged` is the number of events that are. At the exit of the process the queue is flushed. A forked child has a
+    queue and a connection of its own, both empty: what its parent had queued is the parent's.
+
+        logging.getLogger().addHandler(Handler("/run/audit/log.sock", kind=3))
+    """
+
+    def __init__(self, path: str, kind: int = 1, capacity: int = 10000, full: str = "block", patience: float = 10.0,
+                 retry: float = 0.05, level: int = logging.NOTSET,
+                 acknowledge: Optional[Callable[[Acknowledgement], None]] = None) -> None:
+        if full not in POLICIES:
+            raise ValueError("full is one of %s" % ", ".join(POLICIES))
+        super().__init__(level)
+        self._path, self._kind, self._capacity, self._full = path, kind, capacity, full
+        self._patience, self._retry, self._acknowledge = patience, retry, acknowledge
+        self._begin()
+        _HANDLERS.add(self)
+
+    def _begin(self) -> None:
+        """An empty queue, in the process that this is."""
+        self._owner = os.getpid()
+        self._queue: Deque[bytes] = deque()
+        self._changed = threading.Condition()
+        # How many events were queued, and how many of these are done with.
+        self._queued = self._done = 0
+        self.acknowledged = self.dropped = 0
+        self.refused: Optional[Exception] = None
+        self._is_closing = False
+        self._thread: Optional[threading.Thread] = None
+
+    def _after_fork(self) -> None:
+        self.createLock()
+        self._begin()
+
+    # ---- For logging
+
+    def emit(self, record: logging.LogRecord) -> None:
+        try:
+            self._put(self.payload(record))
+        except Full:
+            raise
+        except Exception:
+            self.handleError(record)
+
+    def payload(self, record: logging.LogRecord) -> bytes:
+        """The payload of a record: its text by the formatter, in UTF-8, cut to the longest payload."""
+        return self.format(record).encode("utf-8", "replace")[:PAYLOAD_MAX]
+
+    def flush(self) -> bool:
+        """Waits until all records so far are on the disk: whether they are. Never more than `patience` seconds."""
+        deadline = time.monotonic() + self._patience
+        with self._changed:
+            wanted = self._queued
+            while self._done < wanted and self._thread is not None and self._thread.is_alive():
+                left = deadline - time.monotonic()
+                if left <= 0:
+                    break
+                self._changed.wait(left)
+            return self._done >= wanted
+
+    def close(self) -> None:
+        """Flushes, and ends the thread. What isn't on the disk then is dropped."""
+        _HANDLERS.discard(self)
+        if self._owner == os.getpid():
+            self.flush()
+            with self._changed:
+                self._is_closing = True
+                self._changed.notify_all()
+                thread = self._thread
+            if thread is not None and thread is not threading.current_thread():
+                thread.join(self._patience)
+        super().close()
+
+    # ---- The queue
+
+    def _put(self, payload: bytes) -> None:
+        deadline = time.monotonic() + self._patience
+        with self._changed:
+            if self._is_closing:
+                self.dropped += 1
+                return
+            while self._queued - self._done >= self._capacity:
+                if self._full == "raise":
+                    raise Full("%d events wait for the store" % self._capacity)
+                left = deadline - time.monotonic()
+                if self._full == "drop" or left <= 0:
+                    self.dropped += 1
+                    return
+                self._changed.wait(left)
+            self._queue.append(payload)
+            self._queued += 1
+            if self._thread is None:
+                self._thread = threading.Thread(target=self._work, name="audit_store.Handler", daemon=True)
+                self._thread.start()
+            self._changed.notify_all()
+
+    def _next(self, most: int = 1024) -> List[bytes]:
+        """The next events, which stay in the queue until they are done with; none if the handler closes."""
+        with self._changed:
+            while not self._queue and not self._is_closing:
+                self._changed.wait()
+            return [self._queue[place] for place in range(min(most, len(self._queue)))]
+
+    def _acknowledged(self, done: Acknowledgement) -> None:
+        """The event at the front of the queue is in the log."""
+        self._pass(True)
+        if self._acknowledge is not None:
+            self._acknowledge(done)
+
+    def _pass(self, is_acknowledged: bool) -> None:
+        """The event at the front of the queue is done with."""
+        with self._changed:
+            self._queue.popleft()
+            self._done += 1
+            self.acknowledged += is_acknowledged
+            self.dropped += not is_acknowledged
+            self._changed.notify_all()
+
+    def _work(self) -> None:
+        """Appends events until the handler is closed."""
+        with Client(self._path) as client:
+            pause = self._retry
+            while True:
+                events = self._next()
+                if not events:
+                    return
+                before = self._done
+                try:
+                    client.append_all(events, self._kind, acknowledged=self._acknowledged)
+                except (Refused, ValueError) as refused:
+                    # The store won't take it. Of several events that were refused, each is dropped in its turn.
+                    self.refused = refused
+                    self._pass(False)
+                except (OSError, StoreError):
+                    pass
+                if self._done > before:
+                    pause = self._retry
+                    continue
+                with self._changed:
+                    if self._is_closing:
+                        return
+                    self._changed.wait(pause)
+                pause = min(2 * pause, 64 * self._retry)
+
+
+class Full(Exception):
+    """The queue is full, and the handler was made with full="raise"."""
+
+
+_HANDLERS: "weakref.WeakSet[Handler]" = weakref.WeakSet()
+
+
+def _flush_all() -> None:
+    """At the exit of the process."""
+    for handler in list(_HANDLERS):
+        handler.flush()
+
+
+def _begin_again() -> None:
+    """In a forked child."""
+    for handler in list(_HANDLERS):
+        handler._after_fork()
+
+
+atexit.register(_flush_all)
+os.register_at_fork(after_in_child=_begin_again)
