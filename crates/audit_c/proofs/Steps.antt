@@ -1,6 +1,6 @@
 -- Steps of a verifier: more bytes, one more event, a fault, the end.
-use Rattle.std.proofs.Common.{inl, inr, ◌≡◌, ◌≢◌, Bool, true, false, ℕ, ◌+◌, ◌<◌, ◌≤◌, min, Some, IfSome, List, [], ◌∷◌, ◌++◌, length, map, take, drop, refl, sym, ap, ◌∙◌, subst, arith, length-append, append_assoc, append-nil}
-use Rattle.std.specs.Prelude.{◌==◌, ◌||◌}
+use Rattle.std.proofs.Common.{inl, inr, ◌≡◌, ◌≢◌, Bool, true, false, ℕ, ◌+◌, ◌≤◌, min, Some, List, [], ◌∷◌, ◌++◌, length, take, drop, refl, sym, ap, ◌∙◌, subst, arith, length-append, append_assoc, append-nil}
+use Rattle.std.specs.Prelude.{◌==◌}
 use Rattle.std.proofs.lemmas.Bool.{cases_lt}
 use Rattle.std.proofs.Math.Seq.{take-length}
 use Rattle.std.proofs.lemmas.List.{drop_at, drop_all}
@@ -18,20 +18,20 @@ use Rattle.audit_verify.specs.declared.fault.Cause.{Cause}
 use Rattle.audit_verify.specs.declared.fault.Cause.TheVariants.{Short, WrongCommitment, BadClose}
 use Rattle.audit_verify.specs.Causes.{cause_number}
 use Rattle.audit_verify.specs.State.{StateData, bytes_from_state, next_state, commitment_after}
-use Rattle.audit_verify.specs.Verdict.{IsWrongEntry, IsWrongNext, IsExternal}
-use Rattle.audit_verify.specs.Continuing.{IsContinuation, IsVerifiedFrom, IsFaultFrom}
+use Rattle.audit_verify.specs.Verdict.{IsWrongNext}
+use Rattle.audit_verify.specs.Continuing.{IsVerifiedFrom, IsFaultFrom}
 use Rattle.audit_verify.specs.GivenUp.{IsBegun}
-use Rattle.audit_verify.specs.Reading.{ReadingState, HasReadFrom, HasEndedFrom, IsRightSeal, IsLastRead}
-use Rattle.audit_verify.proofs.Following.{made, begun_none, wrong_more}
+use Rattle.audit_verify.specs.Reading.{ReadingState, HasReadFrom, IsRightSeal}
+use Rattle.audit_verify.proofs.Following.{made, wrong_more}
 use Rattle.audit_verify.proofs.GivingUp.{wrong_at}
-use Rattle.audit_verify.proofs.RightEntries.{begun_empty, begun_open, next_open, next_closed}
+use Rattle.audit_verify.proofs.RightEntries.{begun_empty, begun_open, next_closed}
 use Rattle.audit_verify.proofs.ReadingSteps.{taken_none, taken_entry, ended}
 use Rattle.audit_verify.proofs.OneVerdict.{wrong_from}
 use Rattle.audit_verify.proofs.Commitments.{leaves_after}
 use Rattle.audit_verify.proofs.Built.{leaves_more, too_many, continues_by, committed_by, refused_by}
 use Rattle.audit_c.specs.declared.answers.TheConstants.{OK}
 use Rattle.audit_c.specs.declared.verifier.Verifier.{Verifier}
-use Rattle.audit_c.specs.Fed.{IsFed, HasStopped, HasEndFault, IsEnd, held_in, reader_of, tree_of}
+use Rattle.audit_c.specs.Fed.{IsFed, HasEndFault, held_in, reader_of, tree_of}
 use Rattle.audit_c.specs.Passed.{HasPassed}
 
 -- a reader of entries with these parts, which was fed so many bytes

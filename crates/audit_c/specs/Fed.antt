@@ -1,20 +1,19 @@
 -- What a verifier was fed, in pieces of any lengths: the entries of some events, and the start of the next one.
-use Rattle.std.specs.Prelude.{◌≡◌, ◌⊎◌, ◌==◌, ℕ, ◌+◌, ◌≤◌, ◌^◌, min, List, [], ◌∷◌, ◌++◌, Some, length, map, take}
-use Rattle.audit_base.specs.declared.limits.TheConstants.{MAX_COUNT, MAX_ENTRY, MAX_PAYLOAD}
+use Rattle.std.specs.Prelude.{◌≡◌, ◌⊎◌, ◌==◌, ℕ, ◌+◌, ◌≤◌, min, List, [], ◌∷◌, ◌++◌, Some, length, map, take}
+use Rattle.audit_base.specs.declared.limits.TheConstants.{MAX_COUNT, MAX_ENTRY}
 use Rattle.audit_chain.specs.EventData.{EventData}
 use Rattle.audit_tree.specs.Subtree.{leaf_hash_of}
 use Rattle.audit_tree.specs.Frontier.{FrontierData, IsSized}
 use Rattle.audit_tree.specs.Continued.{frontier_after}
 use Rattle.audit_proof.specs.declared.commitment.Commitment.{Commitment}
 use Rattle.audit_verify.specs.declared.fault.Cause.{Cause}
-use Rattle.audit_verify.specs.declared.fault.VerifyFault.{VerifyFault}
 use Rattle.audit_verify.specs.Causes.{cause_number}
 use Rattle.audit_verify.specs.State.{StateData, entries_from_state}
 use Rattle.audit_verify.specs.Verdict.{IsExternal}
 use Rattle.audit_verify.specs.Continuing.{IsVerifiedFrom, IsFaultFrom}
 use Rattle.audit_verify.specs.GivenUp.{IsBegun}
 use Rattle.audit_verify.specs.Reading.{ReadingState, HasReadFrom}
-use Rattle.audit_c.specs.declared.answers.TheConstants.{OK, MORE, MISUSED}
+use Rattle.audit_c.specs.declared.answers.TheConstants.{OK, MORE}
 use Rattle.audit_c.specs.declared.verifier.Verifier.{Verifier}
 use Rattle.audit_c.specs.declared.given_event.GivenEvent.{GivenEvent}
 
@@ -75,11 +74,11 @@ IsFedOn from fed events piece v given payload answer =
 
 -- the verdict on the bytes that were fed
 pub record HasEndFault (from : StateData) (fed : List ℕ) (commitment : Commitment) (v : Verifier) (answer : ℕ) : Type 0
-    where
-  pub cause : Cause
-  pub number : answer ≡ cause_number cause
-  pub inside : ¬ IsExternal cause
-  pub fault : IsFaultFrom from commitment fed (record { index = v.count; cause = cause })
+  where
+    pub cause : Cause
+    pub number : answer ≡ cause_number cause
+    pub inside : ¬ IsExternal cause
+    pub fault : IsFaultFrom from commitment fed (record { index = v.count; cause = cause })
 
 abbrev pub IsEnd : StateData → List ℕ → List EventData → Commitment → Verifier → ℕ → Type 0
 IsEnd from fed events commitment v answer =

@@ -1,5 +1,4 @@
 -- What C hands in.
-use Rattle.std.specs.Prelude.{ℕ, List}
 use Rattle.audit_proof.specs.declared.commitment.Commitment.{Commitment}
 use Rattle.audit_c.specs.declared.commitment.GivenCommitment.{GivenCommitment}
 

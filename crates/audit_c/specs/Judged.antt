@@ -1,5 +1,5 @@
 -- The judgment of the bytes of a proof under commitments.
-use Rattle.std.specs.Prelude.{◌≡◌, ◌⊎◌, ℕ, List, Option, None, Some}
+use Rattle.std.specs.Prelude.{◌≡◌, ◌⊎◌, ℕ, Option, None, Some}
 use Rattle.sha2.specs.Sha256.{sha256}
 use Rattle.audit_proof.specs.declared.commitment.Commitment.{Commitment}
 use Rattle.audit_proof.specs.Acceptance.{AcceptsMembership, AcceptsIncrement}

@@ -1,5 +1,5 @@
 -- A verifier after the entry that it held.
-use Rattle.std.specs.Prelude.{◌≡◌, ◌==◌, ℕ, ◌+◌, ◌<◌, ◌≤◌, min, List, [], ◌∷◌, take}
+use Rattle.std.specs.Prelude.{◌≡◌, ◌==◌, ℕ, ◌+◌, ◌<◌, min, List, [], ◌∷◌, take}
 use Rattle.audit_base.specs.declared.limits.TheConstants.{MAX_COUNT, RESERVED_KIND}
 use Rattle.audit_chain.specs.Key.{next_key}
 use Rattle.audit_tree.specs.Subtree.{leaf_hash_of}

@@ -2,8 +2,8 @@
 ghost use Rattle.std.specs.Prelude.{◌≡◌};
 ghost use Rattle.audit_c.specs.Given.{given};
 
-use audit_proof::Commitment;
 use audit_base::{HASH_LEN, Hash};
+use audit_proof::Commitment;
 
 /// `audit_store_commitment`: a number of entries, and the root of the history tree over them.
 #[derive(Clone, Copy)]

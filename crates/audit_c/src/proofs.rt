@@ -32,11 +32,7 @@ pub extern "C" fn audit_store_check_consistency(
         (increment_of proof.now) result }
 {
     match increment_view(proof) {
-        Some(view) => judged(proves_extension(
-            view,
-            &commitment_of(older),
-            &commitment_of(newer),
-        )),
+        Some(view) => judged(proves_extension(view, &commitment_of(older), &commitment_of(newer))),
         None => BAD_PROOF,
     }
 }

@@ -104,8 +104,8 @@ fn is_request(request: RequestView<'_>) -> bool
     ensures { IsTrue result ↔ IsDaemonRequest (request_shown request.entry) }
 {
     match request {
-        RequestView::Append { kind, payload, .. } =>
-            kind != RESERVED_KIND && payload.len() <= MAX_PAYLOAD,
+        RequestView::Append { kind, payload, .. } => kind != RESERVED_KIND
+            && payload.len() <= MAX_PAYLOAD,
         _ => true,
     }
 }

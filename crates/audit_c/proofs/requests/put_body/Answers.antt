@@ -11,7 +11,7 @@ returns-in-Append c =
     let long : 2 + length (head ++ (kind ++ payload)) ≡ 11 + length payload = search rules in
     let kinds : take 11 c.put.new.frame ≡ take 7 c.put_head.new.frame ++ kind = rw c.to_be_bytes.ensures at c.put.ensures.front in
     rw c.in-Append.is (ap (λ n. take n c.put-in-Append.new.frame) long
-        ∙ c.put-in-Append.ensures.front
-        ∙ ap (λ bytes. bytes ++ payload) (kinds ∙ ap (λ bytes. bytes ++ kind) c.put_head.ensures.front)
-        ∙ append_assoc (front ++ head) kind payload
-        ∙ append_assoc front head (kind ++ payload))
+    ∙ c.put-in-Append.ensures.front
+    ∙ ap (λ bytes. bytes ++ payload) (kinds ∙ ap (λ bytes. bytes ++ kind) c.put_head.ensures.front)
+    ∙ append_assoc (front ++ head) kind payload
+    ∙ append_assoc front head (kind ++ payload))
