@@ -41,7 +41,7 @@ def floors():
             found.append([*re.split(": *", line[3:], maxsplit=1), []])
         elif ":" in line and not line.startswith("#"):
             crate, libraries = line.split(":")
-            found[-1][2].append((crate, libraries.split()))
+            found[-1][2].append((crate.split()[0], libraries.split()))
     return found
 
 

@@ -49,7 +49,7 @@ def floors():
         if line.startswith("## "):
             floor = found.setdefault(line[3:].split(":")[0], [])
         elif line and line[0] != "#":
-            floor.append(line.split(":")[0])
+            floor.append(line.split(":")[0].split()[0])
     return found
 
 

@@ -16,7 +16,7 @@ from checks.table import BENCHES, CHECKS
 def uses():
     """Each crate, with the libraries that it uses."""
     lines = [line for line in read_text(os.path.join(TOP, "crates.txt")).splitlines() if ":" in line and line[0] != "#"]
-    return {name: libraries.split() for name, libraries in (line.split(":") for line in lines)}
+    return {name.split()[0]: libraries.split() for name, libraries in (line.split(":") for line in lines)}
 
 
 def sources(folder):
