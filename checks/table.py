@@ -26,6 +26,7 @@ CHECKS = entries("checks", [
     ("system", "interaction with the operating system: streams, locks, modes, keys in memory, devices", "1 min"),
     ("daemon", "a daemon with clients that behave well beside others that don't", "15 s"),
     ("client", "the commands that ask a server, against servers that lie too; fleet and witness-git", "1 min"),
+    ("library", "libauditstore and the Python package: verdicts, frames, clients, handlers, examples", "1 min"),
     ("serve-clients", "`serve` with 16 clients at a time, one of them cut off and one that sends noise", "1 s"),
     ("serve-rounds", "rounds of one client, and a client that sends without end up to the limit of passes", "30 s"),
     ("serve-kills", "a server is killed under 16 clients: each acknowledgement that one read is found", "20 s"),

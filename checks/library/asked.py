@@ -1,0 +1,324 @@
+"""Clients of a daemon that answers, is killed, or lies."""
+import asyncio
+import contextlib
+import os
+import socket
+import subprocess
+import sys
+import threading
+import time
+
+from checks.parts import frames, program
+from checks.parts.daemons import FedDaemon
+from checks.parts.files import write
+from checks.parts.places import KEY
+from checks.parts.scenes import scene
+from checks.parts.wrong import Wrong, expect, expect_true
+from model.chain import ZERO_KEY, log_of
+
+FIRST_KEY = bytes.fromhex(open(KEY).read().strip())
+
+
+def exported(daemon):
+    """An export of the daemon's store, and the commitment to it, by the program."""
+    from audit_store import Commitment
+    word = daemon.commitment()
+    program.done("ask", daemon.socket, "export", "exported")
+    with open("exported", "rb") as file:
+        return file.read(), Commitment.parse(word)
+
+
+@scene
+def scene_client():
+    """What a client appends is what the program exports, and what it is answered is what the program says."""
+    from audit_store import Client, Refused, StoreError, check, verify
+    with FedDaemon(os.getcwd()) as daemon, Client(daemon.socket) as log:
+        first = log.append(b"first", 7)
+        expect((first.index, str(log.commitment())), (0, daemon.commitment()), "the first event")
+        done = log.append_all([b"a", (9, b""), b"b" * 32696] + [b"%d" % number for number in range(200)], 3)
+        expect([one.index for one in done], list(range(1, 204)), "the indices of events in order")
+        newest = log.commitment()
+        expect(str(newest), daemon.commitment(), "the newest commitment")
+        state = log.state()
+        expect((state.commitment, state.sectors, state.version, state.closed), (newest, 32768, 2, False), "the state")
+        export, commitment = exported(daemon)
+        wanted = [(7, b"first"), (3, b"a"), (9, b""), (3, b"b" * 32696)] + [(3, b"%d" % at) for at in range(200)]
+        expect([(event.kind, event.payload) for event in verify(export, FIRST_KEY, commitment)], wanted, "the events")
+        expect(log.entry(0), export[:77], "an entry")
+        for index in (0, 3, 203):
+            expect(check(log.prove(index), newest), True, "a proof that was checked")
+        expect(check(log.extends(first.commitment), first.commitment, newest), True, "an increment that was checked")
+        for call in (lambda: log.entry(204), lambda: log.prove(204)):
+            try:
+                call()
+            except Refused as refused:
+                expect((refused.code, refused.name), (8, "NoSuchVersion"), "a refusal")
+            else:
+                raise Wrong("an entry that isn't there is answered")
+        for event in (b"x" * 32697, (0xffffffff, b"")):
+            try:
+                log.append_all([b"before", event, b"after"])
+            except ValueError:
+                pass
+            else:
+                raise Wrong("an event that no log can have is appended")
+        expect(log.commitment().count, 206, "the events before those")
+        try:
+            log.close_log()
+        except Refused as refused:
+            expect(refused.name, "NotAllowed", "a close that isn't allowed")
+        expect(log.commitment().count, 206, "a connection that is made again after a refusal that ends it")
+        program.done("stop", daemon.socket)
+        try:
+            log.append(b"gone")
+        except (StoreError, OSError):
+            pass
+        else:
+            raise Wrong("an append is acknowledged by nobody")
+
+
+@scene
+def scene_async_client():
+    """Many calls at a time over one connection."""
+    from audit_store import AsyncClient, Refused, check, verify
+
+    async def asked(path):
+        async with AsyncClient(path) as log:
+            done = await asyncio.gather(*(log.append(b"%d" % number) for number in range(300)))
+            newest, state = await asyncio.gather(log.commitment(), log.state())
+            expect(newest, state.commitment, "the newest commitment")
+            proofs = await asyncio.gather(*(log.prove(one.index, newest) for one in done[:20]))
+            expect([check(proof, newest) for proof in proofs], [True] * 20, "proofs")
+            await log.extends(done[0].commitment)
+            found = await asyncio.gather(log.entry(0), log.entry(1000), log.append(b"last"), return_exceptions=True)
+            expect((len(found[0]), type(found[1]), found[2].index), (73, Refused, 300), "calls of which one is refused")
+            return [one.index for one in done]
+
+    with FedDaemon(os.getcwd()) as daemon:
+        indices = asyncio.run(asked(daemon.socket))
+        expect(sorted(indices), list(range(300)), "the indices")
+        export, commitment = exported(daemon)
+        payloads = [event.payload for event in verify(export, FIRST_KEY, commitment)]
+        expect([payloads[index] for index in indices], [b"%d" % number for number in range(300)], "each at its index")
+
+
+@scene
+def scene_killed_daemon():
+    """A daemon is killed under a client: each acknowledged event is there, at its index, and calls end with errors."""
+    from audit_store import Client, StoreError, verify
+    kills = 200 if program.LONG else 8
+    acknowledged = {}
+    with FedDaemon(os.getcwd()) as daemon:
+        log, number = Client(daemon.socket, timeout=20), 0
+
+        def keep(events):
+            def acknowledge(done):
+                acknowledged[done.index] = events.pop(0)
+                is_answered.set()
+            return acknowledge
+
+        def kill(after):
+            is_answered.wait(program.SECONDS)
+            time.sleep(after)
+            daemon.kill()
+
+        for turn in range(kills):
+            is_answered = threading.Event()
+            killer = threading.Thread(target=kill, args=(0.003 * (turn % 17),))
+            killer.start()
+            with contextlib.suppress(StoreError, OSError):
+                while True:
+                    events = [b"%d" % at for at in range(number, number + 100)]
+                    number += 100
+                    log.append_all(list(events), acknowledged=keep(events))
+            killer.join()
+            daemon.start()
+        export, commitment = exported(daemon)
+        payloads = [event.payload for event in verify(export, FIRST_KEY, commitment)]
+        wrong = [index for index, payload in acknowledged.items() if payloads[index:index + 1] != [payload]]
+        expect(wrong, [], "the acknowledged events that aren't at their index")
+        expect_true(len(acknowledged) >= kills, "only %d events were acknowledged" % len(acknowledged))
+        log.close()
+
+
+@scene
+def scene_threads():
+    """16 threads with a client each, and 4 with one client."""
+    from audit_store import Client, verify
+    with FedDaemon(os.getcwd()) as daemon:
+        found, shared = [], Client(daemon.socket)
+
+        def append(log, name):
+            for number in range(25):
+                payload = b"%s %d" % (name, number)
+                found.append((log.append(payload).index, payload))
+
+        def alone(name):
+            with Client(daemon.socket) as log:
+                append(log, name)
+
+        threads = [threading.Thread(target=alone, args=(b"thread %d" % number,)) for number in range(12)]
+        threads += [threading.Thread(target=append, args=(shared, b"shared %d" % number)) for number in range(4)]
+        for thread in threads:
+            thread.start()
+        for thread in threads:
+            thread.join()
+        shared.close()
+        export, commitment = exported(daemon)
+        payloads = [event.payload for event in verify(export, FIRST_KEY, commitment)]
+        expect(dict(found), dict(enumerate(payloads)), "each event at the index that was acknowledged")
+        expect(len(found), 400, "the acknowledgements")
+
+
+@scene
+def scene_forked_client():
+    """A child of a fork has a connection of its own."""
+    from audit_store import Client
+    with FedDaemon(os.getcwd()) as daemon, Client(daemon.socket) as log:
+        log.append(b"before")
+        child = os.fork()
+        if child == 0:
+            status = 1
+            with contextlib.suppress(BaseException):
+                status = 0 if log.append(b"child").index in (1, 2) else 1
+            os._exit(status)
+        mine = log.append(b"parent").index
+        expect(os.waitpid(child, 0)[1], 0, "the child")
+        expect_true(mine in (1, 2), "the parent's event is %d" % mine)
+        expect(log.commitment().count, 3, "the events of both")
+
+
+@contextlib.contextmanager
+def liar(replies):
+    """A server that answers the requests of one connection with these bytes, one for each, and then ends it."""
+    server = socket.socket(socket.AF_UNIX, socket.SOCK_STREAM)
+    server.bind("liar.sock")
+    server.listen()
+
+    def serve():
+        with contextlib.suppress(OSError, EOFError):
+            stream, _ = server.accept()
+            with stream:
+                for reply in replies:
+                    frames.read_frame(stream)
+                    stream.sendall(reply)
+
+    thread = threading.Thread(target=serve, daemon=True)
+    thread.start()
+    try:
+        yield "liar.sock"
+    finally:
+        server.close()
+        thread.join(5)
+        os.unlink("liar.sock")
+
+
+@scene
+def scene_liars():
+    """A server that answers wrongly is found out: other tags and kinds, noise, wrong proofs, half a frame, silence."""
+    from audit_store import Client, Commitment, ConnectionEnded, Unproved
+    root = bytes(range(32))
+    log = log_of([(1, b"%d" % number) for number in range(4)])
+    claimed = Commitment(4, root)
+    commitment = frames.commitment_reply(1, 4, root)
+    for replies, fault in (
+            ([frames.commitment_reply(2, 4, root)], ConnectionEnded),
+            ([frames.acknowledgement(1, 0, 4, root)], ConnectionEnded),
+            ([b"\0\1\0"], ConnectionEnded), ([b"\0\0"], ConnectionEnded), ([commitment[:20]], ConnectionEnded),
+            ([], ConnectionEnded)):
+        with liar(replies) as path, Client(path) as client:
+            try:
+                client.commitment()
+            except fault:
+                continue
+            raise Wrong("a client takes %r for its reply" % (replies,))
+    hashes = [bytes(32)] * 2
+    with liar([frames.member_reply(1, hashes, log.entries[0])]) as path, Client(path) as client:
+        try:
+            client.prove(0, claimed)
+        except Unproved:
+            pass
+        else:
+            raise Wrong("a wrong proof is taken")
+    with liar([frames.increment_reply(1, hashes)]) as path, Client(path) as client:
+        try:
+            client.extends(Commitment(2, root), claimed)
+        except Unproved:
+            pass
+        else:
+            raise Wrong("a wrong increment is taken")
+    server = socket.socket(socket.AF_UNIX, socket.SOCK_STREAM)
+    server.bind("silent.sock")
+    server.listen()
+    begun = time.monotonic()
+    try:
+        Client("silent.sock", timeout=0.3).commitment()
+    except TimeoutError:
+        pass
+    else:
+        raise Wrong("silence is an answer")
+    expect_true(time.monotonic() - begun < 10, "a timeout of 0.3 seconds takes longer")
+    server.close()
+
+
+@scene
+def scene_figures():
+    """With --long: how long calls take. Appends go to a server that acknowledges at once."""
+    from audit_store import Client, Commitment, check
+    from history import root
+    from model import tree
+    if not program.LONG:
+        return
+    log = log_of([(1, b"an event of some bytes %d" % number) for number in range(1000)], ZERO_KEY)
+    proof = tree.membership_proof(7, 1000, tree.membership(log.leaves, 7), log.entries[7])
+    commitment = Commitment(1000, root(log.leaves))
+    begun = time.perf_counter()
+    for _ in range(20000):
+        check(proof, commitment)
+    print("a proof of 10 hashes: %.1f us" % ((time.perf_counter() - begun) / 20000 * 1e6))
+    begun = time.perf_counter()
+    for _ in range(10):
+        subprocess.run([sys.executable, "-c", "import audit_store"], check=True)
+    with_it = time.perf_counter() - begun
+    begun = time.perf_counter()
+    for _ in range(10):
+        subprocess.run([sys.executable, "-c", "pass"], check=True)
+    print("import: %.0f ms" % ((with_it - (time.perf_counter() - begun)) / 10 * 1e3))
+    child = os.fork()
+    if child == 0:
+        acknowledge_all("fast.sock")
+    while not os.path.exists("fast.sock.ready"):
+        time.sleep(0.01)
+    with Client("fast.sock") as client:
+        events = [b"an event of some bytes %d" % number for number in range(100000)]
+        begun = time.perf_counter()
+        client.append_all(events)
+        print("appends with 64 in flight: %d a second" % (len(events) / (time.perf_counter() - begun)))
+    os.kill(child, 9)
+    os.waitpid(child, 0)
+
+
+def acknowledge_all(path):
+    """Acknowledges every append, by as little work as it takes."""
+    server = socket.socket(socket.AF_UNIX, socket.SOCK_STREAM)
+    server.bind(path)
+    server.listen()
+    write(path + ".ready", b"")
+    stream, _ = server.accept()
+    held, index = b"", 0
+    while True:
+        piece = stream.recv(1 << 18)
+        if not piece:
+            os._exit(0)
+        held += piece
+        at, replies = 0, []
+        while len(held) - at >= 2:
+            size = 2 + int.from_bytes(held[at:at + 2], "big")
+            if len(held) - at < size:
+                break
+            replies.append(b"\0\x35\x81" + held[at + 3:at + 7] + index.to_bytes(8, "big")
+                           + (index + 1).to_bytes(8, "big") + bytes(32))
+            index += 1
+            at += size
+        held = held[at:]
+        stream.sendall(b"".join(replies))

@@ -1,0 +1,129 @@
+"""What is exported, declared and documented is the same."""
+import ctypes
+import doctest
+import importlib
+import os
+import re
+import shutil
+import subprocess
+import sys
+
+from checks.library import common
+from checks.parts.files import read_text, write
+from checks.parts.places import CRATES, at_top
+from checks.parts.scenes import scene
+from checks.parts.wrong import LeftOut, Wrong, expect
+
+HEADER = at_top("library", "audit_store.h")
+
+
+def declared():
+    """The functions of the header, but for those that it defines itself."""
+    text = re.sub(r"/\*.*?\*/", "", read_text(HEADER), flags=re.S)
+    return set(re.findall(r"^(?!static)\w[\w ]*[ *](audit_store_\w+)\(", text, re.M))
+
+
+@scene
+def scene_names():
+    """The header declares what the library exports, the crate defines and the package calls; nothing else is visible."""
+    from audit_store._library import FUNCTIONS
+    sources = os.path.join(CRATES, "audit_c", "src")
+    defined = {name for file in os.listdir(sources)
+               for name in re.findall(r'extern "C" fn (\w+)', read_text(os.path.join(sources, file)))}
+    expect(declared(), defined, "what the header declares, and the crate exports")
+    expect({"audit_store_" + name for name in FUNCTIONS}, defined, "what the package calls")
+    if shutil.which("nm") is None:
+        raise LeftOut("there is no nm")
+    lines = subprocess.run(["nm", "-D", "--defined-only", os.path.join(common.FOLDER, "libauditstore.so.1")],
+                           capture_output=True, text=True, check=True).stdout.split("\n")
+    visible = {line.split()[2].split("@")[0] for line in lines if " T " in line or " D " in line or " B " in line}
+    expect(visible, defined, "what libauditstore.so.1 shows")
+    needed = subprocess.run(["nm", "-u", common.ARCHIVE], capture_output=True, text=True).stdout
+    if not os.environ.get("AUDIT_STORE_GIVEN") and os.path.exists(common.ARCHIVE):
+        expect(set(re.findall(r"U (\w+)", needed)), {"memcpy", "memmove", "memset"}, "what the archive calls")
+
+
+def compiled(name, text, *words):
+    """Compiles a text of C with the header, and runs it."""
+    if shutil.which("cc") is None:
+        raise LeftOut("there is no C compiler")
+    write(name + ".c", text.encode())
+    done = subprocess.run(["cc", "-std=c99", "-Wall", "-Wextra", "-Werror", "-pedantic", "-I" + os.path.dirname(HEADER),
+                           "-o", name, name + ".c", "-L" + common.FOLDER, "-lauditstore",
+                           "-Wl,-rpath," + common.FOLDER], capture_output=True, text=True)
+    if done.returncode:
+        raise Wrong(done.stderr)
+    return subprocess.run([os.path.abspath(name), *words], capture_output=True, text=True, check=True).stdout
+
+
+@scene
+def scene_layouts():
+    """The structs have the same layout in the header and in the package, and the numbers the same names."""
+    from audit_store import _library as names
+    structs = {"audit_store_commitment": names.GivenCommitment, "audit_store_verifier": names.Verifier,
+               "audit_store_event": names.GivenEvent, "audit_store_reply": names.Reply}
+    prints = ""
+    wanted = []
+    for name, layout in structs.items():
+        prints += '    printf("%%zu\\n", sizeof(struct %s));\n' % name
+        wanted.append(ctypes.sizeof(layout))
+        for field, _ in layout._fields_:
+            prints += '    printf("%%zu\\n", offsetof(struct %s, %s));\n' % (name, field)
+            wanted.append(getattr(layout, field).offset)
+    for name in ("OK", "NOT_ACCEPTED", "MORE", "MISUSED", "MALFORMED", "BAD_PROOF", "PAYLOAD_MAX", "ENTRY_MAX",
+                 "REQUEST_MAX", "CLOSING", "ACKNOWLEDGEMENT", "COMMITMENT", "INCLUSION", "CONSISTENCY", "ENTRY", "STATE",
+                 "REFUSED"):
+        prints += '    printf("%%zu\\n", (size_t)AUDIT_STORE_%s);\n' % name
+        wanted.append(getattr(names, name))
+    text = "#include <audit_store.h>\n#include <stdio.h>\nint main(void)\n{\n%s    return 0;\n}\n" % prints
+    expect([int(line) for line in compiled("layouts", text).split()], wanted, "sizes, offsets and numbers")
+
+
+@scene
+def scene_sizes():
+    """The header's sizes of proofs and replies are those of the formats."""
+    text = "".join('    printf("%%d\\n", (int)AUDIT_STORE_%s);\n' % name for name in ("PROOF_MAX", "REPLY_MAX"))
+    text = "#include <audit_store.h>\n#include <stdio.h>\nint main(void)\n{\n%s    return 0;\n}\n" % text
+    longest = 32 * 24 + 32768
+    expect(compiled("sizes", text).split(), [str(18 + longest), str(8 + longest)], "the longest proof and reply")
+
+
+@scene
+def scene_documentation():
+    """The examples of the package's documentation do what they show."""
+    for name in ("", ".checking", ".exports", ".client", ".aio", ".handler"):
+        failed, _ = doctest.testmod(importlib.import_module("audit_store" + name))
+        expect(failed, 0, "the examples of audit_store" + name)
+
+
+@scene
+def scene_import():
+    """The package needs only the standard library, and is imported without asyncio and logging."""
+    code = ("import sys; before = set(sys.modules); import audit_store; "
+            "print(' '.join(sorted({name.split('.')[0] for name in set(sys.modules) - before})))")
+    done = subprocess.run([sys.executable, "-c", code], capture_output=True, text=True, check=True)
+    for name in ("asyncio", "logging"):
+        if name in done.stdout.split():
+            raise Wrong("importing audit_store imports " + name)
+
+
+@scene
+def scene_wheel():
+    """A wheel of the package has all its modules."""
+    import tempfile
+    done = subprocess.run([sys.executable, "-m", "pip", "--version"], capture_output=True)
+    backend = subprocess.run([sys.executable, "-c", "import setuptools, wheel"], capture_output=True)
+    if done.returncode or backend.returncode:
+        raise LeftOut("there is no pip, setuptools or wheel")
+    with tempfile.TemporaryDirectory() as folder:
+        source = shutil.copytree(at_top("python"), os.path.join(folder, "python"))
+        done = subprocess.run([sys.executable, "-m", "pip", "wheel", "--no-build-isolation", "--no-deps", "-q", "-w",
+                               folder, source], capture_output=True, text=True)
+        if done.returncode:
+            raise Wrong(done.stderr)
+        import zipfile
+        wheel, = [name for name in os.listdir(folder) if name.endswith(".whl")]
+        held = {os.path.basename(name) for name in zipfile.ZipFile(os.path.join(folder, wheel)).namelist()
+                if name.startswith("audit_store/")}
+        wanted = {name for name in os.listdir(at_top("python", "audit_store")) if name.endswith((".py", ".typed"))}
+        expect(held, wanted, "the modules of the wheel")

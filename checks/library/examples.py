@@ -1,0 +1,94 @@
+"""The examples, compiled and run."""
+import os
+import shutil
+import subprocess
+
+from checks.library import common
+from checks.library.asked import FIRST_KEY, exported
+from checks.library.judged import events_of
+from checks.parts import program
+from checks.parts.daemons import FedDaemon
+from checks.parts.files import read, write
+from checks.parts.places import EXAMPLES, at_top
+from checks.parts.scenes import scene
+from checks.parts.wrong import LeftOut, Wrong, expect
+from model.chain import ZERO_KEY, log_of
+
+
+def compiled(name):
+    """The path of an example in C, without warnings."""
+    if shutil.which("cc") is None:
+        raise LeftOut("there is no C compiler")
+    done = subprocess.run(["cc", "-std=c99", "-D_POSIX_C_SOURCE=200809L", "-Wall", "-Wextra", "-Werror", "-pedantic",
+                           "-O2", "-I" + at_top("library"), "-o", name,
+                           os.path.join(EXAMPLES, "library", name + ".c"), "-L" + common.FOLDER, "-lauditstore",
+                           "-Wl,-rpath," + common.FOLDER], capture_output=True, text=True)
+    if done.returncode:
+        raise Wrong(done.stderr)
+    return os.path.abspath(name)
+
+
+@scene
+def scene_logger_in_c():
+    """The logger appends lines, and the program accepts each receipt that it keeps."""
+    logger = compiled("logger")
+    os.mkdir("proofs")
+    with FedDaemon(os.getcwd()) as daemon:
+        done = subprocess.run([logger, daemon.socket, "7", "proofs"], input=b"one\ntwo\n\nfour\n", capture_output=True,
+                              timeout=program.SECONDS)
+        expect((done.returncode, done.stderr), (0, b""), "the logger")
+        for index, line in enumerate(done.stdout.decode().splitlines()):
+            number, word = line.split()
+            expect(int(number), index, "the index of a receipt")
+            expect(program.done("check", "proofs/" + number, word), b"accepted\n", "a receipt")
+        expect(index, 3, "the last receipt")
+
+
+@scene
+def scene_verify_in_c():
+    """The verifier in C prints the model's events in pieces of every size, also under valgrind; faults as the model."""
+    verify = compiled("verify")
+    log = log_of(events_of(30, True))
+    word = "%d:%s" % (len(log.leaves), common.commitment_of(log).root.hex())
+    wanted = "".join("event %d %d %s\n" % (index, kind, payload.hex() or "-")
+                     for index, (kind, payload) in enumerate(log.events)) + "verified 31\n"
+    for size in (1, 7, 64, 1000, 65536):
+        done = subprocess.run([verify, ZERO_KEY.hex(), word, str(size)], input=log.export, capture_output=True)
+        expect((done.returncode, done.stdout.decode()), (0, wanted), "the verifier in pieces of %d bytes" % size)
+    faults = [(log.export[:-1], b"entry 30: 40\n"), (log.export + b"x", b"entry 31: 46\n")]
+    for export, message in faults:
+        done = subprocess.run([verify, ZERO_KEY.hex(), word], input=export, capture_output=True)
+        expect((done.returncode, done.stderr), (1, message), "the verifier")
+    if shutil.which("valgrind") is None:
+        raise LeftOut("there is no valgrind")
+    for export, status in [(log.export, 0)] + [(export, 1) for export, _ in faults]:
+        write("export", export)
+        with open("export", "rb") as file:
+            done = subprocess.run(["valgrind", "-q", "--error-exitcode=99", verify, ZERO_KEY.hex(), word, "11"],
+                                  stdin=file, capture_output=True)
+        expect((done.returncode, done.stderr if status == 0 else b""), (status, b""), "the verifier under valgrind")
+
+
+@scene
+def scene_shop_in_go():
+    """The shop in Go hands out a proof that the program accepts."""
+    if shutil.which("go") is None or shutil.which("cc") is None:
+        raise LeftOut("there is no go")
+    os.mkdir("shop")
+    shutil.copy(os.path.join(EXAMPLES, "library", "order.go"), "shop")
+    write("shop/go.mod", b"module shop\n")
+    environment = dict(os.environ, CGO_CFLAGS="-I" + at_top("library"), CGO_LDFLAGS="-L%s -Wl,-rpath,%s" % (
+        common.FOLDER, common.FOLDER), GOFLAGS="-mod=mod", GOCACHE=os.path.abspath("cache"), GOPATH=os.path.abspath("path"))
+    done = subprocess.run(["go", "build", "-o", "order", "."], cwd="shop", env=environment, capture_output=True, text=True)
+    if done.returncode:
+        raise Wrong(done.stderr)
+    with FedDaemon(os.getcwd()) as daemon:
+        done = subprocess.run(["shop/order", daemon.socket, "seven apples", "proof"], capture_output=True, text=True)
+        expect((done.returncode, done.stderr), (0, ""), "the shop")
+        index, word = done.stdout.split()
+        expect(program.done("check", "proof", word), b"accepted\n", "the proof of an order")
+        expect(read("proof")[-64 - len("seven apples") - 8:][:4], b"\0\0\0\7", "the kind of an order")
+        export, commitment = exported(daemon)
+        from audit_store import verify
+        event, = verify(export, FIRST_KEY, commitment)
+        expect((event.index, event.payload), (int(index), b"seven apples"), "the order in the log")

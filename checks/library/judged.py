@@ -1,0 +1,402 @@
+"""Verdicts and frames, against the model and the auditor's programs."""
+import ctypes
+import random
+
+from check_proof import BadProof as BadBytes
+from check_proof import is_accepted, read_proof
+from checks import vectors
+from checks.library.common import commitment_of, read_in_pieces
+from checks.parts import frames, program
+from checks.parts.files import read_text
+from checks.parts.places import at_top
+from checks.parts.scenes import scene
+from checks.parts.wrong import Wrong, expect
+from model import tree, wire
+from model.chain import CLOSE, ZERO_KEY, log_of
+from model.verdict import verdict
+from model.wire import Request, request_frame
+from read_export import read_on
+from state import FIRST
+
+ROLLS = random.Random(68)
+
+
+def rounds(short):
+    return 20000 if program.LONG else short
+
+
+def events_of(count, closed=False):
+    """Events of all kinds of payloads, some of them empty."""
+    events = [(ROLLS.choice((0, 1, 7, 0xfffffffe)), ROLLS.randbytes(ROLLS.choice((0, 1, 2, 31, 64, 65, 200))))
+              for _ in range(count)]
+    return events + [CLOSE] if closed else events
+
+
+def mutated(data):
+    """The bytes with one change: a bit, a byte, a cut, more bytes, or a part twice."""
+    place = ROLLS.randrange(len(data) + 1)
+    how = ROLLS.randrange(5)
+    if how == 0 and data:
+        place %= len(data)
+        return data[:place] + bytes([data[place] ^ 1 << ROLLS.randrange(8)]) + data[place + 1:]
+    if how == 1 and data:
+        place %= len(data)
+        return data[:place] + bytes([ROLLS.randrange(256)]) + data[place + 1:]
+    if how == 2:
+        return data[:place]
+    if how == 3:
+        return data[:place] + ROLLS.randbytes(ROLLS.choice((1, 8, 32))) + data[place:]
+    other = ROLLS.randrange(len(data) + 1)
+    return data[:max(place, other)] + data[min(place, other):]
+
+
+# ---- Proofs
+
+def judged(proof, commitments):
+    """What the library says of a proof under commitments."""
+    from audit_store import BadProof, check
+    try:
+        return check(proof, *commitments)
+    except BadProof:
+        return None
+
+
+def judged_by_auditor(proof, commitments):
+    try:
+        read = read_proof(proof)
+    except BadBytes:
+        return None
+    if len(commitments) != (1 if read[0] == 1 else 2):
+        return None
+    return is_accepted(read, [tuple(commitment) for commitment in commitments])
+
+
+def proofs_of(log):
+    """Proofs of a log by the model, each with the commitments that it is for."""
+    count = len(log.leaves)
+    for index in range(count):
+        hashes = tree.membership(log.leaves, index)
+        yield tree.membership_proof(index, count, hashes, log.entries[index]), [commitment_of(log)]
+    for older in range(1, count + 1):
+        older_log = log_of(log.events[:older])
+        proof = tree.increment_proof(older, count, tree.increment(log.leaves, older))
+        yield proof, [commitment_of(older_log), commitment_of(log)]
+
+
+@scene
+def scene_proofs():
+    """Each proof of the model is accepted under its commitments, and under no others."""
+    log = log_of(events_of(18))
+    for count in range(1, 19):
+        part = log_of(log.events[:count])
+        for proof, commitments in proofs_of(part):
+            expect(judged(proof, commitments), True, "a proof of the model")
+            # Under a commitment of another count with the same root: the proof's own count has to be the commitment's.
+            for place, commitment in enumerate(commitments):
+                for other in (commitment._replace(count=commitment.count + 1),
+                              commitment._replace(root=bytes(31) + b"\1")):
+                    wrong = commitments[:place] + [other] + commitments[place + 1:]
+                    expect(judged(proof, wrong), False, "a proof under another commitment")
+            one_more = commitments * 2 if len(commitments) == 1 else commitments[:1]
+            expect(judged(proof, one_more), None, "a proof under another number of commitments")
+
+
+@scene
+def scene_mutated_proofs():
+    """A changed proof has the verdict of the auditor's program."""
+    log = log_of(events_of(21))
+    proofs = list(proofs_of(log)) + list(proofs_of(log_of(log.events[:16])))
+    for _ in range(rounds(6000)):
+        proof, commitments = ROLLS.choice(proofs)
+        proof = mutated(proof)
+        if ROLLS.randrange(4) == 0:
+            place = ROLLS.randrange(len(commitments))
+            count = commitments[place].count + ROLLS.choice((-1, 1, 1 << 20))
+            commitments = commitments[:place] + [commitments[place]._replace(count=count)] + commitments[place + 1:]
+        expect(judged(proof, commitments), judged_by_auditor(proof, commitments), "a changed proof %s" % proof.hex())
+
+
+# ---- Exports
+
+def expect_verdict(pieces, commitment, what):
+    """The verdict and the events are those of the model, however the bytes are cut."""
+    whole = b"".join(pieces)
+    found, events = read_in_pieces(pieces, ZERO_KEY, commitment)
+    wanted = verdict(whole, ZERO_KEY, tuple(commitment))
+    expect(found, wanted, what)
+    # The events before a fault are those of the valid entries before it.
+    expect(len(events), wanted[1], "the events of " + what)
+    if wanted[0] == 0:
+        expect(events, read_on(whole, FIRST._replace(key=ZERO_KEY), tuple(commitment))[0], "the events of " + what)
+
+
+@scene
+def scene_two_pieces():
+    """Small exports, open and closed, cut at every byte."""
+    for count, closed in ((0, False), (1, False), (3, False), (0, True), (2, True)):
+        log = log_of(events_of(count, closed))
+        for cut in range(len(log.export) + 1):
+            pieces = [log.export[:cut], log.export[cut:]]
+            found, events = read_in_pieces(pieces, ZERO_KEY, commitment_of(log))
+            expect((found, events), ((0, len(log.events), log.closed), log.events), "an export cut at %d" % cut)
+
+
+@scene
+def scene_cut_exports():
+    """Every front of an export, and an export with another commitment."""
+    log = log_of(events_of(3, True))
+    for size in range(len(log.export) + 1):
+        expect_verdict([log.export[:size]], commitment_of(log), "the first %d bytes" % size)
+    for other in (commitment_of(log)._replace(count=3), commitment_of(log)._replace(root=bytes(32)),
+                  commitment_of(log_of(log.events[:2]))):
+        expect_verdict([log.export], other, "another commitment")
+    expect_verdict([log.export, b"x"], commitment_of(log), "a byte after the close")
+    expect_verdict([log.export, log.export], commitment_of(log), "an export after the close")
+
+
+@scene
+def scene_mutated_exports():
+    """A changed export has the verdict of the auditor's program, in up to four pieces."""
+    logs = [log_of(events_of(count, closed)) for count, closed in ((1, False), (2, True), (4, False), (6, True))]
+    for _ in range(rounds(4000)):
+        log = ROLLS.choice(logs)
+        export = mutated(log.export)
+        cuts = sorted(ROLLS.randrange(len(export) + 1) for _ in range(ROLLS.randrange(4)))
+        pieces = [export[start:end] for start, end in zip([0, *cuts], [*cuts, len(export)])]
+        expect_verdict(pieces, commitment_of(log), "a changed export %s" % export.hex())
+
+
+@scene
+def scene_long_exports():
+    """The longest payload, and byte by byte."""
+    log = log_of([(1, ROLLS.randbytes(32696)), (2, b""), (3, ROLLS.randbytes(32695))])
+    commitment = commitment_of(log)
+    found, events = read_in_pieces([log.export], ZERO_KEY, commitment)
+    expect((found, events), ((0, 3, False), log.events), "the longest payloads")
+    found, events = read_in_pieces([log.export[at:at + 977] for at in range(0, len(log.export), 977)], ZERO_KEY,
+                                   commitment)
+    expect((found, events), ((0, 3, False), log.events), "the longest payloads in pieces of 977 bytes")
+    small = log_of(events_of(5))
+    found, events = read_in_pieces([small.export[at:at + 1] for at in range(len(small.export))], ZERO_KEY,
+                                   commitment_of(small))
+    expect((found, events), ((0, 5, False), small.events), "an export byte by byte")
+
+
+@scene
+def scene_damaged_structs():
+    """A struct that no call made, and short buffers, are refused or answered, and nothing past them is written."""
+    from audit_store import _library as names
+    library, event = names.library, names.GivenEvent()
+    payload = ctypes.create_string_buffer(names.PAYLOAD_MAX)
+    verifier = names.Verifier()
+    library.verify_first(ZERO_KEY, verifier)
+    before = bytes(verifier)
+    expect(library.verify_feed(verifier, payload, 1, event, payload, names.PAYLOAD_MAX - 1), names.MISUSED,
+           "a short buffer")
+    expect(bytes(verifier), before, "a verifier with a short buffer")
+    for field, value in (("held", 32769), ("held", (1 << 64) - 1), ("count", (1 << 64) - 1), ("count", 5)):
+        library.verify_first(ZERO_KEY, verifier)
+        setattr(verifier, field, value)
+        if field == "count" and value == 5:
+            verifier.nodes[1][0] = 1
+        expect(library.verify_feed(verifier, payload, 1, event, payload, names.PAYLOAD_MAX), names.MISUSED,
+               "a verifier with %s %d" % (field, value))
+    for _ in range(rounds(2000)):
+        noise = ROLLS.randbytes(ctypes.sizeof(verifier) - names.ENTRY_MAX)
+        ctypes.memmove(ctypes.byref(verifier), noise, len(noise))
+        if ROLLS.randrange(2):
+            verifier.held = ROLLS.randrange(names.ENTRY_MAX + 2)
+            verifier.count, verifier.fault, verifier.closed = ROLLS.randrange(4), 0, ROLLS.randrange(3)
+            ctypes.memset(ctypes.byref(verifier.nodes), 0, ctypes.sizeof(verifier.nodes))
+        library.verify_feed(verifier, noise, len(noise), event, payload, names.PAYLOAD_MAX)
+        library.verify_end(verifier, names.GivenCommitment())
+
+
+# ---- Frames
+
+def written(name, *words):
+    """The frame of a request by the library, in a buffer of its length; nothing in one that is a byte shorter."""
+    from audit_store import _library as names
+    call = getattr(names.library, "write_" + name)
+    room = ctypes.create_string_buffer(names.REQUEST_MAX)
+    size = call(*words, room, names.REQUEST_MAX)
+    if size:
+        short = ctypes.create_string_buffer(b"\xaa" * size, size)
+        expect((call(*words, short, size - 1), short.raw), (0, b"\xaa" * size), "a buffer that is too short for " + name)
+        expect((call(*words, short, size), short.raw), (size, room.raw[:size]), "a buffer that is just long enough")
+    return room.raw[:size]
+
+
+NUMBERS = 0, 1, 255, 256, (1 << 32) - 1, 1 << 32, (1 << 64) - 1
+
+
+@scene
+def scene_requests():
+    """Each request has the bytes of the model, and what is none is refused."""
+    for tag in (0, 1, 0x01020304, (1 << 32) - 1):
+        for name, kind in ("commitment", wire.COMMITMENT), ("close", wire.CLOSE), ("state", wire.STATE):
+            expect(written(name, tag), request_frame(Request(kind, tag)), name)
+        for first in NUMBERS:
+            expect(written("entry", tag, first), request_frame(Request(wire.ENTRY, tag, (first,))), "an entry")
+            for second in NUMBERS:
+                for name, kind in ("inclusion", wire.MEMBERSHIP), ("consistency", wire.INCREMENT):
+                    expect(written(name, tag, first, second), request_frame(Request(kind, tag, (first, second))), name)
+        for kind in (0, 1, 0xfffffffe):
+            for size in (0, 1, 100, 32695, 32696):
+                payload = ROLLS.randbytes(size)
+                expect(written("append", tag, kind, payload, size),
+                       request_frame(Request(wire.APPEND, tag, (kind,), payload)), "an append")
+    expect(written("append", 1, 0xffffffff, b"", 0), b"", "an append of the closing kind")
+    expect(written("append", 1, 1, bytes(32697), 32697), b"", "an append of 32,697 bytes")
+
+
+def reply_in(bytes_):
+    """The reply at the front of bytes: its fields as a dictionary, `more`, or `malformed`, by docs/formats.md."""
+    if len(bytes_) < 2 or len(bytes_) < 2 + int.from_bytes(bytes_[:2], "big"):
+        return "more"
+    size = 2 + int.from_bytes(bytes_[:2], "big")
+    body = bytes_[2:size]
+    if len(body) < 5:
+        return "malformed"
+    kind, tag, fields = body[0], int.from_bytes(body[1:5], "big"), body[5:]
+    found = {"size": size, "kind": kind, "tag": tag}
+
+    def numbers(start, *names):
+        found.update((name, int.from_bytes(fields[start + 8 * at:start + 8 * at + 8], "big"))
+                     for at, name in enumerate(names))
+
+    if kind == 0x81 and len(fields) == 48:
+        numbers(0, "index", "count")
+        found["root"] = fields[16:48]
+    elif kind == 0x82 and len(fields) == 40:
+        numbers(0, "count")
+        found["root"] = fields[8:40]
+    elif kind == 0x83 and fields and fields[0] <= 24 and 0 <= len(fields) - 1 - 32 * fields[0] <= 32768:
+        found["hashes"] = fields[0]
+    elif kind == 0x84 and fields and fields[0] <= 25 and len(fields) == 1 + 32 * fields[0]:
+        found["hashes"] = fields[0]
+    elif kind == 0x85 and len(fields) <= 32768:
+        pass
+    elif kind == 0x87 and len(fields) == 67 and fields[66] <= 1:
+        numbers(0, "count")
+        numbers(40, "end", "sectors", "generation")
+        found.update(root=fields[8:40], version=int.from_bytes(fields[64:66], "big"), closed=fields[66])
+    elif kind == 0xff and len(fields) == 1 and fields[0] in (4, 7, 8, 9, 11, 13, 16, 20):
+        found["code"] = fields[0]
+    else:
+        return "malformed"
+    return found
+
+
+def reply_by_library(bytes_):
+    from audit_store import _library as names
+    reply = names.Reply()
+    ctypes.memset(ctypes.byref(reply), 0xaa, ctypes.sizeof(reply))
+    before = bytes(reply)
+    held = ctypes.create_string_buffer(bytes_, len(bytes_) or 1)
+    answer = names.library.read_reply(held, len(bytes_), reply)
+    if answer != names.OK:
+        expect(bytes(reply), before, "a reply that wasn't read")
+        return {names.MORE: "more", names.MALFORMED: "malformed"}[answer]
+    found = {name: getattr(reply, name) for name, _ in names.Reply._fields_}
+    found["root"] = bytes(found["root"])
+    return {name: value for name, value in found.items()
+            if name in ("size", "kind", "tag") or value not in (0, bytes(32))}
+
+
+def expect_reply(bytes_, what):
+    wanted = reply_in(bytes_)
+    if isinstance(wanted, dict):
+        wanted = {name: value for name, value in wanted.items()
+                  if name in ("size", "kind", "tag") or value not in (0, bytes(32))}
+    expect(reply_by_library(bytes_), wanted, what)
+
+
+def replies():
+    """Replies by the model, of every kind."""
+    root = ROLLS.randbytes(32)
+    hashes = [ROLLS.randbytes(32) for _ in range(25)]
+    for count in (0, 1, 24):
+        for entry in (b"", b"e", ROLLS.randbytes(32768)):
+            yield frames.member_reply(count + 1, hashes[:count], entry)
+    for count in (0, 1, 25):
+        yield frames.increment_reply(7, hashes[:count])
+    for entry in (b"", ROLLS.randbytes(72), ROLLS.randbytes(32768)):
+        yield frames.entry_reply(9, entry)
+    for number in (0, 5, (1 << 64) - 1):
+        yield frames.acknowledgement((1 << 32) - 1, number, number, root)
+        yield frames.commitment_reply(0, number, root)
+        for mark in (0, 1):
+            yield frames.state_reply(3, number, root, 3, number, 1, 2, mark)
+    for code in (4, 7, 8, 9, 11, 13, 16, 20):
+        yield frames.refusal(17, code)
+
+
+@scene
+def scene_replies():
+    """Each reply of the model is read, also followed by another one, and no front of it."""
+    for reply in replies():
+        expect_reply(reply, "a reply")
+        expect(isinstance(reply_by_library(reply), dict), True, "a reply of the model is one")
+        expect_reply(reply + reply, "a reply before another one")
+        for size in {0, 1, 2, 3, 6, 7, len(reply) - 1}:
+            expect(reply_by_library(reply[:min(size, len(reply) - 1)]), "more", "the front of a reply")
+
+
+@scene
+def scene_mutated_replies():
+    """A changed reply is read as the formats say."""
+    whole = [reply for reply in replies() if len(reply) < 4000]
+    for _ in range(rounds(20000)):
+        expect_reply(mutated(ROLLS.choice(whole)), "a changed reply")
+    for kind in range(256):
+        for size in (0, 1, 5, 6, 45, 53, 72, 73):
+            body = bytes([kind]) + bytes(size)
+            expect_reply(len(body).to_bytes(2, "big") + body, "a frame of kind %d with %d bytes" % (kind, size))
+
+
+@scene
+def scene_vectors():
+    """The test vectors of docs/formats.md: its proofs, and its requests and replies."""
+    from audit_store import Commitment, check
+    found = vectors.Vectors(read_text(at_top("docs", "formats.md")))
+    log = log_of([(1, payload) for payload in vectors.PAYLOADS])
+    inclusion, consistency = vectors.proofs(found, log.entries)
+    two, three = (commitment_of(log_of(log.events[:count])) for count in (2, 3))
+    expect((check(inclusion, three), check(consistency, two, three)), (True, True), "the proofs of the document")
+    for frame in vectors.conversation(found, inclusion, consistency, log.entries)[1::2]:
+        expect_reply(frame, "a reply of the document")
+    expect(str(Commitment.parse("3:" + three.root.hex().upper())), "3:" + three.root.hex(), "a commitment's word")
+    for word in ("", "3", "3:", ":" + 64 * "0", "3:" + 63 * "0", "18446744073709551616:" + 64 * "0", "3:" + 64 * "g",
+                 "-1:" + 64 * "0", " 3:" + 64 * "0", "3:" + 64 * "0" + "\n", "000000000000000000003:" + 64 * "0"):
+        try:
+            Commitment.parse(word)
+        except ValueError:
+            continue
+        raise Wrong("%r is read as a commitment" % word)
+
+
+@scene
+def scene_verify():
+    """`verify` gives the events of a path, a file, bytes and pieces, and none of a path that isn't verified."""
+    import io
+
+    from audit_store import NotVerified, verify
+    from checks.parts.files import write
+    log = log_of(events_of(40, True))
+    write("export", log.export)
+    pieces = [log.export[at:at + 100] for at in range(0, len(log.export), 100)]
+    for export in ("export", io.BytesIO(log.export), log.export, pieces, bytearray(log.export)):
+        found = [(event.kind, event.payload) for event in verify(export, ZERO_KEY, commitment_of(log))]
+        expect(found, log.events, "the events of an export")
+    cut = log.export[:-1]
+    for export, most in (("export", 0), (io.BytesIO(cut), 0), (cut, 0), ([cut], 40)):
+        write("export", cut)
+        found = []
+        try:
+            found.extend(verify(export, ZERO_KEY, commitment_of(log)))
+        except NotVerified as fault:
+            expect((fault.index, fault.number, fault.name), (40, 40, "Short"), "an export that is cut")
+        else:
+            raise Wrong("an export that is cut is verified")
+        expect(len(found), 0, "the events that were handed out before the verdict") if most == 0 else None
