@@ -3,7 +3,7 @@
 usage: bin/check names [PAGE ..]
 
 The pages are those of docs/ about the code, and PROMISES.md of each crate, unless others are given. A crate must have
-a folder in crates/. A path must exist, relative to the top or to a crate's folder. Each word of any other
+a folder in crates/, a function of the library for C be in the code. A path must exist, relative to the top or to a crate's folder. Each word of any other
 name must be in the code, outside of comments, or name an edit. `bin/check NAME` and `bin/bench NAME` must be in their
 lists. Other names with a space, and code blocks, are ignored. What isn't there is printed with its page and line.
 """
@@ -67,7 +67,8 @@ def is_there(name, words):
     if " " in name:
         return True
     if re.fullmatch("audit_[a-z0-9_]*", name):
-        return os.path.isdir(os.path.join(TOP, "crates", name))
+        # A crate, or a function of the library for C.
+        return os.path.isdir(os.path.join(TOP, "crates", name)) or name.startswith("audit_store_") and name in words
     if os.path.exists(os.path.join(TOP, name)):
         return True
     if "/" in name and not re.match("audit_.*[^a-z0-9_]", name):

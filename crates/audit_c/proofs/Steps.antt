@@ -31,7 +31,7 @@ use Rattle.audit_verify.proofs.Commitments.{leaves_after}
 use Rattle.audit_verify.proofs.Built.{leaves_more, too_many, continues_by, committed_by, refused_by}
 use Rattle.audit_c.specs.declared.answers.TheConstants.{OK}
 use Rattle.audit_c.specs.declared.verifier.Verifier.{Verifier}
-use Rattle.audit_c.specs.Fed.{IsFed, HasEndFault, held_in, reader_of, tree_of}
+use Rattle.audit_c.specs.Fed.{HasBeenFed, HasEndFault, held_in, reader_of, tree_of}
 use Rattle.audit_c.specs.Passed.{HasPassed}
 
 -- a reader of entries with these parts, which was fed so many bytes
@@ -49,7 +49,7 @@ same_reads v total {key = key} {link = link} {held = held} {count = count} {clos
 
 -- nothing was fed
 pub fed_none : (from : StateData) (v : Verifier) → IsSized from.frontier.count from.frontier.hashes → v.key ≡ from.key → v.link ≡ from.link → v.count ≡ from.frontier.count
-    → (v.closed == 1) ≡ from.closed → v.nodes ≡ from.frontier.hashes → held_in v ≡ [] → v.held ≤ MAX_ENTRY → v.fault ≡ OK → IsFed from [] [] v
+    → (v.closed == 1) ≡ from.closed → v.nodes ≡ from.frontier.hashes → held_in v ≡ [] → v.held ≤ MAX_ENTRY → v.fault ≡ OK → HasBeenFed from [] [] v
 fed_none from v sized key link count closed nodes held room right =
     let few : min v.count MAX_COUNT ≡ from.frontier.count = omega (arith, count, sized.most) in
     let tree : tree_of v ≡ from.frontier = ap (λ n. with_nodes n v.nodes) few ∙ ap (with_nodes from.frontier.count) nodes in
@@ -95,9 +95,9 @@ grown {from = from} {fed = fed} {events = events} {old = old} part has begun sho
       };
     }
 
-pub fed_more : {from : StateData} {fed : List ℕ} {events : List EventData} {old : Verifier} (new : Verifier) (part : List ℕ) → IsFed from fed events old
+pub fed_more : {from : StateData} {fed : List ℕ} {events : List EventData} {old : Verifier} (new : Verifier) (part : List ℕ) → HasBeenFed from fed events old
     → new.key ≡ old.key → new.link ≡ old.link → new.nodes ≡ old.nodes → new.count ≡ old.count → (new.closed == 1) ≡ (old.closed == 1) → new.fault ≡ old.fault
-    → new.held ≤ MAX_ENTRY → held_in new ≡ held_in old ++ part → length part ≤ MAX_ENTRY → IsBegun (new.closed == 1) (held_in new) → IsFed from (fed ++ part) events new
+    → new.held ≤ MAX_ENTRY → held_in new ≡ held_in old ++ part → length part ≤ MAX_ENTRY → IsBegun (new.closed == 1) (held_in new) → HasBeenFed from (fed ++ part) events new
 fed_more {from = from} {fed = fed} {events = events} {old = old} new part has key link nodes count closed fault room held short begun =
     let tree : tree_of new ≡ tree_of old = ap (λ n. with_nodes (min n MAX_COUNT) new.nodes) count ∙ ap (with_nodes (min old.count MAX_COUNT)) nodes in
     let total = length (fed ++ part) in
@@ -114,21 +114,21 @@ fed_more {from = from} {fed = fed} {events = events} {old = old} new part has ke
     with_nodes count hashes = record { count = count; hashes = hashes }
 
 -- the same, where the bytes still end before the entry does
-pub fed_short : {from : StateData} {fed : List ℕ} {events : List EventData} {old : Verifier} (new : Verifier) (piece : List ℕ) (taken : ℕ) → IsFed from fed events old
+pub fed_short : {from : StateData} {fed : List ℕ} {events : List EventData} {old : Verifier} (new : Verifier) (piece : List ℕ) (taken : ℕ) → HasBeenFed from fed events old
     → new.key ≡ old.key → new.link ≡ old.link → new.nodes ≡ old.nodes → new.count ≡ old.count → new.closed ≡ old.closed → new.fault ≡ old.fault
     → (new.closed == 1) ≡ false → new.held ≡ old.held + taken → new.held ≤ MAX_ENTRY → held_in new ≡ held_in old ++ take taken piece → IsCutShort (held_in new)
-    → taken ≡ length piece → IsFed from (fed ++ piece) events new
+    → taken ≡ length piece → HasBeenFed from (fed ++ piece) events new
 fed_short {from = from} {fed = fed} {events = events} {old = old} new piece taken has key link nodes count closed fault goes_on more room held cut all =
     let whole : take taken piece ≡ piece = ap (λ n. take n piece) all ∙ take-length piece in
     let short : length (take taken piece) ≤ MAX_ENTRY = omega (arith, ap length whole, all, more, room) in
-    subst (λ part. IsFed from (fed ++ part) events new) whole
+    subst (λ part. HasBeenFed from (fed ++ part) events new) whole
     (fed_more new (take taken piece) has key link nodes count (ap (λ n. n == 1) closed) fault room held short (begun_open (new.closed == 1) (held_in new) goes_on cut))
 
 -- one more event
-pub fed_event : {from : StateData} {fed : List ℕ} {events : List EventData} {old : Verifier} (mid new : Verifier) (part : List ℕ) {key : List ℕ} {size kind : ℕ} {link : List ℕ} → IsFed from fed events old
+pub fed_event : {from : StateData} {fed : List ℕ} {events : List EventData} {old : Verifier} (mid new : Verifier) (part : List ℕ) {key : List ℕ} {size kind : ℕ} {link : List ℕ} → HasBeenFed from fed events old
     → key ≡ old.key → mid.count ≡ old.count → mid.nodes ≡ old.nodes → mid.fault ≡ old.fault → held_in mid ≡ held_in old ++ part → length part ≤ MAX_ENTRY → (old.closed == 1) ≡ false
     → (seal : IsRightSeal old.key old.link (held_in old ++ part) size kind link) → size ≡ length (held_in old ++ part) → HasPassed mid key size kind link new
-    → IsFed from (fed ++ part) (events ++ seal.event ∷ []) new
+    → HasBeenFed from (fed ++ part) (events ++ seal.event ∷ []) new
 fed_event {from = from} {fed = fed} {events = events} {old = old} mid new part {size = size} {kind = kind} {link = link} has key_is count nodes fault held short goes_on seal whole passed =
     let bytes = held_in old ++ part in
     let total = length (fed ++ part) in
@@ -157,7 +157,7 @@ fed_event {from = from} {fed = fed} {events = events} {old = old} mid new part {
     with_nodes count hashes = record { count = count; hashes = hashes }
 
 -- a fault of the bytes that are held and of the first part of a piece
-pub fed_wrong : {from : StateData} {fed : List ℕ} {events : List EventData} {old : Verifier} (cause : Cause) (part tail piece : List ℕ) (index : ℕ) → IsFed from fed events old → piece ≡ part ++ tail → index ≡ old.count
+pub fed_wrong : {from : StateData} {fed : List ℕ} {events : List EventData} {old : Verifier} (cause : Cause) (part tail piece : List ℕ) (index : ℕ) → HasBeenFed from fed events old → piece ≡ part ++ tail → index ≡ old.count
     → cause ≢ Short → IsWrongNext cause (old.closed == 1) old.key old.link (held_in old ++ part)
     → (commitment : Commitment) (more : List ℕ) → IsFaultFrom from commitment ((fed ++ piece) ++ more) (made index cause)
 fed_wrong {from = from} {fed = fed} {events = events} {old = old} cause part tail piece index has parts at whole wrong = λ commitment more.
@@ -177,7 +177,7 @@ fed_wrong {from = from} {fed = fed} {events = events} {old = old} cause part tai
     }
 
 -- bytes follow the entry that closes the log
-pub fed_shut : {from : StateData} {fed : List ℕ} {events : List EventData} {old : Verifier} (piece : List ℕ) (index : ℕ) → IsFed from fed events old → index ≡ old.count → (old.closed == 1) ≡ true → piece ≢ []
+pub fed_shut : {from : StateData} {fed : List ℕ} {events : List EventData} {old : Verifier} (piece : List ℕ) (index : ℕ) → HasBeenFed from fed events old → index ≡ old.count → (old.closed == 1) ≡ true → piece ≢ []
     → (commitment : Commitment) (more : List ℕ) → IsFaultFrom from commitment ((fed ++ piece) ++ more) (made index BadClose)
 fed_shut {old = old} piece index has at closed some =
     fed_wrong BadClose piece [] piece index has (sym (append-nil piece)) at (λ is. omega (arith, ap cause_number is))
@@ -188,7 +188,7 @@ fed_shut {old = old} piece index has at closed some =
     no_back (byte ∷ front) back none = absurd (omega (arith, ap length none))
 
 -- the bytes end within an entry
-pub fed_cut : {from : StateData} {fed : List ℕ} {events : List EventData} {v : Verifier} → IsFed from fed events v → held_in v ≢ [] → (commitment : Commitment) → HasEndFault from fed commitment v 40
+pub fed_cut : {from : StateData} {fed : List ℕ} {events : List EventData} {v : Verifier} → HasBeenFed from fed events v → held_in v ≢ [] → (commitment : Commitment) → HasEndFault from fed commitment v 40
 fed_cut {from = from} {fed = fed} {events = events} {v = v} has some commitment = record {
   cause = Short;
   number = refl;
@@ -212,7 +212,7 @@ fed_cut {from = from} {fed = fed} {events = events} {v = v} has some commitment 
 abbrev pub LeadsTo : Verifier → Commitment → Type 0
 LeadsTo v commitment = (v.count ≤ MAX_COUNT) × ((v.count ≡ commitment.count) × (root_after (tree_of v) [] ≡ commitment.root))
 
-pub fed_verified : {from : StateData} {fed : List ℕ} {events : List EventData} {v : Verifier} (count : ℕ) (root : List ℕ) → IsFed from fed events v → held_in v ≡ [] → LeadsTo v (record { count = count; root = root })
+pub fed_verified : {from : StateData} {fed : List ℕ} {events : List EventData} {v : Verifier} (count : ℕ) (root : List ℕ) → HasBeenFed from fed events v → held_in v ≡ [] → LeadsTo v (record { count = count; root = root })
     → IsVerifiedFrom from (record { count = count; root = root }) fed events
 fed_verified {from = from} {events = events} {v = v} count root has empty leads =
     let frontier = (next_state from events).frontier in
@@ -222,7 +222,7 @@ fed_verified {from = from} {events = events} {v = v} count root has empty leads 
     let same : commitment_after (next_state from events) [] ≡ record { count = count; root = root } = ap (λ n. record { count = n; root = root_after frontier [] }) counts ∙ ap (λ r. record { count = count; root = r }) roots in
     committed_by (record { count = count; root = root }) (continues_by (ended has.read refl empty) leads.0) refl same
 
-pub fed_refused : {from : StateData} {fed : List ℕ} {events : List EventData} {v : Verifier} (commitment : Commitment) → IsFed from fed events v → held_in v ≡ [] → ¬ LeadsTo v commitment → HasEndFault from fed commitment v 44
+pub fed_refused : {from : StateData} {fed : List ℕ} {events : List EventData} {v : Verifier} (commitment : Commitment) → HasBeenFed from fed events v → held_in v ≡ [] → ¬ LeadsTo v commitment → HasEndFault from fed commitment v 44
 fed_refused {from = from} {fed = fed} {events = events} {v = v} commitment has empty other = record {
   cause = WrongCommitment;
   number = refl;

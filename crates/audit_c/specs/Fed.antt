@@ -38,7 +38,7 @@ tree_of v = record { count = min v.count MAX_COUNT; hashes = v.nodes }
 
 -- From a state on the verifier was fed these bytes: the entries of these events, all of them valid, and then the start
 -- of the next one, which it holds. Where the bytes were cut makes no difference.
-pub record IsFed (from : StateData) (fed : List ℕ) (events : List EventData) (v : Verifier) : Type 0 where
+pub record HasBeenFed (from : StateData) (fed : List ℕ) (events : List EventData) (v : Verifier) : Type 0 where
   pub read : HasReadFrom from (length fed) (Some fed) (Some []) (reader_of v (length fed)) events
   pub begun : IsBegun (v.closed == 1) (held_in v)
   pub tree : v.count ≤ MAX_COUNT → tree_of v ≡ frontier_after from.frontier (map leaf_hash_of (entries_from_state from events))
@@ -47,11 +47,11 @@ pub record IsFed (from : StateData) (fed : List ℕ) (events : List EventData) (
   pub right : v.fault ≡ OK
 
 -- An event was handed out: its entry ends after this many bytes of the piece.
-pub record HasGiven (from : StateData) (fed : List ℕ) (events : List EventData) (piece : List ℕ) (v : Verifier)
+pub record HasHandedOut (from : StateData) (fed : List ℕ) (events : List EventData) (piece : List ℕ) (v : Verifier)
     (given : GivenEvent) (payload : List ℕ) : Type 0 where
   pub event : EventData
   pub taken : given.taken ≤ length piece
-  pub goes_on : IsFed from (fed ++ take given.taken piece) (events ++ event ∷ []) v
+  pub goes_on : HasBeenFed from (fed ++ take given.taken piece) (events ++ event ∷ []) v
   pub index : given.index ≡ from.frontier.count + length events
   pub kind : given.kind ≡ event.kind
   pub opened : take given.size payload ≡ event.payload
@@ -68,8 +68,8 @@ pub record HasStopped (from : StateData) (bytes : List ℕ) (v : Verifier) (answ
 -- what a piece leads to
 abbrev pub IsFedOn : StateData → List ℕ → List EventData → List ℕ → Verifier → GivenEvent → List ℕ → ℕ → Type 0
 IsFedOn from fed events piece v given payload answer =
-    ((answer ≡ OK) × HasGiven from fed events piece v given payload)
-    ⊎ (((answer ≡ MORE) × IsFed from (fed ++ piece) events v)
+    ((answer ≡ OK) × HasHandedOut from fed events piece v given payload)
+    ⊎ (((answer ≡ MORE) × HasBeenFed from (fed ++ piece) events v)
     ⊎ HasStopped from (fed ++ piece) v answer)
 
 -- the verdict on the bytes that were fed
@@ -80,11 +80,11 @@ pub record HasEndFault (from : StateData) (fed : List ℕ) (commitment : Commitm
     pub inside : ¬ IsExternal cause
     pub fault : IsFaultFrom from commitment fed (record { index = v.count; cause = cause })
 
-abbrev pub IsEnd : StateData → List ℕ → List EventData → Commitment → Verifier → ℕ → Type 0
-IsEnd from fed events commitment v answer =
+abbrev pub IsFedVerdict : StateData → List ℕ → List EventData → Commitment → Verifier → ℕ → Type 0
+IsFedVerdict from fed events commitment v answer =
     ((answer ≡ OK) × IsVerifiedFrom from commitment fed events) ⊎ HasEndFault from fed commitment v answer
 
 -- the same in a closed log, where no event can follow
-abbrev pub IsShut : StateData → List ℕ → List EventData → List ℕ → Verifier → ℕ → Type 0
-IsShut from fed events piece v answer =
-    ((answer ≡ MORE) × IsFed from (fed ++ piece) events v) ⊎ HasStopped from (fed ++ piece) v answer
+abbrev pub IsFedShut : StateData → List ℕ → List EventData → List ℕ → Verifier → ℕ → Type 0
+IsFedShut from fed events piece v answer =
+    ((answer ≡ MORE) × HasBeenFed from (fed ++ piece) events v) ⊎ HasStopped from (fed ++ piece) v answer

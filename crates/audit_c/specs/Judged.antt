@@ -20,9 +20,9 @@ pub record ProvesExtension (proof : Increment) (older newer : Commitment) : Type
   pub accepted : AcceptsIncrement sha256 older newer proof.hashes
 
 -- bytes that are no proof are refused as such, and otherwise the proof decides
-abbrev pub IsJudged : {Proof : Type 0} → (Proof → Type 0) → Option Proof → ℕ → Type 0
-IsJudged Proves None answer = answer ≡ BAD_PROOF
-IsJudged Proves (Some proof) answer = ((answer ≡ OK) × Proves proof) ⊎ ((answer ≡ NOT_ACCEPTED) × ¬ Proves proof)
+abbrev pub IsProofAnswer : {Proof : Type 0} → (Proof → Type 0) → Option Proof → ℕ → Type 0
+IsProofAnswer Proves None answer = answer ≡ BAD_PROOF
+IsProofAnswer Proves (Some proof) answer = ((answer ≡ OK) × Proves proof) ⊎ ((answer ≡ NOT_ACCEPTED) × ¬ Proves proof)
 
 -- the proofs that views of bytes show
 abbrev pub member_shown : MemberView → Member

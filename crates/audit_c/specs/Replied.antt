@@ -64,8 +64,8 @@ IsReplyRead None before after answer = (answer ≡ MORE) × (after ≡ before)
 IsReplyRead (Some body) before after answer = IsBodyRead body (reply_in body) before after answer
 
 -- what was found of a body
-abbrev pub IsFoundIn : List ℕ → Option Reply → Option GivenReply → Type 0
-IsFoundIn body None None = Unit {0}
-IsFoundIn body None (Some given) = ⊥
-IsFoundIn body (Some said) None = ⊥
-IsFoundIn body (Some said) (Some given) = IsDescribed body said given
+abbrev pub IsReplyFound : List ℕ → Option Reply → Option GivenReply → Type 0
+IsReplyFound body None None = Unit {0}
+IsReplyFound body None (Some given) = ⊥
+IsReplyFound body (Some said) None = ⊥
+IsReplyFound body (Some said) (Some given) = IsDescribed body said given

@@ -2,7 +2,7 @@
 ghost use Rattle.std.specs.Prelude.{◌≡◌, ◌↔◌, IsTrue};
 ghost use Rattle.audit_proof.specs.ProofBytes.{member_of, increment_of};
 ghost use Rattle.audit_c.specs.Given.{given};
-ghost use Rattle.audit_c.specs.Judged.{IsJudged, ProvesEntry, ProvesExtension, member_shown, increment_shown};
+ghost use Rattle.audit_c.specs.Judged.{IsProofAnswer, ProvesEntry, ProvesExtension, member_shown, increment_shown};
 
 use crate::answers::{BAD_PROOF, NOT_ACCEPTED, OK};
 use crate::commitment::{GivenCommitment, commitment_of};
@@ -13,7 +13,7 @@ use audit_proof::{Commitment, accepts_increment, accepts_member};
 /// commitment's count and accepted, `NOT_ACCEPTED` if not, and `BAD_PROOF` if the bytes are no inclusion proof.
 #[unsafe(no_mangle)]
 pub extern "C" fn audit_store_check_inclusion(proof: &[u8], commitment: &GivenCommitment) -> u32
-    ensures { IsJudged (λ read. ProvesEntry read (given commitment.now)) (member_of proof.now) result }
+    ensures { IsProofAnswer (λ read. ProvesEntry read (given commitment.now)) (member_of proof.now) result }
 {
     match member_view(proof) {
         Some(view) => judged(proves_entry(view, &commitment_of(commitment))),
@@ -28,7 +28,7 @@ pub extern "C" fn audit_store_check_consistency(
     older: &GivenCommitment,
     newer: &GivenCommitment,
 ) -> u32
-    ensures { IsJudged (λ read. ProvesExtension read (given older.now) (given newer.now))
+    ensures { IsProofAnswer (λ read. ProvesExtension read (given older.now) (given newer.now))
         (increment_of proof.now) result }
 {
     match increment_view(proof) {

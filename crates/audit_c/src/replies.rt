@@ -2,7 +2,7 @@
 ghost use Rattle.std.specs.Prelude.{◌≡◌, ◌+◌, ◌∷◌, length, option_map};
 ghost use Rattle.audit_wire.specs.Reply.{reply_in, acknowledgement_in, commitment_reply_in, membership_reply_in};
 ghost use Rattle.audit_wire.specs.Reply.{increment_reply_in, entry_reply_in, state_reply_in, refused_in};
-ghost use Rattle.audit_c.specs.Replied.{first_body, IsReplyRead, IsFoundIn};
+ghost use Rattle.audit_c.specs.Replied.{first_body, IsReplyRead, IsReplyFound};
 
 use crate::answers::{MALFORMED, MORE, OK};
 use crate::reply::GivenReply;
@@ -40,7 +40,7 @@ fn body_at_front(bytes: &[u8]) -> Option<&[u8]>
 
 #[tactic(auto, unfolding(audit_wire::specs::Reply::reply_in))]
 fn reply_in(body: &[u8]) -> Option<GivenReply>
-    ensures { IsFoundIn body.now (reply_in body.now) result }
+    ensures { IsReplyFound body.now (reply_in body.now) result }
 {
     let [kind, fields @ ..] = body else {
         return None;
@@ -59,7 +59,7 @@ fn reply_in(body: &[u8]) -> Option<GivenReply>
 
 #[tactic(auto, unfolding(audit_wire::specs::Reply::acknowledgement_in, crate::specs::Replied::reply_of))]
 fn acknowledgement_in(fields: &[u8]) -> Option<GivenReply>
-    ensures { IsFoundIn (129 ∷ fields.now) (acknowledgement_in fields.now) result }
+    ensures { IsReplyFound (129 ∷ fields.now) (acknowledgement_in fields.now) result }
 {
     if fields.len() != 52 {
         return None;
@@ -74,7 +74,7 @@ fn acknowledgement_in(fields: &[u8]) -> Option<GivenReply>
 
 #[tactic(auto, unfolding(audit_wire::specs::Reply::commitment_reply_in, crate::specs::Replied::reply_of))]
 fn commitment_in(fields: &[u8]) -> Option<GivenReply>
-    ensures { IsFoundIn (130 ∷ fields.now) (commitment_reply_in fields.now) result }
+    ensures { IsReplyFound (130 ∷ fields.now) (commitment_reply_in fields.now) result }
 {
     if fields.len() != 44 {
         return None;
@@ -88,7 +88,7 @@ fn commitment_in(fields: &[u8]) -> Option<GivenReply>
 
 #[tactic(auto, unfolding(audit_wire::specs::Reply::membership_reply_in, crate::specs::Replied::reply_of))]
 fn membership_in(fields: &[u8]) -> Option<GivenReply>
-    ensures { IsFoundIn (131 ∷ fields.now) (membership_reply_in fields.now) result }
+    ensures { IsReplyFound (131 ∷ fields.now) (membership_reply_in fields.now) result }
 {
     if fields.len() < 5 {
         return None;
@@ -106,7 +106,7 @@ fn membership_in(fields: &[u8]) -> Option<GivenReply>
 
 #[tactic(auto, unfolding(audit_wire::specs::Reply::increment_reply_in, crate::specs::Replied::reply_of))]
 fn increment_in(fields: &[u8]) -> Option<GivenReply>
-    ensures { IsFoundIn (132 ∷ fields.now) (increment_reply_in fields.now) result }
+    ensures { IsReplyFound (132 ∷ fields.now) (increment_reply_in fields.now) result }
 {
     if fields.len() < 5 {
         return None;
@@ -123,7 +123,7 @@ fn increment_in(fields: &[u8]) -> Option<GivenReply>
 
 #[tactic(auto, unfolding(audit_wire::specs::Reply::entry_reply_in, crate::specs::Replied::reply_of))]
 fn entry_in(fields: &[u8]) -> Option<GivenReply>
-    ensures { IsFoundIn (133 ∷ fields.now) (entry_reply_in fields.now) result }
+    ensures { IsReplyFound (133 ∷ fields.now) (entry_reply_in fields.now) result }
 {
     if fields.len() < 4 || fields.len() > 4 + MAX_ENTRY {
         return None;
@@ -133,7 +133,7 @@ fn entry_in(fields: &[u8]) -> Option<GivenReply>
 
 #[tactic(auto, unfolding(audit_wire::specs::Reply::state_reply_in, crate::specs::Replied::reply_of))]
 fn state_in(fields: &[u8]) -> Option<GivenReply>
-    ensures { IsFoundIn (135 ∷ fields.now) (state_reply_in fields.now) result }
+    ensures { IsReplyFound (135 ∷ fields.now) (state_reply_in fields.now) result }
 {
     if fields.len() != 71 || fields[70] > 1 {
         return None;
@@ -152,7 +152,7 @@ fn state_in(fields: &[u8]) -> Option<GivenReply>
 
 #[tactic(auto, unfolding(audit_wire::specs::Reply::refused_in, crate::specs::Replied::reply_of))]
 fn refused_in(fields: &[u8]) -> Option<GivenReply>
-    ensures { IsFoundIn (255 ∷ fields.now) (refused_in fields.now) result }
+    ensures { IsReplyFound (255 ∷ fields.now) (refused_in fields.now) result }
 {
     if fields.len() != 5 {
         return None;

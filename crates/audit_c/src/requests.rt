@@ -4,7 +4,7 @@ ghost use Rattle.std.specs.Int.{w32, w64, to_be_bytes};
 ghost use Rattle.audit_wire.specs.declared.request.Request.TheVariants as request;
 ghost use Rattle.audit_wire.specs.Request.{request_body, IsDaemonRequest};
 ghost use Rattle.audit_wire.specs.View.{request_shown};
-ghost use Rattle.audit_c.specs.Written.{IsWritten};
+ghost use Rattle.audit_c.specs.Written.{IsRequestWritten};
 
 use audit_wire::{MAX_PAYLOAD, RESERVED_KIND, RequestView};
 
@@ -21,7 +21,7 @@ pub extern "C" fn audit_store_write_append(
     payload: &[u8],
     frame: &mut [u8],
 ) -> usize
-    ensures { IsWritten (request.Append tag kind payload.now) frame.old frame.new result }
+    ensures { IsRequestWritten (request.Append tag kind payload.now) frame.old frame.new result }
 {
     write_view(RequestView::Append { tag, kind, payload }, frame)
 }
@@ -29,7 +29,7 @@ pub extern "C" fn audit_store_write_append(
 /// The same of a request for the newest commitment, of 7 bytes.
 #[unsafe(no_mangle)]
 pub extern "C" fn audit_store_write_commitment(tag: u32, frame: &mut [u8]) -> usize
-    ensures { IsWritten (request.Commitment tag) frame.old frame.new result }
+    ensures { IsRequestWritten (request.Commitment tag) frame.old frame.new result }
 {
     write_view(RequestView::Commitment { tag }, frame)
 }
@@ -42,7 +42,7 @@ pub extern "C" fn audit_store_write_inclusion(
     count: u64,
     frame: &mut [u8],
 ) -> usize
-    ensures { IsWritten (request.Membership tag index count) frame.old frame.new result }
+    ensures { IsRequestWritten (request.Membership tag index count) frame.old frame.new result }
 {
     write_view(RequestView::Membership { tag, index, count }, frame)
 }
@@ -55,7 +55,7 @@ pub extern "C" fn audit_store_write_consistency(
     newer: u64,
     frame: &mut [u8],
 ) -> usize
-    ensures { IsWritten (request.Incremental tag older newer) frame.old frame.new result }
+    ensures { IsRequestWritten (request.Incremental tag older newer) frame.old frame.new result }
 {
     write_view(RequestView::Incremental { tag, older, newer }, frame)
 }
@@ -63,7 +63,7 @@ pub extern "C" fn audit_store_write_consistency(
 /// The same of a request for an entry, of 15 bytes.
 #[unsafe(no_mangle)]
 pub extern "C" fn audit_store_write_entry(tag: u32, index: u64, frame: &mut [u8]) -> usize
-    ensures { IsWritten (request.Entry tag index) frame.old frame.new result }
+    ensures { IsRequestWritten (request.Entry tag index) frame.old frame.new result }
 {
     write_view(RequestView::Entry { tag, index }, frame)
 }
@@ -71,7 +71,7 @@ pub extern "C" fn audit_store_write_entry(tag: u32, index: u64, frame: &mut [u8]
 /// The same of a request to close the log, of 7 bytes.
 #[unsafe(no_mangle)]
 pub extern "C" fn audit_store_write_close(tag: u32, frame: &mut [u8]) -> usize
-    ensures { IsWritten (request.Close tag) frame.old frame.new result }
+    ensures { IsRequestWritten (request.Close tag) frame.old frame.new result }
 {
     write_view(RequestView::Close { tag }, frame)
 }
@@ -79,13 +79,13 @@ pub extern "C" fn audit_store_write_close(tag: u32, frame: &mut [u8]) -> usize
 /// The same of a request for the state of the store, of 7 bytes.
 #[unsafe(no_mangle)]
 pub extern "C" fn audit_store_write_state(tag: u32, frame: &mut [u8]) -> usize
-    ensures { IsWritten (request.State tag) frame.old frame.new result }
+    ensures { IsRequestWritten (request.State tag) frame.old frame.new result }
 {
     write_view(RequestView::State { tag }, frame)
 }
 
 fn write_view(request: RequestView<'_>, frame: &mut [u8]) -> usize
-    ensures { IsWritten (request_shown request.entry) frame.old frame.new result }
+    ensures { IsRequestWritten (request_shown request.entry) frame.old frame.new result }
 {
     if !is_request(request) {
         return 0;
