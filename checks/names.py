@@ -3,9 +3,10 @@
 usage: bin/check names [PAGE ..]
 
 The pages are those of docs/ about the code, and PROMISES.md of each crate, unless others are given. A crate must have
-a folder in crates/, a function of the library for C be in the code. A path must exist, relative to the top or to a crate's folder. Each word of any other
-name must be in the code, outside of comments, or name an edit. `bin/check NAME` and `bin/bench NAME` must be in their
-lists. Other names with a space, and code blocks, are ignored. What isn't there is printed with its page and line.
+a folder in crates/, a function of the library for C be in the code. A path must exist, relative to the top or to a
+crate's folder. Each word of any other name must be in the code, outside of comments, or name an edit. `bin/check NAME`
+and `bin/bench NAME` must be in their lists. Other names with a space, and code blocks, are ignored. What isn't there is
+printed with its page and line.
 """
 import glob
 import os

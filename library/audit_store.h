@@ -178,9 +178,9 @@ struct audit_store_reply {
  * Reads the reply at the start of the bytes that came. OK with its fields, MORE if its frame isn't whole yet, MALFORMED
  * if the frame is that of no reply; `reply` is then as it was. The next reply starts `reply->size` bytes later.
  *
- * A proof for audit_store_check_inclusion has the byte 1, the index and the count that were asked for, 8 bytes each with
- * the highest first, and the frame from byte 7 on; one for audit_store_check_consistency has the byte 2, the two counts,
- * and the frame from byte 7 on. audit_store_proof_head writes the bytes before the frame's.
+ * A proof for audit_store_check_inclusion has the byte 1, the index and the count that were asked for, 8 bytes each
+ * with the highest first, and the frame from byte 7 on; one for audit_store_check_consistency has the byte 2, the two
+ * counts, and the frame from byte 7 on. audit_store_proof_head writes the bytes before the frame's.
  */
 uint32_t audit_store_read_reply(const uint8_t *bytes, size_t bytes_length, struct audit_store_reply *reply);
 

@@ -25,7 +25,7 @@ def declared():
 
 @scene
 def scene_names():
-    """The header declares what the library exports, the crate defines and the package calls; nothing else is visible."""
+    """The header declares what the library exports, the crate defines and the package calls; no more is visible."""
     from audit_store._library import FUNCTIONS
     sources = os.path.join(CRATES, "audit_c", "src")
     defined = {name for file in os.listdir(sources)
@@ -71,8 +71,8 @@ def scene_layouts():
             prints += '    printf("%%zu\\n", offsetof(struct %s, %s));\n' % (name, field)
             wanted.append(getattr(layout, field).offset)
     for name in ("OK", "NOT_ACCEPTED", "MORE", "MISUSED", "MALFORMED", "BAD_PROOF", "PAYLOAD_MAX", "ENTRY_MAX",
-                 "REQUEST_MAX", "CLOSING", "ACKNOWLEDGEMENT", "COMMITMENT", "INCLUSION", "CONSISTENCY", "ENTRY", "STATE",
-                 "REFUSED"):
+                 "REQUEST_MAX", "CLOSING", "ACKNOWLEDGEMENT", "COMMITMENT", "INCLUSION", "CONSISTENCY", "ENTRY",
+                 "STATE", "REFUSED"):
         prints += '    printf("%%zu\\n", (size_t)AUDIT_STORE_%s);\n' % name
         wanted.append(getattr(names, name))
     text = "#include <audit_store.h>\n#include <stdio.h>\nint main(void)\n{\n%s    return 0;\n}\n" % prints

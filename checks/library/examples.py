@@ -77,9 +77,11 @@ def scene_shop_in_go():
     os.mkdir("shop")
     shutil.copy(os.path.join(EXAMPLES, "library", "order.go"), "shop")
     write("shop/go.mod", b"module shop\n")
-    environment = dict(os.environ, CGO_CFLAGS="-I" + at_top("library"), CGO_LDFLAGS="-L%s -Wl,-rpath,%s" % (
-        common.FOLDER, common.FOLDER), GOFLAGS="-mod=mod", GOCACHE=os.path.abspath("cache"), GOPATH=os.path.abspath("path"))
-    done = subprocess.run(["go", "build", "-o", "order", "."], cwd="shop", env=environment, capture_output=True, text=True)
+    flags = "-L%s -Wl,-rpath,%s" % (common.FOLDER, common.FOLDER)
+    environment = dict(os.environ, CGO_CFLAGS="-I" + at_top("library"), CGO_LDFLAGS=flags, GOFLAGS="-mod=mod",
+                       GOCACHE=os.path.abspath("cache"), GOPATH=os.path.abspath("path"), CGO_ENABLED="1")
+    done = subprocess.run(["go", "build", "-o", "order", "."], cwd="shop", env=environment, capture_output=True,
+                          text=True)
     if done.returncode:
         raise Wrong(done.stderr)
     with FedDaemon(os.getcwd()) as daemon:

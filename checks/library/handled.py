@@ -205,7 +205,8 @@ def scene_refusing_store():
             log.warning("%d", number)
         handler.flush()
         count = daemon.count()
-        expect((handler.acknowledged, handler.dropped, handler.refused.name), (count, 20 - count, "Full"), "a full store")
+        found = handler.acknowledged, handler.dropped, handler.refused.name
+        expect(found, (count, 20 - count, "Full"), "a full store")
         expect_true(count >= 5, "a store of 8 sectors has %d events" % count)
         handler.close()
 

@@ -13,10 +13,11 @@ from checks.parts.scenes import scene
 from checks.parts.wrong import Wrong, expect
 from model import tree, wire
 from model.chain import CLOSE, ZERO_KEY, log_of
-from model.verdict import verdict
+from history import BadArgument
+from model.verdict import state_after, verdict
 from model.wire import Request, request_frame
 from read_export import read_on
-from state import FIRST
+from state import FIRST, State
 
 ROLLS = random.Random(68)
 
@@ -222,7 +223,7 @@ def written(name, *words):
     size = call(*words, room, names.REQUEST_MAX)
     if size:
         short = ctypes.create_string_buffer(b"\xaa" * size, size)
-        expect((call(*words, short, size - 1), short.raw), (0, b"\xaa" * size), "a buffer that is too short for " + name)
+        expect((call(*words, short, size - 1), short.raw), (0, b"\xaa" * size), "a buffer too short for " + name)
         expect((call(*words, short, size), short.raw), (size, room.raw[:size]), "a buffer that is just long enough")
     return room.raw[:size]
 
@@ -400,3 +401,42 @@ def scene_verify():
         else:
             raise Wrong("an export that is cut is verified")
         expect(len(found), 0, "the events that were handed out before the verdict") if most == 0 else None
+
+
+@scene
+def scene_states():
+    """A log is verified on from each of its states, whose texts are the auditor's; no other text is a state."""
+    from audit_store import SavedState, verify
+    log = log_of(events_of(22, True))
+    saved = []
+    for count in range(len(log.events) + 1):
+        front = log_of(log.events[:count])
+        events = list(verify(front.export, ZERO_KEY, commitment_of(front), saved.append))
+        state = state_after(front, ZERO_KEY, tuple(commitment_of(front)))
+        expect(saved[-1].text(), state.text(), "the state after %d events" % count)
+        again, rest = SavedState.parse(state.text()), b"".join(log.entries[count:])
+        events += list(verify(rest, again, commitment_of(log), saved.append))
+        expect([(event.index, event.kind, event.payload) for event in events],
+               [(index, *event) for index, event in enumerate(log.events)], "the events before and after a state")
+        expect(saved[-1].text(), state_after(log, ZERO_KEY, tuple(commitment_of(log))).text(), "the last state")
+        expect(saved[-1].closed, True, "a closed log")
+    for _ in range(rounds(3000)):
+        text = mutated(ROLLS.choice(saved).text())
+        try:
+            wanted = State.read(text)[0].text()
+        except BadArgument:
+            wanted = None
+        try:
+            found = SavedState.parse(text).text()
+        except ValueError:
+            found = None
+        expect(found, wanted, "a changed state %r" % text)
+    vector = vectors.Vectors(read_text(at_top("docs", "formats.md")))
+    for text in vector.state, states_of(vector):
+        expect(SavedState.parse(text).count, 3, "a state of the document")
+
+
+def states_of(vector):
+    """The state of the document that has the newest commitment too."""
+    lines = vector.state.splitlines(True)[:-1] + vector.newest.splitlines(True)
+    return b"".join(lines)

@@ -11,8 +11,8 @@ from audit_store.client import Acknowledgement, ConnectionEnded, Found, Frames, 
 class AsyncClient:
     """One connection to a daemon, for one event loop. Calls may overlap: each is sent at once, and gets its own reply.
 
-    After `ConnectionEnded` or a timeout the connection is over, and so are the calls that waited. Whether the event of a
-    failed append is in the log isn't known.
+    After `ConnectionEnded` or a timeout the connection is over, and so are the calls that waited. Whether the event of
+    a failed append is in the log isn't known.
 
         async with AsyncClient("/run/audit/log.sock") as log:
             await asyncio.gather(*(log.append(b"%d" % number) for number in range(100)))

@@ -46,7 +46,8 @@ def given(commitment: Commitment) -> GivenCommitment:
 
 def check(proof: bytes, commitment: Commitment, newer: Optional[Commitment] = None) -> bool:
     """Whether a proof is accepted, as `audit check` judges it: an inclusion proof under one commitment, a consistency
-    proof under an older and a newer one. The proof has to be of their counts. `BadProof` if the bytes are no such proof.
+    proof under an older and a newer one. The proof has to be of their counts. `BadProof` if the bytes are no such
+    proof.
 
     >>> check(b"", Commitment(0, bytes(32)))
     Traceback (most recent call last):

@@ -49,8 +49,8 @@ class Acknowledgement(NamedTuple):
 
 
 class State(NamedTuple):
-    """The state of a store: its commitment, its first free sector, its number of sectors, its generation, the version of
-    its format, and whether the log is closed."""
+    """The state of a store: its commitment, its first free sector, its number of sectors, its generation, the version
+    of its format, and whether the log is closed."""
 
     commitment: Commitment
     end: int
@@ -126,7 +126,8 @@ class Found:
     def __init__(self, reply: Reply, whole: bytes) -> None:
         self.index, self.frame = reply.index, whole
         self.commitment = Commitment(reply.count, bytes(reply.root))
-        self.state = State(self.commitment, reply.end, reply.sectors, reply.generation, reply.version, reply.closed == 1)
+        self.state = State(self.commitment, reply.end, reply.sectors, reply.generation, reply.version,
+                           reply.closed == 1)
 
     def acknowledgement(self) -> Acknowledgement:
         return Acknowledgement(self.index, self.commitment)
@@ -143,9 +144,8 @@ class Client:
     """One connection to a daemon. Use one in each thread: a call that begins while another one is under way in another
     thread waits for it.
 
-    A call that fails with `ConnectionEnded` or `TimeoutError` ends the connection; the next call connects again. Whether
-    the event of a failed append is in the log isn't known. A process that forked has to connect again, and does so by
-    itself.
+    A call that fails with `ConnectionEnded` or `TimeoutError` ends the connection; the next call connects again.
+    Whether the event of a failed append is in the log isn't known. A forked child connects again by itself.
 
         with Client("/run/audit/log.sock") as log:
             done = log.append(b"order 7 was shipped", kind=3)
@@ -223,8 +223,8 @@ class Client:
         return proof
 
     def extends(self, older: Commitment, newer: Optional[Commitment] = None) -> bytes:
-        """A consistency proof from an older commitment to a newer one, or to the newest, which was checked. `Unproved` if
-        it isn't accepted: then the server hasn't shown that nothing before was changed."""
+        """A consistency proof from an older commitment to a newer one, or to the newest, which was checked.
+        `Unproved` if it isn't accepted: then the server hasn't shown that nothing before was changed."""
         newer = newer or self.commitment()
         found = self._ask(self._frames.consistency(older.count, newer.count), names.CONSISTENCY)
         proof = found.proof(2, older.count, newer.count)

@@ -1,8 +1,10 @@
 """The events of an export, verified."""
 import ctypes
+import hashlib
 import os
-from ctypes import addressof, byref
-from typing import BinaryIO, Iterable, Iterator, NamedTuple, Union
+import re
+from ctypes import byref
+from typing import BinaryIO, Callable, Dict, Iterable, Iterator, NamedTuple, Optional, Union
 
 from audit_store._library import CAUSES, CLOSING, MORE, OK, PAYLOAD_MAX, GivenEvent, Verifier, library
 from audit_store.checking import Commitment, given
@@ -32,17 +34,86 @@ class NotVerified(Exception):
         super().__init__("entry %d: %d %s" % (index, number, self.name))
 
 
+class SavedState:
+    """Where the verification of a log stands, as `audit verify --save` writes it: the text has the key of the next
+    entry, with which every entry from there on can be read.
+
+    Its lines are read and written by this package, and not by the library: that is tested, and not proved.
+    """
+
+    def __init__(self, count: int, key: bytes, link: bytes, closed: bool, nodes: Dict[int, bytes]) -> None:
+        self.count, self.key, self.link, self.closed, self.nodes = count, key, link, closed, nodes
+
+    @classmethod
+    def parse(cls, text: bytes) -> "SavedState":
+        """Reads the text of a state. A ValueError says that it is none: a state has one text alone."""
+        lines = [line.partition(b" ")[2] for line in text.split(b"\n")]
+        try:
+            count = int(lines[1])
+            key, link, *_ = (bytes.fromhex(line.decode("ascii")) for line in lines[2:4])
+            layers = [layer for layer in range(25) if count >> layer & 1]
+            nodes = {layer: bytes.fromhex(lines[5 + at].decode("ascii")) for at, layer in enumerate(layers)}
+            found = cls(count, key, link, lines[4] == b"closed", nodes)
+            newest = text[len(found._lines()):].split(b"\n")
+            extra = b"\n".join(newest[:2]) + b"\n" if newest[0].startswith(b"newest ") else b""
+            number = re.fullmatch(rb"(?:newest ([0-9]+)\nroot [0-9a-f]{64}\n)?", extra)
+            is_sound = (0 <= count <= 1 << 24 and {len(part) for part in (key, link, *nodes.values())} == {32}
+                        and (not found.closed or key == bytes(32))
+                        and (count or link == bytes(32) and not found.closed)
+                        and number is not None and (not number[1] or str(int(number[1])).encode() == number[1]
+                                                    and int(number[1]) < 1 << 64))
+        except (ValueError, IndexError):
+            is_sound = False
+        if not is_sound or found._text(extra) != text:
+            raise ValueError("the text is not that of a state")
+        return found
+
+    def _lines(self) -> bytes:
+        lines = ["audit-state 1", "count %d" % self.count, "key " + self.key.hex(), "link " + self.link.hex(),
+                 "log " + ("closed" if self.closed else "open")]
+        lines += ["node " + self.nodes[layer].hex() for layer in sorted(self.nodes)]
+        return "".join(line + "\n" for line in lines).encode()
+
+    def _text(self, extra: bytes = b"") -> bytes:
+        lines = self._lines() + extra
+        return lines + b"sha256 " + hashlib.sha256(lines).hexdigest().encode() + b"\n"
+
+    def text(self) -> bytes:
+        """The text of the state, without the newest commitment that `audit read` keeps beside it."""
+        return self._text()
+
+    def _begin(self, verifier: Verifier) -> None:
+        ctypes.memset(byref(verifier), 0, ctypes.sizeof(verifier))
+        verifier.key[:], verifier.link[:] = self.key, self.link
+        verifier.count, verifier.closed = self.count, int(self.closed)
+        for layer, node in self.nodes.items():
+            verifier.nodes[layer][:] = node
+
+    @classmethod
+    def _of(cls, verifier: Verifier) -> "SavedState":
+        closed = verifier.closed == 1
+        nodes = {layer: bytes(verifier.nodes[layer]) for layer in range(25) if verifier.count >> layer & 1}
+        return cls(verifier.count, bytes(32) if closed else bytes(verifier.key), bytes(verifier.link), closed, nodes)
+
+
 def _pieces(export: BinaryIO) -> Iterator[bytes]:
     return iter(lambda: export.read(PIECE), b"")
 
 
-def verify(export: Union[str, "os.PathLike[str]", BinaryIO, bytes, Iterable[bytes]], first_key: bytes,
-           commitment: Commitment) -> Iterator[Event]:
+Start = Union[bytes, SavedState]
+Save = Optional[Callable[[SavedState], object]]
+
+
+def verify(export: Union[str, "os.PathLike[str]", BinaryIO, bytes, Iterable[bytes]], start: Start,
+           commitment: Commitment, save: Save = None) -> Iterator[Event]:
     """The events of an export, in order, with the verdict of `audit verify`. `NotVerified` says what is wrong.
 
+    `start` is the first key of the log; or a state, and then the export has the entries after it. Once all is verified
+    and handed out, `save` is called with the state after the last entry.
+
     A path, an open file that can seek, and bytes are read twice, and no event is given before the whole export is
-    verified. Of other iterables of bytes, cut anywhere, each event is given as soon as its entry is judged: that nothing
-    is missing is only known if the iteration ends without an exception.
+    verified. Of other iterables of bytes, cut anywhere, each event is given as soon as its entry is judged: that
+    nothing is missing is only known if the iteration ends without an exception.
 
     >>> from audit_store import Commitment, verify
     >>> list(verify(b"", bytes(32), Commitment(0, bytes(32))))
@@ -51,45 +122,48 @@ def verify(export: Union[str, "os.PathLike[str]", BinaryIO, bytes, Iterable[byte
     Traceback (most recent call last):
     audit_store.exports.NotVerified: entry 0: 40 Short
     """
-    if len(first_key) != 32:
+    if not isinstance(start, SavedState) and len(start) != 32:
         raise ValueError("a key has 32 bytes")
     if isinstance(export, (bytes, bytearray, memoryview)):
         whole = bytes(export)
-        for _ in _events([whole], first_key, commitment, False):
+        for _ in _events([whole], start, commitment, False):
             pass
-        yield from _events([whole], first_key, commitment, True)
+        yield from _events([whole], start, commitment, True, save)
     elif isinstance(export, (str, os.PathLike)):
         with open(export, "rb") as file:
-            yield from _twice(file, first_key, commitment)
+            yield from _twice(file, start, commitment, save)
     elif hasattr(export, "read") and export.seekable():
-        yield from _twice(export, first_key, commitment)
+        yield from _twice(export, start, commitment, save)
     elif hasattr(export, "read"):
-        yield from _events(_pieces(export), first_key, commitment, True)
+        yield from _events(_pieces(export), start, commitment, True, save)
     else:
-        yield from _events(export, first_key, commitment, True)
+        yield from _events(export, start, commitment, True, save)
 
 
-def _twice(file: BinaryIO, first_key: bytes, commitment: Commitment) -> Iterator[Event]:
-    start = file.tell()
-    for _ in _events(_pieces(file), first_key, commitment, False):
+def _twice(file: BinaryIO, start: Start, commitment: Commitment, save: Save) -> Iterator[Event]:
+    place = file.tell()
+    for _ in _events(_pieces(file), start, commitment, False):
         pass
-    file.seek(start)
+    file.seek(place)
     # What changed since is found: the second reading is verified too.
-    yield from _events(_pieces(file), first_key, commitment, True)
+    yield from _events(_pieces(file), start, commitment, True, save)
 
 
-def _events(pieces: Iterable[bytes], first_key: bytes, commitment: Commitment, wanted: bool) -> Iterator[Event]:
+def _events(pieces: Iterable[bytes], start: Start, commitment: Commitment, wanted: bool,
+            save: Save = None) -> Iterator[Event]:
     """The events, if they are wanted; the verdict at the end."""
     claimed, verifier, event = given(commitment), Verifier(), GivenEvent()
     payload = ctypes.create_string_buffer(PAYLOAD_MAX)
     state, found, feed = byref(verifier), byref(event), library.verify_feed
-    library.verify_first(bytes(first_key), state)
+    if isinstance(start, SavedState):
+        start._begin(verifier)
+    else:
+        library.verify_first(bytes(start), state)
     try:
         for piece in pieces:
-            # The bytes stay where they are as long as `held` refers to them.
-            held = ctypes.create_string_buffer(piece, len(piece)) if not isinstance(piece, bytes) else piece
-            place = ctypes.cast(held, ctypes.c_void_p).value if isinstance(held, bytes) else addressof(held)
-            place, rest = place or addressof(payload), len(piece)
+            # `held` keeps the bytes where they are.
+            held = bytes(piece)
+            place, rest = ctypes.cast(held, ctypes.c_void_p).value or 0, len(held)
             while True:
                 answer = feed(state, place, rest, found, payload, PAYLOAD_MAX)
                 if answer == MORE:
@@ -103,6 +177,8 @@ def _events(pieces: Iterable[bytes], first_key: bytes, commitment: Commitment, w
         answer = library.verify_end(state, byref(claimed))
         if answer != OK:
             raise NotVerified(verifier.count, answer)
+        if save is not None:
+            save(SavedState._of(verifier))
     finally:
         # It has the log's key, and the payload's buffer an event.
         ctypes.memset(state, 0, ctypes.sizeof(verifier))

@@ -23,13 +23,13 @@ class Handler(logging.Handler):
     append that was cut off is sent again if its event isn't known to be in the log, so after a cut an event may be in
     the log twice; none is left out.
 
-    When the queue is full, `full` decides: "block" waits for a place, up to `patience` seconds and then drops the record;
-    "drop" drops it; "raise" raises `queue.Full`. `dropped` counts the records that aren't in the log: those that were
+    When the queue is full, `full` decides: "block" waits for a place, up to `patience` seconds and then drops the
+    record; "drop" drops it; "raise" raises `Full`. `dropped` counts the records that aren't in the log: those that were
     dropped, that the store refused (`refused` is the last refusal), and that are left when `close` gives up.
 
     `flush` returns once all records before it are on the disk, or after `patience` seconds; its result says which.
-    `acknowledged` is the number of events that are. At the exit of the process the queue is flushed. A forked child has a
-    queue and a connection of its own, both empty: what its parent had queued is the parent's.
+    `acknowledged` is the number of events that are. At the exit of the process the queue is flushed. A forked child has
+    a queue and a connection of its own, both empty: what its parent had queued is the parent's.
 
         logging.getLogger().addHandler(Handler("/run/audit/log.sock", kind=3))
     """
@@ -98,6 +98,10 @@ class Handler(logging.Handler):
                 thread = self._thread
             if thread is not None and thread is not threading.current_thread():
                 thread.join(self._patience)
+            with self._changed:
+                self.dropped += len(self._queue)
+                self._done += len(self._queue)
+                self._queue.clear()
         super().close()
 
     # ---- The queue

@@ -12,8 +12,8 @@ use audit_wire::{MAX_PAYLOAD, RESERVED_KIND, RequestView};
 const FIELDS_AT: usize = 7;
 
 /// Writes the frame of an append of an event into `frame`, and returns its length, 11 bytes more than the payload's.
-/// Returns 0 and writes nothing if the kind is the reserved one, the payload is longer than `MAX_PAYLOAD`, or `frame` is
-/// too short.
+/// Returns 0 and writes nothing if the kind is the reserved one, the payload is longer than `MAX_PAYLOAD`, or `frame`
+/// is too short.
 #[unsafe(no_mangle)]
 pub extern "C" fn audit_store_write_append(
     tag: u32,
