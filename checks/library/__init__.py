@@ -9,7 +9,7 @@ C or Go, or valgrind, that isn't there is left out with a line.
 """
 from checks.library import asked, built, examples, handled, judged
 from checks.library.common import use_library
-from checks.parts.scenes import play_all, scenes_in, words_of
+from checks.parts.scenes import play_side_by_side, scenes_in, words_of
 
 SCENES = scenes_in(built, judged, asked, handled, examples)
 
@@ -17,4 +17,4 @@ SCENES = scenes_in(built, judged, asked, handled, examples)
 def main(words):
     _, names = words_of(words, SCENES)
     with use_library():
-        return play_all(SCENES, names)
+        return play_side_by_side(SCENES, names)
