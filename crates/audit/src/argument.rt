@@ -4,6 +4,7 @@ use crate::command::Asked;
 use crate::contents::{StateText, state_in, state_or_other};
 use crate::continuing::explain_start;
 use crate::form::key_flaw;
+use crate::noted::unread_note;
 use crate::places::key_file_of;
 use crate::question::bad_question;
 use crate::wrong_word::wrong_word;
@@ -24,6 +25,10 @@ pub(crate) fn explain_argument<F: Files, M: Write>(
     notes: &Notes<'_>,
     messages: &mut M,
 ) -> io::Result<()> {
+    if let Some(file) = unread_note(asked) {
+        let shown = Shown(file);
+        return writeln!(messages, "audit: {shown}: it isn't a note");
+    }
     if let Asked::Plain(Request::Verify(asked)) = asked
         && may_be_state(notes)
         && let Some(state) = state_in(rt, alloc, asked.start)

@@ -1,4 +1,5 @@
 use crate::forms::{EXPLAIN, NO_PROGRESS, WRITER, command_line};
+use crate::noted::NoteRequest;
 use crate::remote_command::remote_request;
 use audit_cli_append::Request as Lines;
 use audit_cli_client::Request as Remote;
@@ -27,6 +28,8 @@ pub struct CommandLine<'a> {
 pub enum Asked<'a> {
     /// A command that serves no sessions.
     Plain(Request<'a>),
+    /// A note of a commitment.
+    Note(NoteRequest<'a>),
     /// An append of lines.
     Lines(Lines<'a>),
     /// Closing a log, and beginning a new store with its last commitment.
@@ -68,6 +71,10 @@ fn asked_by<'m, 'a: 'm>(name: &str, given: &'m ArgMatches<'a>) -> Asked<'m> {
     }
     match name {
         "append" => Asked::Lines(append_request(given)),
+        "note" => Asked::Note(NoteRequest {
+            name: word(given, "NAME"),
+            commitment: word(given, "COMMIT"),
+        }),
         "serve" => Asked::Serving(serve_request(given)),
         "loop" => Asked::Serving(loop_request(given)),
         "daemon" => Asked::Daemon(Daemon::Run(settings(given))),

@@ -76,6 +76,6 @@ fn print_end<F: Files, M: Write>(
 fn always_explains(asked: Asked<'_>) -> bool {
     match asked {
         Asked::Rotation(_) | Asked::Remote(_) | Asked::Serving(_) | Asked::Daemon(_) => true,
-        Asked::Plain(_) | Asked::Lines(_) => false,
+        Asked::Plain(_) | Asked::Lines(_) | Asked::Note(_) => false,
     }
 }

@@ -1,6 +1,7 @@
 //! The forms that words of a command line have to have, and where a word departs from its own.
 use audit_cli_base::{MAX_SOCKET_PATH, mode_asked, socket_path_asked};
 use audit_cli_daemon::source_in;
+use audit_cli_note::{MAX_NAME, is_log_name};
 use audit_cli_offline::commitment_in_word;
 use audit_serve_passes::MAX_BOUND_KINDS;
 use audit_text::{kind_in_word, long_asked, number_in_text, split_at_first};
@@ -25,6 +26,8 @@ pub(crate) enum Form<'a> {
     Mode,
     /// A count and a root.
     Commitment,
+    /// The name of a log.
+    Name,
     /// The path of a socket.
     Socket,
     /// The path of a daemon's socket, beside which it makes another.
@@ -60,6 +63,7 @@ impl Form<'_> {
             Form::Kinds => word.split(',').all(|part| is_any_kind(part)),
             Form::Mode => mode_asked(word).is_ok(),
             Form::Commitment => commitment_in_word(bytes).is_some(),
+            Form::Name => is_log_name(bytes),
             Form::Socket => socket_path_asked(word, 0).is_ok(),
             Form::DaemonSocket => socket_path_asked(word, STOP_SUFFIX).is_ok(),
             Form::Source => source_in(word).is_some(),
@@ -75,6 +79,7 @@ impl Form<'_> {
         match self {
             Form::Number { .. } | Form::Kind => flaw_of_digits(bytes, 0, Digits::Decimal),
             Form::Commitment => flaw_of_commitment(bytes),
+            Form::Name if word.len() > MAX_NAME => Some(Flaw::Length(word.len())),
             Form::Socket | Form::DaemonSocket if !word.is_empty() => {
                 Some(Flaw::Length(word.len()))
             }
@@ -101,6 +106,7 @@ impl Display for Form<'_> {
             ),
             Form::Mode => f.write_str("600 to 677, in octal digits"),
             Form::Commitment => f.write_str("COUNT:ROOT, a number and 64 hex digits"),
+            Form::Name => write!(f, "1 to {MAX_NAME} bytes of ASCII, without spaces"),
             Form::Socket => write!(f, "a path of 1 to {MAX_SOCKET_PATH} bytes"),
             Form::DaemonSocket => {
                 write!(f, "a path of 1 to {} bytes", MAX_SOCKET_PATH - STOP_SUFFIX)

@@ -308,7 +308,7 @@ static CHECK: Form = Form {
         },
         Word {
             name: "OLDER",
-            help: "The commitment, as COUNT:ROOT",
+            help: "The commitment, as COUNT:ROOT, or @FILE with a note",
             is_required: true,
         },
         Word {
@@ -324,6 +324,25 @@ static CHECK: Form = Form {
         needs: None,
         excludes: None,
     }],
+};
+
+static NOTE: Form = Form {
+    name: "note",
+    about: "Prints a note: the name of a log and its commitment, as lines to be signed and kept",
+    after: None,
+    words: &[
+        Word {
+            name: "NAME",
+            help: "The name of the log, 1 to 255 bytes of ASCII without spaces",
+            is_required: true,
+        },
+        Word {
+            name: "COMMIT",
+            help: "The commitment, as COUNT:ROOT, or @FILE with a note",
+            is_required: true,
+        },
+    ],
+    options: &[],
 };
 
 static EXPORT: Form = Form {
@@ -384,7 +403,7 @@ static VERIFY: Form = Form {
         },
         Word {
             name: "COMMIT",
-            help: "The commitment to the whole log, as COUNT:ROOT",
+            help: "The commitment to the whole log, as COUNT:ROOT, or @FILE with a note",
             is_required: true,
         },
     ],
@@ -589,9 +608,9 @@ pub fn command_line<'a>(alloc: Global) -> Result<Command<'a>, AllocError> {
 }
 
 // The commands that work on files, or serve.
-fn local_forms() -> [&'static Form; 14] {
+fn local_forms() -> [&'static Form; 15] {
     [
-        &REPLAY, &FORMAT, &APPEND, &ROTATE, &CLOSE, &SHOW, &PROVE, &CHECK, &EXPORT, &VERIFY,
+        &REPLAY, &FORMAT, &APPEND, &ROTATE, &CLOSE, &SHOW, &PROVE, &CHECK, &NOTE, &EXPORT, &VERIFY,
         &SERVE, &LOOP, &DAEMON, &STOP,
     ]
 }

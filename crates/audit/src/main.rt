@@ -14,6 +14,7 @@ mod explaining;
 mod form;
 mod forms;
 mod heard;
+mod noted;
 mod outside;
 mod places;
 mod program;

@@ -13,7 +13,7 @@ pub(crate) fn store_of<'a>(asked: Asked<'a>) -> Option<&'a str> {
         Asked::Rotation(rotation) => Some(rotation.old),
         Asked::Serving(Serving::Serve { file, .. } | Serving::Loop { file, .. }) => Some(file),
         Asked::Daemon(Daemon::Run(settings)) => Some(settings.file),
-        Asked::Daemon(Daemon::Stop { .. }) | Asked::Remote(_) => None,
+        Asked::Daemon(Daemon::Stop { .. }) | Asked::Remote(_) | Asked::Note(_) => None,
     }
 }
 

@@ -1,13 +1,15 @@
 use crate::command::{Asked, CommandLine, matches_of, request_of};
 use crate::ending::{End, explain_end};
 use crate::heard::Heard;
+use crate::noted::{NoteRequest, Noted, fault_of};
 use crate::places::key_file_of;
 use audit_cli_append::Request as Lines;
-use audit_cli_base::{CommandError, Status, report};
+use audit_cli_base::{CommandError, Status, report, report_end};
 use audit_cli_calls::SystemStores;
 use audit_cli_client::{Request as Remote, SystemServers};
 use audit_cli_daemon::{Request as Daemon, Settings};
 use audit_cli_host::{Dial, Extent, Notes, Screen, Subject};
+use audit_cli_note::write_note;
 use audit_cli_offline::ReportForm;
 use audit_cli_rotate::Request as Rotation;
 use audit_cli_serve::Request as Serving;
@@ -102,8 +104,12 @@ where
     if let Some(file) = key_file_of(asked) {
         notes.watch_key(notes.subject_of(file));
     }
+    let noted = Noted::read(rt, alloc, asked);
+    let asked = noted.in_place(asked);
     let mut heard = Heard::new(messages, notes, only_answers(asked));
-    let status = if terminals.output && prints_text(asked) {
+    let status = if let Some(fault) = noted.fault {
+        report(fault, &mut heard)
+    } else if terminals.output && prints_text(asked) {
         let mut screen = Screen::new(alloc, output);
         carry_out(rt, alloc, asked, explains, input, &mut screen, &mut heard)
     } else {
@@ -132,7 +138,7 @@ fn only_answers(asked: Asked<'_>) -> bool {
     match asked {
         Asked::Plain(Request::Format { .. } | Request::Close { .. }) => false,
         Asked::Plain(Request::Verify(asked)) => asked.save.is_none(),
-        Asked::Plain(_) => true,
+        Asked::Plain(_) | Asked::Note(_) => true,
         Asked::Remote(Remote::Ask { question, .. }) => question.0 != "close",
         _ => false,
     }
@@ -154,6 +160,7 @@ where
 {
     match asked {
         Asked::Plain(request) => answer(rt, alloc, request, input, output, messages),
+        Asked::Note(request) => note(alloc, request, output, messages),
         Asked::Lines(request) => append(rt, alloc, request, input, output, messages),
         Asked::Rotation(request) => rotate(rt, alloc, request, output, messages),
         Asked::Remote(request) => ask(rt, alloc, request, input, output, messages),
@@ -175,6 +182,20 @@ where
     F::File: SystemFile,
 {
     audit_cli_store::run(rt, alloc, request, input, output, messages)
+}
+
+#[inline(never)]
+fn note<W: Write, M: Write>(
+    alloc: Global,
+    request: NoteRequest<'_>,
+    output: &mut W,
+    messages: &mut M,
+) -> Status {
+    let done = match write_note(alloc, request.name, request.commitment, output) {
+        Ok(()) => Ok(()),
+        Err(fault) => Err(fault_of(fault)),
+    };
+    report_end(done, output.flush(), messages)
 }
 
 #[inline(never)]

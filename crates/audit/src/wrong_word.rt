@@ -60,6 +60,11 @@ impl Display for Wrong<'_> {
 pub(crate) fn wrong_word<'a>(asked: Asked<'a>) -> Option<Wrong<'a>> {
     match asked {
         Asked::Plain(request) => wrong_in_plain(request),
+        Asked::Note(note) => judge("NAME", Some(note.name), Form::Name).or(judge(
+            "COMMIT",
+            Some(note.commitment),
+            Form::Commitment,
+        )),
         Asked::Lines(lines) => wrong_in_lines(lines),
         Asked::Rotation(rotation) => judge("SECTORS", Some(rotation.sectors), SECTORS),
         Asked::Remote(request) => wrong_in_remote(request),
