@@ -2,6 +2,7 @@
 use crate::bytes::Bytes;
 use crate::command::Asked;
 use crate::contents::{Contents, contents_of};
+use crate::noted::unread_note;
 use crate::places::store_of;
 use audit_cli_client::Request as Remote;
 use audit_cli_daemon::Request as Daemon;
@@ -31,6 +32,7 @@ pub(crate) fn print_cause<F: Files, M: Write>(
         return print_kept_cause(rt, alloc, kept, notes, messages);
     }
     if let Some((name, error)) = notes.last() {
+        let name = unread_note(asked).unwrap_or(name);
         return writeln!(messages, "audit: {}: {error}", Shown(name));
     }
     match asked {
