@@ -159,7 +159,7 @@ def checks_of_rest(program):
         ["commits"], ["crates-table"], ["man-page"], ["endure", "20", endure], ["endure", "20", endure + ".by-rattle"],
         ["statement"], ["model"], ["rooms"], ["diagrams"], ["feeds", program], ["network", program], ["power", program],
         ["bench", "fleet", program, "8"], ["siem", program], ["chain", program], ["sealing", program],
-        ["metrics", program], ["library", program],
+        ["anchors", program], ["metrics", program], ["library", program],
         ["units", program], ["page"],
     ]
 

@@ -1,7 +1,7 @@
 # Bash completion for `audit`: `source packaging/completion.bash`.
 _audit() {
     local word=${COMP_WORDS[COMP_CWORD]} before=${COMP_WORDS[COMP_CWORD - 1]} command=${COMP_WORDS[1]}
-    local commands="replay format append close rotate show prove check export verify serve loop daemon stop send ask watch read help"
+    local commands="replay format append close rotate show prove check note export verify serve loop daemon stop send ask watch read help"
     local valued="--mode --long --expect --reserve --sessions --socket-mode --reader --writer --idle --backlog --window --timeout --every --kind --from --save --first --under"
     local options="--explain --no-progress --help" choices= files= place=0 question= index
     [[ $command = verify || $command = read ]] || valued="$valued --text"

@@ -63,9 +63,10 @@ def read_in(folder, name):
         return None
     except OSError as error:
         raise Bad("%s: %s" % (name, error.strerror)) from None
+    if not stat.S_ISREG(os.fstat(descriptor).st_mode):
+        os.close(descriptor)
+        raise Bad("%s is no regular file" % name)
     with os.fdopen(descriptor, "rb") as file:
-        if not stat.S_ISREG(os.fstat(descriptor).st_mode):
-            raise Bad("%s is no regular file" % name)
         data = file.read(SIZES[name] + 1)
     if len(data) > SIZES[name]:
         raise Bad("%s is too long" % name)

@@ -115,3 +115,30 @@ def scene_metrics(machine):
     plain = "/var/lib/audit-metrics/plain.prom"
     wait_for(lambda: b'audit_store_look_status{store="plain"} 3' in machine.out("cat", plain), "the timer's first look", 90)
     machine.stop("audit-metrics@plain.timer")
+
+
+@scene
+def scene_anchors(machine):
+    """The units that keep signed notes and append marks, and their timers."""
+    if not machine.out("sh", "-c", "command -v ssh-keygen"):
+        raise LeftOut("there is no ssh-keygen")
+    machine.make_store("anchored")
+    machine.start("audit-daemon@anchored")
+    machine.append("anchored", "one")
+    machine.good("install", "-d", "-o", "audit", "-g", "audit", "-m", "700", "/var/lib/audit-anchor")
+    machine.good("setpriv", "--reuid=audit", "--regid=audit", "--clear-groups", "ssh-keygen", "-q", "-t", "ed25519", "-N", "", "-f",
+                 "/var/lib/audit-anchor/anchored.key")
+    machine.good("systemctl", "start", "audit-anchor@anchored")
+    note = machine.good("cat", "/var/lib/audit-anchor/anchored/00000001/note").decode()
+    expect_true(note.startswith("audit-note 1\nname anchored\ncount 1\n"), "the note is %r" % note)
+    machine.good("systemctl", "start", "audit-mark@anchored")
+    machine.good("systemctl", "start", "audit-anchor@anchored")
+    note = machine.good("cat", "/var/lib/audit-anchor/anchored/00000002/note").decode()
+    expect_true("\ncount 2\n" in note, "the note after a mark is %r" % note)
+    machine.start("audit-mark@anchored.timer")
+    wait_for(lambda: machine.out("systemctl", "show", "--value", "--property=LastTriggerUSec", "audit-mark@anchored.timer").strip(),
+             "the timer of the marks", 90)
+    machine.stop("audit-mark@anchored.timer")
+    machine.stop("audit-daemon@anchored")
+    expect_true(machine.out("systemctl", "start", "audit-anchor@anchored") is not None, "an anchor without a daemon")
+    expect_true(b"failed" in machine.out("systemctl", "is-failed", "audit-anchor@anchored"), "an anchor without a daemon is kept")

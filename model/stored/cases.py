@@ -66,11 +66,6 @@ def contents_of_proofs():
         lambda: membership_proof(0, 1, [], longer_entry()), lambda: leaf_hash(longer_entry()))
 
 
-def root_of_nothing():
-    """The root of a note that isn't one of a log here."""
-    return b"\xff" * 32
-
-
 def close():
     key, closed = lambda: log_of(TWO).key, root_after([*TWO, CLOSE])
     return numbered(root_after(TWO), key, key, closed, closed, export_of([*TWO, CLOSE]), root_after([CLOSE]), root_after([CLOSE]),
@@ -265,7 +260,7 @@ FILES = {"cases/%s" % name: make for name, make in {
     "lines_of_text/stdout": lines_of_text,
     "no_command_is_replay/stdout": lambda: replayed("no_command_is_replay"),
     "notes/script": lambda: numbered(root_after(THREE), root_after([HI]), grown(THREE, 1)),
-    "notes/stdout": lambda: numbered(*repeat(root_after(THREE), 3), root_of_nothing),
+    "notes/stdout": lambda: numbered(*repeat(root_after(THREE), 3)),
     "out_is_the_store/script": lambda: numbered(root_after([HI])),
     "out_is_the_store/stdout": lambda: numbered(root_after([HI])),
     "payload_of_the_limit/stdout": lambda: replayed("payload_of_the_limit"),
