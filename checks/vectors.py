@@ -24,6 +24,7 @@ from history import BadArgument, leaf_hash, root
 from model import wire
 from model.chain import CLOSE, ZERO_KEY, keystream_key, log_of, next_key
 from model.disk import header_of, header_sector
+from model.note import note, note_in
 from model.session import Rights, Server, Session
 from model.wire import Request, request_frame
 from read_export import read_on, under_keystream
@@ -31,6 +32,8 @@ from state import FIRST, State
 
 KIND = 1
 PAYLOADS = b"hi", b"a", b"b", b"c", b"d"
+# The name of the log in the note.
+NAMED = b"some.example/log"
 # The events of the vectors of printed lines.
 PRINTED = [(1, b"hi"), (7, b""), (2, b"a\tb\\\n"), (7, "caf\u00e9 \"x\"".encode()), (1, b"\xff\x00"), (0xffffffff, b"")]
 
@@ -43,6 +46,9 @@ class Vectors:
         self.state, self.newest = ("".join(line[4:] for line in block.splitlines(True)).encode()
                                    for block in re.findall(r"(?:^    .*\n)+", states + "\n", re.M))
         printed = re.search("\n## Printed events\n(.*?)\n## ", text, re.S)[1]
+        noted = re.search("\n## Notes\n(.*?)\n## ", text, re.S)[1]
+        self.note, = ("".join(line[4:] for line in block.splitlines(True)).encode()
+                      for block in re.findall(r"(?:^    .*\n)+", noted, re.M))
         self.json, self.numbered = ("".join(line[4:] for line in block.splitlines(True))
                                     for block in re.findall(r"(?:^    .*\n)+", printed + "\n", re.M))
         blocks = re.findall(r"(?:^    .*\n)+", section, re.M)
@@ -234,6 +240,16 @@ def differences_of_lines(vectors):
     lines = done_with(said, *words, "--text", "--numbers")
     if done_with(said, *words, "--json") != objects or lines != b"".join(numbered):
         yield "the program prints other events"
+
+
+def differences_of_note(text, log):
+    """The document's note is that of the log after three entries, for the model and for the program."""
+    head = 3, root([leaf_hash(entry) for entry in log[:3]])
+    if text != note(NAMED, *head) or note_in(text) != (NAMED, *head):
+        yield "the note"
+    write("note", text)
+    if [done("note", NAMED.decode(), word) for word in (word_of(*head), "@note")] != [text, text]:
+        yield "the program prints another note"
 
 
 def is_state(text):

@@ -19,7 +19,7 @@ use Rattle.audit_proof.specs.declared.commitment.Commitment.{Commitment}
 use Rattle.audit_verify.specs.StateText.{field_line}
 use Rattle.audit_verify.specs.Bookmark.{IsSoundNewest}
 use Rattle.audit_verify.proofs.Fields.{NoFeed, field_read, digits_feedless, hash_feedless, number_read, hash_read, same_some, same_number}
-use Rattle.audit_cli_note.specs.NoteText.{is_name_byte, is_log_name, note_text, IsNote, SpellsNote, IsUnread, Splits}
+use Rattle.audit_cli_note.specs.NoteText.{is_name_byte, is_log_name, note_text, IsNote, SpellsNote, IsUnreadNote, Splits}
 use Rattle.audit_cli_note.specs.declared.fault.NoteError.TheVariants.{NoNote}
 use Rattle.audit_cli_note.specs.declared.name.TheConstants.{MAX_NAME}
 
@@ -152,9 +152,9 @@ word_found commitment word is word_is =
 
 -- ---- what is no note
 
-pub too_long : (text : List ℕ) → 371 < length text → IsUnread text NoNote
+pub too_long : (text : List ℕ) → 371 < length text → IsUnreadNote text NoNote
 too_long text long = λ name commitment spells. omega (arith, long, ap length spells.text_is, short_note name commitment spells.note_is)
 
-pub too_long_if : (known : Option (List ℕ)) → IfSome known (λ bytes. INPUT_LIMIT < length bytes) → IfSome known (λ text. IsUnread text NoNote)
+pub too_long_if : (known : Option (List ℕ)) → IfSome known (λ bytes. INPUT_LIMIT < length bytes) → IfSome known (λ text. IsUnreadNote text NoNote)
 too_long_if None long = tt
 too_long_if (Some text) long = too_long text (omega (arith, long))

@@ -35,10 +35,10 @@ pub record SpellsNote (text name : List ℕ) (commitment : Commitment) : Type 0 
   pub text_is : text ≡ note_text name commitment
 
 -- why a text wasn't read: it is that of no note, or memory was refused
-abbrev pub IsUnread : List ℕ → NoteError → Type 0
-IsUnread text NoNote = (name : List ℕ) (commitment : Commitment) → SpellsNote text name commitment → ⊥
-IsUnread text File = ⊥
-IsUnread text (Lines cause) = cause ≡ Memory
+abbrev pub IsUnreadNote : List ℕ → NoteError → Type 0
+IsUnreadNote text NoNote = (name : List ℕ) (commitment : Commitment) → SpellsNote text name commitment → ⊥
+IsUnreadNote text File = ⊥
+IsUnreadNote text (Lines cause) = cause ≡ Memory
 
 -- a step of a reader: if a line with this word and value starts the text, this is its value, and this follows
 abbrev pub Splits : List ℕ → List ℕ → List ℕ → Type 0

@@ -8,7 +8,7 @@ use Rattle.audit_text.specs.Writing.{WritesInPart}
 use Rattle.audit_text.specs.declared.fault.LinesError.TheVariants.{Read, Write, Memory}
 use Rattle.audit_proof.specs.declared.commitment.Commitment.{Commitment}
 use Rattle.audit_cli_offline.specs.CommitmentWord.{commitment_in_word}
-use Rattle.audit_cli_note.specs.NoteText.{is_log_name, note_text, SpellsNote, IsUnread}
+use Rattle.audit_cli_note.specs.NoteText.{is_log_name, note_text, SpellsNote, IsUnreadNote}
 use Rattle.audit_cli_note.specs.declared.fault.NoteError.{NoteError}
 use Rattle.audit_cli_note.specs.declared.fault.NoteError.TheVariants.{NoNote, File, Lines}
 
@@ -33,7 +33,7 @@ abbrev pub path_after_sign : List ℕ → Option (List ℕ)
 path_after_sign word = if starts_with nat_eq word (codes "@") then Some (drop 1 word) else None
 
 -- this text is a note with this commitment
-pub record HasCommitment (text : List ℕ) (commitment : Commitment) : Type 0 where
+pub record IsNoteTo (text : List ℕ) (commitment : Commitment) : Type 0 where
   pub name : List ℕ
   pub spells : SpellsNote text name commitment
 
@@ -43,11 +43,11 @@ module _ {F : Type 0} (facts : F → FileFacts) (remaining : F → Option (List 
     pub file : F
     pub commitment : Commitment
     pub opened : (facts file).opened_to_read path
-    pub note : IfSome (remaining file) (λ text. HasCommitment text commitment)
+    pub note : IfSome (remaining file) (λ text. IsNoteTo text commitment)
     pub word_is : commitment_in_word word ≡ Some commitment
 
 -- Why no commitment was read: the text is no note, or reading failed, or memory was refused.
 abbrev pub IsNoteFileFault : Option (List ℕ) → NoteError → Type 0
-IsNoteFileFault known NoNote = IfSome known (λ text. IsUnread text NoNote)
+IsNoteFileFault known NoNote = IfSome known (λ text. IsUnreadNote text NoNote)
 IsNoteFileFault known File = ⊥
 IsNoteFileFault known (Lines cause) = (cause ≡ Read) ⊎ (cause ≡ Memory)

@@ -2,7 +2,7 @@
 ghost use Rattle.std.specs.Prelude.{◌≡◌, None, Some, IfOk, IfErr, IfSome, MatchOption, string_bytes};
 ghost use Rattle.audit_verify.specs.Bookmark.{IsSoundNewest};
 ghost use Rattle.audit_cli_offline.specs.CommitmentWord.{commitment_in_word};
-ghost use Rattle.audit_cli_note.specs.NoteWords.{path_after_sign, IsNoteAt, IsNoteFileFault, HasCommitment};
+ghost use Rattle.audit_cli_note.specs.NoteWords.{path_after_sign, IsNoteAt, IsNoteFileFault, IsNoteTo};
 
 use crate::fault::NoteError;
 use crate::reading::read_note;
@@ -42,7 +42,7 @@ where
 
 // The commitment in the note that a reader has.
 fn read_commitment<R: Read>(alloc: Global, reader: &mut R) -> Result<Commitment, NoteError>
-    ensures note { IfOk result (λ commitment. IfSome (R.remaining reader.old) (λ text. HasCommitment text commitment)) }
+    ensures note { IfOk result (λ commitment. IfSome (R.remaining reader.old) (λ text. IsNoteTo text commitment)) }
     ensures sound { IfOk result IsSoundNewest }
     ensures fault { IfErr result (IsNoteFileFault (R.remaining reader.old)) }
 {
