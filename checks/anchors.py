@@ -170,6 +170,7 @@ def scene_notes():
             words = "--", name.decode(), "%d:%s" % (count, root.hex())
             expect(done("note", *words), text, "a note")
             expect(done("note", "--", name.decode(), "@note"), text, "a note of a note")
+            expect(done("note", "--", name.decode(), "@/dev/stdin", data=text), text, "a note from a pipe")
             expect(note_in(text), (name, count, root), "the model's reading")
 
 
@@ -541,8 +542,8 @@ def scene_minisign():
 
 @scene
 def scene_counter_of_a_tpm():
-    """A TPM's counter beside a note: it only grows."""
-    needs("swtpm", "tpm2_nvdefine", "tpm2_nvincrement", "tpm2_nvread")
+    """A TPM certifies its counter, which only grows, for the digest of a note."""
+    needs("swtpm", "tpm2_nvdefine", "tpm2_nvincrement", "tpm2_nvread", "tpm2_nvcertify", "tpm2_verifysignature")
     os.mkdir("tpm")
     swtpm = subprocess.Popen(["swtpm", "socket", "--tpm2", "--tpmstate", "dir=tpm", "--server", "port=2321", "--ctrl",
                               "type=tcp,port=2322", "--flags", "not-need-init,startup-clear"])
@@ -554,6 +555,19 @@ def scene_counter_of_a_tpm():
             call("tpm2_nvincrement", "-C", "o", "0x1500016")
             counts.append(int.from_bytes(call("tpm2_nvread", "-C", "o", "0x1500016"), "big"))
         expect(counts[1], counts[0] + 1, "the counter")
+        call("tpm2_createprimary", "-C", "o", "-G", "ecc", "-c", "primary")
+        call("tpm2_create", "-C", "primary", "-G", "ecc256:ecdsa-sha256:null", "-u", "public", "-r", "private", "-a",
+             "fixedtpm|fixedparent|sensitivedataorigin|userwithauth|restricted|sign")
+        call("tpm2_load", "-C", "primary", "-u", "public", "-r", "private", "-c", "signer")
+        digest = hashlib.sha256(note(b"some", 3, ROOT)).hexdigest()
+        call("tpm2_nvcertify", "-C", "signer", "-c", "o", "-g", "sha256", "-q", digest, "--size", "8", "--attestation", "certified", "-o",
+             "signature", "0x1500016")
+        verify = "tpm2_verifysignature", "-c", "signer", "-g", "sha256", "-m", "certified", "-s", "signature"
+        call(*verify)
+        expect_true(bytes.fromhex(digest) in read("certified"), "the digest isn't certified")
+        flip("certified", read("certified").index(bytes.fromhex(digest)))
+        refused = subprocess.run(verify, capture_output=True)
+        expect_true(refused.returncode != 0, "the TPM takes a digest that was changed")
     finally:
         swtpm.kill()
         swtpm.wait()

@@ -69,7 +69,18 @@ impl Noted {
 /// The file of the first note that wasn't read.
 pub(crate) fn unread_note<'a>(asked: Asked<'a>) -> Option<&'a str> {
     let (first, second) = commitment_words(asked);
-    first.and_then(note_path).or(second.and_then(note_path))
+    match file_in(first) {
+        Some(file) => Some(file),
+        None => file_in(second),
+    }
+}
+
+// The file that a word names as one with a note.
+fn file_in<'a>(word: Option<&'a str>) -> Option<&'a str> {
+    match word {
+        Some(word) => note_path(word),
+        None => None,
+    }
 }
 
 // The words of a command that are commitments.
@@ -91,7 +102,7 @@ fn read_word<F: SystemFiles>(
 where
     F::File: SystemFile,
 {
-    let Some(path) = word.and_then(note_path) else {
+    let Some(path) = file_in(word) else {
         return Ok(None);
     };
     match named_commitment(rt, alloc, path) {

@@ -105,9 +105,38 @@ where
         notes.watch_key(notes.subject_of(file));
     }
     let noted = Noted::read(rt, alloc, asked);
-    let asked = noted.in_place(asked);
+    run_noted(
+        rt,
+        alloc,
+        noted.in_place(asked),
+        noted.fault,
+        explains,
+        notes,
+        terminals,
+        input,
+        output,
+        messages,
+    )
+}
+
+// Runs a command whose commitments were read from the notes that its words name, or not for this fault.
+fn run_noted<F: SystemFiles + SystemSockets + Clock + Dial, R: Read, W: Write, M: Write>(
+    rt: &F,
+    alloc: Global,
+    asked: Asked<'_>,
+    unread: Option<CommandError>,
+    explains: bool,
+    notes: &Notes<'_>,
+    terminals: Terminals,
+    input: &mut R,
+    output: &mut W,
+    messages: &mut M,
+) -> Status
+where
+    F::File: SystemFile,
+{
     let mut heard = Heard::new(messages, notes, only_answers(asked));
-    let status = if let Some(fault) = noted.fault {
+    let status = if let Some(fault) = unread {
         report(fault, &mut heard)
     } else if terminals.output && prints_text(asked) {
         let mut screen = Screen::new(alloc, output);

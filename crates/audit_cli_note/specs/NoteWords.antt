@@ -51,3 +51,11 @@ abbrev pub IsNoteFileFault : Option (List ℕ) → NoteError → Type 0
 IsNoteFileFault known NoNote = IfSome known (λ text. IsUnreadNote text NoNote)
 IsNoteFileFault known File = ⊥
 IsNoteFileFault known (Lines cause) = (cause ≡ Read) ⊎ (cause ≡ Memory)
+
+-- Why no commitment was read from a path: it couldn't be opened; what was opened there, to read, is no note; reading failed;
+-- or memory was refused.
+abbrev pub IsNoteAtFault : {F : Type 0} → (F → FileFacts) → (F → Option (List ℕ)) → Type 0 → List ℕ → NoteError → Type 0
+IsNoteAtFault {F = F} facts remaining failed path NoNote = (file : F) × ((facts file).opened_to_read path)
+    × IfSome (remaining file) (λ text. IsUnreadNote text NoNote)
+IsNoteAtFault facts remaining failed path File = failed
+IsNoteAtFault facts remaining failed path (Lines cause) = (cause ≡ Read) ⊎ (cause ≡ Memory)

@@ -2,7 +2,7 @@
 ghost use Rattle.std.specs.Prelude.{◌≡◌, None, Some, IfOk, IfErr, IfSome, MatchOption, string_bytes};
 ghost use Rattle.audit_verify.specs.Bookmark.{IsSoundNewest};
 ghost use Rattle.audit_cli_offline.specs.CommitmentWord.{commitment_in_word};
-ghost use Rattle.audit_cli_note.specs.NoteWords.{path_after_sign, IsNoteAt, IsNoteFileFault, IsNoteTo};
+ghost use Rattle.audit_cli_note.specs.NoteWords.{path_after_sign, IsNoteAt, IsNoteAtFault, IsNoteFileFault, IsNoteTo};
 
 use crate::fault::NoteError;
 use crate::reading::read_note;
@@ -31,7 +31,8 @@ pub fn named_commitment<F: SystemFiles>(
 ) -> Result<String, NoteError>
 where
     F::File: SystemFile,
-    ensures { IfOk result (λ word. IsNoteAt F.File.facts F.File.remaining path.now (string_bytes word)) }
+    ensures read { IfOk result (λ word. IsNoteAt F.File.facts F.File.remaining path.now (string_bytes word)) }
+    ensures fault { IfErr result (IsNoteAtFault F.File.facts F.File.remaining (F.failed rt.now) path.now) }
 {
     let Ok(mut file) = rt.open_to_read(path) else {
         return Err(NoteError::File);
