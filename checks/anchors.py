@@ -543,7 +543,8 @@ def scene_minisign():
 @scene
 def scene_counter_of_a_tpm():
     """A TPM certifies its counter, which only grows, for the digest of a note."""
-    needs("swtpm", "tpm2_nvdefine", "tpm2_nvincrement", "tpm2_nvread", "tpm2_nvcertify", "tpm2_verifysignature")
+    needs("swtpm", "tpm2_nvdefine", "tpm2_nvincrement", "tpm2_nvread", "tpm2_nvcertify", "tpm2_verifysignature",
+          "tpm2_flushcontext")
     os.mkdir("tpm")
     swtpm = subprocess.Popen(["swtpm", "socket", "--tpm2", "--tpmstate", "dir=tpm", "--server", "port=2321", "--ctrl",
                               "type=tcp,port=2322", "--flags", "not-need-init,startup-clear"])
@@ -556,9 +557,12 @@ def scene_counter_of_a_tpm():
             counts.append(int.from_bytes(call("tpm2_nvread", "-C", "o", "0x1500016"), "big"))
         expect(counts[1], counts[0] + 1, "the counter")
         call("tpm2_createprimary", "-C", "o", "-G", "ecc", "-c", "primary")
+        call("tpm2_flushcontext", "-t")
         call("tpm2_create", "-C", "primary", "-G", "ecc256:ecdsa-sha256:null", "-u", "public", "-r", "private", "-a",
              "fixedtpm|fixedparent|sensitivedataorigin|userwithauth|restricted|sign")
+        call("tpm2_flushcontext", "-t")
         call("tpm2_load", "-C", "primary", "-u", "public", "-r", "private", "-c", "signer")
+        call("tpm2_flushcontext", "-t")
         digest = hashlib.sha256(note(b"some", 3, ROOT)).hexdigest()
         call("tpm2_nvcertify", "-C", "signer", "-c", "o", "-g", "sha256", "-q", digest, "--size", "8", "--attestation", "certified", "-o",
              "signature", "0x1500016")
