@@ -16,11 +16,12 @@ import time
 from checks.parts import program
 from checks.parts.daemons import Daemon
 from checks.parts.files import read, write
-from checks.parts.places import tool
+from checks.parts.places import at_top, tool
 from checks.parts.program import BAD_ARGUMENT, done
 from checks.parts.scenes import play_all, scene, scenes_in, words_of
 from checks.parts.tools import call, needs
 from checks.parts.wrong import expect, expect_true, short
+from history import root as root_of
 from model.note import note, note_in
 
 ROOT = bytes(range(32))
@@ -452,14 +453,16 @@ def scene_hostile_folder(witness):
         holder.wait()
 
 
-def event_times(witness, *words, lines=None):
-    """Status and lines of event-times, on the log or on these lines."""
+def event_times(witness, *words, lines=None, folder=None):
+    """Status and lines of event-times, on the log or on lines of another one whose entries nobody sealed."""
     if lines is None:
         done("ask", witness.daemon.socket, "export", "export")
         commitment = witness.daemon.commitment()
         lines = program.whole("verify", "export", "first.key", commitment, "--json")[1]
-    ended = subprocess.run([tool("event-times"), witness.folder, "signers", witness.authority, *words], input=lines,
-                           capture_output=True, timeout=program.SECONDS, env=dict(os.environ, AUDIT=program.PATH))
+    else:
+        write("export", bytes(72) * lines.count(b"\n"))
+    ended = subprocess.run([tool("event-times"), "export", folder or witness.folder, "signers", witness.authority, *words],
+                           input=lines, capture_output=True, timeout=program.SECONDS, env=dict(os.environ, AUDIT=program.PATH))
     expect(ended.stderr, b"", "event-times says")
     return ended.returncode, ended.stdout.decode().splitlines()
 
@@ -494,6 +497,27 @@ def scene_times(witness):
     expect((status, lines[0].startswith("anchor 2: "), lines[-1]), (1, True, "events 10 marks 2 anchors 3"), "a wrong anchor")
 
 
+@scene
+@with_witness
+def scene_times_of_another_log(witness):
+    """Anchors of another log bound nothing, and the tool's tree is the model's."""
+    sys.path.insert(0, at_top("tools"))
+    from anchors import Tree
+    tree, leaves = Tree(), []
+    for count in range(70):
+        expect(tree.root(), root_of(leaves).hex(), "the root of %d" % count)
+        entry = b"entry %d" % count
+        tree.add(entry)
+        leaves.append(hashlib.sha256(b"\0" + entry).digest())
+    done("ask", witness.daemon.socket, "export", "export")
+    lines = program.whole("verify", "export", "first.key", witness.daemon.commitment(), "--json")[1]
+    status, found = event_times(witness, lines=lines)
+    expect((status, found), (1, ["anchor %d: it is of another log" % number for number in (1, 2, 3)] + [
+        "sealed 0 5 after - before -", "events 6 marks 0 anchors 0"]), "other entries")
+    status, found = event_times(witness, lines=b"".join(lines.splitlines(keepends=True)[:1]))
+    expect((status, found), (0, ["sealed 0 0 after - before -", "events 1 marks 0 anchors 0"]), "a shorter log")
+
+
 def line_of_mark(index, clock, boot, up, stamp=None):
     text = json.dumps({"mark": 1, "clock": clock, "boot": boot, "up": up, "stamp": stamp})
     return json.dumps({"index": index, "kind": 8, "text": text}).encode() + b"\n"
@@ -503,10 +527,12 @@ def line_of_mark(index, clock, boot, up, stamp=None):
 @with_witness
 def scene_clocks(witness):
     """Gaps, starts, and clocks that went back or are wrong, by the marks' own words."""
+    os.mkdir("none")
+
     def said(*marks, words=()):
         lines = b"".join(line_of_mark(10 + at, *mark) for at, mark in enumerate(marks))
         before = b"".join(b'{"index":%d,"kind":1,"text":"{}"}\n' % at for at in range(10))
-        status, found = event_times(witness, *words, lines=before + lines)
+        status, found = event_times(witness, *words, lines=before + lines, folder="none")
         return status, [line for line in found if line.split()[0] in ("gap", "restarted", "clock")]
     first = "2026-01-01T00:00:00.000Z", "a", 100.0
     expect(said(first, ("2026-01-01T00:05:00.000Z", "a", 400.0)), (0, []), "two marks")
@@ -518,13 +544,13 @@ def scene_clocks(witness):
     expect(said(first, ("2026-01-01T00:00:10.000Z", "a", 400.0)), (1, ["clock back 10 11 290.0"]), "a clock that was set back")
     expect(said(first, ("2026-01-01T00:00:10.000Z", "a", 4000.0)), (1, ["clock back 10 11 3890.0", "gap 10 11 3900"]), "a hidden gap")
     stamped = line_of_mark(0, "2001-01-01T00:00:00.000Z", "a", 1.0)
-    expect(event_times(witness, lines=stamped)[0], 0, "a clock without a lower bound")
+    expect(event_times(witness, lines=stamped, folder="none")[0], 0, "a clock without a lower bound")
     digest = hashlib.sha256(read(witness.path(1, "note.tsr"))).hexdigest()
     status, lines = event_times(witness, lines=line_of_mark(0, "2001-01-01T00:00:00.000Z", "a", 1.0, digest))
     expect((status, lines[-2]), (1, "clock wrong 0 2001-01-01T00:00:00Z"), "a clock that is long past")
     for text in '{"mark":2}', '{"mark":1}', "[]", '{"mark":1,"clock":"x","boot":"a","up":1,"stamp":null}', "1e999":
         line = json.dumps({"index": 0, "kind": 8, "text": text}).encode() + b"\n"
-        expect(event_times(witness, lines=line)[1][-1], "events 1 marks 0 anchors 3", "the mark %s" % text)
+        expect(event_times(witness, lines=line, folder="none")[1][-1], "events 1 marks 0 anchors 0", "the mark %s" % text)
 
 
 @scene

@@ -6,9 +6,11 @@ An anchor is a folder of eight digits, from 00000001 on, in a folder of them: `n
 machine that kept it). Stamp and time may be missing.
 """
 import calendar
+import hashlib
 import os
 import re
 import stat
+import struct
 import subprocess
 import time
 
@@ -17,12 +19,54 @@ NUMBER = re.compile(r"[0-9]{8}")
 NOTE = re.compile(r"audit-note 1\nname ([!-~]{1,255})\ncount (0|[1-9][0-9]{0,19})\nroot ([0-9a-f]{64})\n", re.ASCII)
 # The files of an anchor, and the most bytes that each is read to.
 SIZES = {"note": 371, "note.sig": 1 << 16, "note.tsr": 1 << 20, "increment": 4096, "time": 64}
+# An entry without its payload, and the kind and length with which it begins.
+OVERHEAD, HEAD = 72, struct.Struct(">II")
 # How long a program may take.
 SECONDS = 300
 
 
 class Bad(Exception):
     """What is wrong with an anchor."""
+
+
+class Tree:
+    """The history tree of a log, to which entries are added: the hashes of its full nodes, by layer."""
+
+    def __init__(self):
+        self.count, self.full = 0, []
+
+    def add(self, entry):
+        value, layer = hashlib.sha256(b"\0" + entry).digest(), 0
+        while self.count >> layer & 1:
+            value = hashlib.sha256(b"\1" + self.full[layer] + value).digest()
+            layer += 1
+        if layer == len(self.full):
+            self.full.append(value)
+        self.full[layer] = value
+        self.count += 1
+
+    def root(self):
+        """A node without a sibling is hashed alone."""
+        if self.count == 0:
+            return bytes(32).hex()
+        value = None
+        for layer in range((self.count - 1).bit_length()):
+            if self.count >> layer & 1:
+                value = hashlib.sha256(b"\1" + self.full[layer] + (value or b"")).digest()
+            elif value is not None:
+                value = hashlib.sha256(b"\1" + value).digest()
+        return (value or self.full[-1]).hex()
+
+
+def entries_in(path):
+    """The entries of an export; what follows the last whole one is left out."""
+    with open(path, "rb") as file:
+        while len(head := file.read(HEAD.size)) == HEAD.size:
+            rest = HEAD.unpack(head)[1] + OVERHEAD - HEAD.size
+            entry = head + file.read(rest)
+            if len(entry) < HEAD.size + rest:
+                return
+            yield entry
 
 
 class Note:
