@@ -229,6 +229,9 @@ def scene_right(witness):
     expect(sorted(os.listdir(witness.path(1))), ["note", "note.sig", "note.tsr", "time"], "the first anchor")
     expect(sorted(os.listdir(witness.path(2))), ["increment", "note", "note.sig", "note.tsr", "time"], "the second anchor")
     expect(sorted(os.listdir(witness.path(4))), ["note", "note.sig", "note.tsr", "time"], "one of a log that is the same")
+    done("ask", witness.daemon.socket, "export", "export")
+    verified = done("verify", "export", "first.key", "@" + witness.path(4, "note"))
+    expect(verified.splitlines()[-1], b"verified 6 open", "an export under a note")
     os.mkdir("empty")
     expect(witness.check("empty"), (1, ["anchors 0 right, 0 wrong"]), "no anchors")
 

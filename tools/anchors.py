@@ -81,7 +81,9 @@ class Note:
 
 
 def audit():
-    return os.environ.get("AUDIT", "audit")
+    """The program, by its whole path if it isn't on the PATH."""
+    found = os.environ.get("AUDIT", "audit")
+    return os.path.abspath(found) if "/" in found else found
 
 
 def run(*words, data=b"", cwd=None):
