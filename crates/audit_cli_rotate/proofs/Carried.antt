@@ -118,3 +118,8 @@ module _ {F : Type 0} (facts : F → FileFacts) (positioned : F → PositionedVi
 pub status_by : {A E : Type 0} (flushed : Result A E) (status ended : Status) → (IsOk flushed → ended ≡ status) → (IsErr flushed → ended ≡ ends.Device) → (ended ≡ status) ⊎ (ended ≡ ends.Device)
 status_by (Ok done) status ended whole failed = inl (whole refl)
 status_by (Err error) status ended whole failed = inr (failed refl)
+
+-- with what is known of the output
+pub status_flushed : {A E : Type 0} (Flushed Unflushed : Type 0) (flushed : Result A E) (status ended : Status) → (IsOk flushed → ended ≡ status) → (IsErr flushed → ended ≡ ends.Device) → OnOk flushed Flushed → OnErr flushed Unflushed → ((ended ≡ status) × Flushed) ⊎ ((ended ≡ ends.Device) × Unflushed)
+status_flushed Flushed Unflushed (Ok done) status ended whole failed did not = inl (whole refl, did)
+status_flushed Flushed Unflushed (Err error) status ended whole failed did not = inr (failed refl, not)

@@ -87,12 +87,12 @@ module _ {F : Type 0} (facts : F → FileFacts) (positioned : F → PositionedVi
     IsRotationDone request before after (Ok done) = RotatesAsked request before after
     IsRotationDone request before after (Err fault) = IsUnsaid before after
 
-    -- A rotation had this result, and the output was then flushed. The program's status is that of the result, or that
-    -- of an output that couldn't be flushed.
-    pub record IsRotationCarriedOut (request : Request) (before after : Option (List ℕ)) (status : Status) : Type 0
-      where
-        pub done : Result (Unit {0}) RotationError
-        pub written : Option (List ℕ)
-        pub rotated : IsRotationDone request before written done
-        pub flushed : Keeps written after
-        pub status_is : (status ≡ rotation_end_status done) ⊎ (status ≡ ends.Device)
+    -- A rotation had this result, and the output was then flushed. The program's status is that of the result
+    -- once it was flushed, or that of an output that couldn't be.
+    pub record IsRotationCarriedOut (request : Request) (before after : Option (List ℕ)) (Flushed Unflushed : Type 0)
+        (status : Status) : Type 0 where
+      pub done : Result (Unit {0}) RotationError
+      pub written : Option (List ℕ)
+      pub rotated : IsRotationDone request before written done
+      pub flushed : Keeps written after
+      pub status_is : ((status ≡ rotation_end_status done) × Flushed) ⊎ ((status ≡ ends.Device) × Unflushed)

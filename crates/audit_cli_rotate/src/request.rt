@@ -9,6 +9,7 @@ ghost use Rattle.audit_cli_rotate.specs.Carried.{rotation_end_status, IsRotation
 use crate::fault::RotationError;
 use crate::files::rotate_file;
 use audit_cli_base::{CommandError, FileDevice, Status, key_at, report_flush, sectors_asked};
+use audit_cli_calls::FlushedOutput;
 use audit_disk::{SystemFile, SystemFiles};
 use audit_disk_model::Sectors;
 use std::alloc::Global;
@@ -33,7 +34,7 @@ pub struct Request<'a> {
 ///
 /// A run that was interrupted is continued by another one with the same words: what is done is found, and not done
 /// twice.
-pub fn run<F: SystemFiles, W: Write, M: Write>(
+pub fn run<F: SystemFiles, W: FlushedOutput, M: Write>(
     rt: &F,
     alloc: Global,
     request: Request<'_>,
@@ -53,10 +54,10 @@ where
     // new file. The lines of the two were written.
     ensures carried { IsRotationCarriedOut F.File.facts F.File.positioned
         ⟦<FileDevice<F::File> as Sectors>⟧ F.File.remaining request.entry
-        (W.contents output.old) (W.contents output.new) result }
+        (W.contents output.old) (W.contents output.new) (W.flushed output.new) (W.unflushed output.new) result }
 {
     let done = perform(rt, alloc, request, output);
-    let flushed = output.flush();
+    let flushed = output.flush_last();
     let status = report_rotation(done, request, messages);
     report_flush(status, flushed, messages)
 }
