@@ -7,9 +7,10 @@ import re
 import shutil
 import subprocess
 import sys
+import zipfile
 
 from checks.library import common
-from checks.parts.files import read_text, write
+from checks.parts.files import read, read_text, write
 from checks.parts.places import CRATES, at_top
 from checks.parts.scenes import scene
 from checks.parts.wrong import LeftOut, Wrong, expect
@@ -109,21 +110,26 @@ def scene_import():
 
 @scene
 def scene_wheel():
-    """A wheel of the package has all its modules."""
-    import tempfile
-    done = subprocess.run([sys.executable, "-m", "pip", "--version"], capture_output=True)
-    backend = subprocess.run([sys.executable, "-c", "import setuptools, wheel"], capture_output=True)
-    if done.returncode or backend.returncode:
-        raise LeftOut("there is no pip, setuptools or wheel")
-    with tempfile.TemporaryDirectory() as folder:
-        source = shutil.copytree(at_top("python"), os.path.join(folder, "python"))
-        done = subprocess.run([sys.executable, "-m", "pip", "wheel", "--no-build-isolation", "--no-deps", "-q", "-w",
-                               folder, source], capture_output=True, text=True)
-        if done.returncode:
-            raise Wrong(done.stderr)
-        import zipfile
-        wheel, = [name for name in os.listdir(folder) if name.endswith(".whl")]
-        held = {os.path.basename(name) for name in zipfile.ZipFile(os.path.join(folder, wheel)).namelist()
-                if name.startswith("audit_store/")}
-        wanted = {name for name in os.listdir(at_top("python", "audit_store")) if name.endswith((".py", ".typed"))}
-        expect(held, wanted, "the modules of the wheel")
+    """A wheel of the package has all its modules, is the same each time, and is installed by pip without a network."""
+    build = at_top("python", "backend.py")
+    for folder in ("one", "other"):
+        os.mkdir(folder)
+        done = subprocess.run([sys.executable, build, folder], capture_output=True, text=True)
+        expect((done.returncode, done.stderr), (0, ""), "backend.py")
+    name, = os.listdir("one")
+    expect(read(os.path.join("one", name)), read(os.path.join("other", name)), "a wheel that is built again")
+    held = {os.path.basename(name) for name in zipfile.ZipFile(os.path.join("one", name)).namelist()
+            if name.startswith("audit_store/")}
+    wanted = {name for name in os.listdir(at_top("python", "audit_store")) if name.endswith((".py", ".typed"))}
+    expect(held, wanted, "the modules of the wheel")
+    source = shutil.copytree(at_top("python"), os.path.abspath("python"), ignore=shutil.ignore_patterns("__pycache__"))
+    done = subprocess.run([sys.executable, "-m", "pip", "install", "-q", "--no-index", "--no-deps", "-t", "installed",
+                           source], capture_output=True, text=True)
+    if "No module named pip" in done.stderr:
+        raise LeftOut("there is no pip")
+    expect(done.returncode, 0, "pip: " + done.stderr)
+    environment = dict(os.environ, PYTHONPATH=os.path.abspath("installed"))
+    code = "import audit_store, sys; print(audit_store.__file__, audit_store.LIBRARY_VERSION)"
+    done = subprocess.run([sys.executable, "-c", code], capture_output=True, text=True, env=environment)
+    place = os.path.abspath("installed/audit_store/__init__.py")
+    expect((done.stdout, done.stderr), (place + " 1\n", ""), "the installed package")

@@ -29,7 +29,8 @@ def logger_with(handler):
 
 def python(text, *words):
     """Starts a program."""
-    return subprocess.Popen([sys.executable, "-c", text, *words], stdout=subprocess.PIPE, stderr=subprocess.PIPE)
+    return subprocess.Popen([sys.executable, "-W", "ignore::DeprecationWarning", "-c", text, *words],
+                            stdout=subprocess.PIPE, stderr=subprocess.PIPE)
 
 
 @scene

@@ -1,6 +1,5 @@
 """The events of an export, verified."""
 import ctypes
-import hashlib
 import os
 import re
 from ctypes import byref
@@ -75,6 +74,8 @@ class SavedState:
         return "".join(line + "\n" for line in lines).encode()
 
     def _text(self, extra: bytes = b"") -> bytes:
+        # Only here, since it takes long to import.
+        import hashlib
         lines = self._lines() + extra
         return lines + b"sha256 " + hashlib.sha256(lines).hexdigest().encode() + b"\n"
 
