@@ -202,12 +202,15 @@ def scene_refusing_store():
     with Daemon("store", stderr=subprocess.DEVNULL) as daemon:
         handler = Handler(daemon.socket, patience=20)
         log = logger_with(handler)
+        # The first one is refused, and the next ones still fit.
+        log.warning("x" * 4000)
         for number in range(20):
             log.warning("%d", number)
         handler.flush()
         count = daemon.count()
         found = handler.acknowledged, handler.dropped, handler.refused.name
-        expect(found, (count, 20 - count, "Full"), "a full store")
+        expect(found, (count, 21 - count, "Full"), "a full store")
+        expect(payloads_of(daemon), [b"%d" % number for number in range(count)], "the records that fit")
         expect_true(count >= 5, "a store of 8 sectors has %d events" % count)
         handler.close()
 

@@ -187,10 +187,19 @@ class Client:
         acknowledgements in the same order. An event is a payload, or a kind and a payload. The first refusal is raised
         once nothing is under way any more; the events after it may be in the log or not. `acknowledged` is called with
         each acknowledgement as it comes, also of those before a refusal or the end of the connection."""
+        def heard(reply: Union[Acknowledgement, Refused]) -> None:
+            if acknowledged is not None and isinstance(reply, Acknowledgement):
+                acknowledged(reply)
+
+        return self.append_and_hear(events, kind, in_flight, heard if acknowledged is not None else None)
+
+    def append_and_hear(self, events: Iterable[Union[bytes, Tuple[int, bytes]]], kind: int, in_flight: int,
+                        heard: Optional[Callable[[Union[Acknowledgement, Refused]], object]]) -> List[Acknowledgement]:
+        """The same, where `heard` is called with the reply to each event, in their order, also with refusals."""
         with self._lock:
             stream = self._connected()
             try:
-                done, fault = self._run(stream, iter(events), kind, max(1, in_flight), acknowledged)
+                done, fault = self._run(stream, iter(events), kind, max(1, in_flight), heard)
             except BaseException as fault:
                 self.close()
                 raise _told(fault) from None
@@ -296,7 +305,7 @@ class Client:
         return frame
 
     def _run(self, stream: socket.socket, events: Iterator[Union[bytes, Tuple[int, bytes]]], kind: int,
-             in_flight: int, acknowledged: Optional[Callable[[Acknowledgement], object]],
+             in_flight: int, heard: Optional[Callable[[Union[Acknowledgement, Refused]], object]],
              ) -> Tuple[List[Acknowledgement], Optional[Exception]]:
         """The acknowledgements of events, and the first event that isn't one or wasn't taken."""
         frames, reply, waiting = self._frames, self._frames.reply, cast("Deque[int]", deque())
@@ -330,10 +339,13 @@ class Client:
                 tag = waiting.popleft()
                 if reply.kind == names.ACKNOWLEDGEMENT and reply.tag == tag:
                     done.append(Acknowledgement(reply.index, Commitment(reply.count, bytes(reply.root))))
-                    if acknowledged is not None:
-                        acknowledged(done[-1])
+                    if heard is not None:
+                        heard(done[-1])
                 elif reply.kind == names.REFUSED and reply.tag in (tag, 0):
-                    wrong, is_over = wrong or Refused(reply.code), True
+                    refused = Refused(reply.code)
+                    wrong, is_over = wrong or refused, True
+                    if heard is not None:
+                        heard(refused)
                     if reply.code in (16, 20):
                         return done, wrong
                 else:

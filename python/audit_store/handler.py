@@ -4,12 +4,13 @@ import logging
 import os
 import threading
 import time
+import traceback
 import weakref
 from collections import deque
-from typing import Callable, Deque, List, Optional
+from typing import Callable, Deque, List, Optional, Union
 
 from audit_store._library import PAYLOAD_MAX
-from audit_store.client import Acknowledgement, Client, Refused, StoreError
+from audit_store.client import IN_FLIGHT, Acknowledgement, Client, Refused
 
 # What happens to a record that comes when the queue is full.
 POLICIES = ("block", "drop", "raise")
@@ -134,11 +135,20 @@ class Handler(logging.Handler):
                 self._changed.wait()
             return [self._queue[place] for place in range(min(most, len(self._queue)))]
 
-    def _acknowledged(self, done: Acknowledgement) -> None:
-        """The event at the front of the queue is in the log."""
+    def _heard(self, reply: Union[Acknowledgement, Refused]) -> None:
+        """The reply to the event at the front of the queue."""
+        if isinstance(reply, Refused):
+            self.refused = reply
+            self._pass(False)
+            return
         self._pass(True)
         if self._acknowledge is not None:
-            self._acknowledge(done)
+            try:
+                self._acknowledge(reply)
+            except Exception:
+                # The event is in the log, whatever its caller does with that.
+                if logging.raiseExceptions:
+                    traceback.print_exc()
 
     def _pass(self, is_acknowledged: bool) -> None:
         """The event at the front of the queue is done with."""
@@ -159,12 +169,15 @@ class Handler(logging.Handler):
                     return
                 before = self._done
                 try:
-                    client.append_all(events, self._kind, acknowledged=self._acknowledged)
-                except (Refused, ValueError) as refused:
-                    # The store won't take it. Of several events that were refused, each is dropped in its turn.
-                    self.refused = refused
+                    client.append_and_hear(events, self._kind, IN_FLIGHT, self._heard)
+                except Refused:
+                    pass
+                except ValueError as wrong:
+                    # All events before it were answered, and this one no log can have.
+                    self.refused = wrong
                     self._pass(False)
-                except (OSError, StoreError):
+                except Exception:
+                    # The daemon isn't there, or went: what it didn't acknowledge is sent again.
                     pass
                 if self._done > before:
                     pause = self._retry
