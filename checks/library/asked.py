@@ -159,10 +159,12 @@ def scene_threads():
 
         threads = [threading.Thread(target=alone, args=(b"thread %d" % number,)) for number in range(12)]
         threads += [threading.Thread(target=append, args=(shared, b"shared %d" % number)) for number in range(4)]
+        sys.setswitchinterval(1e-5)
         for thread in threads:
             thread.start()
         for thread in threads:
             thread.join()
+        sys.setswitchinterval(0.005)
         shared.close()
         export, commitment = exported(daemon)
         payloads = [event.payload for event in verify(export, FIRST_KEY, commitment)]

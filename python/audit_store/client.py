@@ -5,12 +5,13 @@ import socket
 import struct
 import threading
 import time
+import weakref
 from collections import deque
 from ctypes import addressof, byref
 from typing import Callable, Deque, Iterable, Iterator, List, NamedTuple, Optional, Tuple, Union, cast
 
 from audit_store import _library as names
-from audit_store._library import MALFORMED, MORE, OK, Reply, library
+from audit_store._library import MALFORMED, OK, Reply, library
 from audit_store.checking import Commitment, check
 
 # How many requests a client sends before it waits for a reply, at most.
@@ -159,7 +160,7 @@ class Client:
         self._start = self._end = 0
         self._lock = threading.RLock()
         self._socket: Optional[socket.socket] = None
-        self._owner = 0
+        _CLIENTS.add(self)
 
     def __enter__(self) -> "Client":
         return self
@@ -178,7 +179,7 @@ class Client:
 
     def append(self, payload: bytes, kind: int = 1) -> Acknowledgement:
         """Appends an event, and returns once it is on the disk."""
-        return self._ask(self._frames.append(kind, payload), names.ACKNOWLEDGEMENT).acknowledgement()
+        return self._ask(lambda: self._frames.append(kind, payload), names.ACKNOWLEDGEMENT).acknowledgement()
 
     def append_all(self, events: Iterable[Union[bytes, Tuple[int, bytes]]], kind: int = 1,
                    in_flight: int = IN_FLIGHT,
@@ -211,21 +212,21 @@ class Client:
 
     def commitment(self) -> Commitment:
         """The newest commitment."""
-        return self._ask(self._frames.commitment(), names.COMMITMENT).commitment
+        return self._ask(lambda: self._frames.commitment(), names.COMMITMENT).commitment
 
     def state(self) -> State:
         """The state of the store."""
-        return self._ask(self._frames.state(), names.STATE).state
+        return self._ask(lambda: self._frames.state(), names.STATE).state
 
     def entry(self, index: int) -> bytes:
         """The entry of an event, as an export has it. It isn't checked: `prove` does."""
-        return self._ask(self._frames.entry(index), names.ENTRY).entry()
+        return self._ask(lambda: self._frames.entry(index), names.ENTRY).entry()
 
     def prove(self, index: int, commitment: Optional[Commitment] = None) -> bytes:
         """An inclusion proof of an event under a commitment, or under the newest one, which was checked. `Unproved` if
         it isn't accepted."""
         commitment = commitment or self.commitment()
-        found = self._ask(self._frames.inclusion(index, commitment.count), names.INCLUSION)
+        found = self._ask(lambda: self._frames.inclusion(index, commitment.count), names.INCLUSION)
         proof = found.proof(1, index, commitment.count)
         if not check(proof, commitment):
             raise Unproved("the inclusion proof of event %d isn't accepted" % index)
@@ -235,7 +236,7 @@ class Client:
         """A consistency proof from an older commitment to a newer one, or to the newest, which was checked.
         `Unproved` if it isn't accepted: then the server hasn't shown that nothing before was changed."""
         newer = newer or self.commitment()
-        found = self._ask(self._frames.consistency(older.count, newer.count), names.CONSISTENCY)
+        found = self._ask(lambda: self._frames.consistency(older.count, newer.count), names.CONSISTENCY)
         proof = found.proof(2, older.count, newer.count)
         if not check(proof, older, newer):
             raise Unproved("the log of %d events isn't shown to extend that of %d" % (newer.count, older.count))
@@ -243,15 +244,11 @@ class Client:
 
     def close_log(self) -> Acknowledgement:
         """Closes the log, if the daemon allows it: no event can follow."""
-        return self._ask(self._frames.close_log(), names.ACKNOWLEDGEMENT).acknowledgement()
+        return self._ask(lambda: self._frames.close_log(), names.ACKNOWLEDGEMENT).acknowledgement()
 
     # ---- The connection
 
     def _connected(self) -> socket.socket:
-        if self._socket is not None and self._owner != os.getpid():
-            # The connection is the parent's: its replies are not for this process.
-            self._socket.close()
-            self._socket, self._start, self._end = None, 0, 0
         if self._socket is None:
             stream = socket.socket(socket.AF_UNIX, socket.SOCK_STREAM)
             try:
@@ -260,14 +257,21 @@ class Client:
             except BaseException:
                 stream.close()
                 raise
-            self._socket, self._owner = stream, os.getpid()
+            self._socket = stream
         return self._socket
 
-    def _ask(self, request: bytes, kind: int) -> Found:
+    def _after_fork(self) -> None:
+        """In a child: the connection is the parent's, and another thread of the parent may have been in a call."""
+        self._lock, self._frames = threading.RLock(), Frames()
+        self.close()
+
+    def _ask(self, request: Callable[[], bytes], kind: int) -> Found:
+        # The request is written under the lock too, since all share one buffer.
         with self._lock:
-            stream, tag = self._connected(), int.from_bytes(request[3:7], "big")
+            frame = request()
+            stream, tag = self._connected(), int.from_bytes(frame[3:7], "big")
             try:
-                stream.sendall(request)
+                stream.sendall(frame)
                 return self._frames.judged(kind, tag, self._next_frame(stream, self._deadline()))
             except Refused as refused:
                 if refused.code in (16, 20):
@@ -361,3 +365,15 @@ def _told(fault: BaseException) -> BaseException:
     if isinstance(fault, OSError) and not isinstance(fault, TimeoutError):
         return ConnectionEnded(str(fault))
     return fault
+
+
+_CLIENTS: "weakref.WeakSet[Client]" = weakref.WeakSet()
+
+
+def _begin_again() -> None:
+    """In a forked child."""
+    for client in list(_CLIENTS):
+        client._after_fork()
+
+
+os.register_at_fork(after_in_child=_begin_again)

@@ -19,10 +19,10 @@ POLICIES = ("block", "drop", "raise")
 class Handler(logging.Handler):
     """Appends each record to the store of a daemon, from a thread of its own.
 
-    `emit` puts the record into a queue of at most `capacity` events and returns. The thread appends them in order, up to
-    64 at a time. While the daemon isn't there it tries again, after `retry` seconds and then up to 64 times as long. An
-    append that was cut off is sent again if its event isn't known to be in the log, so after a cut an event may be in
-    the log twice; none is left out.
+    `emit` puts the record into a queue of at most `capacity` events and returns. The thread appends them in order, up
+    to 64 at a time. While the daemon isn't there it tries again, after `retry` seconds and then up to 64 times as long.
+    An append that was cut off is sent again if its event isn't known to be in the log, so after a cut an event may be
+    in the log twice; none is left out.
 
     When the queue is full, `full` decides: "block" waits for a place, up to `patience` seconds and then drops the
     record; "drop" drops it; "raise" raises `Full`. `dropped` counts the records that aren't in the log: those that were
