@@ -127,7 +127,7 @@ def scene_prefixes():
 @scene
 def scene_usages():
     """Each script of bin/ and each tool prints its usage, and does nothing else."""
-    for name in "try", "audit", "check", "bench", "attack", "statement", "install", "package":
+    for name in "try", "audit", "check", "bench", "attack", "statement", "install", "package", "library":
         status, out, err = run(name, "--help")
         expect((status, err, b"usage: bin/" + name.encode() in out), (0, b"", True), "bin/%s --help" % name)
     for path in sorted(glob.glob(os.path.join(TOOLS, "*"))):

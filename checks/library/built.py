@@ -10,8 +10,9 @@ import sys
 import zipfile
 
 from checks.library import common
+from checks.parts import program
 from checks.parts.files import read, read_text, write
-from checks.parts.places import CRATES, at_top
+from checks.parts.places import CRATES, EXAMPLES, at_top
 from checks.parts.scenes import scene
 from checks.parts.wrong import LeftOut, Wrong, expect
 
@@ -133,3 +134,31 @@ def scene_wheel():
     done = subprocess.run([sys.executable, "-c", code], capture_output=True, text=True, env=environment)
     place = os.path.abspath("installed/audit_store/__init__.py")
     expect((done.stdout, done.stderr), (place + " 1\n", ""), "the installed package")
+
+
+@scene
+def scene_packages():
+    """The two Debian packages of the library have its files, and a program is linked and run with what is in them."""
+    if shutil.which("dpkg-deb") is None or shutil.which("cc") is None:
+        raise LeftOut("there is no dpkg-deb or C compiler")
+    os.mkdir("out")
+    done = subprocess.run([at_top("bin", "package"), "--library", common.FOLDER, "out", program.PATH],
+                          capture_output=True, text=True)
+    expect((done.returncode, done.stderr), (0, ""), "bin/package")
+    packages = done.stdout.split()
+    expect([os.path.basename(path).split("_")[0] for path in packages],
+           ["audit-store", "libauditstore1", "libauditstore-dev"], "the packages")
+    for path in packages[1:]:
+        subprocess.run(["dpkg-deb", "--extract", path, "unpacked"], check=True)
+    lib = os.path.abspath("unpacked/usr/lib/x86_64-linux-gnu")
+    held = sorted(os.path.relpath(os.path.join(root, name), "unpacked") for root, _, names in os.walk("unpacked")
+                  for name in names)
+    expect(held, ["usr/include/audit_store.h", "usr/lib/x86_64-linux-gnu/libauditstore.so",
+                  "usr/lib/x86_64-linux-gnu/libauditstore.so.1",
+                  "usr/lib/x86_64-linux-gnu/pkgconfig/auditstore.pc"], "their files")
+    done = subprocess.run(["cc", "-Iunpacked/usr/include", "-o", "verify", os.path.join(EXAMPLES, "library", "verify.c"),
+                           "-L" + lib, "-lauditstore"], capture_output=True, text=True)
+    expect((done.returncode, done.stderr), (0, ""), "a program that is linked with them")
+    done = subprocess.run(["./verify", 64 * "0", "0:" + 64 * "0"], stdin=subprocess.DEVNULL, capture_output=True,
+                          env=dict(os.environ, LD_LIBRARY_PATH=lib))
+    expect(done.stdout, b"verified 0\n", "the program")
