@@ -345,6 +345,52 @@ def scene_others(witness):
     witness.expect_right(3)
 
 
+def der(tag, body):
+    """An object of DER."""
+    size = len(body)
+    long = size.to_bytes((size.bit_length() + 7) // 8, "big")
+    return bytes([tag]) + (bytes([size]) if size < 128 else bytes([128 + len(long)]) + long) + body
+
+
+def with_status(stamp, text):
+    """The same stamp, whose status has this text, which nobody signs."""
+    token = subprocess.run(["openssl", "ts", "-reply", "-in", stamp, "-token_out"], capture_output=True, check=True).stdout
+    return der(0x30, der(0x30, b"\2\1\0" + der(0x30, der(0x0c, text))) + token)
+
+
+@scene
+@with_witness
+def scene_unsigned_words(witness):
+    """What nobody signs, a stamp's status and the witness's clock, can't say another time or another signer."""
+    right = witness.expect_right(3)
+    stamp = read(witness.path(2, "note.tsr"))
+    for text in b"x\nTime stamp: Jan  1 00:00:00 2020 GMT", b"\x1b[31m":
+        write(witness.path(2, "note.tsr"), with_status(witness.path(2, "note.tsr"), text))
+        expect(witness.expect_right(3), right, "a stamp with the status %r" % text)
+    forged = hashlib.sha256(read(witness.path(2, "note.tsr"))).hexdigest()
+    expect_true(mark(witness, witness.path(2, "note.tsr"))[1].startswith(b"ack 6 "), "a mark of the forged stamp")
+    write(witness.path(2, "note.tsr"), stamp)
+    expect_true(forged != hashlib.sha256(stamp).hexdigest(), "the forged stamp is the other one")
+    expect(event_times(witness)[1][-2], "sealed 6 6 after - before -", "a mark of a stamp that isn't among the anchors")
+    text = read(witness.path(2, "time"))
+    for other in text[:-1] + b" other@example.org\n", text[:-1], text + text, b"", b"\xff\n":
+        write(witness.path(2, "time"), other)
+        expect((witness.check()[0], witness.check()[1][1]), (1, "anchor 2: its time isn't one"), "the time %r" % other)
+    write(witness.path(2, "time"), text)
+    witness.expect_right(3)
+
+
+@scene
+@with_witness
+def scene_far_number(witness):
+    """A folder with a far number isn't one line for each that is missing."""
+    for name in "99999999", "00000000":
+        os.mkdir(os.path.join(witness.folder, name))
+    status, lines = witness.check()
+    expect((status, lines[3:]), (1, ["anchor 4: it is missing, and all up to 99999998", "anchor 99999999: there is no note",
+                                     "anchors 3 right, 99999996 wrong, of some"]), "a far number")
+
+
 @scene
 @with_witness
 def scene_rewritten(witness):
@@ -494,6 +540,8 @@ def scene_times(witness):
         "sealed 6 7 after %s before %s" % (times[2], last), "sealed 8 8 after %s before -" % times[2],
         "events 9 marks 1 anchors 4"]), "the times")
     expect(mark(witness, "missing")[0], 3, "a stamp that isn't there")
+    os.mkfifo("pipe")
+    expect(mark(witness, "pipe"), (3, b"", b"mark: STAMP is no regular file\n"), "a stamp that is a pipe")
     expect(mark(witness)[0], 0, "a mark without a stamp")
     flip(witness.path(2, "note.sig"), 60)
     status, lines = event_times(witness)
@@ -551,9 +599,11 @@ def scene_clocks(witness):
     digest = hashlib.sha256(read(witness.path(1, "note.tsr"))).hexdigest()
     status, lines = event_times(witness, lines=line_of_mark(0, "2001-01-01T00:00:00.000Z", "a", 1.0, digest))
     expect((status, lines[-2]), (1, "clock wrong 0 2001-01-01T00:00:00Z"), "a clock that is long past")
-    for text in '{"mark":2}', '{"mark":1}', "[]", '{"mark":1,"clock":"x","boot":"a","up":1,"stamp":null}', "1e999":
+    clock = '{"mark":1,"clock":"2026-01-01T00:00:00.000Z","boot":"a","up":%s,"stamp":%s}'
+    for text in ('{"mark":2}', '{"mark":1}', "[]", '{"mark":1,"clock":"x","boot":"a","up":1,"stamp":null}', "1e999",
+                 "[" * 32000, clock % ("NaN", "null"), clock % ("1e999", "null"), clock % ("1", "[]"), clock % ("1", "{}")):
         line = json.dumps({"index": 0, "kind": 8, "text": text}).encode() + b"\n"
-        expect(event_times(witness, lines=line, folder="none")[1][-1], "events 1 marks 0 anchors 0", "the mark %s" % text)
+        expect(event_times(witness, lines=line, folder="none")[1][-1], "events 1 marks 0 anchors 0", "the mark %s" % text[:80])
 
 
 @scene

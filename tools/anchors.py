@@ -101,10 +101,19 @@ def last_line(messages):
     return lines[-1] if lines else "no message"
 
 
+def opened(folder, name):
+    """A file in a folder, where neither may be a link, also if somebody puts one there meanwhile."""
+    room = os.open(folder, os.O_RDONLY | os.O_DIRECTORY | os.O_NOFOLLOW | os.O_CLOEXEC)
+    try:
+        return os.open(name, os.O_RDONLY | os.O_NOFOLLOW | os.O_NONBLOCK | os.O_CLOEXEC, dir_fd=room)
+    finally:
+        os.close(room)
+
+
 def read_in(folder, name):
     """The bytes of an anchor's file, which is a regular one and not too long; none if there is none."""
     try:
-        descriptor = os.open(os.path.join(folder, name), os.O_RDONLY | os.O_NOFOLLOW | os.O_NONBLOCK | os.O_CLOEXEC)
+        descriptor = opened(folder, name)
     except FileNotFoundError:
         return None
     except OSError as error:
@@ -121,7 +130,7 @@ def read_in(folder, name):
 
 def folders_in(folder):
     """The numbers of the anchors in a folder, in their order. Nothing else there is looked at."""
-    return sorted(int(name) for name in os.listdir(folder) if NUMBER.fullmatch(name))
+    return sorted(int(name) for name in os.listdir(folder) if NUMBER.fullmatch(name) and int(name))
 
 
 def folder_of(folder, number):
@@ -140,8 +149,11 @@ def note_in(folder):
 
 
 def stamp_text(path):
-    """What OpenSSL says of a reply to a request for a stamp."""
-    status, text, messages = run("openssl", "ts", "-reply", "-in", path, "-text")
+    """What OpenSSL says of the token in a reply to a request for a stamp. The token alone is signed: the status beside it
+    has a text, which is printed as it is and may look like another time."""
+    status, token, messages = run("openssl", "ts", "-reply", "-in", path, "-token_out")
+    if not status:
+        status, text, messages = run("openssl", "ts", "-reply", "-in", "/dev/stdin", "-token_in", "-text", data=token)
     if status:
         raise Bad("the stamp can't be read: %s" % last_line(messages))
     return text.decode(errors="replace")
