@@ -115,6 +115,37 @@ def nothing_is_replaced():
 
 
 @scene
+def a_store_keeps_its_key():
+    """The sealed key stays if the store was made, though its maker couldn't say so."""
+    with open("/dev/full", "wb") as full:
+        ended = subprocess.run([tool("format-sealed"), "store", "64", "out", "rev"], stdin=subprocess.DEVNULL, stdout=full,
+                               stderr=subprocess.PIPE, timeout=program.SECONDS, env=dict(os.environ, AUDIT=program.PATH))
+    expect((ended.returncode, ended.stderr.splitlines()[-1]), (3, b"format-sealed: store is there, and out has its key"),
+           "a standard output that is full")
+    key = read("out").strip()[::-1] + b"\n"
+    expect_opened(key)
+
+
+@scene
+def sealed_for_a_file():
+    """GnuPG seals for a key in a file, which no ring has and nobody signed."""
+    needs("gpg")
+    homes = [os.path.abspath(name) for name in ("auditors", "ours")]
+    for home in homes:
+        os.mkdir(home, 0o700)
+    auditors, ours = (["gpg", "--homedir", home, "--batch", "--quiet"] for home in homes)
+    call(*auditors, "--pinentry-mode", "loopback", "--passphrase", "", "--quick-generate-key", "auditor@example.com",
+         "default", "default", "never")
+    try:
+        write("auditor.asc", call(*auditors, "--armor", "--export", "auditor@example.com"))
+        expect_made("key.gpg", *ours, "--encrypt", "--recipient-file", "auditor.asc")
+        expect_opened(call(*auditors, "--decrypt", "key.gpg"))
+    finally:
+        for home in homes:
+            subprocess.run(["gpgconf", "--homedir", home, "--kill", "all"], check=False)
+
+
+@scene
 def wrong_words():
     for words in (), ("store", "64", "out"), ("--other", "64", "out", "rev"):
         expect_none_made(words, 2, USAGE)
