@@ -263,6 +263,85 @@ def scene_liars():
     server.close()
 
 
+def expect_raised(fault, call, what):
+    try:
+        call()
+    except Exception as found:
+        expect(type(found), fault, what)
+    else:
+        raise Wrong("%s raises nothing" % what)
+
+
+@scene
+def scene_wrong_calls():
+    """What a caller gives that isn't an event, an index or a count is refused, and what it raises itself is its own."""
+    from audit_store import Client, Commitment
+    with FedDaemon(os.getcwd()) as daemon, Client(daemon.socket, timeout=20) as log:
+        log.append(b"first")
+        expect_raised(TypeError, lambda: log.append_all([b"a", None, b"b"]), "an event that is None")
+        for index in -1, 1 << 64:
+            expect_raised(ValueError, lambda: log.entry(index), "the entry %d" % index)
+            expect_raised(ValueError, lambda: log.prove(index), "the proof of %d" % index)
+            expect_raised(ValueError, lambda: log.extends(Commitment(index, bytes(32))), "a log of %d" % index)
+
+        def ends():
+            yield b"x"
+            raise FileNotFoundError("the caller's")
+
+        def full(_):
+            raise OSError(28, "the caller's")
+
+        expect_raised(FileNotFoundError, lambda: log.append_all(ends()), "events that end with a fault")
+        expect_raised(OSError, lambda: log.append_all([b"y"], acknowledged=full), "an acknowledgement that isn't kept")
+        expect_raised(RuntimeError, lambda: log.append_all([b"z"], acknowledged=lambda _: log.append(b"within")), "a call in a call")
+        before = log.commitment().count
+        done = log.append_all([b"%d" % number for number in range(5000)], in_flight=5000)
+        expect([one.index for one in done], list(range(before, before + 5000)), "5,000 events, told to be under way at once")
+
+
+@scene
+def scene_async_liars():
+    """A reply of another kind ends its call at once, and what a connection that was given up says later is heard by nobody."""
+    from audit_store import AsyncClient, ConnectionEnded
+    commitment = b"\0\x2d\x82%s" + bytes(40)
+
+    async def of_another_kind(reader, writer):
+        writer.write(commitment % (await reader.readexactly(10))[3:7])
+        await reader.read()
+        writer.close()
+
+    async def late(reader, writer):
+        turns.append(writer)
+        if len(turns) == 1:
+            # Neither read nor answered in time: the client's socket stays full.
+            await asyncio.sleep(1)
+            writer.write(commitment % b"\0\0\0\1")
+        else:
+            tag = (await reader.readexactly(7))[3:7]
+            await asyncio.sleep(1.5)
+            writer.write(commitment % tag)
+        with contextlib.suppress(OSError):
+            await reader.read()
+        writer.close()
+
+    async def asked():
+        async with await asyncio.start_unix_server(of_another_kind, "kinds.sock"):
+            async with AsyncClient("kinds.sock", timeout=None) as log:
+                with contextlib.suppress(ConnectionEnded):
+                    await asyncio.wait_for(log.append(b"x" * 20), 20)
+                    raise Wrong("a commitment is taken for an acknowledgement")
+        async with await asyncio.start_unix_server(late, "late.sock", limit=1024):
+            log = AsyncClient("late.sock", timeout=0.5)
+            found = await asyncio.gather(*(log.append(b"x" * 30000) for _ in range(30)), return_exceptions=True)
+            expect_true(all(isinstance(one, (TimeoutError, ConnectionEnded)) for one in found), "appends that nobody hears")
+            log._timeout = 20
+            expect((await log.commitment()).count, 0, "the reply over the next connection")
+            await log.close()
+
+    turns = []
+    asyncio.run(asked())
+
+
 @scene
 def scene_figures():
     """With --long: how long calls take. Appends go to a server that acknowledges at once."""

@@ -131,6 +131,63 @@ def scene_forked():
         expect(child, [b"child %d" % number for number in range(100, 200)], "the child's records")
 
 
+POOLED = """
+import logging, multiprocessing, sys
+from audit_store import Handler
+def work():
+    for number in range(100):
+        logging.warning("child %d", number)
+logging.getLogger().addHandler(Handler(sys.argv[1]))
+child = multiprocessing.get_context("fork").Process(target=work)
+child.start()
+child.join()
+"""
+
+
+@scene
+def scene_multiprocessing():
+    """A child of `multiprocessing`, which runs nothing that is registered for the exit, has logged all its records."""
+    with FedDaemon(os.getcwd()) as daemon:
+        ended = python(POOLED, daemon.socket)
+        expect((ended.communicate(timeout=60)[1], ended.returncode), (b"", 0), "a program with a child")
+        expect(payloads_of(daemon), [b"child %d" % number for number in range(100)], "its records")
+
+
+@scene
+def scene_exit_without_daemon():
+    """An exit waits for a daemon that isn't there once, and not for each thing that flushes."""
+    begun = time.monotonic()
+    ended = python(EXITS.replace("sys.argv[1]", "sys.argv[1], patience=2"), "nobody.sock")
+    expect((ended.communicate(timeout=60)[1], ended.returncode), (b"", 0), "a program that nobody hears")
+    expect_true(time.monotonic() - begun < 5, "an exit took %.1f s" % (time.monotonic() - begun))
+
+
+@scene
+def scene_lost_records():
+    """A record that can't be formatted, or for which no thread can be started, is counted, and the next one is logged."""
+    from audit_store import Handler
+    raises, logging.raiseExceptions = logging.raiseExceptions, False
+    started = threading.Thread.start
+
+    def fails(_):
+        raise RuntimeError("can't start new thread")
+
+    try:
+        with FedDaemon(os.getcwd()) as daemon:
+            handler = Handler(daemon.socket)
+            log = logger_with(handler)
+            threading.Thread.start = fails
+            log.warning("without a thread")
+            threading.Thread.start = started
+            log.warning("%d", "no number")
+            log.warning("logged")
+            expect((handler.flush(), handler.dropped), (False, 2), "a flush after two lost records, and these")
+            expect(payloads_of(daemon), [b"logged"], "the records")
+            handler.close()
+    finally:
+        logging.raiseExceptions, threading.Thread.start = raises, started
+
+
 @scene
 def scene_restarted_daemon():
     """A daemon that is killed and started again under a handler: no record is left out, and their order stays."""
@@ -181,7 +238,7 @@ def scene_full():
             except Full:
                 raised += 1
         took = time.monotonic() - begun
-        wanted = {"drop": (2, 0), "block": (2, 0), "raise": (0, 2)}[full]
+        wanted = {"drop": (2, 0), "block": (2, 0), "raise": (2, 2)}[full]
         expect((handler.dropped, raised), wanted, "the records that were dropped, and exceptions, with " + full)
         expect_true(took >= 0.4 if full == "block" else took < 0.4, "%s took %.2f s" % (full, took))
         expect(handler.flush(), False, "a flush that nobody hears")
@@ -206,7 +263,7 @@ def scene_refusing_store():
         log.warning("x" * 4000)
         for number in range(20):
             log.warning("%d", number)
-        handler.flush()
+        expect(handler.flush(), False, "a flush of records of which one was refused")
         count = daemon.count()
         found = handler.acknowledged, handler.dropped, handler.refused.name
         expect(found, (count, 21 - count, "Full"), "a full store")

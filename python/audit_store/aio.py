@@ -24,7 +24,6 @@ class AsyncClient:
         # The calls that wait: the kind of reply, the tag, and the reply itself.
         self._waiting: Dict[int, Tuple[int, "asyncio.Future[Found]"]] = {}
         self._places = asyncio.Semaphore(in_flight)
-        self._reader: Optional[asyncio.StreamReader] = None
         self._writer: Optional[asyncio.StreamWriter] = None
         self._receiver: Optional["asyncio.Task[None]"] = None
         self._connecting = asyncio.Lock()
@@ -38,10 +37,9 @@ class AsyncClient:
 
     async def close(self) -> None:
         """Ends the connection."""
-        self._end(ConnectionEnded("the client ended the connection"))
-        receiver, self._receiver = self._receiver, None
+        receiver = self._receiver
+        self._end(ConnectionEnded("the client ended the connection"), self._writer)
         if receiver is not None:
-            receiver.cancel()
             await asyncio.gather(receiver, return_exceptions=True)
 
     async def append(self, payload: bytes, kind: int = 1) -> Acknowledgement:
@@ -81,9 +79,9 @@ class AsyncClient:
     async def _connected(self) -> asyncio.StreamWriter:
         async with self._connecting:
             if self._writer is None:
-                self._reader, self._writer = await asyncio.wait_for(
+                reader, self._writer = await asyncio.wait_for(
                     asyncio.open_unix_connection(self._path), self._timeout)
-                self._receiver = asyncio.ensure_future(self._receive(self._reader))
+                self._receiver = asyncio.ensure_future(self._receive(reader, self._writer))
             return self._writer
 
     async def _ask(self, request: bytes, kind: int) -> Found:
@@ -91,6 +89,8 @@ class AsyncClient:
             writer = await self._connected()
             tag = int.from_bytes(request[3:7], "big")
             reply: "asyncio.Future[Found]" = asyncio.get_running_loop().create_future()
+            if self._writer is not writer:
+                raise ConnectionEnded("the connection was given up")
             self._waiting[tag] = kind, reply
             writer.write(request)
             try:
@@ -98,10 +98,10 @@ class AsyncClient:
                 return await asyncio.wait_for(reply, self._timeout)
             except (asyncio.TimeoutError, OSError) as fault:
                 late = isinstance(fault, asyncio.TimeoutError)
-                self._end(ConnectionEnded("the connection was given up"))
+                self._end(ConnectionEnded("the connection was given up"), writer)
                 raise (TimeoutError("no reply in time") if late else ConnectionEnded(str(fault))) from None
 
-    async def _receive(self, reader: asyncio.StreamReader) -> None:
+    async def _receive(self, reader: asyncio.StreamReader, writer: asyncio.StreamWriter) -> None:
         """Hands out the replies as they come."""
         held = bytearray()
         try:
@@ -124,7 +124,7 @@ class AsyncClient:
         except asyncio.CancelledError:
             raise
         except Exception as fault:
-            self._end(fault if isinstance(fault, ConnectionEnded) else ConnectionEnded(str(fault)))
+            self._end(fault if isinstance(fault, ConnectionEnded) else ConnectionEnded(str(fault)), writer)
 
     def _hand_out(self, frame: bytes) -> None:
         """Gives a reply to the call that has its tag. A refusal with tag 0 ends the session."""
@@ -140,15 +140,24 @@ class AsyncClient:
                 reply.set_exception(refused)
             if refused.code in (16, 20):
                 raise ConnectionEnded(str(refused)) from None
+        except ConnectionEnded as fault:
+            # The call doesn't wait among the others any more.
+            if not reply.done():
+                reply.set_exception(fault)
+            raise
         else:
             if not reply.done():
                 reply.set_result(found)
 
-    def _end(self, fault: Exception) -> None:
-        """Ends the connection and the calls that wait."""
-        if self._writer is not None:
-            self._writer.close()
-        self._reader = self._writer = None
+    def _end(self, fault: Exception, writer: Optional[asyncio.StreamWriter]) -> None:
+        """Ends a connection and the calls that wait, unless another one took its place."""
+        if writer is None or self._writer is not writer:
+            return
+        # Nothing is sent any more, and the task that receives hears of no other connection.
+        writer.transport.abort()
+        receiver, self._receiver, self._writer = self._receiver, None, None
+        if receiver is not None and receiver is not asyncio.current_task():
+            receiver.cancel()
         waiting, self._waiting = self._waiting, {}
         for _, reply in waiting.values():
             if not reply.done():

@@ -1,4 +1,5 @@
 """A client of a daemon, over its Unix socket."""
+import contextlib
 import ctypes
 import os
 import socket
@@ -16,6 +17,9 @@ from audit_store.checking import Commitment, check
 
 # How many requests a client sends before it waits for a reply, at most.
 IN_FLIGHT = 64
+# The most that it may be told to: the replies to so many fit into a socket while nobody reads them.
+MOST_IN_FLIGHT = 256
+_NO_MORE = object()
 _REFUSALS = {4: "DamagedLog", 7: "Full", 8: "NoSuchVersion", 9: "Worn", 11: "Device", 13: "Closed", 16: "NotAllowed",
              20: "Malformed"}
 # The two numbers at the head of a proof.
@@ -61,6 +65,13 @@ class State(NamedTuple):
     closed: bool
 
 
+def number(value: int) -> int:
+    """An index or a count, which ctypes would cut to 64 bits."""
+    if not 0 <= value < 1 << 64:
+        raise ValueError("not an index or a count: %d" % value)
+    return value
+
+
 class Frames:
     """Requests as bytes and replies from bytes, by the library, without a socket."""
 
@@ -88,13 +99,15 @@ class Frames:
         return self.written(library.write_commitment(self.next_tag(), self.frame, names.REQUEST_MAX))
 
     def inclusion(self, index: int, count: int) -> bytes:
-        return self.written(library.write_inclusion(self.next_tag(), index, count, self.frame, names.REQUEST_MAX))
+        return self.written(library.write_inclusion(self.next_tag(), number(index), number(count), self.frame,
+                                                    names.REQUEST_MAX))
 
     def consistency(self, older: int, newer: int) -> bytes:
-        return self.written(library.write_consistency(self.next_tag(), older, newer, self.frame, names.REQUEST_MAX))
+        return self.written(library.write_consistency(self.next_tag(), number(older), number(newer), self.frame,
+                                                      names.REQUEST_MAX))
 
     def entry(self, index: int) -> bytes:
-        return self.written(library.write_entry(self.next_tag(), index, self.frame, names.REQUEST_MAX))
+        return self.written(library.write_entry(self.next_tag(), number(index), self.frame, names.REQUEST_MAX))
 
     def close_log(self) -> bytes:
         return self.written(library.write_close(self.next_tag(), self.frame, names.REQUEST_MAX))
@@ -143,10 +156,12 @@ class Found:
 
 class Client:
     """One connection to a daemon. Use one in each thread: a call that begins while another one is under way in another
-    thread waits for it.
+    thread waits for it. One within another call of the same thread, as in `acknowledged` or a signal handler, raises
+    RuntimeError.
 
-    A call that fails with `ConnectionEnded` or `TimeoutError` ends the connection; the next call connects again.
-    Whether the event of a failed append is in the log isn't known. A forked child connects again by itself.
+    A call that fails with `ConnectionEnded` or `TimeoutError` ends the connection; the next call connects again. If
+    there is nothing to connect to it raises the OSError of that. Whether the event of a failed append is in the log
+    isn't known. A forked child connects again by itself.
 
         with Client("/run/audit/log.sock") as log:
             done = log.append(b"order 7 was shipped", kind=3)
@@ -158,7 +173,7 @@ class Client:
         self._frames = Frames()
         self._buffer = ctypes.create_string_buffer(1 << 17)
         self._start = self._end = 0
-        self._lock = threading.RLock()
+        self._lock, self._is_asking = threading.RLock(), False
         self._socket: Optional[socket.socket] = None
         _CLIENTS.add(self)
 
@@ -184,10 +199,11 @@ class Client:
     def append_all(self, events: Iterable[Union[bytes, Tuple[int, bytes]]], kind: int = 1,
                    in_flight: int = IN_FLIGHT,
                    acknowledged: Optional[Callable[[Acknowledgement], object]] = None) -> List[Acknowledgement]:
-        """Appends events in order, with up to `in_flight` requests under way at a time, and returns their
+        """Appends events in order, with up to `in_flight` requests under way at a time (256 at most), and returns their
         acknowledgements in the same order. An event is a payload, or a kind and a payload. The first refusal is raised
         once nothing is under way any more; the events after it may be in the log or not. `acknowledged` is called with
-        each acknowledgement as it comes, also of those before a refusal or the end of the connection."""
+        each acknowledgement as it comes, also of those before a refusal or the end of the connection. What `events` or
+        `acknowledged` raises ends the connection too, and is raised."""
         def heard(reply: Union[Acknowledgement, Refused]) -> None:
             if acknowledged is not None and isinstance(reply, Acknowledgement):
                 acknowledged(reply)
@@ -197,13 +213,13 @@ class Client:
     def append_and_hear(self, events: Iterable[Union[bytes, Tuple[int, bytes]]], kind: int, in_flight: int,
                         heard: Optional[Callable[[Union[Acknowledgement, Refused]], object]]) -> List[Acknowledgement]:
         """The same, where `heard` is called with the reply to each event, in their order, also with refusals."""
-        with self._lock:
+        with self._alone():
             stream = self._connected()
             try:
-                done, fault = self._run(stream, iter(events), kind, max(1, in_flight), heard)
-            except BaseException as fault:
+                done, fault = self._run(stream, iter(events), kind, min(max(1, in_flight), MOST_IN_FLIGHT), heard)
+            except BaseException:
                 self.close()
-                raise _told(fault) from None
+                raise
             if fault is not None:
                 if isinstance(fault, Refused) and fault.code in (16, 20):
                     self.close()
@@ -248,38 +264,60 @@ class Client:
 
     # ---- The connection
 
+    @contextlib.contextmanager
+    def _alone(self) -> Iterator[None]:
+        """One call at a time, also in one thread."""
+        with self._lock:
+            if self._is_asking:
+                raise RuntimeError("a call within another call of the same client")
+            self._is_asking = True
+            try:
+                yield
+            finally:
+                self._is_asking = False
+
     def _connected(self) -> socket.socket:
         if self._socket is None:
             stream = socket.socket(socket.AF_UNIX, socket.SOCK_STREAM)
             try:
                 stream.settimeout(self._timeout)
                 stream.connect(self._path)
-            except BaseException:
+            except BaseException as fault:
                 stream.close()
+                if isinstance(fault, socket.timeout):
+                    raise TimeoutError("no connection in time") from None
                 raise
             self._socket = stream
         return self._socket
 
     def _after_fork(self) -> None:
         """In a child: the connection is the parent's, and another thread of the parent may have been in a call."""
-        self._lock, self._frames = threading.RLock(), Frames()
+        self._lock, self._is_asking, self._frames = threading.RLock(), False, Frames()
         self.close()
 
     def _ask(self, request: Callable[[], bytes], kind: int) -> Found:
         # The request is written under the lock too, since all share one buffer.
-        with self._lock:
+        with self._alone():
             frame = request()
             stream, tag = self._connected(), int.from_bytes(frame[3:7], "big")
             try:
-                stream.sendall(frame)
+                self._send(stream, frame)
                 return self._frames.judged(kind, tag, self._next_frame(stream, self._deadline()))
             except Refused as refused:
                 if refused.code in (16, 20):
                     self.close()
                 raise
-            except BaseException as fault:
+            except BaseException:
                 self.close()
-                raise _told(fault) from None
+                raise
+
+    def _send(self, stream: socket.socket, data: bytes) -> None:
+        """Sends all, for as long as a call may take: the last reply may have left the socket less."""
+        try:
+            stream.settimeout(self._timeout)
+            stream.sendall(data)
+        except OSError as fault:
+            raise _told(fault) from None
 
     def _deadline(self) -> Optional[float]:
         return None if self._timeout is None else time.monotonic() + self._timeout
@@ -295,7 +333,10 @@ class Client:
             if left <= 0:
                 raise TimeoutError("no reply in time")
             stream.settimeout(left)
-        taken = stream.recv_into(memoryview(self._buffer)[self._end:])
+        try:
+            taken = stream.recv_into(memoryview(self._buffer)[self._end:])
+        except OSError as fault:
+            raise _told(fault) from None
         if not taken:
             raise ConnectionEnded("the server ended the connection")
         self._end += taken
@@ -319,8 +360,8 @@ class Client:
         while True:
             sent = []
             while not is_over and len(waiting) < in_flight:
-                event = next(events, None)
-                if event is None:
+                event = next(events, cast(bytes, _NO_MORE))
+                if event is _NO_MORE:
                     is_over = True
                     break
                 of, payload = event if isinstance(event, tuple) else (kind, event)
@@ -331,7 +372,7 @@ class Client:
                     break
                 waiting.append(frames.tag)
             if sent:
-                stream.sendall(b"".join(sent))
+                self._send(stream, b"".join(sent))
             if not waiting:
                 return done, wrong
             deadline = self._deadline()
@@ -351,20 +392,19 @@ class Client:
                     if heard is not None:
                         heard(refused)
                     if reply.code in (16, 20):
-                        return done, wrong
+                        # The session is over, and what still waits has no reply.
+                        return done, refused
                 else:
                     raise ConnectionEnded("the server answered another request")
                 if not reading(base + self._start, self._end - self._start):
                     break
 
 
-def _told(fault: BaseException) -> BaseException:
+def _told(fault: OSError) -> Exception:
     """What a caller is told of a fault of a connection."""
     if isinstance(fault, socket.timeout):
         return TimeoutError("no reply in time")
-    if isinstance(fault, OSError) and not isinstance(fault, TimeoutError):
-        return ConnectionEnded(str(fault))
-    return fault
+    return ConnectionEnded(str(fault))
 
 
 _CLIENTS: "weakref.WeakSet[Client]" = weakref.WeakSet()

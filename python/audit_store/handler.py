@@ -2,6 +2,7 @@
 import atexit
 import logging
 import os
+import sys
 import threading
 import time
 import traceback
@@ -25,12 +26,15 @@ class Handler(logging.Handler):
     in the log twice; none is left out.
 
     When the queue is full, `full` decides: "block" waits for a place, up to `patience` seconds and then drops the
-    record; "drop" drops it; "raise" raises `Full`. `dropped` counts the records that aren't in the log: those that were
-    dropped, that the store refused (`refused` is the last refusal), and that are left when `close` gives up.
+    record; "drop" drops it; "raise" raises `Full`. `dropped` counts the records that have no acknowledgement and are
+    given up: those that found no place, that can't be formatted, that the store refused (`refused` is the last
+    refusal), and that are left when `close` gives up.
 
-    `flush` returns once all records before it are on the disk, or after `patience` seconds; its result says which.
-    `acknowledged` is the number of events that are. At the exit of the process the queue is flushed. A forked child has
-    a queue and a connection of its own, both empty: what its parent had queued is the parent's.
+    `flush` returns once all records before it are done with, or after `patience` seconds; it is true if all are on the
+    disk, so never again once one was dropped. `acknowledged` is the number of events that are. At the exit of the
+    process the queue is flushed, also in the children that `multiprocessing` forks; those of its fork server call
+    `flush` themselves. A forked child has a queue and a connection of its own, both empty: what its parent had queued
+    is the parent's.
 
         logging.getLogger().addHandler(Handler("/run/audit/log.sock", kind=3))
     """
@@ -67,9 +71,11 @@ class Handler(logging.Handler):
     def emit(self, record: logging.LogRecord) -> None:
         try:
             self._put(self.payload(record))
-        except Full:
-            raise
-        except Exception:
+        except Exception as fault:
+            with self._changed:
+                self.dropped += 1
+            if isinstance(fault, Full):
+                raise
             self.handleError(record)
 
     def payload(self, record: logging.LogRecord) -> bytes:
@@ -77,7 +83,8 @@ class Handler(logging.Handler):
         return self.format(record).encode("utf-8", "replace")[:PAYLOAD_MAX]
 
     def flush(self) -> bool:
-        """Waits until all records so far are on the disk: whether they are. Never more than `patience` seconds."""
+        """Waits until all records so far are on the disk or dropped, never more than `patience` seconds. Whether all
+        are on the disk."""
         deadline = time.monotonic() + self._patience
         with self._changed:
             wanted = self._queued
@@ -86,7 +93,7 @@ class Handler(logging.Handler):
                 if left <= 0:
                     break
                 self._changed.wait(left)
-            return self._done >= wanted
+            return self._done >= wanted and not self.dropped
 
     def close(self) -> None:
         """Flushes, and ends the thread. What isn't on the disk then is dropped."""
@@ -105,6 +112,12 @@ class Handler(logging.Handler):
                 self._queue.clear()
         super().close()
 
+    def _flush_at_exit(self) -> None:
+        self.flush()
+        if self._done < self._queued:
+            # `logging` flushes and closes all handlers next, which need not wait as long again.
+            self._patience = 0.0
+
     # ---- The queue
 
     def _put(self, payload: bytes) -> None:
@@ -121,11 +134,13 @@ class Handler(logging.Handler):
                     self.dropped += 1
                     return
                 self._changed.wait(left)
+            if self._thread is None:
+                # If none can be started the next record tries again.
+                thread = threading.Thread(target=self._work, name="audit_store.Handler", daemon=True)
+                thread.start()
+                self._thread = thread
             self._queue.append(payload)
             self._queued += 1
-            if self._thread is None:
-                self._thread = threading.Thread(target=self._work, name="audit_store.Handler", daemon=True)
-                self._thread.start()
             self._changed.notify_all()
 
     def _next(self, most: int = 1024) -> List[bytes]:
@@ -199,13 +214,17 @@ _HANDLERS: "weakref.WeakSet[Handler]" = weakref.WeakSet()
 def _flush_all() -> None:
     """At the exit of the process."""
     for handler in list(_HANDLERS):
-        handler.flush()
+        handler._flush_at_exit()
 
 
 def _begin_again() -> None:
-    """In a forked child."""
+    """In a forked child. One of `multiprocessing` ends without what is registered for the exit, and forgets the
+    finalizers that it has so far: those that are made after that it runs."""
     for handler in list(_HANDLERS):
         handler._after_fork()
+    util = sys.modules.get("multiprocessing.util")
+    if util is not None and len(_HANDLERS):
+        util.register_after_fork(_flush_all, lambda flush: util.Finalize(None, flush, exitpriority=0))
 
 
 atexit.register(_flush_all)
