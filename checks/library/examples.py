@@ -42,6 +42,19 @@ def scene_logger_in_c():
             expect(int(number), index, "the index of a receipt")
             expect(program.done("check", "proofs/" + number, word), b"accepted\n", "a receipt")
         expect(index, 3, "the last receipt")
+        lines = b"a\0b\n" + b"x" * 32696 + b"\n\xff"
+        done = subprocess.run([logger, daemon.socket, "7", "proofs"], input=lines, capture_output=True,
+                              timeout=program.SECONDS)
+        expect((done.returncode, done.stderr), (0, b""), "the logger with bytes of all kinds")
+        from audit_store import verify
+        found = [event.payload for event in verify(exported(daemon)[0], FIRST_KEY, exported(daemon)[1])]
+        expect(found[4:], lines.split(b"\n"), "the events")
+        for words, data in (("7", b"x" * 32697), ("x", b"a"), ("4294967296", b"a"), ("-1", b"a"), ("", b"a")):
+            done = subprocess.run([logger, daemon.socket, words, "proofs"], input=data, capture_output=True)
+            expect((done.returncode, done.stdout, done.stderr.count(b"\n")), (1, b"", 1), "the logger with kind %r" % words)
+        with open("/dev/full", "wb") as full:
+            done = subprocess.run([logger, daemon.socket, "7", "proofs"], input=b"a\n", stdout=full, stderr=subprocess.PIPE)
+        expect((done.returncode, done.stderr), (1, b"logger: a receipt that can't be printed\n"), "a full output")
 
 
 @scene
@@ -52,19 +65,20 @@ def scene_verify_in_c():
     word = "%d:%s" % (len(log.leaves), common.commitment_of(log).root.hex())
     wanted = "".join("event %d %d %s\n" % (index, kind, payload.hex() or "-")
                      for index, (kind, payload) in enumerate(log.events)) + "verified 31\n"
+    write("key", ZERO_KEY.hex().encode() + b"\n")
     for size in (1, 7, 64, 1000, 65536):
-        done = subprocess.run([verify, ZERO_KEY.hex(), word, str(size)], input=log.export, capture_output=True)
+        done = subprocess.run([verify, "key", word, str(size)], input=log.export, capture_output=True)
         expect((done.returncode, done.stdout.decode()), (0, wanted), "the verifier in pieces of %d bytes" % size)
     faults = [(log.export[:-1], b"entry 30: 40\n"), (log.export + b"x", b"entry 31: 46\n")]
     for export, message in faults:
-        done = subprocess.run([verify, ZERO_KEY.hex(), word], input=export, capture_output=True)
+        done = subprocess.run([verify, "key", word], input=export, capture_output=True)
         expect((done.returncode, done.stderr), (1, message), "the verifier")
     if shutil.which("valgrind") is None:
         raise LeftOut("there is no valgrind")
     for export, status in [(log.export, 0)] + [(export, 1) for export, _ in faults]:
         write("export", export)
         with open("export", "rb") as file:
-            done = subprocess.run(["valgrind", "-q", "--error-exitcode=99", verify, ZERO_KEY.hex(), word, "11"],
+            done = subprocess.run(["valgrind", "-q", "--error-exitcode=99", verify, "key", word, "11"],
                                   stdin=file, capture_output=True)
         expect((done.returncode, done.stderr if status == 0 else b""), (status, b""), "the verifier under valgrind")
 

@@ -85,7 +85,8 @@ static void keep(int log, const char *folder, uint64_t index, const struct audit
     length = 17 + reply.size - 7;
     if (audit_store_check_inclusion(proof, length, commitment) != AUDIT_STORE_OK)
         stop("a proof that isn't accepted");
-    snprintf(path, sizeof path, "%s/%" PRIu64, folder, index);
+    if (snprintf(path, sizeof path, "%s/%" PRIu64, folder, index) >= (int)sizeof path)
+        stop("a name that is too long");
     file = fopen(path, "wb");
     if (file == NULL || fwrite(proof, 1, length, file) != length || fclose(file) != 0)
         stop("a proof that can't be written");
@@ -93,20 +94,27 @@ static void keep(int log, const char *folder, uint64_t index, const struct audit
 
 int main(int count, char **words)
 {
-    static char line[AUDIT_STORE_PAYLOAD_MAX + 2];
+    char *line = NULL, *rest;
+    size_t room = 0;
+    ssize_t length;
+    unsigned long long kind;
     uint32_t tag = 0;
     int log, at;
     if (count != 4)
         stop("usage: logger SOCKET KIND FOLDER");
+    kind = strtoull(words[2], &rest, 10);
+    if (strspn(words[2], "0123456789") == 0 || *rest != 0 || kind > UINT32_MAX)
+        stop("KIND is a number below 4294967295");
     log = connected(words[1]);
-    while (fgets(line, sizeof line, stdin) != NULL) {
+    while ((length = getline(&line, &room, stdin)) >= 0) {
         struct audit_store_commitment commitment;
         struct audit_store_reply reply;
-        line[strcspn(line, "\n")] = 0;
+        if (length > 0 && line[length - 1] == '\n')
+            length--;
         tag++;
         reply = ask(log,
-                    audit_store_write_append(tag, (uint32_t)strtoul(words[2], NULL, 10), (const uint8_t *)line,
-                                             strlen(line), frame, sizeof frame),
+                    audit_store_write_append(tag, (uint32_t)kind, (const uint8_t *)line, (size_t)length, frame,
+                                             sizeof frame),
                     tag, AUDIT_STORE_ACKNOWLEDGEMENT);
         commitment.count = reply.count;
         memcpy(commitment.root, reply.root, sizeof commitment.root);
@@ -115,7 +123,12 @@ int main(int count, char **words)
         for (at = 0; at < 32; at++)
             printf("%02x", commitment.root[at]);
         putchar('\n');
+        if (fflush(stdout) != 0)
+            stop("a receipt that can't be printed");
     }
+    if (ferror(stdin))
+        stop("lines that can't be read");
+    free(line);
     close(log);
     return 0;
 }
