@@ -118,12 +118,12 @@ def nothing_is_replaced():
 def a_store_keeps_its_key():
     """The sealed key stays if the store was made, though its maker couldn't say so."""
     with open("/dev/full", "wb") as full:
-        ended = subprocess.run([tool("format-sealed"), "store", "64", "out", "rev"], stdin=subprocess.DEVNULL, stdout=full,
-                               stderr=subprocess.PIPE, timeout=program.SECONDS, env=dict(os.environ, AUDIT=program.PATH))
-    expect((ended.returncode, ended.stderr.splitlines()[-1]), (3, b"format-sealed: store is there, and out has its key"),
-           "a standard output that is full")
-    key = read("out").strip()[::-1] + b"\n"
-    expect_opened(key)
+        ended = subprocess.run([tool("format-sealed"), "store", "64", "out", "rev"], stdin=subprocess.DEVNULL,
+                               stdout=full, stderr=subprocess.PIPE, timeout=program.SECONDS,
+                               env=dict(os.environ, AUDIT=program.PATH))
+    said = b"format-sealed: store is there, and out has its key"
+    expect((ended.returncode, ended.stderr.splitlines()[-1]), (3, said), "a standard output that is full")
+    expect_opened(read("out").strip()[::-1] + b"\n")
 
 
 @scene

@@ -2,9 +2,10 @@
  * audit_store.h: what a program that logs into the store, or checks what was logged, needs of it.
  *
  * The functions are those of crates/audit_c: each is proved to do what its comment here says, which PROMISES.md in that
- * folder states clause by clause. They take no memory, keep no state of their own, call nothing but the C library's
- * copying of bytes, and return on any bytes. So they may be called in any thread, in a signal handler and in a forked
- * child, as long as no two calls share a buffer or a verifier that one of them writes.
+ * folder states clause by clause. audit_store_proof_head alone is C, in this header, and is tested. They take no
+ * memory, keep no state of their own, call nothing but the C library's copying of bytes, and return on any bytes. So
+ * they may be called in any thread, in a signal handler and in a forked child, as long as no two calls share a buffer
+ * or a verifier that one of them writes.
  *
  * The caller owes what the types say: a pointer points at as many bytes as the length beside it says, or at one whole
  * struct, none of which is written by anything else during the call, and none overlaps another that the call writes. A
@@ -112,7 +113,7 @@ void audit_store_verify_first(const uint8_t first_key[32], struct audit_store_ve
  * MORE: all bytes were taken, and the next entry isn't whole.
  * BAD_LENGTH, BAD_LINK, BAD_MAC, BAD_CLOSE: the fault of the entry `verifier->count`, whatever follows. It is final:
  * every later call returns it.
- * MISUSED: the buffer is too short, or no call made the verifier. Nothing was done.
+ * MISUSED: the buffer is too short, or no call made the verifier, which stays as it was.
  *
  * However an export is cut, the events and the fault are those of `audit verify` for the whole of it. Until
  * audit_store_verify_end says OK, an event is only known to be sealed with the log's key in this order: somebody may
@@ -123,8 +124,9 @@ uint32_t audit_store_verify_feed(struct audit_store_verifier *verifier, const ui
 
 /*
  * The verdict on all bytes that were fed, under a commitment to the whole log: OK if they are verified, SHORT if they
- * end within an entry, WRONG_COMMITMENT if the commitment isn't to their entries, or the fault that was found before.
- * The verifier stays as it was, so the same export may be judged again after more bytes.
+ * end within an entry, WRONG_COMMITMENT if the commitment isn't to their entries, or the fault that was found before;
+ * MISUSED says that no call made the verifier. The verifier stays as it was, so the same export may be judged again
+ * after more bytes.
  */
 uint32_t audit_store_verify_end(const struct audit_store_verifier *verifier,
                                 const struct audit_store_commitment *commitment);
@@ -177,6 +179,8 @@ struct audit_store_reply {
 /*
  * Reads the reply at the start of the bytes that came. OK with its fields, MORE if its frame isn't whole yet, MALFORMED
  * if the frame is that of no reply; `reply` is then as it was. The next reply starts `reply->size` bytes later.
+ * A server that lies may claim a frame of up to 65,537 bytes, which is MORE until all came: if AUDIT_STORE_REPLY_MAX
+ * bytes aren't enough, end the connection.
  *
  * A proof for audit_store_check_inclusion has the byte 1, the index and the count that were asked for, 8 bytes each
  * with the highest first, and the frame from byte 7 on; one for audit_store_check_consistency has the byte 2, the two

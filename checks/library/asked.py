@@ -293,15 +293,16 @@ def scene_wrong_calls():
 
         expect_raised(FileNotFoundError, lambda: log.append_all(ends()), "events that end with a fault")
         expect_raised(OSError, lambda: log.append_all([b"y"], acknowledged=full), "an acknowledgement that isn't kept")
-        expect_raised(RuntimeError, lambda: log.append_all([b"z"], acknowledged=lambda _: log.append(b"within")), "a call in a call")
+        expect_raised(RuntimeError, lambda: log.append_all([b"z"], acknowledged=lambda _: log.append(b"within")),
+                      "a call in a call")
         before = log.commitment().count
         done = log.append_all([b"%d" % number for number in range(5000)], in_flight=5000)
-        expect([one.index for one in done], list(range(before, before + 5000)), "5,000 events, told to be under way at once")
+        expect([one.index for one in done], list(range(before, before + 5000)), "5,000 events at once")
 
 
 @scene
 def scene_async_liars():
-    """A reply of another kind ends its call at once, and what a connection that was given up says later is heard by nobody."""
+    """A reply of another kind ends its call at once, and nobody hears what a connection that was given up says later."""
     from audit_store import AsyncClient, ConnectionEnded
     commitment = b"\0\x2d\x82%s" + bytes(40)
 

@@ -159,6 +159,7 @@ def scene_packages():
     done = subprocess.run(["cc", "-Iunpacked/usr/include", "-o", "verify", os.path.join(EXAMPLES, "library", "verify.c"),
                            "-L" + lib, "-lauditstore"], capture_output=True, text=True)
     expect((done.returncode, done.stderr), (0, ""), "a program that is linked with them")
-    done = subprocess.run(["./verify", 64 * "0", "0:" + 64 * "0"], stdin=subprocess.DEVNULL, capture_output=True,
+    write("key", b"0" * 64)
+    done = subprocess.run(["./verify", "key", "0:" + 64 * "0"], stdin=subprocess.DEVNULL, capture_output=True,
                           env=dict(os.environ, LD_LIBRARY_PATH=lib))
     expect(done.stdout, b"verified 0\n", "the program")

@@ -4,7 +4,7 @@ import shutil
 import subprocess
 
 from checks.library import common
-from checks.library.asked import FIRST_KEY, exported
+from checks.library.asked import FIRST_KEY, exported, liar
 from checks.library.judged import events_of
 from checks.parts import program
 from checks.parts.daemons import FedDaemon
@@ -13,6 +13,10 @@ from checks.parts.places import EXAMPLES, at_top
 from checks.parts.scenes import scene
 from checks.parts.wrong import LeftOut, Wrong, expect
 from model.chain import ZERO_KEY, log_of
+
+
+# The start of a frame that is longer than any reply's, which isn't known to be none before it is whole.
+LONG_FRAME = b"\xff\xff\x82" + bytes(40000)
 
 
 def compiled(name):
@@ -49,12 +53,16 @@ def scene_logger_in_c():
         from audit_store import verify
         found = [event.payload for event in verify(exported(daemon)[0], FIRST_KEY, exported(daemon)[1])]
         expect(found[4:], lines.split(b"\n"), "the events")
-        for words, data in (("7", b"x" * 32697), ("x", b"a"), ("4294967296", b"a"), ("-1", b"a"), ("", b"a")):
-            done = subprocess.run([logger, daemon.socket, words, "proofs"], input=data, capture_output=True)
-            expect((done.returncode, done.stdout, done.stderr.count(b"\n")), (1, b"", 1), "the logger with kind %r" % words)
+        for kind, data in (("7", b"x" * 32697), ("x", b"a"), ("4294967296", b"a"), ("-1", b"a"), ("", b"a")):
+            done = subprocess.run([logger, daemon.socket, kind, "proofs"], input=data, capture_output=True)
+            expect((done.returncode, done.stdout, done.stderr.count(b"\n")), (1, b"", 1), "the kind %r" % kind)
         with open("/dev/full", "wb") as full:
-            done = subprocess.run([logger, daemon.socket, "7", "proofs"], input=b"a\n", stdout=full, stderr=subprocess.PIPE)
+            done = subprocess.run([logger, daemon.socket, "7", "proofs"], input=b"a\n", stdout=full,
+                                  stderr=subprocess.PIPE)
         expect((done.returncode, done.stderr), (1, b"logger: a receipt that can't be printed\n"), "a full output")
+    with liar([LONG_FRAME]) as path:
+        done = subprocess.run([logger, path, "7", "proofs"], input=b"a\n", capture_output=True, timeout=30)
+    expect((done.returncode, done.stderr), (1, b"logger: the daemon is gone\n"), "a frame longer than any reply")
 
 
 @scene
@@ -108,3 +116,6 @@ def scene_shop_in_go():
         from audit_store import verify
         event, = verify(export, FIRST_KEY, commitment)
         expect((event.index, event.payload), (int(index), b"seven apples"), "the order in the log")
+    with liar([LONG_FRAME]) as path:
+        done = subprocess.run(["shop/order", path, "eight", "none"], capture_output=True, timeout=30)
+    expect((done.returncode, b"too long for a reply" in done.stderr), (1, True), "a frame longer than any reply")

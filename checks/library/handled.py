@@ -164,7 +164,7 @@ def scene_exit_without_daemon():
 
 @scene
 def scene_lost_records():
-    """A record that can't be formatted, or for which no thread can be started, is counted, and the next one is logged."""
+    """A record that can't be formatted, or that finds no thread, is counted, and the next one is logged."""
     from audit_store import Handler
     raises, logging.raiseExceptions = logging.raiseExceptions, False
     started = threading.Thread.start

@@ -53,6 +53,7 @@ static struct audit_store_reply ask(int log, size_t length, uint32_t tag, uint32
         sent += (size_t)one;
     }
     while ((answer = audit_store_read_reply(came, held, &reply)) == AUDIT_STORE_MORE) {
+        /* No byte has room if the frame is longer than any reply's: then none is received. */
         ssize_t one = recv(log, came + held, sizeof came - held, 0);
         if (one <= 0)
             stop("the daemon is gone");

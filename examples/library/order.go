@@ -49,6 +49,9 @@ func ask(stream net.Conn, request []byte, kind C.uint32_t) (C.struct_audit_store
 		case C.AUDIT_STORE_MALFORMED:
 			log.Fatal("no reply")
 		}
+		if held == len(came) {
+			log.Fatal("a frame that is too long for a reply")
+		}
 		taken, err := stream.Read(came[held:])
 		if err != nil {
 			log.Fatal(err)

@@ -3,10 +3,11 @@
  *
  * usage: verify KEYFILE COUNT:ROOT [PIECE] <EXPORT
  *
- * KEYFILE has the key, 64 hex digits: an argument would be shown to others by ps(1). ROOT has 64, too. Reads PIECE bytes at a time, 65,536 unless it is given. Prints each event as
- * `event INDEX KIND PAYLOAD`, with the payload in hex digits or as a dash, and then `verified COUNT`; or says which
- * entry is at fault, `entry INDEX: NUMBER`, and ends with status 1. The events before a fault were printed by then.
- * With PIECE 0 no event is printed, and 65,536 bytes are read at a time.
+ * KEYFILE has the key, 64 hex digits: an argument would be shown to others by ps(1). ROOT has 64, too. Reads PIECE
+ * bytes at a time, 65,536 unless it is given. Prints each event as `event INDEX KIND PAYLOAD`, with the payload in hex
+ * digits or as a dash, and then `verified COUNT`; or says which entry is at fault, `entry INDEX: NUMBER`, and ends with
+ * status 1. The events before a fault were printed by then. With PIECE 0 no event is printed, and 65,536 bytes are read
+ * at a time.
  */
 #include <audit_store.h>
 #include <inttypes.h>
