@@ -47,6 +47,21 @@ digests = sha256
 accuracy = secs:1
 ess_cert_id_chain = no
 """
+# An issuer of certificates with a time of their own.
+CA = """
+[ca]
+default_ca = here
+[here]
+database = issued
+serial = next
+new_certs_dir = .
+default_md = sha256
+policy = any
+[any]
+commonName = supplied
+[stamps]
+extendedKeyUsage = critical, timeStamping
+"""
 # A program in the place of another one: it counts its calls, and at one of them kills the tool that called it, before or
 # after it did its work.
 WRAPPER = """#!/bin/sh
@@ -378,6 +393,32 @@ def scene_unsigned_words(witness):
         expect((witness.check()[0], witness.check()[1][1]), (1, "anchor 2: its time isn't one"), "the time %r" % other)
     write(witness.path(2, "time"), text)
     witness.expect_right(3)
+
+
+@scene
+def scene_expired_authority():
+    """A stamp stays right when its certificate expires, and one that was made later is wrong."""
+    witness = Witness()
+    folder = os.path.dirname(witness.authority)
+    write("issued", b"")
+    write("next", b"77\n")
+    write("issuer", CA.encode())
+    now = time.time()
+    first, last = (time.strftime("%Y%m%d%H%M%SZ", time.gmtime(now + after)) for after in (-3600, 8))
+    call("openssl", "ca", "-batch", "-notext", "-config", "issuer", "-cert", witness.authority, "-keyfile",
+         os.path.join(folder, "authority.key"), "-in", os.path.join(folder, "stamps.csr"), "-out", "short.pem", "-extensions",
+         "stamps", "-startdate", first, "-enddate", last)
+    shutil.copy("short.pem", os.path.join(folder, "stamps.pem"))
+    witness.anchored()
+    witness.expect_right(1)
+    time.sleep(max(now + 10 - time.time(), 0))
+    witness.expect_right(1)
+    witness.append("late")
+    witness.anchored()
+    status, lines = witness.check()
+    expect((status, lines[-1]), (1, "anchors 1 right, 1 wrong, of some"), "a stamp of an expired certificate")
+    expect_true("certificate has expired" in lines[1], "why it is wrong: %s" % lines[1])
+    witness.daemon.stop()
 
 
 @scene

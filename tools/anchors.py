@@ -1,9 +1,9 @@
 """What the tools for anchors share: the folders of anchors, the programs that sign and stamp, and stamps' times.
 
-An anchor is a folder of eight digits, from 00000001 on, in a folder of them: `note` (what `audit note` prints), `note.sig`
-(its signature by `ssh-keygen -Y sign -n audit-commitment`), `note.tsr` (a time stamp of the note, RFC 3161), `increment`
-(the consistency proof from the note before it, if there is one that counts less and not zero) and `time` (the clock of the
-machine that kept it). Stamp and time may be missing.
+An anchor is a folder of eight digits, from 00000001 on, in a folder of them: `note` (what `audit note` prints),
+`note.sig` (its signature by `ssh-keygen -Y sign -n audit-commitment`), `note.tsr` (a time stamp of the note, RFC 3161),
+`increment` (the consistency proof from the note before it, if there is one that counts less and not zero) and `time`
+(the clock of the machine that kept it). Stamp and time may be missing.
 """
 import calendar
 import hashlib
@@ -149,8 +149,8 @@ def note_in(folder):
 
 
 def stamp_text(path):
-    """What OpenSSL says of the token in a reply to a request for a stamp. The token alone is signed: the status beside it
-    has a text, which is printed as it is and may look like another time."""
+    """What OpenSSL says of the token in a reply to a request for a stamp. The token alone is signed: the status beside
+    it has a text, which is printed as it is and may look like another time."""
     status, token, messages = run("openssl", "ts", "-reply", "-in", path, "-token_out")
     if not status:
         status, text, messages = run("openssl", "ts", "-reply", "-in", "/dev/stdin", "-token_in", "-text", data=token)

@@ -302,7 +302,7 @@ def scene_wrong_calls():
 
 @scene
 def scene_async_liars():
-    """A reply of another kind ends its call at once, and nobody hears what a connection that was given up says later."""
+    """A reply of another kind ends its call at once, and a connection that was given up is heard no more."""
     from audit_store import AsyncClient, ConnectionEnded
     commitment = b"\0\x2d\x82%s" + bytes(40)
 
@@ -334,7 +334,7 @@ def scene_async_liars():
         async with await asyncio.start_unix_server(late, "late.sock", limit=1024):
             log = AsyncClient("late.sock", timeout=0.5)
             found = await asyncio.gather(*(log.append(b"x" * 30000) for _ in range(30)), return_exceptions=True)
-            expect_true(all(isinstance(one, (TimeoutError, ConnectionEnded)) for one in found), "appends that nobody hears")
+            expect_true(all(isinstance(one, (TimeoutError, ConnectionEnded)) for one in found), "appends in vain")
             log._timeout = 20
             expect((await log.commitment()).count, 0, "the reply over the next connection")
             await log.close()

@@ -76,7 +76,10 @@ class Journal(Peer):
         self.calls.sendall(b'{"method":"io.systemd.Journal.Synchronize"}\0')
         answer = b""
         while not answer.endswith(b"\0"):
-            answer += self.calls.recv(4096)
+            piece = self.calls.recv(4096)
+            if not piece:
+                raise Wrong("journald ended")
+            answer += piece
         if b'"error"' in answer:
             raise Wrong("journald doesn't synchronize: %s" % answer)
 
