@@ -146,6 +146,13 @@ def sealed_for_a_file():
 
 
 @scene
+def no_core_files():
+    """The programs that get the key leave no core file."""
+    expect_made("out", "sh", "-c", "cat >/dev/null; ulimit -H -c")
+    expect(read("out"), b"0\n", "the limit of core files")
+
+
+@scene
 def wrong_words():
     for words in (), ("store", "64", "out"), ("--other", "64", "out", "rev"):
         expect_none_made(words, 2, USAGE)
