@@ -113,7 +113,7 @@ void audit_store_verify_first(const uint8_t first_key[32], struct audit_store_ve
  * MORE: all bytes were taken, and the next entry isn't whole.
  * BAD_LENGTH, BAD_LINK, BAD_MAC, BAD_CLOSE: the fault of the entry `verifier->count`, whatever follows. It is final:
  * every later call returns it.
- * MISUSED: the buffer is too short, or no call made the verifier, which stays as it was.
+ * MISUSED: the buffer is too short, or no call made the verifier. Nothing was done.
  *
  * However an export is cut, the events and the fault are those of `audit verify` for the whole of it. Until
  * audit_store_verify_end says OK, an event is only known to be sealed with the log's key in this order: somebody may

@@ -9,7 +9,7 @@ _WORD = re.compile(r"([0-9]{1,20}):([0-9a-fA-F]{64})", re.ASCII)
 
 
 class BadProof(ValueError):
-    """The bytes are no proof, or not one for so many commitments."""
+    """The bytes are no proof, or one that takes another number of commitments."""
 
 
 class Commitment(NamedTuple):

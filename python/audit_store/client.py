@@ -17,7 +17,7 @@ from audit_store.checking import Commitment, check
 
 # How many requests a client sends before it waits for a reply, at most.
 IN_FLIGHT = 64
-# The most that it may be told to: the replies to so many fit into a socket while nobody reads them.
+# The most that it may be told to: their replies fit into a socket while nobody reads them.
 MOST_IN_FLIGHT = 256
 _NO_MORE = object()
 _REFUSALS = {4: "DamagedLog", 7: "Full", 8: "NoSuchVersion", 9: "Worn", 11: "Device", 13: "Closed", 16: "NotAllowed",

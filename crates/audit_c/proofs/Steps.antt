@@ -34,7 +34,7 @@ use Rattle.audit_c.specs.declared.verifier.Verifier.{Verifier}
 use Rattle.audit_c.specs.Fed.{HasBeenFed, HasEndFault, held_in, reader_of, tree_of}
 use Rattle.audit_c.specs.Passed.{HasPassed}
 
--- a reader of entries with these parts, which was fed so many bytes
+-- a reader of entries with these parts, after it was fed `total` bytes
 abbrev reads : List ℕ → List ℕ → ℕ → Bool → List ℕ → ℕ → ReadingState
 reads key link count closed held total = record { key = key; link = link; count = count; closed = closed; held = held; total = total; limit = total }
 

@@ -21,7 +21,7 @@ use Rattle.audit_c.specs.declared.given_event.GivenEvent.{GivenEvent}
 abbrev pub held_in : Verifier → List ℕ
 held_in v = take v.held v.bytes
 
--- a verifier as a reader of entries that was fed so many bytes
+-- a verifier as a reader of entries, after it was fed `total` bytes
 abbrev pub reader_of : Verifier → ℕ → ReadingState
 reader_of v total = record {
   key = v.key;
@@ -54,6 +54,7 @@ pub record HasHandedOut (from : StateData) (fed : List ℕ) (events : List Event
   pub goes_on : HasBeenFed from (fed ++ take given.taken piece) (events ++ event ∷ []) v
   pub index : given.index ≡ from.frontier.count + length events
   pub kind : given.kind ≡ event.kind
+  pub size : given.size ≡ length event.payload
   pub opened : take given.size payload ≡ event.payload
 
 -- The bytes have this fault, whatever follows and whatever the commitment, and it is kept.
