@@ -41,7 +41,8 @@ tree_of v = record { count = min v.count MAX_COUNT; hashes = v.nodes }
 pub record HasBeenFed (from : StateData) (fed : List ℕ) (events : List EventData) (v : Verifier) : Type 0 where
   pub read : HasReadFrom from (length fed) (Some fed) (Some []) (reader_of v (length fed)) events
   pub begun : IsBegun (v.closed == 1) (held_in v)
-  pub tree : v.count ≤ MAX_COUNT → tree_of v ≡ frontier_after from.frontier (map leaf_hash_of (entries_from_state from events))
+  pub tree : v.count ≤ MAX_COUNT
+      → tree_of v ≡ frontier_after from.frontier (map leaf_hash_of (entries_from_state from events))
   pub sized : IsSized (min v.count MAX_COUNT) v.nodes
   pub room : v.held ≤ MAX_ENTRY
   pub right : v.fault ≡ OK

@@ -1,5 +1,6 @@
 -- The reply at the start of bytes, as fields.
-use Rattle.std.specs.Prelude.{◌≡◌, ℕ, ◌+◌, ◌*◌, ◌==◌, nat_le, if◌then◌else◌, List, [], ◌∷◌, length, take, drop, Option, None, Some}
+use Rattle.std.specs.Prelude.{◌≡◌, ℕ, ◌+◌, ◌*◌, ◌==◌, nat_le, if◌then◌else◌, List}
+use Rattle.std.specs.Prelude.{[], ◌∷◌, length, take, drop, Option, None, Some}
 use Rattle.audit_base.specs.declared.limits.TheConstants.{HASH_LEN}
 use Rattle.audit_base.specs.Bytes.{zeros}
 use Rattle.audit_base.specs.Hashes.{first_hashes}
