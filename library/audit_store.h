@@ -156,7 +156,9 @@ enum {
     AUDIT_STORE_CONSISTENCY = 0x84,     /* hashes, which begin at byte 8 of the frame */
     AUDIT_STORE_ENTRY = 0x85,           /* the entry, from byte 7 of the frame to its end */
     AUDIT_STORE_STATE = 0x87,           /* count, root, end, sectors, generation, version, closed */
-    AUDIT_STORE_REFUSED = 0xff          /* code: 4, 7, 8, 9, 11, 13, 16 or 20 (docs/refusals.md) */
+    AUDIT_STORE_PLACE = 0x88,           /* index: the number of events of a kind; count */
+    AUDIT_STORE_PLACED = 0x89,          /* index, count, root; the entry's key, from byte 55 of the frame to its end */
+    AUDIT_STORE_REFUSED = 0xff          /* code: 4, 7, 8, 9, 11, 13, 16, 18 or 20 (docs/refusals.md) */
 };
 
 /* A reply: the length of its frame, its kind, the tag of its request, and the fields of its kind. The others are 0. */

@@ -36,7 +36,7 @@ first_body (high ∷ []) = None
 first_body (high ∷ low ∷ bytes) =
     if nat_le (size_of high low) (length bytes) then Some (take (size_of high low) bytes) else None
 
--- the reply that fields describe; its hashes and its entry are in the bytes after the kind and the tag
+-- the reply that fields describe; its hashes, its entry and its key are in the bytes after the kind and the tag
 unfoldable pub reply_of : GivenReply → List ℕ → Option Reply
 reply_of given parts =
     if given.kind == 129 then Some (reply.Acknowledgement given.tag given.index given.count given.root) else
@@ -47,6 +47,9 @@ reply_of given parts =
     if given.kind == 133 then Some (reply.Entry given.tag parts) else
     if given.kind == 135 then Some (reply.State given.tag given.count given.root given.end given.sectors
     given.generation given.version (given.closed == 1)) else
+    if given.kind == 136 then Some (reply.Place given.tag given.index given.count) else
+    if given.kind == 137 then Some (reply.Placed given.tag given.index given.count given.root
+    (take HASH_LEN (drop 48 parts))) else
     if given.kind == 255 then refused_with given.tag (refusal_with_code given.code) else None
 
 -- the fields describe this reply to the frame of this body

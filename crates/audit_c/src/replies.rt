@@ -1,7 +1,8 @@
 //! Replies, read from their frames. Nothing is copied.
 ghost use Rattle.std.specs.Prelude.{◌≡◌, ◌+◌, ◌∷◌, length, option_map};
 ghost use Rattle.audit_wire.specs.Reply.{reply_in, acknowledgement_in, commitment_reply_in, membership_reply_in};
-ghost use Rattle.audit_wire.specs.Reply.{increment_reply_in, entry_reply_in, state_reply_in, refused_in};
+ghost use Rattle.audit_wire.specs.Reply.{increment_reply_in, entry_reply_in, state_reply_in, place_reply_in};
+ghost use Rattle.audit_wire.specs.Reply.{placed_reply_in, refused_in};
 ghost use Rattle.audit_c.specs.Replied.{first_body, IsReplyRead, IsReplyFound};
 
 use crate::answers::{MALFORMED, MORE, OK};
@@ -52,6 +53,8 @@ fn reply_in(body: &[u8]) -> Option<GivenReply>
         0x84 => increment_in(fields),
         0x85 => entry_in(fields),
         0x87 => state_in(fields),
+        0x88 => place_in(fields),
+        0x89 => placed_in(fields),
         0xff => refused_in(fields),
         _ => None,
     }
@@ -147,6 +150,37 @@ fn state_in(fields: &[u8]) -> Option<GivenReply>
         version: u32::from(u16_at(fields, 68)),
         closed: u32::from(fields[70]),
         ..GivenReply::tagged(74, 0x87, u32_at(fields, 0))
+    })
+}
+
+#[tactic(auto, unfolding(audit_wire::specs::Reply::place_reply_in, crate::specs::Replied::reply_of))]
+fn place_in(fields: &[u8]) -> Option<GivenReply>
+    ensures { IsReplyFound (136 ∷ fields.now) (place_reply_in fields.now) result }
+{
+    if fields.len() != 20 {
+        return None;
+    }
+    let number = u64_at(fields, 4);
+    Some(GivenReply {
+        index: number,
+        count: u64_at(fields, 12),
+        ..GivenReply::tagged(23, 0x88, u32_at(fields, 0))
+    })
+}
+
+#[tactic(auto, unfolding(audit_wire::specs::Reply::placed_reply_in, crate::specs::Replied::reply_of))]
+fn placed_in(fields: &[u8]) -> Option<GivenReply>
+    ensures { IsReplyFound (137 ∷ fields.now) (placed_reply_in fields.now) result }
+{
+    if fields.len() != 84 {
+        return None;
+    }
+    let index = u64_at(fields, 4);
+    Some(GivenReply {
+        index,
+        count: u64_at(fields, 12),
+        root: *array_at(fields, 20),
+        ..GivenReply::tagged(87, 0x89, u32_at(fields, 0))
     })
 }
 

@@ -10,9 +10,9 @@ pub struct GivenReply {
     pub kind: u32,
     /// The tag of the request.
     pub tag: u32,
-    /// The index of an acknowledged event.
+    /// The index of an acknowledged event; of the place of a kind, the number of its events.
     pub index: u64,
-    /// The count of a commitment, also of an acknowledgement and of a state.
+    /// The count of a commitment, also of an acknowledgement, of a state and of a place.
     pub count: u64,
     /// The root of the same commitment.
     pub root: [u8; 32],

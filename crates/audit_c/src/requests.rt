@@ -6,7 +6,7 @@ ghost use Rattle.audit_wire.specs.Request.{request_body, IsDaemonRequest};
 ghost use Rattle.audit_wire.specs.View.{request_shown};
 ghost use Rattle.audit_c.specs.Written.{IsRequestWritten};
 
-use audit_wire::{MAX_PAYLOAD, RESERVED_KIND, RequestView};
+use audit_wire::{MAX_PAYLOAD, MAX_PLACED_PAYLOAD, RESERVED_KIND, RequestView};
 
 // Where the fields of a request start in its frame, after the length, the kind and the tag.
 const FIELDS_AT: usize = 7;
@@ -106,6 +106,8 @@ fn is_request(request: RequestView<'_>) -> bool
     match request {
         RequestView::Append { kind, payload, .. } => kind != RESERVED_KIND
             && payload.len() <= MAX_PAYLOAD,
+        RequestView::PlacedAppend { kind, payload, .. } => kind != RESERVED_KIND
+            && payload.len() <= MAX_PLACED_PAYLOAD,
         _ => true,
     }
 }
@@ -121,6 +123,8 @@ fn body_size(request: RequestView<'_>) -> usize
         RequestView::Commitment { .. } | RequestView::Close { .. } | RequestView::State { .. } => 5,
         RequestView::Membership { .. } | RequestView::Incremental { .. } => 21,
         RequestView::Entry { .. } => 13,
+        RequestView::Place { .. } => 9,
+        RequestView::PlacedAppend { payload, .. } => 17 + payload.len(),
     }
 }
 
@@ -151,6 +155,21 @@ fn put_body(frame: &mut [u8], request: RequestView<'_>)
         }
         RequestView::Close { tag } => put_head(frame, 6, tag),
         RequestView::State { tag } => put_head(frame, 7, tag),
+        RequestView::Place { tag, kind } => {
+            put_head(frame, 8, tag);
+            put(frame, FIELDS_AT, &kind.to_be_bytes());
+        }
+        RequestView::PlacedAppend {
+            tag,
+            kind,
+            place,
+            payload,
+        } => {
+            put_head(frame, 9, tag);
+            put(frame, FIELDS_AT, &kind.to_be_bytes());
+            put(frame, FIELDS_AT + 4, &place.to_be_bytes());
+            put(frame, FIELDS_AT + 12, payload);
+        }
     }
 }
 

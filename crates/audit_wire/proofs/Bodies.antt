@@ -16,9 +16,10 @@ use Rattle.audit_wire.specs.declared.view.RequestView.{RequestView}
 use Rattle.audit_wire.specs.declared.malformed.Malformed.{Malformed}
 use Rattle.audit_wire.specs.View.{request_shown, request_read}
 use Rattle.audit_base.specs.Bytes.{AreBytes}
+use Rattle.audit_wire.specs.declared.limits.TheConstants.{MAX_PLACED_PAYLOAD}
 use Rattle.audit_wire.specs.Frame.{IsBodySize}
 use Rattle.audit_base.specs.Bytes.{number_at}
-use Rattle.audit_wire.specs.Request.{request_body, IsRequest, IsDaemonRequest, IsRequestBy, kind_at, append_in, commitment_in, membership_in, incremental_in, entry_in, close_in, state_in, fields_in, request_in, request_by}
+use Rattle.audit_wire.specs.Request.{request_body, IsRequest, IsDaemonsAlone, IsDaemonRequest, IsRequestBy, kind_at, append_in, commitment_in, membership_in, incremental_in, entry_in, close_in, state_in, place_in, placed_append_in, fields_in, request_in, request_by}
 
 -- ---- parts of bytes are bytes
 
@@ -63,6 +64,13 @@ three_parts n m bytes =
     ∙ ap (λ (back : List ℕ). take n bytes ++ back)
     (ap (λ (back : List ℕ). take m (drop n bytes) ++ back) (sym (drop-drop m n bytes)) ∙ take-append-drop m (drop n bytes))
     ∙ take-append-drop n bytes
+
+four_parts : (n m k : ℕ) (bytes : List ℕ) → ((take n bytes ++ take m (drop n bytes)) ++ take k (drop (n + m) bytes)) ++ drop (n + m + k) bytes ≡ bytes
+four_parts n m k bytes =
+    append_assoc (take n bytes ++ take m (drop n bytes)) (take k (drop (n + m) bytes)) (drop (n + m + k) bytes)
+    ∙ ap (λ (back : List ℕ). (take n bytes ++ take m (drop n bytes)) ++ back)
+    (ap (λ (back : List ℕ). take k (drop (n + m) bytes) ++ back) (sym (drop-drop k (n + m) bytes)) ∙ take-append-drop k (drop (n + m) bytes))
+    ∙ three_parts n m bytes
 
 all_three_parts : (n m k : ℕ) (bytes : List ℕ) → length bytes ≤ n + m + k → (take n bytes ++ take m (drop n bytes)) ++ take k (drop (n + m) bytes) ≡ bytes
 all_three_parts n m k bytes le =
@@ -175,15 +183,17 @@ record IsKindBy (a b c d e f : Bool) (found : Option RequestKind) : Type 0 where
   entry : found ≡ Some kind.Entry → e ≡ true
   close : found ≡ Some kind.Close → f ≡ true
   state : found ≡ Some kind.State → ⊥
+  place : found ≡ Some kind.Place → ⊥
+  placed : found ≡ Some kind.PlacedAppend → ⊥
 
 is_kind_by : (a b c d e f : Bool) → IsKindBy a b c d e f (kind_by a b c d e f)
-is_kind_by true b c d e f = record { append = λ h. refl; commitment = λ h. absurd cc; membership = λ h. absurd cc; incremental = λ h. absurd cc; entry = λ h. absurd cc; close = λ h. absurd cc; state = λ h. absurd cc }
-is_kind_by false true c d e f = record { append = λ h. absurd cc; commitment = λ h. refl; membership = λ h. absurd cc; incremental = λ h. absurd cc; entry = λ h. absurd cc; close = λ h. absurd cc; state = λ h. absurd cc }
-is_kind_by false false true d e f = record { append = λ h. absurd cc; commitment = λ h. absurd cc; membership = λ h. refl; incremental = λ h. absurd cc; entry = λ h. absurd cc; close = λ h. absurd cc; state = λ h. absurd cc }
-is_kind_by false false false true e f = record { append = λ h. absurd cc; commitment = λ h. absurd cc; membership = λ h. absurd cc; incremental = λ h. refl; entry = λ h. absurd cc; close = λ h. absurd cc; state = λ h. absurd cc }
-is_kind_by false false false false true f = record { append = λ h. absurd cc; commitment = λ h. absurd cc; membership = λ h. absurd cc; incremental = λ h. absurd cc; entry = λ h. refl; close = λ h. absurd cc; state = λ h. absurd cc }
-is_kind_by false false false false false true = record { append = λ h. absurd cc; commitment = λ h. absurd cc; membership = λ h. absurd cc; incremental = λ h. absurd cc; entry = λ h. absurd cc; close = λ h. refl; state = λ h. absurd cc }
-is_kind_by false false false false false false = record { append = λ h. absurd cc; commitment = λ h. absurd cc; membership = λ h. absurd cc; incremental = λ h. absurd cc; entry = λ h. absurd cc; close = λ h. absurd cc; state = λ h. absurd cc }
+is_kind_by true b c d e f = record { append = λ h. refl; commitment = λ h. absurd cc; membership = λ h. absurd cc; incremental = λ h. absurd cc; entry = λ h. absurd cc; close = λ h. absurd cc; state = λ h. absurd cc; place = λ h. absurd cc; placed = λ h. absurd cc }
+is_kind_by false true c d e f = record { append = λ h. absurd cc; commitment = λ h. refl; membership = λ h. absurd cc; incremental = λ h. absurd cc; entry = λ h. absurd cc; close = λ h. absurd cc; state = λ h. absurd cc; place = λ h. absurd cc; placed = λ h. absurd cc }
+is_kind_by false false true d e f = record { append = λ h. absurd cc; commitment = λ h. absurd cc; membership = λ h. refl; incremental = λ h. absurd cc; entry = λ h. absurd cc; close = λ h. absurd cc; state = λ h. absurd cc; place = λ h. absurd cc; placed = λ h. absurd cc }
+is_kind_by false false false true e f = record { append = λ h. absurd cc; commitment = λ h. absurd cc; membership = λ h. absurd cc; incremental = λ h. refl; entry = λ h. absurd cc; close = λ h. absurd cc; state = λ h. absurd cc; place = λ h. absurd cc; placed = λ h. absurd cc }
+is_kind_by false false false false true f = record { append = λ h. absurd cc; commitment = λ h. absurd cc; membership = λ h. absurd cc; incremental = λ h. absurd cc; entry = λ h. refl; close = λ h. absurd cc; state = λ h. absurd cc; place = λ h. absurd cc; placed = λ h. absurd cc }
+is_kind_by false false false false false true = record { append = λ h. absurd cc; commitment = λ h. absurd cc; membership = λ h. absurd cc; incremental = λ h. absurd cc; entry = λ h. absurd cc; close = λ h. refl; state = λ h. absurd cc; place = λ h. absurd cc; placed = λ h. absurd cc }
+is_kind_by false false false false false false = record { append = λ h. absurd cc; commitment = λ h. absurd cc; membership = λ h. absurd cc; incremental = λ h. absurd cc; entry = λ h. absurd cc; close = λ h. absurd cc; state = λ h. absurd cc; place = λ h. absurd cc; placed = λ h. absurd cc }
 
 -- the first byte is that of the kind
 record IsFirst (byte : ℕ) (found : Option RequestKind) : Type 0 where
@@ -194,6 +204,8 @@ record IsFirst (byte : ℕ) (found : Option RequestKind) : Type 0 where
   entry : found ≡ Some kind.Entry → byte ≡ 5
   close : found ≡ Some kind.Close → byte ≡ 6
   state : found ≡ Some kind.State → ⊥
+  place : found ≡ Some kind.Place → ⊥
+  placed : found ≡ Some kind.PlacedAppend → ⊥
 
 first_found : (first : ℕ) → IsFirst first (kind_at first)
 first_found first =
@@ -206,6 +218,8 @@ first_found first =
       entry = λ h. eqb-true first 5 (t.entry h);
       close = λ h. eqb-true first 6 (t.close h);
       state = t.state;
+      place = t.place;
+      placed = t.placed;
     }
 
 by_kind : (first : ℕ) (fields : List ℕ) (found : Option RequestKind) (read : Request) → AreBytes fields → IsFirst first found → fields_in found fields ≡ Some read → IsBodyOf (first ∷ fields) read
@@ -217,6 +231,8 @@ by_kind first fields (Some kind.Incremental) read fits is_first e = rw (is_first
 by_kind first fields (Some kind.Entry) read fits is_first e = rw (is_first.entry refl) (entry_found fields read fits e)
 by_kind first fields (Some kind.Close) read fits is_first e = rw (is_first.close refl) (close_found fields read fits e)
 by_kind first fields (Some kind.State) read fits is_first e = absurd (is_first.state refl)
+by_kind first fields (Some kind.Place) read fits is_first e = absurd (is_first.place refl)
+by_kind first fields (Some kind.PlacedAppend) read fits is_first e = absurd (is_first.placed refl)
 
 pub request_found : (body : List ℕ) (read : Request) → AreBytes body → request_in body ≡ Some read → IsBodyOf body read
 unfolding request_by
@@ -290,6 +306,8 @@ request_again (request.Incremental tag older newer) allowed = incremental_again 
 request_again (request.Entry tag index) allowed = entry_again tag index allowed
 request_again (request.Close tag) allowed = close_again tag allowed
 request_again (request.State tag) allowed = absurd allowed
+request_again (request.Place tag event_kind) allowed = absurd allowed
+request_again (request.PlacedAppend tag event_kind place payload) allowed = absurd allowed
 
 -- ---- the size of a body is allowed in a frame
 
@@ -301,6 +319,8 @@ request_size (request.Incremental tag older newer) allowed = (omega arith, omega
 request_size (request.Entry tag index) allowed = (omega arith, omega arith)
 request_size (request.Close tag) allowed = (omega arith, omega arith)
 request_size (request.State tag) allowed = absurd allowed
+request_size (request.Place tag event_kind) allowed = absurd allowed
+request_size (request.PlacedAppend tag event_kind place payload) allowed = absurd allowed
 
 -- ---- the requests of each grammar
 
@@ -312,6 +332,8 @@ daemon_allows (request.Incremental tag older newer) allowed = allowed
 daemon_allows (request.Entry tag index) allowed = allowed
 daemon_allows (request.Close tag) allowed = allowed
 daemon_allows (request.State tag) allowed = absurd allowed
+daemon_allows (request.Place tag event_kind) allowed = absurd allowed
+daemon_allows (request.PlacedAppend tag event_kind place payload) allowed = absurd allowed
 
 -- a request of the grammar, whose body this is
 pub record IsBodyBy (grammar : Grammar) (body : List ℕ) (read : Request) : Type 0 where
@@ -329,11 +351,53 @@ state_found fields read fits e =
       same = ap (λ (after : List ℕ). 7 ∷ after) (sym whole);
     })
 
--- the first byte is the one of a state, or another
-by_first : (first : ℕ) (fields : List ℕ) (read : Request) → AreBytes (first ∷ fields) → (is_state : Bool) → eqb first 7 ≡ is_state
-    → fields_in (cond is_state (Some kind.State) (kind_at first)) fields ≡ Some read → IsBodyBy grammar.Daemon (first ∷ fields) read
-by_first first fields read fits true is e = rw (eqb-true first 7 is) (state_found fields read (λ place. fits (suc place)) e)
-by_first first fields read fits false is e =
+place_found : (fields : List ℕ) (read : Request) → AreBytes fields → place_in fields ≡ Some read → IsBodyBy grammar.Daemon (8 ∷ fields) read
+unfolding place_in
+place_found fields read fits e =
+    let g = guard_some (eqb (length fields) 8) (request.Place (number_at w32 0 fields) (number_at w32 4 fields)) read e in
+    let size = eqb-true (length fields) 8 g.0 in
+    let whole : to_be_bytes w32 (number_at w32 0 fields) ++ to_be_bytes w32 (number_at w32 4 fields) ≡ fields =
+    ap (λ (tag : List ℕ). tag ++ to_be_bytes w32 (number_at w32 4 fields)) (back_4 0 fields fits (omega arith))
+    ∙ ap (λ (event_kind : List ℕ). take 4 fields ++ event_kind) (back_4 4 fields fits (omega arith))
+    ∙ two_parts 4 4 fields (omega arith) in
+    subst (λ (found : Request). IsBodyBy grammar.Daemon (8 ∷ fields) found) g.1 (record {
+      allowed = (below_4 0 fields fits, below_4 4 fields fits);
+      same = ap (λ (after : List ℕ). 8 ∷ after) (sym whole);
+    })
+
+placed_append_found : (fields : List ℕ) (read : Request) → AreBytes fields → placed_append_in fields ≡ Some read → IsBodyBy grammar.Daemon (9 ∷ fields) read
+unfolding placed_append_in
+placed_append_found fields read fits e =
+    let sizes_hold = leb 16 (length fields) && leb (length fields) (16 + MAX_PLACED_PAYLOAD) in
+    let other_kind = not (eqb (number_at w32 4 fields) RESERVED_KIND) in
+    let made = request.PlacedAppend (number_at w32 0 fields) (number_at w32 4 fields) (number_at w64 8 fields) (drop 16 fields) in
+    let g = guard_some (sizes_hold && other_kind) made read e in
+    let tests = and_parts sizes_hold other_kind g.0 in
+    let sizes = and_parts (leb 16 (length fields)) (leb (length fields) (16 + MAX_PLACED_PAYLOAD)) tests.0 in
+    let least = leb-true 16 (length fields) sizes.0 in
+    let most = leb-true (length fields) (16 + MAX_PLACED_PAYLOAD) sizes.1 in
+    let other = eqb-false (number_at w32 4 fields) RESERVED_KIND (not-true (eqb (number_at w32 4 fields) RESERVED_KIND) tests.1) in
+    let whole : ((to_be_bytes w32 (number_at w32 0 fields) ++ to_be_bytes w32 (number_at w32 4 fields)) ++ to_be_bytes w64 (number_at w64 8 fields)) ++ drop 16 fields ≡ fields =
+    ap (λ (tag : List ℕ). ((tag ++ to_be_bytes w32 (number_at w32 4 fields)) ++ to_be_bytes w64 (number_at w64 8 fields)) ++ drop 16 fields) (back_4 0 fields fits (omega arith))
+    ∙ ap (λ (event_kind : List ℕ). ((take 4 fields ++ event_kind) ++ to_be_bytes w64 (number_at w64 8 fields)) ++ drop 16 fields) (back_4 4 fields fits (omega arith))
+    ∙ ap (λ (place : List ℕ). ((take 4 fields ++ take 4 (drop 4 fields)) ++ place) ++ drop 16 fields) (back_8 8 fields fits (omega arith))
+    ∙ four_parts 4 4 8 fields in
+    subst (λ (found : Request). IsBodyBy grammar.Daemon (9 ∷ fields) found) g.1 (record {
+      allowed = (below_4 0 fields fits, below_4 4 fields fits, other, below_8 8 fields fits, omega (arith, length-drop 16 fields));
+      same = ap (λ (after : List ℕ). 9 ∷ after) (sym whole);
+    })
+
+-- the kind, decided by the first of three tests that holds, or else this one
+abbrev alone_or : (a b c : Bool) → Option RequestKind → Option RequestKind
+alone_or a b c other = cond a (Some kind.State) (cond b (Some kind.Place) (cond c (Some kind.PlacedAppend) other))
+
+-- the first byte is that of a request of a daemon's clients alone, or another
+by_first : (first : ℕ) (fields : List ℕ) (read : Request) → AreBytes (first ∷ fields) → (a b c : Bool) → eqb first 7 ≡ a → eqb first 8 ≡ b → eqb first 9 ≡ c
+    → fields_in (alone_or a b c (kind_at first)) fields ≡ Some read → IsBodyBy grammar.Daemon (first ∷ fields) read
+by_first first fields read fits true b c is_a is_b is_c e = rw (eqb-true first 7 is_a) (state_found fields read (λ place. fits (suc place)) e)
+by_first first fields read fits false true c is_a is_b is_c e = rw (eqb-true first 8 is_b) (place_found fields read (λ place. fits (suc place)) e)
+by_first first fields read fits false false true is_a is_b is_c e = rw (eqb-true first 9 is_c) (placed_append_found fields read (λ place. fits (suc place)) e)
+by_first first fields read fits false false false is_a is_b is_c e =
     let given = by_kind first fields (kind_at first) read (λ place. fits (suc place)) (first_found first) e in
     record { allowed = daemon_allows read given.allowed; same = given.same }
 
@@ -343,11 +407,36 @@ request_found_by grammar.Plain body read fits e =
     let given = request_found body read fits e in
     record { allowed = given.allowed; same = given.same }
 request_found_by grammar.Daemon [] read fits e = absurd cc
-request_found_by grammar.Daemon (first ∷ fields) read fits e = by_first first fields read fits (eqb first 7) refl e
+request_found_by grammar.Daemon (first ∷ fields) read fits e = by_first first fields read fits (eqb first 7) (eqb first 8) (eqb first 9) refl refl refl e
 
 state_again : (tag : ℕ) → tag < 2 ^ 32 → state_in (to_be_bytes w32 tag) ≡ Some (request.State tag)
 unfolding state_in
 state_again tag lt = ap (λ (n : ℕ). Some (request.State n)) (again_4 tag lt)
+
+place_again : (tag event_kind : ℕ) → IsDaemonRequest (request.Place tag event_kind) → place_in (to_be_bytes w32 tag ++ to_be_bytes w32 event_kind) ≡ Some (request.Place tag event_kind)
+unfolding place_in
+place_again tag event_kind allowed =
+    let fields : List ℕ = to_be_bytes w32 tag ++ to_be_bytes w32 event_kind in
+    ap (λ (n : ℕ). Some (request.Place n (number_at w32 4 fields))) (again_4 tag allowed.0)
+    ∙ ap (λ (n : ℕ). Some (request.Place tag n)) (again_4 event_kind allowed.1)
+
+placed_append_again : (tag event_kind place : ℕ) (payload : List ℕ) → IsDaemonRequest (request.PlacedAppend tag event_kind place payload)
+    → placed_append_in (to_be_bytes w32 tag ++ to_be_bytes w32 event_kind ++ to_be_bytes w64 place ++ payload) ≡ Some (request.PlacedAppend tag event_kind place payload)
+unfolding placed_append_in
+placed_append_again tag event_kind place payload allowed =
+    let fields : List ℕ = to_be_bytes w32 tag ++ to_be_bytes w32 event_kind ++ to_be_bytes w64 place ++ payload in
+    let kind_is : number_at w32 4 fields ≡ event_kind = again_4 event_kind allowed.1 in
+    let place_is : number_at w64 8 fields ≡ place = again_8 place allowed.3 in
+    let sizes : (leb 16 (length fields) && leb (length fields) (16 + MAX_PLACED_PAYLOAD)) ≡ true =
+    and_from (leb 16 (length fields)) (leb (length fields) (16 + MAX_PLACED_PAYLOAD)) (le-leb 16 (length fields) (omega arith)) (le-leb (length fields) (16 + MAX_PLACED_PAYLOAD) (omega (arith, allowed.4))) in
+    let other : not (eqb (number_at w32 4 fields) RESERVED_KIND) ≡ true =
+    not_from_false (eqb (number_at w32 4 fields) RESERVED_KIND) (ne_eqb (number_at w32 4 fields) RESERVED_KIND (λ e. allowed.2 (sym kind_is ∙ e))) in
+    cond-true ((leb 16 (length fields) && leb (length fields) (16 + MAX_PLACED_PAYLOAD)) && not (eqb (number_at w32 4 fields) RESERVED_KIND))
+    (Some (request.PlacedAppend (number_at w32 0 fields) (number_at w32 4 fields) (number_at w64 8 fields) (drop 16 fields))) None
+    (and_from (leb 16 (length fields) && leb (length fields) (16 + MAX_PLACED_PAYLOAD)) (not (eqb (number_at w32 4 fields) RESERVED_KIND)) sizes other)
+    ∙ ap (λ (n : ℕ). Some (request.PlacedAppend n (number_at w32 4 fields) (number_at w64 8 fields) payload)) (again_4 tag allowed.0)
+    ∙ ap (λ (n : ℕ). Some (request.PlacedAppend tag n (number_at w64 8 fields) payload)) kind_is
+    ∙ ap (λ (n : ℕ). Some (request.PlacedAppend tag event_kind n payload)) place_is
 
 pub request_again_by : (grammar : Grammar) (asked : Request) → IsRequestBy grammar asked → request_by grammar (request_body asked) ≡ Some asked
 unfolding request_by
@@ -359,6 +448,8 @@ request_again_by grammar.Daemon (request.Incremental tag older newer) allowed = 
 request_again_by grammar.Daemon (request.Entry tag index) allowed = entry_again tag index allowed
 request_again_by grammar.Daemon (request.Close tag) allowed = close_again tag allowed
 request_again_by grammar.Daemon (request.State tag) allowed = state_again tag allowed
+request_again_by grammar.Daemon (request.Place tag event_kind) allowed = place_again tag event_kind allowed
+request_again_by grammar.Daemon (request.PlacedAppend tag event_kind place payload) allowed = placed_append_again tag event_kind place payload allowed
 
 pub request_size_by : (grammar : Grammar) (asked : Request) → IsRequestBy grammar asked → IsBodySize (length (request_body asked))
 request_size_by grammar.Plain asked allowed = request_size asked allowed
@@ -369,34 +460,54 @@ request_size_by grammar.Daemon (request.Incremental tag older newer) allowed = (
 request_size_by grammar.Daemon (request.Entry tag index) allowed = (omega arith, omega arith)
 request_size_by grammar.Daemon (request.Close tag) allowed = (omega arith, omega arith)
 request_size_by grammar.Daemon (request.State tag) allowed = (omega arith, omega arith)
+request_size_by grammar.Daemon (request.Place tag event_kind) allowed = (omega arith, omega arith)
+request_size_by grammar.Daemon (request.PlacedAppend tag event_kind place payload) allowed = (omega arith, omega (arith, allowed.4))
 
 -- ---- what every session may ask, a daemon's clients may ask in the same bytes
 
-no_state : (first : ℕ) (fields : List ℕ) (read : Request) → (is_state : Bool) → eqb first 7 ≡ is_state → fields_in (kind_at first) fields ≡ Some read
-    → fields_in (cond is_state (Some kind.State) (kind_at first)) fields ≡ Some read
-no_state first fields read true is e =
-    let none : fields_in (kind_at 7) fields ≡ Some read = subst (λ (byte : ℕ). fields_in (kind_at byte) fields ≡ Some read) (eqb-true first 7 is) e in
+not_alone : (first : ℕ) (fields : List ℕ) (read : Request) → (a b c : Bool) → eqb first 7 ≡ a → eqb first 8 ≡ b → eqb first 9 ≡ c → fields_in (kind_at first) fields ≡ Some read
+    → fields_in (alone_or a b c (kind_at first)) fields ≡ Some read
+not_alone first fields read true b c is_a is_b is_c e =
+    let none : fields_in (kind_at 7) fields ≡ Some read = subst (λ (byte : ℕ). fields_in (kind_at byte) fields ≡ Some read) (eqb-true first 7 is_a) e in
     absurd cc
-no_state first fields read false is e = e
+not_alone first fields read false true c is_a is_b is_c e =
+    let none : fields_in (kind_at 8) fields ≡ Some read = subst (λ (byte : ℕ). fields_in (kind_at byte) fields ≡ Some read) (eqb-true first 8 is_b) e in
+    absurd cc
+not_alone first fields read false false true is_a is_b is_c e =
+    let none : fields_in (kind_at 9) fields ≡ Some read = subst (λ (byte : ℕ). fields_in (kind_at byte) fields ≡ Some read) (eqb-true first 9 is_c) e in
+    absurd cc
+not_alone first fields read false false false is_a is_b is_c e = e
 
 pub daemon_reads : (body : List ℕ) (asked : Request) → request_in body ≡ Some asked → request_by grammar.Daemon body ≡ Some asked
 unfolding request_by
 daemon_reads [] asked e = absurd cc
-daemon_reads (first ∷ fields) asked e = no_state first fields asked (eqb first 7) refl e
+daemon_reads (first ∷ fields) asked e = not_alone first fields asked (eqb first 7) (eqb first 8) (eqb first 9) refl refl refl e
 
-state_alone : (fields : List ℕ) (asked : Request) → state_in fields ≡ Some asked → (tag : ℕ) × (asked ≡ request.State tag)
+state_alone : (fields : List ℕ) (asked : Request) → state_in fields ≡ Some asked → IsDaemonsAlone asked
 unfolding state_in
-state_alone fields asked e = (number_at w32 0 fields, sym (guard_some (eqb (length fields) 4) (request.State (number_at w32 0 fields)) asked e).1)
+state_alone fields asked e = subst IsDaemonsAlone (guard_some (eqb (length fields) 4) (request.State (number_at w32 0 fields)) asked e).1 tt
 
-or_state : (first : ℕ) (fields : List ℕ) (asked : Request) → (is_state : Bool) → fields_in (cond is_state (Some kind.State) (kind_at first)) fields ≡ Some asked
-    → ((tag : ℕ) × (asked ≡ request.State tag)) ⊎ (fields_in (kind_at first) fields ≡ Some asked)
-or_state first fields asked true e = inl (state_alone fields asked e)
-or_state first fields asked false e = inr e
+place_alone : (fields : List ℕ) (asked : Request) → place_in fields ≡ Some asked → IsDaemonsAlone asked
+unfolding place_in
+place_alone fields asked e = subst IsDaemonsAlone (guard_some (eqb (length fields) 8) (request.Place (number_at w32 0 fields) (number_at w32 4 fields)) asked e).1 tt
 
-pub daemon_only : (body : List ℕ) (asked : Request) → request_by grammar.Daemon body ≡ Some asked → ((tag : ℕ) × (asked ≡ request.State tag)) ⊎ (request_in body ≡ Some asked)
+placed_append_alone : (fields : List ℕ) (asked : Request) → placed_append_in fields ≡ Some asked → IsDaemonsAlone asked
+unfolding placed_append_in
+placed_append_alone fields asked e =
+    subst IsDaemonsAlone (guard_some ((leb 16 (length fields) && leb (length fields) (16 + MAX_PLACED_PAYLOAD)) && not (eqb (number_at w32 4 fields) RESERVED_KIND))
+    (request.PlacedAppend (number_at w32 0 fields) (number_at w32 4 fields) (number_at w64 8 fields) (drop 16 fields)) asked e).1 tt
+
+alone_or_not : (first : ℕ) (fields : List ℕ) (asked : Request) → (a b c : Bool) → fields_in (alone_or a b c (kind_at first)) fields ≡ Some asked
+    → IsDaemonsAlone asked ⊎ (fields_in (kind_at first) fields ≡ Some asked)
+alone_or_not first fields asked true b c e = inl (state_alone fields asked e)
+alone_or_not first fields asked false true c e = inl (place_alone fields asked e)
+alone_or_not first fields asked false false true e = inl (placed_append_alone fields asked e)
+alone_or_not first fields asked false false false e = inr e
+
+pub daemon_only : (body : List ℕ) (asked : Request) → request_by grammar.Daemon body ≡ Some asked → IsDaemonsAlone asked ⊎ (request_in body ≡ Some asked)
 unfolding request_by
 daemon_only [] asked e = absurd cc
-daemon_only (first ∷ fields) asked e = or_state first fields asked (eqb first 7) e
+daemon_only (first ∷ fields) asked e = alone_or_not first fields asked (eqb first 7) (eqb first 8) (eqb first 9) e
 
 -- ---- what was read is a request with that body
 

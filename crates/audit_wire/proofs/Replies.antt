@@ -14,7 +14,7 @@ use Rattle.audit_wire.specs.declared.refusal.Refusal.TheVariants as refusal
 use Rattle.audit_wire.specs.declared.reply.Reply.{Reply}
 use Rattle.audit_wire.specs.declared.reply.Reply.TheVariants as reply
 use Rattle.audit_wire.specs.Frame.{frame}
-use Rattle.audit_wire.specs.Reply.{IsWholeReply, reply_frame, longest_frame, reply_body, refusal_code, hash_list, IsReply, HasReplyFields, refusal_with_code, refused_with, acknowledgement_in, commitment_reply_in, membership_reply_in, increment_reply_in, entry_reply_in, state_tail, state_reply_in, refused_in, reply_in}
+use Rattle.audit_wire.specs.Reply.{IsWholeReply, reply_frame, longest_frame, reply_body, refusal_code, hash_list, IsReply, HasReplyFields, refusal_with_code, refused_with, acknowledgement_in, commitment_reply_in, membership_reply_in, increment_reply_in, entry_reply_in, state_tail, state_reply_in, place_reply_in, placed_reply_in, refused_in, reply_in}
 
 -- the concatenated hashes of a reply
 joined : (hashes : List (List ℕ)) (entry : List ℕ) → flat_map (λ (hash : List ℕ). hash) hashes ++ entry ≡ concat hashes ++ entry
@@ -131,6 +131,30 @@ state_again tag count root end sectors generation version closed fits =
     ∙ ap (λ (n : ℕ). Some (reply.State tag count root end sectors generation version (eqb n 1))) mark
     ∙ ap (λ (is : Bool). Some (reply.State tag count root end sectors generation version is)) (mark_again closed)
 
+place_again : (tag number count : ℕ) → HasReplyFields (reply.Place tag number count)
+    → place_reply_in (to_be_bytes w32 tag ++ to_be_bytes w64 number ++ to_be_bytes w64 count) ≡ Some (reply.Place tag number count)
+unfolding place_reply_in
+place_again tag number count fits =
+    let fields : List ℕ = to_be_bytes w32 tag ++ to_be_bytes w64 number ++ to_be_bytes w64 count in
+    ap (λ (n : ℕ). Some (reply.Place n (number_at w64 4 fields) (number_at w64 12 fields))) (from_be_bytes-to_be_bytes_4 tag fits.0)
+    ∙ ap (λ (n : ℕ). Some (reply.Place tag n (number_at w64 12 fields))) (from_be_bytes-to_be_bytes_8 number fits.1)
+    ∙ ap (λ (n : ℕ). Some (reply.Place tag number n)) (from_be_bytes-to_be_bytes_8 count fits.2)
+
+placed_again : (tag index count : ℕ) (root key : List ℕ) → HasReplyFields (reply.Placed tag index count root key)
+    → placed_reply_in (to_be_bytes w32 tag ++ to_be_bytes w64 index ++ to_be_bytes w64 count ++ root ++ key) ≡ Some (reply.Placed tag index count root key)
+unfolding placed_reply_in
+placed_again tag index count root key fits =
+    let fields : List ℕ = to_be_bytes w32 tag ++ to_be_bytes w64 index ++ to_be_bytes w64 count ++ root ++ key in
+    let key_is : take HASH_LEN (drop 52 fields) ≡ key = ap (take HASH_LEN) (past root key 0 fits.3) ∙ take_all HASH_LEN key (omega (arith, fits.4)) in
+    cond-true (eqb (length fields) 84)
+    (Some (reply.Placed (number_at w32 0 fields) (number_at w64 4 fields) (number_at w64 12 fields) (take HASH_LEN (drop 20 fields)) (take HASH_LEN (drop 52 fields)))) None
+    (eq-eqb (length fields) 84 (omega (arith, fits.3, fits.4, length-append root key)))
+    ∙ ap (λ (last : List ℕ). Some (reply.Placed (number_at w32 0 fields) (number_at w64 4 fields) (number_at w64 12 fields) last (take HASH_LEN (drop 52 fields)))) (take_at root key HASH_LEN fits.3)
+    ∙ ap (λ (last : List ℕ). Some (reply.Placed (number_at w32 0 fields) (number_at w64 4 fields) (number_at w64 12 fields) root last)) key_is
+    ∙ ap (λ (n : ℕ). Some (reply.Placed n (number_at w64 4 fields) (number_at w64 12 fields) root key)) (from_be_bytes-to_be_bytes_4 tag fits.0)
+    ∙ ap (λ (n : ℕ). Some (reply.Placed tag n (number_at w64 12 fields) root key)) (from_be_bytes-to_be_bytes_8 index fits.1)
+    ∙ ap (λ (n : ℕ). Some (reply.Placed tag index n root key)) (from_be_bytes-to_be_bytes_8 count fits.2)
+
 refusal_again : (code : Refusal) → refusal_with_code (refusal_code code) ≡ Some code
 refusal_again refusal.DamagedLog = refl
 refusal_again refusal.Full = refl
@@ -139,6 +163,7 @@ refusal_again refusal.Worn = refl
 refusal_again refusal.Device = refl
 refusal_again refusal.Closed = refl
 refusal_again refusal.NotAllowed = refl
+refusal_again refusal.NotCounted = refl
 refusal_again refusal.Malformed = refl
 
 refused_again : (tag : ℕ) (code : Refusal) → tag < 2 ^ 32 → refused_in (to_be_bytes w32 tag ++ refusal_code code ∷ []) ≡ Some (reply.Refused tag code)
@@ -155,6 +180,8 @@ reply_again (reply.Membership tag hashes entry) within fits = membership_again t
 reply_again (reply.Incremental tag hashes) within fits = increment_again tag hashes within fits
 reply_again (reply.Entry tag entry) within fits = entry_again tag entry within fits
 reply_again (reply.State tag count root end sectors generation version closed) within fits = state_again tag count root end sectors generation version closed fits
+reply_again (reply.Place tag number count) within fits = place_again tag number count fits
+reply_again (reply.Placed tag index count root key) within fits = placed_again tag index count root key fits
 reply_again (reply.Refused tag code) within fits = refused_again tag code fits
 
 -- ---- sizes
@@ -166,6 +193,8 @@ reply_size (reply.Membership tag hashes entry) within fits = omega (arith, ap le
 reply_size (reply.Incremental tag hashes) within fits = omega (arith, ap length (flat_map-concat hashes), length-concat hashes fits.1, within)
 reply_size (reply.Entry tag entry) within fits = omega (arith, within)
 reply_size (reply.State tag count root end sectors generation version closed) within fits = omega (arith, fits.2, length-append root (state_tail end sectors generation version closed))
+reply_size (reply.Place tag number count) within fits = omega arith
+reply_size (reply.Placed tag index count root key) within fits = omega (arith, fits.3, fits.4, length-append root key)
 reply_size (reply.Refused tag code) within fits = omega arith
 
 -- a frame is no longer than the longest of its kind
@@ -176,6 +205,8 @@ reply_within (reply.Membership tag hashes entry) within fits = omega (arith, ap 
 reply_within (reply.Incremental tag hashes) within fits = omega (arith, ap length (flat_map-concat hashes), length-concat hashes fits.1, within)
 reply_within (reply.Entry tag entry) within fits = omega (arith, within)
 reply_within (reply.State tag count root end sectors generation version closed) within fits = omega (arith, fits.2, length-append root (state_tail end sectors generation version closed))
+reply_within (reply.Place tag number count) within fits = omega arith
+reply_within (reply.Placed tag index count root key) within fits = omega (arith, fits.3, fits.4, length-append root key)
 reply_within (reply.Refused tag code) within fits = omega arith
 
 -- ---- consecutive replies

@@ -9,7 +9,7 @@ use Rattle.audit_base.specs.Hashes.{AreHashes, first_hashes}
 use Rattle.audit_base.specs.declared.limits.TheConstants.{HASH_LEN, MAX_MEMBER_HASHES, MAX_INCREMENT_HASHES, MAX_ENTRY}
 use Rattle.audit_wire.specs.declared.limits.TheConstants.{ACKNOWLEDGEMENT_FRAME, REFUSAL_FRAME, COMMITMENT_FRAME}
 use Rattle.audit_wire.specs.declared.limits.TheConstants.{MAX_ENTRY_FRAME, MAX_INCREMENT_FRAME, MAX_MEMBERSHIP_FRAME}
-use Rattle.audit_wire.specs.declared.limits.TheConstants.{STATE_FRAME}
+use Rattle.audit_wire.specs.declared.limits.TheConstants.{STATE_FRAME, PLACE_FRAME, PLACED_FRAME}
 use Rattle.audit_wire.specs.Frame.{frame}
 use Rattle.audit_wire.specs.declared.reply_fault.ReplyError.{ReplyError}
 use Rattle.audit_wire.specs.declared.reply_fault.ReplyError.TheVariants as fault
@@ -29,9 +29,10 @@ refusal_code refusal.Worn = 9
 refusal_code refusal.Device = 11
 refusal_code refusal.Closed = 13
 refusal_code refusal.NotAllowed = 16
+refusal_code refusal.NotCounted = 18
 refusal_code refusal.Malformed = 20
 
--- the first byte of each kind: 0x81 to 0x85, 0x87, and 0xff
+-- the first byte of each kind: 0x81 to 0x85, 0x87 to 0x89, and 0xff
 abbrev pub reply_byte : ReplyKind → ℕ
 reply_byte kind.Acknowledgement = 129
 reply_byte kind.Commitment = 130
@@ -39,6 +40,8 @@ reply_byte kind.Membership = 131
 reply_byte kind.Incremental = 132
 reply_byte kind.Entry = 133
 reply_byte kind.State = 135
+reply_byte kind.Place = 136
+reply_byte kind.Placed = 137
 reply_byte kind.Refused = 255
 
 -- the number of hashes in one byte, then the hashes
@@ -64,6 +67,10 @@ reply_body (reply.Entry tag entry) = reply_byte kind.Entry ∷ (to_be_bytes w32 
 reply_body (reply.State tag count root end sectors generation version closed) =
     reply_byte kind.State ∷ (to_be_bytes w32 tag ++ to_be_bytes w64 count ++ root
     ++ state_tail end sectors generation version closed)
+reply_body (reply.Place tag number count) =
+    reply_byte kind.Place ∷ (to_be_bytes w32 tag ++ to_be_bytes w64 number ++ to_be_bytes w64 count)
+reply_body (reply.Placed tag index count root key) =
+    reply_byte kind.Placed ∷ (to_be_bytes w32 tag ++ to_be_bytes w64 index ++ to_be_bytes w64 count ++ root ++ key)
 reply_body (reply.Refused tag code) = reply_byte kind.Refused ∷ (to_be_bytes w32 tag ++ refusal_code code ∷ [])
 
 -- a reply that has a frame
@@ -84,6 +91,9 @@ HasReplyFields (reply.Entry tag entry) = tag < 2 ^ 32
 HasReplyFields (reply.State tag count root end sectors generation version closed) = (tag < 2 ^ 32)
     × (count < 2 ^ 64) × (length root ≡ HASH_LEN) × (end < 2 ^ 64) × (sectors < 2 ^ 64) × (generation < 2 ^ 64)
     × (version < 2 ^ 16)
+HasReplyFields (reply.Place tag number count) = (tag < 2 ^ 32) × (number < 2 ^ 64) × (count < 2 ^ 64)
+HasReplyFields (reply.Placed tag index count root key) = (tag < 2 ^ 32) × (index < 2 ^ 64) × (count < 2 ^ 64)
+    × (length root ≡ HASH_LEN) × (length key ≡ HASH_LEN)
 HasReplyFields (reply.Refused tag code) = tag < 2 ^ 32
 
 -- a reply that has a frame, as the code represents it
@@ -102,6 +112,8 @@ longest_frame (reply.Membership tag hashes entry) = MAX_MEMBERSHIP_FRAME
 longest_frame (reply.Incremental tag hashes) = MAX_INCREMENT_FRAME
 longest_frame (reply.Entry tag entry) = MAX_ENTRY_FRAME
 longest_frame (reply.State tag count root end sectors generation version closed) = STATE_FRAME
+longest_frame (reply.Place tag number count) = PLACE_FRAME
+longest_frame (reply.Placed tag index count root key) = PLACED_FRAME
 longest_frame (reply.Refused tag code) = REFUSAL_FRAME
 
 -- ---- the same, read from bytes
@@ -115,6 +127,8 @@ reply_kind_at byte =
     if byte == 132 then Some kind.Incremental else
     if byte == 133 then Some kind.Entry else
     if byte == 135 then Some kind.State else
+    if byte == 136 then Some kind.Place else
+    if byte == 137 then Some kind.Placed else
     if byte == 255 then Some kind.Refused else None
 
 -- the refusal with this code
@@ -127,6 +141,7 @@ refusal_with_code code =
     if code == 11 then Some refusal.Device else
     if code == 13 then Some refusal.Closed else
     if code == 16 then Some refusal.NotAllowed else
+    if code == 18 then Some refusal.NotCounted else
     if code == 20 then Some refusal.Malformed else None
 
 -- the reply in the bytes after the first one, for each kind
@@ -170,6 +185,17 @@ state_reply_in fields =
     (number_at w64 44 fields) (number_at w64 52 fields) (number_at w64 60 fields) (number_at w16 68 fields) (mark == 1))
     else None
 
+unfoldable pub place_reply_in : List ℕ → Option Reply
+place_reply_in fields =
+    if length fields == 20
+    then Some (reply.Place (number_at w32 0 fields) (number_at w64 4 fields) (number_at w64 12 fields)) else None
+
+unfoldable pub placed_reply_in : List ℕ → Option Reply
+placed_reply_in fields =
+    if length fields == 84
+    then Some (reply.Placed (number_at w32 0 fields) (number_at w64 4 fields) (number_at w64 12 fields)
+    (take HASH_LEN (drop 20 fields)) (take HASH_LEN (drop 52 fields))) else None
+
 abbrev pub refused_with : ℕ → Option Refusal → Option Reply
 refused_with tag None = None
 refused_with tag (Some code) = Some (reply.Refused tag code)
@@ -186,6 +212,8 @@ reply_fields_in (Some kind.Membership) fields = membership_reply_in fields
 reply_fields_in (Some kind.Incremental) fields = increment_reply_in fields
 reply_fields_in (Some kind.Entry) fields = entry_reply_in fields
 reply_fields_in (Some kind.State) fields = state_reply_in fields
+reply_fields_in (Some kind.Place) fields = place_reply_in fields
+reply_fields_in (Some kind.Placed) fields = placed_reply_in fields
 reply_fields_in (Some kind.Refused) fields = refused_in fields
 
 -- the reply whose body this is

@@ -15,10 +15,13 @@ request_shown (view.Incremental tag older newer) = request.Incremental tag older
 request_shown (view.Entry tag index) = request.Entry tag index
 request_shown (view.Close tag) = request.Close tag
 request_shown (view.State tag) = request.State tag
+request_shown (view.Place tag kind) = request.Place tag kind
+request_shown (view.PlacedAppend tag kind place payload) = request.PlacedAppend tag kind place payload.now
 
 -- a request without a payload
 abbrev pub IsQuery : RequestView → Type 0
 IsQuery (view.Append tag kind payload) = ⊥
+IsQuery (view.PlacedAppend tag kind place payload) = ⊥
 IsQuery _ = Unit {0}
 
 -- the request that was read, if any

@@ -10,11 +10,20 @@ pub(crate) const AFTER_TAG: usize = 4;
 /// The payload of an append, after its kind.
 pub(crate) const PAYLOAD_AT: usize = AFTER_TAG + 4;
 
+/// The place of a placed append, after its kind.
+pub(crate) const PLACE_AT: usize = AFTER_TAG + 4;
+
+/// The payload of a placed append, after its place.
+pub(crate) const PLACED_PAYLOAD_AT: usize = PLACE_AT + 8;
+
 /// After one number.
 pub(crate) const AFTER_ONE_NUMBER: usize = AFTER_TAG + 8;
 
 /// After two numbers.
 pub(crate) const AFTER_TWO_NUMBERS: usize = AFTER_ONE_NUMBER + 8;
+
+/// After two numbers and a hash: the key of the entry, in the reply to a placed append.
+pub(crate) const KEY_AT: usize = AFTER_TWO_NUMBERS + HASH_LEN;
 
 /// After one number and a hash: the first sector after the log, in a state.
 pub(crate) const AFTER_COMMITMENT: usize = AFTER_ONE_NUMBER + HASH_LEN;

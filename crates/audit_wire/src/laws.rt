@@ -4,12 +4,12 @@ ghost use Rattle.std.specs.Prelude.{◌≡◌, ◌<◌, ◌≤◌, ◌^◌, ◌�
 ghost use Rattle.audit_wire.specs.declared.grammar.Grammar.{Grammar};
 ghost use Rattle.audit_wire.specs.declared.grammar.Grammar.TheVariants as grammar;
 ghost use Rattle.audit_wire.specs.declared.request.Request.{Request};
-ghost use Rattle.audit_wire.specs.declared.request.Request.TheVariants as request;
 ghost use Rattle.audit_base.specs.declared.limits.TheConstants.{HASH_LEN};
 ghost use Rattle.audit_wire.specs.declared.limits.TheConstants.{LENGTH_BYTES, MAX_BODY, MAX_FRAME};
 ghost use Rattle.audit_wire.specs.declared.limits.TheConstants.{ACKNOWLEDGEMENT_FRAME, COMMITMENT_FRAME};
 ghost use Rattle.audit_wire.specs.declared.limits.TheConstants.{MAX_ENTRY_FRAME, MAX_INCREMENT_FRAME};
 ghost use Rattle.audit_wire.specs.declared.limits.TheConstants.{MAX_MEMBERSHIP_FRAME, REFUSAL_FRAME, STATE_FRAME};
+ghost use Rattle.audit_wire.specs.declared.limits.TheConstants.{MAX_PLACED_PAYLOAD, PLACE_FRAME, PLACED_FRAME};
 ghost use Rattle.audit_wire.specs.declared.refusal.Refusal.{Refusal};
 ghost use Rattle.audit_wire.specs.declared.reply.Reply.{Reply};
 ghost use Rattle.audit_wire.specs.declared.reply.Reply.TheVariants as reply;
@@ -18,6 +18,7 @@ ghost use Rattle.std.specs.List.{flat_map, AllByRecursion};
 ghost use Rattle.audit_base.specs.Bytes.{AreBytes};
 ghost use Rattle.audit_wire.specs.Frame.{IsPartial};
 ghost use Rattle.audit_wire.specs.Request.{request_body, request_in, request_by, IsRequest, IsRequestBy};
+ghost use Rattle.audit_wire.specs.Request.{IsDaemonsAlone};
 ghost use Rattle.audit_wire.specs.Stream.{Framed, rest_alone, in_front, framed_bodies, framed_by, continued};
 ghost use Rattle.audit_wire.specs.Stream.{request_frame, IsReading};
 ghost use Rattle.audit_wire.specs.declared.fed.Fed.{Fed};
@@ -45,13 +46,13 @@ pub fn every_request_is_read_back()
         → request_by grammar body ≡ Some request → IsRequestBy grammar request × (body ≡ request_body request) }
 {}
 
-/// Each request of every session is one of a daemon's clients too, in the same bytes. The only further one of theirs asks
-/// for the state.
+/// Each request of every session is one of a daemon's clients too, in the same bytes. The only further ones of theirs ask
+/// for the state or for the place of a kind, or append at a place.
 pub fn grammars_agree()
     ensures read { (body : List ℕ) (request : Request) → request_in body ≡ Some request
         → request_by grammar.Daemon body ≡ Some request }
     ensures only { (body : List ℕ) (asked : Request) → request_by grammar.Daemon body ≡ Some asked
-        → ((tag : ℕ) × (asked ≡ request.State tag)) ⊎ (request_in body ≡ Some asked) }
+        → IsDaemonsAlone asked ⊎ (request_in body ≡ Some asked) }
     ensures allowed { (request : Request) → IsRequest request → IsRequestBy grammar.Daemon request }
 {}
 
@@ -87,8 +88,8 @@ pub fn every_reply_is_read_back()
     ensures refused { (tag : ℕ) (code : Refusal) → length (reply_body (reply.Refused tag code)) ≡ 6 }
 {}
 
-/// All acknowledgements have frames of one size, and so have all refusals and all states. No frame is longer than the
-/// longest of its kind.
+/// All acknowledgements have frames of one size, and so have all refusals, states, places of a kind, and replies to a
+/// placed append that was appended. No frame is longer than the longest of its kind.
 pub fn replies_have_their_sizes()
     ensures acknowledgement { (tag index count : ℕ) (root : List ℕ) → length root ≡ HASH_LEN
         → length (reply_frame (reply.Acknowledgement tag index count root)) ≡ ACKNOWLEDGEMENT_FRAME }
@@ -96,6 +97,9 @@ pub fn replies_have_their_sizes()
     ensures state { (tag count : ℕ) (root : List ℕ) (end sectors generation version : ℕ) (closed : Bool)
         → length root ≡ HASH_LEN
         → length (reply_frame (reply.State tag count root end sectors generation version closed)) ≡ STATE_FRAME }
+    ensures place { (tag number count : ℕ) → length (reply_frame (reply.Place tag number count)) ≡ PLACE_FRAME }
+    ensures placed { (tag index count : ℕ) (root key : List ℕ) → length root ≡ HASH_LEN → length key ≡ HASH_LEN
+        → length (reply_frame (reply.Placed tag index count root key)) ≡ PLACED_FRAME }
     ensures within { (given : Reply) → IsWholeReply given → length (reply_frame given) ≤ longest_frame given }
 {}
 
@@ -137,6 +141,9 @@ pub fn limits_are_these_numbers()
     ensures refusal { REFUSAL_FRAME ≡ 8 }
     ensures commitment { COMMITMENT_FRAME ≡ 47 }
     ensures state { STATE_FRAME ≡ 74 }
+    ensures place { PLACE_FRAME ≡ 23 }
+    ensures placed { PLACED_FRAME ≡ 87 }
+    ensures placed_payload { MAX_PLACED_PAYLOAD ≡ 32688 }
     ensures entry { MAX_ENTRY_FRAME ≡ 32775 }
     ensures increment { MAX_INCREMENT_FRAME ≡ 808 }
     ensures membership { MAX_MEMBERSHIP_FRAME ≡ 33544 }

@@ -11,6 +11,9 @@ const APPEND_HEAD: usize = 9;
 /// The longest body of a request: an append with the longest payload.
 pub const MAX_BODY: usize = APPEND_HEAD + MAX_PAYLOAD;
 
+/// The longest payload of a placed append, whose place takes 8 bytes of the longest body.
+pub const MAX_PLACED_PAYLOAD: usize = MAX_PAYLOAD - 8;
+
 /// The longest frame of a request, including its length field.
 pub const MAX_FRAME: usize = LENGTH_BYTES + MAX_BODY;
 
@@ -25,6 +28,12 @@ pub const COMMITMENT_FRAME: usize = 47;
 
 /// The frame of every state, including its length field.
 pub const STATE_FRAME: usize = 74;
+
+/// The frame of every place of a kind, including its length field.
+pub const PLACE_FRAME: usize = 23;
+
+/// The frame of every reply to a placed append that was appended, including its length field.
+pub const PLACED_FRAME: usize = 87;
 
 /// The length field, first byte and request tag of a reply.
 const REPLY_HEAD: usize = LENGTH_BYTES + 5;

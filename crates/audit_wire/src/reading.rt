@@ -4,11 +4,14 @@ ghost use Rattle.audit_wire.specs.declared.request.Request.{Request};
 ghost use Rattle.audit_base.specs.Bytes.{number_at};
 ghost use Rattle.audit_wire.specs.Request.{request_body, request_in, request_by, IsRequest, IsRequestBy};
 ghost use Rattle.audit_wire.specs.Request.{append_in, commitment_in, membership_in, incremental_in, entry_in};
-ghost use Rattle.audit_wire.specs.Request.{close_in, state_in};
+ghost use Rattle.audit_wire.specs.Request.{close_in, state_in, place_in, placed_append_in};
 ghost use Rattle.audit_wire.specs.View.{request_shown, request_read};
 
-use crate::fields::{AFTER_ONE_NUMBER, AFTER_TAG, AFTER_TWO_NUMBERS, PAYLOAD_AT, TAG_AT};
+use crate::fields::{
+    AFTER_ONE_NUMBER, AFTER_TAG, AFTER_TWO_NUMBERS, PAYLOAD_AT, PLACE_AT, PLACED_PAYLOAD_AT, TAG_AT,
+};
 use crate::grammar::Grammar;
+use crate::limits::MAX_PLACED_PAYLOAD;
 use crate::malformed::Malformed;
 use crate::request_kind::RequestKind;
 use crate::view::RequestView;
@@ -61,6 +64,8 @@ fn read_by_kind(grammar: Grammar, body: &[u8]) -> Result<RequestView<'_>, Malfor
         RequestKind::Entry => entry_of(fields),
         RequestKind::Close => close_of(fields),
         RequestKind::State => state_of(fields),
+        RequestKind::Place => place_of(fields),
+        RequestKind::PlacedAppend => placed_append_of(fields),
     }
 }
 
@@ -156,5 +161,36 @@ fn state_of(fields: &[u8]) -> Result<RequestView<'_>, Malformed>
     }
     Ok(RequestView::State {
         tag: u32_at(fields, TAG_AT),
+    })
+}
+
+#[tactic(auto, unfolding(crate::specs::Request::place_in))]
+fn place_of(fields: &[u8]) -> Result<RequestView<'_>, Malformed>
+    ensures { request_read result ≡ place_in fields.now }
+{
+    if fields.len() != PLACE_AT {
+        return Err(Malformed);
+    }
+    Ok(RequestView::Place {
+        tag: u32_at(fields, TAG_AT),
+        kind: u32_at(fields, AFTER_TAG),
+    })
+}
+
+#[tactic(auto, unfolding(crate::specs::Request::placed_append_in))]
+fn placed_append_of(fields: &[u8]) -> Result<RequestView<'_>, Malformed>
+    ensures { request_read result ≡ placed_append_in fields.now }
+{
+    if fields.len() < PLACED_PAYLOAD_AT || fields.len() > PLACED_PAYLOAD_AT + MAX_PLACED_PAYLOAD {
+        return Err(Malformed);
+    }
+    if u32_at(fields, AFTER_TAG) == RESERVED_KIND {
+        return Err(Malformed);
+    }
+    Ok(RequestView::PlacedAppend {
+        tag: u32_at(fields, TAG_AT),
+        kind: u32_at(fields, AFTER_TAG),
+        place: u64_at(fields, PLACE_AT),
+        payload: &fields[PLACED_PAYLOAD_AT..],
     })
 }

@@ -17,6 +17,8 @@ pub enum Refusal {
     Closed = 13,
     /// The request isn't allowed on this socket.
     NotAllowed = 16,
+    /// The events of this kind aren't counted here.
+    NotCounted = 18,
     /// The bytes weren't a request.
     Malformed = 20,
 }
@@ -43,6 +45,7 @@ impl Refusal {
             11 => Some(Refusal::Device),
             13 => Some(Refusal::Closed),
             16 => Some(Refusal::NotAllowed),
+            18 => Some(Refusal::NotCounted),
             20 => Some(Refusal::Malformed),
             _ => None,
         }

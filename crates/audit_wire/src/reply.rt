@@ -47,6 +47,22 @@ pub enum Reply {
         version: u16,
         closed: bool,
     },
+    /// How many events of a kind the log has, and how many in all. The reply to a placed append means that nothing was
+    /// appended, as the event has another place.
+    Place {
+        tag: u32,
+        number: u64,
+        count: u64,
+    },
+    /// The placed event is in the log at `index`, this is now the log's commitment, and `key` is the key of the entry's
+    /// keystream, which opens this entry alone.
+    Placed {
+        tag: u32,
+        index: u64,
+        count: u64,
+        root: Hash,
+        key: Hash,
+    },
     /// The request was refused. A malformed request has no tag, and is answered with tag 0.
     Refused {
         tag: u32,

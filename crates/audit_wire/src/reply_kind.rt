@@ -9,6 +9,8 @@ pub(crate) enum ReplyKind {
     Incremental = 0x84,
     Entry = 0x85,
     State = 0x87,
+    Place = 0x88,
+    Placed = 0x89,
     Refused = 0xFF,
 }
 
@@ -33,6 +35,8 @@ impl ReplyKind {
             0x84 => Some(ReplyKind::Incremental),
             0x85 => Some(ReplyKind::Entry),
             0x87 => Some(ReplyKind::State),
+            0x88 => Some(ReplyKind::Place),
+            0x89 => Some(ReplyKind::Placed),
             0xFF => Some(ReplyKind::Refused),
             _ => None,
         }

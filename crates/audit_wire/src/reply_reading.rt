@@ -2,13 +2,13 @@
 ghost use Rattle.std.specs.Prelude.{◌≡◌, ◌^◌, ◌<◌, ℕ, List, ◌++◌, length, IfSome, MatchOption};
 ghost use Rattle.audit_wire.specs.Frame.{frame};
 ghost use Rattle.audit_wire.specs.Reply.{acknowledgement_in, commitment_reply_in, membership_reply_in};
-ghost use Rattle.audit_wire.specs.Reply.{increment_reply_in, entry_reply_in, state_reply_in, refused_in};
-ghost use Rattle.audit_wire.specs.Reply.{reply_in, IsReadAs};
+ghost use Rattle.audit_wire.specs.Reply.{increment_reply_in, entry_reply_in, state_reply_in, place_reply_in};
+ghost use Rattle.audit_wire.specs.Reply.{placed_reply_in, refused_in, reply_in, IsReadAs};
 
 use crate::byte_list::ByteList;
 use crate::fields::{
     AFTER_COMMITMENT, AFTER_ONE_BYTE, AFTER_ONE_NUMBER, AFTER_TAG, AFTER_TWO_NUMBERS,
-    GENERATION_AT, MARK_AT, SECTORS_AT, TAG_AT, VERSION_AT,
+    GENERATION_AT, KEY_AT, MARK_AT, SECTORS_AT, TAG_AT, VERSION_AT,
 };
 use crate::hash_list::HashList;
 use crate::limits::LENGTH_BYTES;
@@ -66,6 +66,8 @@ fn read_by_kind(alloc: Global, body: &[u8]) -> Result<Reply, ReplyError>
         ReplyKind::Incremental => increment_of(alloc, fields),
         ReplyKind::Entry => entry_of(alloc, fields),
         ReplyKind::State => state_of(fields),
+        ReplyKind::Place => place_of(fields),
+        ReplyKind::Placed => placed_of(fields),
         ReplyKind::Refused => refused_of(fields),
     }
 }
@@ -182,6 +184,37 @@ fn state_of(fields: &[u8]) -> Result<Reply, ReplyError>
         generation: u64_at(fields, GENERATION_AT),
         version: u16_at(fields, VERSION_AT),
         closed: fields[MARK_AT] == 1,
+    })
+}
+
+#[tactic(auto, unfolding(crate::specs::Reply::place_reply_in))]
+fn place_of(fields: &[u8]) -> Result<Reply, ReplyError>
+    ensures { IsReadAs (place_reply_in fields.now) result }
+{
+    if fields.len() != AFTER_TWO_NUMBERS {
+        return Err(ReplyError::Malformed);
+    }
+    Ok(Reply::Place {
+        tag: u32_at(fields, TAG_AT),
+        number: u64_at(fields, AFTER_TAG),
+        count: u64_at(fields, AFTER_ONE_NUMBER),
+    })
+}
+
+#[tactic(auto, unfolding(crate::specs::Reply::placed_reply_in))]
+fn placed_of(fields: &[u8]) -> Result<Reply, ReplyError>
+    ensures { IsReadAs (placed_reply_in fields.now) result }
+{
+    if fields.len() != KEY_AT + HASH_LEN {
+        return Err(ReplyError::Malformed);
+    }
+    let index = u64_at(fields, AFTER_TAG);
+    Ok(Reply::Placed {
+        tag: u32_at(fields, TAG_AT),
+        index,
+        count: u64_at(fields, AFTER_ONE_NUMBER),
+        root: *array_at(fields, AFTER_TWO_NUMBERS),
+        key: *array_at(fields, KEY_AT),
     })
 }
 

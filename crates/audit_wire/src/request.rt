@@ -34,8 +34,21 @@ pub enum Request {
     Close {
         tag: u32,
     },
-    /// The state of the store. Only the clients of a daemon may ask for it ([`Grammar`](crate::Grammar)).
+    /// The state of the store. Only the clients of a daemon may make this request and those below
+    /// ([`Grammar`](crate::Grammar)).
     State {
         tag: u32,
+    },
+    /// The number of events of this kind, which is the place of its next event.
+    Place {
+        tag: u32,
+        kind: u32,
+    },
+    /// Append an event of this kind if it is the event number `place` of its kind, counted from 0.
+    PlacedAppend {
+        tag: u32,
+        kind: u32,
+        place: u64,
+        payload: ByteList,
     },
 }

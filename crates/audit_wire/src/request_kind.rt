@@ -12,6 +12,8 @@ pub(crate) enum RequestKind {
     Entry = 5,
     Close = 6,
     State = 7,
+    Place = 8,
+    PlacedAppend = 9,
 }
 
 impl RequestKind {
@@ -36,6 +38,8 @@ impl RequestKind {
             5 => Some(RequestKind::Entry),
             6 => Some(RequestKind::Close),
             7 if grammar == Grammar::Daemon => Some(RequestKind::State),
+            8 if grammar == Grammar::Daemon => Some(RequestKind::Place),
+            9 if grammar == Grammar::Daemon => Some(RequestKind::PlacedAppend),
             _ => None,
         }
     }

@@ -50,6 +50,8 @@ fn body_size(request: RequestView<'_>) -> usize
             HEAD,
         RequestView::Membership { .. } | RequestView::Incremental { .. } => HEAD + 2 * NUMBER,
         RequestView::Entry { .. } => HEAD + NUMBER,
+        RequestView::Place { .. } => HEAD + EVENT_KIND,
+        RequestView::PlacedAppend { payload, .. } => HEAD + EVENT_KIND + NUMBER + payload.len(),
     }
 }
 
@@ -80,6 +82,21 @@ fn put_body(out: &mut Vec<u8>, request: RequestView<'_>)
         }
         RequestView::Close { tag } => put_head(out, RequestKind::Close, tag),
         RequestView::State { tag } => put_head(out, RequestKind::State, tag),
+        RequestView::Place { tag, kind } => {
+            put_head(out, RequestKind::Place, tag);
+            put(out, &kind.to_be_bytes());
+        }
+        RequestView::PlacedAppend {
+            tag,
+            kind,
+            place,
+            payload,
+        } => {
+            put_head(out, RequestKind::PlacedAppend, tag);
+            put(out, &kind.to_be_bytes());
+            put(out, &place.to_be_bytes());
+            put(out, payload);
+        }
     }
 }
 

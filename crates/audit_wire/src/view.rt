@@ -35,6 +35,16 @@ pub enum RequestView<'a> {
     State {
         tag: u32,
     },
+    Place {
+        tag: u32,
+        kind: u32,
+    },
+    PlacedAppend {
+        tag: u32,
+        kind: u32,
+        place: u64,
+        payload: &'a [u8],
+    },
 }
 
 impl<'a> RequestView<'a> {
@@ -49,7 +59,7 @@ impl<'a> RequestView<'a> {
             RequestView::Append { tag, kind, payload } => Request::Append {
                 tag,
                 kind,
-                payload: ByteList::from_vec(Vec::from_slice(alloc, payload)?),
+                payload: copy_of(alloc, payload)?,
             },
             RequestView::Commitment { tag } => Request::Commitment { tag },
             RequestView::Membership { tag, index, count } => Request::Membership {
@@ -65,6 +75,25 @@ impl<'a> RequestView<'a> {
             RequestView::Entry { tag, index } => Request::Entry { tag, index },
             RequestView::Close { tag } => Request::Close { tag },
             RequestView::State { tag } => Request::State { tag },
+            RequestView::Place { tag, kind } => Request::Place { tag, kind },
+            RequestView::PlacedAppend {
+                tag,
+                kind,
+                place,
+                payload,
+            } => Request::PlacedAppend {
+                tag,
+                kind,
+                place,
+                payload: copy_of(alloc, payload)?,
+            },
         })
     }
+}
+
+// Copies a payload. The only error is that memory is refused.
+fn copy_of(alloc: Global, payload: &[u8]) -> Result<ByteList, AllocError>
+    ensures { IfOk result (λ copy. copy ≡ payload.now) }
+{
+    Ok(ByteList::from_vec(Vec::from_slice(alloc, payload)?))
 }

@@ -56,6 +56,8 @@ fn body_size(reply: &Reply) -> usize
         Reply::Incremental { hashes, .. } => HEAD + 1 + hashes.as_bytes().len(),
         Reply::Entry { entry, .. } => HEAD + entry.as_slice().len(),
         Reply::State { root, .. } => HEAD + 4 * NUMBER + hash_size(root) + VERSION + 1,
+        Reply::Place { .. } => HEAD + 2 * NUMBER,
+        Reply::Placed { root, key, .. } => HEAD + 2 * NUMBER + hash_size(root) + hash_size(key),
         Reply::Refused { .. } => HEAD + 1,
     }
 }
@@ -119,6 +121,24 @@ fn put_body(out: &mut Vec<u8>, reply: &Reply)
             put(out, &count.to_be_bytes());
             put(out, root);
             put_state_tail(out, *end, *sectors, *generation, *version, *closed);
+        }
+        Reply::Place { tag, number, count } => {
+            put_head(out, ReplyKind::Place, *tag);
+            put_number(out, *number);
+            put_number(out, *count);
+        }
+        Reply::Placed {
+            tag,
+            index,
+            count,
+            root,
+            key,
+        } => {
+            put_head(out, ReplyKind::Placed, *tag);
+            put_number(out, *index);
+            put_number(out, *count);
+            put(out, root);
+            put(out, key);
         }
         Reply::Refused { tag, refusal } => {
             put_head(out, ReplyKind::Refused, *tag);

@@ -8,3 +8,6 @@ returns-clause-within c = λ given whole. reply_within given whole.within whole.
 
 pub returns-clause-state : goal.returns-clause-state
 returns-clause-state c = λ tag count root end sectors generation version closed size. omega (arith, size, length-append root (state_tail end sectors generation version closed))
+
+pub returns-clause-placed : goal.returns-clause-placed
+returns-clause-placed c = λ tag index count root key root_size key_size. omega (arith, root_size, key_size, length-append root key)

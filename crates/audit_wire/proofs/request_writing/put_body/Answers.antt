@@ -17,3 +17,12 @@ returns-in-Incremental-clause-items c =
 pub returns-in-Entry-clause-items : goal.returns-in-Entry-clause-items
 returns-in-Entry-clause-items c =
     rw (c.in-Entry.is, c.put-in-Entry.ensures.items, c.put_head-in-Entry.ensures.items, c.to_be_bytes-in-Entry.ensures) (simp append_assoc)
+
+pub returns-in-Place-clause-items : goal.returns-in-Place-clause-items
+returns-in-Place-clause-items c =
+    rw (c.in-Place.is, c.put-in-Place.ensures.items, c.put_head-in-Place.ensures.items, c.to_be_bytes-in-Place.ensures) (simp append_assoc)
+
+pub returns-in-PlacedAppend-clause-items : goal.returns-in-PlacedAppend-clause-items
+returns-in-PlacedAppend-clause-items c =
+    rw (c.in-PlacedAppend.is, c.put-in-PlacedAppend-3.ensures.items, c.put-in-PlacedAppend-2.ensures.items, c.put-in-PlacedAppend.ensures.items, c.put_head-in-PlacedAppend.ensures.items, c.to_be_bytes-in-PlacedAppend.ensures, c.to_be_bytes-in-PlacedAppend-2.ensures)
+    (simp append_assoc)

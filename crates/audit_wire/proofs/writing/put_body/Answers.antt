@@ -15,3 +15,12 @@ pub returns-in-State-clause-items : goal.returns-in-State-clause-items
 returns-in-State-clause-items c =
     rw (c.in-State.is, c.put_state_tail.ensures.items, c.put-in-State-2.ensures.items, c.put-in-State.ensures.items, c.put_head-in-State.ensures.items, c.to_be_bytes-in-State.ensures)
     (simp append_assoc)
+
+pub returns-in-Place-clause-items : goal.returns-in-Place-clause-items
+returns-in-Place-clause-items c =
+    rw (c.in-Place.is, c.put_number-in-Place.ensures.items, c.put_number.ensures.items, c.put_head-in-Place.ensures.items) (simp append_assoc)
+
+pub returns-in-Placed-clause-items : goal.returns-in-Placed-clause-items
+returns-in-Placed-clause-items c =
+    rw (c.in-Placed.is, c.put-in-Placed-2.ensures.items, c.put-in-Placed.ensures.items, c.put_number-in-Placed-2.ensures.items, c.put_number-in-Placed.ensures.items, c.put_head-in-Placed.ensures.items)
+    (simp append_assoc)
