@@ -18,3 +18,5 @@ pub mod Living
 pub mod Rights
 pub mod Quiet
 pub mod NextRequests
+pub mod Receipts
+pub mod PlacedSources

@@ -17,6 +17,7 @@ use Rattle.audit_server_commit.specs.declared.committer.Committer.{Committer}
 use Rattle.audit_server_commit.specs.Committer.{store_of}
 use Rattle.audit_server_commit.specs.Owing.{owed_of}
 use Rattle.audit_server_commit.specs.Flush.{FlushOutcome}
+use Rattle.audit_server_commit.proofs.Pendings.{longest_placed}
 use Rattle.audit_server_commit.proofs.Owing.{flush_owed, entered_owed}
 use Rattle.audit_serve_passes.specs.declared.allowance.Demand.{Demand}
 use Rattle.audit_serve_passes.specs.declared.allowance.Share.{Share}
@@ -71,12 +72,14 @@ others_none j k (arrival ∷ arrivals) apart from =
 
 request_from : (k : ℕ) (one : Request) → comes_from (arrival_of k one) ≡ k
 request_from k (request.Append tag kind payload) = refl
+request_from k (request.PlacedAppend tag kind place payload) = refl
 request_from k (request.Commitment tag) = refl
 request_from k (request.Membership tag index count) = refl
 request_from k (request.Incremental tag older newer) = refl
 request_from k (request.Entry tag index) = refl
 request_from k (request.Close tag) = refl
 request_from k (request.State tag) = refl
+request_from k (request.Place tag kind) = refl
 
 arrivals_from : (k : ℕ) (requests : List Request) (last : Option Query) → ComeFrom k (map (arrival_of k) requests ++ last_arrival k last)
 arrivals_from k [] (Some asked) = (refl, tt)
@@ -119,9 +122,10 @@ longest_query (query.Entry tag index) = omega arith
 longest_query query.Malformed = omega arith
 longest_query (query.NotAllowed tag) = omega arith
 longest_query (query.State tag) = omega arith
+longest_query (query.Place tag kind) = omega arith
 
 longest_arrival : (arrival : Arrival) → longest_reply arrival ≤ MAX_MEMBERSHIP_FRAME
-longest_arrival (an_append append) = omega arith
+longest_arrival (an_append append) = omega (arith, longest_placed append.place)
 longest_arrival (a_question question) = longest_query question.query
 
 room_or : (share : Share) (bytes : ℕ) (more : Bool) → (has_room share bytes && more) ≡ true → (share.is_whole ≡ true) ⊎ (bytes ≤ share.left)
@@ -229,7 +233,7 @@ module _ {D : Type 0} {g : sectors.Ghosts D} where
       price_within question (Some bytes) is = is
 
       wanted : (arrival : Arrival) (over : IsNotAdmitted arrival (limit.Within left)) → IsDemandFor (core_model {D = D} {g = g}) (kind_of arrival) over.demand
-      wanted (an_append append) over = (omega (arith, over.its.reply), over.its.price)
+      wanted (an_append append) over = (omega (arith, over.its.reply, longest_placed append.place), over.its.price)
       wanted (a_question question) over = (omega (arith, over.its.reply), price_within question over.demand.question over.its.price)
 
   pub within_unspent : (k : ℕ) (piece : List ℕ) (taken : ℕ) (old new : Core D g) (allowance left : Allowance) → AllowedOutcome k piece old new allowance left (Ok taken) → map kind_of (arrivals_by_piece k (take taken piece) (session_of k old)) ≡ [] → left ≡ allowance

@@ -3,16 +3,15 @@ use Rattle.std.proofs.Common.{◌≡◌, ◌∙◌, inl, inr, ℕ, Bool, true, f
 use Rattle.std.specs.Prelude.{IfErr, IsErrOf}
 use Rattle.audit_disk_model.specs.declared.sectors.Sectors as sectors
 use Rattle.audit_server_commit.specs.Arrivals.{Arrival, forces_flush}
-use Rattle.audit_server_commit.specs.Replies.{all_delivered, append_replies}
-use Rattle.audit_server_commit.specs.Admission.{append_verdicts}
+use Rattle.audit_server_commit.specs.Replies.{all_delivered}
 use Rattle.audit_server_commit.proofs.Sending.{all_delivered-append, whole-append}
 use Rattle.audit_server_commit.specs.declared.question.Question.{Question}
 use Rattle.audit_store.specs.Store.{active_header}
 use Rattle.audit_store.specs.declared.store_error.StoreError.{StoreError}
 use Rattle.audit_store.specs.declared.store_error.StoreError.TheVariants.{Device, Memory}
 use Rattle.audit_server_commit.specs.declared.committer.Committer.{Committer}
-use Rattle.audit_server_commit.specs.Flush.{IsDropped, IsFlushed, FlushOutcome}
-use Rattle.audit_server_commit.specs.Committer.{store_of, waiting_of, outputs_of, reserve_of, free_of, closed_of}
+use Rattle.audit_server_commit.specs.Flush.{replies_after, IsDropped, IsFlushed, FlushOutcome}
+use Rattle.audit_server_commit.specs.Committer.{store_of, waiting_of, outputs_of, reserve_of, free_of, log_of}
 use Rattle.audit_server_commit.specs.Entering.{IsReady, HasEntered, IsArrivalEnd}
 use Rattle.audit_server.specs.declared.feed_fault.FeedFault.{FeedFault}
 use Rattle.audit_server.specs.declared.server_core.Core.{Core}
@@ -35,7 +34,7 @@ module _ {D : Type 0} {g : sectors.Ghosts D} where
 
   pub flush_adds : (old new : Committer D g) (rest : List Question) → IsFlushed old new rest → AddsReplies old new
   flush_adds old new rest flushed =
-      let replies = append_replies flushed.appends.outcome (active_header (store_of old)).count (append_verdicts (reserve_of old) (closed_of old) (free_of old) (waiting_of old).appends) (waiting_of old).appends in (
+      let replies = replies_after (store_of old) flushed.appends.outcome (reserve_of old) (log_of old) (free_of old) (waiting_of old).appends in (
         replies ++ flushed.questions.sent,
         whole-append replies flushed.questions.sent flushed.appends.whole flushed.questions.whole,
         flushed.questions.outputs_are

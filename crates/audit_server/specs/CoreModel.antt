@@ -5,7 +5,7 @@ use Rattle.std.proofs.Common.{◌∙◌, refl, sym, ap, arith}
 use Rattle.std.proofs.lemmas.List.{get_or-set_other}
 use Rattle.audit_disk_model.specs.declared.sectors.Sectors as sectors
 use Rattle.audit_store.specs.declared.store_error.StoreError.{StoreError}
-use Rattle.audit_wire.specs.declared.limits.TheConstants.{ACKNOWLEDGEMENT_FRAME, MAX_MEMBERSHIP_FRAME, REFUSAL_FRAME}
+use Rattle.audit_wire.specs.declared.limits.TheConstants.{PLACED_FRAME, MAX_MEMBERSHIP_FRAME, REFUSAL_FRAME}
 use Rattle.audit_server_commit.specs.Arrivals.{Arrival, an_append, a_question}
 use Rattle.audit_server_commit.specs.Waiting.{Waiting, nothing_waits, items_waiting}
 use Rattle.audit_server_commit.specs.LongestReplies.{longest_answer, longest_reply, owed_for_waiting}
@@ -87,7 +87,7 @@ module _ {D : Type 0} {g : sectors.Ghosts D} where
         );
     no_replies = λ core k bytes. none_to_answer (arrivals_by_piece k bytes (session_at k (sessions_of core)));
     longest = MAX_MEMBERSHIP_FRAME;
-    acknowledgement = ACKNOWLEDGEMENT_FRAME;
+    acknowledgement = PLACED_FRAME;
     refusal = REFUSAL_FRAME;
     ended_stays = λ core steps later k ended.
         ap (λ (sessions : List SessionData). (session_at k sessions).ended)

@@ -11,3 +11,5 @@ pub mod Runs
 pub mod Lives
 pub mod Rights
 pub mod NewCore
+pub mod Receipts
+pub mod PlacedSources
