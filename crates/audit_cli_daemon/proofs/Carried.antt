@@ -1,4 +1,5 @@
 -- What running a daemon comes to.
+use denote.Ref.{Bor}
 use Rattle.std.specs.Prelude.{OnOk, OnErr, IsOk, IsErr, IfSome, codes}
 use Rattle.std.specs.Result.{result_and}
 use Rattle.std.specs.Io.KnownBytes.{Appends}
@@ -20,7 +21,8 @@ use Rattle.audit_cli_daemon.specs.declared.request.Request.TheVariants.{Run}
 use Rattle.audit_cli_daemon.specs.declared.request.Settings.{Settings}
 use Rattle.mio.specs.declared.net.uds.listener.UnixListener.{UnixListener}
 use Rattle.audit_serve_sockets.specs.Bound.{SocketFacts}
-use Rattle.audit_cli_daemon.specs.Carried.{ServesAtDoor, ServesBetween, EndsEarly, IsDaemonDone, sources_asked, rights_asked, paths_asked}
+use Rattle.audit_cli_daemon.specs.Carried.{ServesAtDoor, ServesBetween, EndsEarly, IsDaemonDone, sources_asked, terms_of, terms_asked, rights_asked, paths_asked}
+use Rattle.audit_server.specs.NewCore.{CoreTerms}
 use Rattle.audit_cli_daemon.specs.Sources.{words_of, sources_in, has_kind}
 use Rattle.audit_cli_daemon.specs.Sockets.{rights_served, paths_served, paths_at, ListenAt}
 use Rattle.audit_cli_daemon.specs.declared.sockets.Sockets.{Sockets}
@@ -42,10 +44,10 @@ Ending = Result (Unit {0}) CommandError
 pub same_settings : (one other : Settings) → Run one ≡ Run other → one ≡ other
 same_settings one other same = cc same
 
-module _ {D : Type 0} {g : sectors.Ghosts D} {S E : Type 0} (N : CallModel S) (doors : DoorModel E S) (Opens Ends : E → Type 0) (LetGo : Store D g → Type 0) (reserve backlog : ℕ) where
-  pub serves_between : (opened left : Store D g) (before mid after : Option (List ℕ)) (served result : Ending) (count : ℕ) (root : List ℕ) → OnOk served (Appends before mid (ready_line (active_header opened))) × OnOk served (ServesAtDoor N doors Opens Ends reserve backlog opened left)
+module _ {D : Type 0} {g : sectors.Ghosts D} {S E : Type 0} (N : CallModel S) (doors : DoorModel E S) (Opens Ends : E → Type 0) (LetGo : Store D g → Type 0) (terms : CoreTerms) (backlog : ℕ) where
+  pub serves_between : (opened left : Store D g) (before mid after : Option (List ℕ)) (served result : Ending) (count : ℕ) (root : List ℕ) → OnOk served (Appends before mid (ready_line (active_header opened))) × OnOk served (ServesAtDoor N doors Opens Ends terms backlog opened left)
       → OnOk result (IsOk served) → OnOk result (Appends mid after (numbered_line (codes "stopped ") count root)) → count ≡ (active_header left).count → root ≡ (active_header left).root
-      → LetGo left → OnOk result (ServesBetween N doors Opens Ends LetGo reserve backlog opened before after)
+      → LetGo left → OnOk result (ServesBetween N doors Opens Ends LetGo terms backlog opened before after)
   serves_between opened left before mid after served (Err fault) count root both ok stopped count_is root_is gone = tt
   serves_between opened left before mid after (Err fault) (Ok done) count root both ok stopped count_is root_is gone = absurd (cc ok)
   serves_between opened left before mid after (Ok served) (Ok done) count root (ready, store) ok stopped count_is root_is gone = record {
@@ -56,17 +58,17 @@ module _ {D : Type 0} {g : sectors.Ghosts D} {S E : Type 0} (N : CallModel S) (d
         (subst (Appends mid after) (ap (λ n. numbered_line (codes "stopped ") n root) count_is ∙ ap (numbered_line (codes "stopped ") (active_header left).count) root_is) stopped);
   }
 
-pub serves_at_door : {D : Type 0} {g : sectors.Ghosts D} {S E : Type 0} (N : CallModel S) (doors : DoorModel E S) (Opens Ends : E → Type 0) (reserve backlog : ℕ) (was now : E) (opened left : Store D g) (first other : Ending) → Opens was → OnOk other (Ends now)
-    → OnOk first (ServesStore N doors reserve backlog was now opened left) → OnOk (result_and first other) (ServesAtDoor N doors Opens Ends reserve backlog opened left)
-serves_at_door N doors Opens Ends reserve backlog was now opened left (Err fault) other opens ends served = tt
-serves_at_door N doors Opens Ends reserve backlog was now opened left (Ok first) (Err fault) opens ends served = tt
-serves_at_door N doors Opens Ends reserve backlog was now opened left (Ok first) (Ok done) opens ends served = record { was = was; opens = opens; now = now; ends = ends; served = served }
+pub serves_at_door : {D : Type 0} {g : sectors.Ghosts D} {S E : Type 0} (N : CallModel S) (doors : DoorModel E S) (Opens Ends : E → Type 0) (terms : CoreTerms) (backlog : ℕ) (was now : E) (opened left : Store D g) (first other : Ending) → Opens was → OnOk other (Ends now)
+    → OnOk first (ServesStore N doors terms backlog was now opened left) → OnOk (result_and first other) (ServesAtDoor N doors Opens Ends terms backlog opened left)
+serves_at_door N doors Opens Ends terms backlog was now opened left (Err fault) other opens ends served = tt
+serves_at_door N doors Opens Ends terms backlog was now opened left (Ok first) (Err fault) opens ends served = tt
+serves_at_door N doors Opens Ends terms backlog was now opened left (Ok first) (Ok done) opens ends served = record { was = was; opens = opens; now = now; ends = ends; served = served }
 
 -- served at a door whose sockets are these, it was served at one whose sockets are as was asked
-pub served_there : {D : Type 0} {g : sectors.Ghosts D} {S C J W Q F T : Type 0} (N : CallModel S) (doors : DoorModel (GaugedDoor (SocketDoor C J W UnixListener Q) F T) S) (Ends : GaugedDoor (SocketDoor C J W UnixListener Q) F T → Type 0) (one other : List Rights) (bits modes : List ℕ) (descriptors : List ℤ) (Listen : List ℤ → Type 0) (idle reserve backlog : ℕ) (opened left : Store D g) (done : Ending)
-    → one ≡ other → bits ≡ modes → Listen descriptors → OnOk done (ServesAtDoor N doors (IsDoorFor one bits (λ found. found ≡ descriptors) idle) Ends reserve backlog opened left) → OnOk done (ServesAtDoor N doors (IsDoorFor other modes Listen idle) Ends reserve backlog opened left)
-served_there N doors Ends one other bits modes descriptors Listen idle reserve backlog opened left (Err fault) same alike there served = tt
-served_there N doors Ends one other bits modes descriptors Listen idle reserve backlog opened left (Ok done) same alike there served = record {
+pub served_there : {D : Type 0} {g : sectors.Ghosts D} {S C J W Q F T : Type 0} (N : CallModel S) (doors : DoorModel (GaugedDoor (SocketDoor C J W UnixListener Q) F T) S) (Ends : GaugedDoor (SocketDoor C J W UnixListener Q) F T → Type 0) (one other : List Rights) (bits modes : List ℕ) (descriptors : List ℤ) (Listen : List ℤ → Type 0) (idle : ℕ) (terms : CoreTerms) (backlog : ℕ) (opened left : Store D g) (done : Ending)
+    → one ≡ other → bits ≡ modes → Listen descriptors → OnOk done (ServesAtDoor N doors (IsDoorFor one bits (λ found. found ≡ descriptors) idle) Ends terms backlog opened left) → OnOk done (ServesAtDoor N doors (IsDoorFor other modes Listen idle) Ends terms backlog opened left)
+served_there N doors Ends one other bits modes descriptors Listen idle terms backlog opened left (Err fault) same alike there served = tt
+served_there N doors Ends one other bits modes descriptors Listen idle terms backlog opened left (Ok done) same alike there served = record {
   was = served.was;
   opens = record {
     rights_are = served.opens.rights_are ∙ same;
@@ -102,12 +104,12 @@ module _ {D : Type 0} (g : sectors.Ghosts D) {O : Type 0} (stores : StoresModel 
   opens_and_lets_go : (path : List ℕ) (was mid now : O) (opened left : Store D g) → stores.DidCalls was mid (an_opening path (Ok opened) ∷ []) → LetsGo stores mid now left → OpensAndLetsGo stores path was now opened left
   opens_and_lets_go path was mid now opened left first second = stores.more_called was mid now (an_opening path (Ok opened) ∷ []) (a_letting_go left ∷ []) first second
 
-  pub performed : (was mid now : O) (settings : Settings) (sockets : Sockets) (others : Rights) (bound : BoundKinds) (idle reserve backlog mode : ℕ) (opened : Store D g) (before after : Option (List ℕ)) (done : Ending) → sockets.clients ≡ settings.socket → sockets.readers ≡ settings.reader → sockets.sources ≡ settings.writers
+  pub performed : (was mid now : O) (settings : Settings) (sockets : Sockets) (others : Rights) (bound : BoundKinds) (words : Bor (List (Bor (List ℕ)))) (idle reserve backlog mode : ℕ) (opened : Store D g) (before after : Option (List ℕ)) (done : Ending) → sockets.clients ≡ settings.socket → sockets.readers ≡ settings.reader → sockets.sources ≡ settings.writers → words ≡ settings.writers
       → ((kind : ℕ) → is_bound bound kind ≡ has_kind (sources_asked settings) kind) → others ≡ rights_of_others settings.may_close bound
       → number_asked settings.idle DEFAULT_IDLE ≡ Ok idle → number_asked settings.reserve DEFAULT_RESERVE ≡ Ok reserve → backlog_asked settings.backlog ≡ Ok backlog → (settings.socket_mode ≡ None → mode ≡ OWNER_ONLY) → IfSome settings.socket_mode (λ word. IsMode word.now mode) → At settings.file.now opened
-      → stores.DidCalls was mid (an_opening settings.file.now (Ok opened) ∷ []) → OnErr done (EndsEarly (LetsGo stores mid now) opened before after) → OnOk done (ServesBetween N doors (IsDoorFor (rights_served sockets others) (modes_at (rights_served sockets others) mode) (ListenAt facts mode (paths_served sockets)) idle) IsTold (LetsGo stores mid now) reserve backlog opened before after) → IsDaemonDone g stores At facts N doors settings was now before after done
-  performed was mid now settings sockets others bound idle reserve backlog mode opened before after (Err fault) clients_are readers_are sources_are bound_are others_are idle_is reserve_is backlog_is owner mode_is at called ended served = inr (opened, at, record { left = ended.left; let_go = opens_and_lets_go settings.file.now was mid now opened ended.left called ended.let_go; kept = ended.kept; part = ended.part })
-  performed was mid now settings sockets others bound idle reserve backlog mode opened before after (Ok done) clients_are readers_are sources_are bound_are others_are idle_is reserve_is backlog_is owner mode_is at called ended served = record {
+      → stores.DidCalls was mid (an_opening settings.file.now (Ok opened) ∷ []) → OnErr done (EndsEarly (LetsGo stores mid now) opened before after) → OnOk done (ServesBetween N doors (IsDoorFor (rights_served sockets others) (modes_at (rights_served sockets others) mode) (ListenAt facts mode (paths_served sockets)) idle) IsTold (LetsGo stores mid now) (terms_of words reserve) backlog opened before after) → IsDaemonDone g stores At facts N doors settings was now before after done
+  performed was mid now settings sockets others bound words idle reserve backlog mode opened before after (Err fault) clients_are readers_are sources_are words_are bound_are others_are idle_is reserve_is backlog_is owner mode_is at called ended served = inr (opened, at, record { left = ended.left; let_go = opens_and_lets_go settings.file.now was mid now opened ended.left called ended.let_go; kept = ended.kept; part = ended.part })
+  performed was mid now settings sockets others bound words idle reserve backlog mode opened before after (Ok done) clients_are readers_are sources_are words_are bound_are others_are idle_is reserve_is backlog_is owner mode_is at called ended served = record {
     reserve = reserve;
     reserve_is = reserve_is;
     backlog = backlog;
@@ -122,9 +124,10 @@ module _ {D : Type 0} (g : sectors.Ghosts D) {O : Type 0} (stores : StoresModel 
     bound = bound;
     bound_are = bound_are;
     served =
-        subst (λ (paths : List (List ℕ)). ServesBetween N doors (IsDoorFor (rights_asked settings bound) (modes_at (rights_asked settings bound) mode) (ListenAt facts mode paths) idle) IsTold (OpensAndLetsGo stores settings.file.now was now opened) reserve backlog opened before after) (paths_same settings sockets clients_are readers_are sources_are)
-        (subst (λ (allowed : List Rights). ServesBetween N doors (IsDoorFor allowed (modes_at allowed mode) (ListenAt facts mode (paths_served sockets)) idle) IsTold (OpensAndLetsGo stores settings.file.now was now opened) reserve backlog opened before after) (rights_same settings sockets others bound readers_are sources_are others_are)
-        (record { left = served.left; let_go = opens_and_lets_go settings.file.now was mid now opened served.left called served.let_go; served = served.served; lines = served.lines }));
+        subst (λ (paths : List (List ℕ)). ServesBetween N doors (IsDoorFor (rights_asked settings bound) (modes_at (rights_asked settings bound) mode) (ListenAt facts mode paths) idle) IsTold (OpensAndLetsGo stores settings.file.now was now opened) (terms_asked settings reserve) backlog opened before after) (paths_same settings sockets clients_are readers_are sources_are)
+        (subst (λ (allowed : List Rights). ServesBetween N doors (IsDoorFor allowed (modes_at allowed mode) (ListenAt facts mode (paths_served sockets)) idle) IsTold (OpensAndLetsGo stores settings.file.now was now opened) (terms_asked settings reserve) backlog opened before after) (rights_same settings sockets others bound readers_are sources_are others_are)
+        (subst (λ (terms : CoreTerms). ServesBetween N doors (IsDoorFor (rights_served sockets others) (modes_at (rights_served sockets others) mode) (ListenAt facts mode (paths_served sockets)) idle) IsTold (OpensAndLetsGo stores settings.file.now was now opened) terms backlog opened before after) (ap (λ there. terms_of there reserve) words_are)
+        (record { left = served.left; let_go = opens_and_lets_go settings.file.now was mid now opened served.left called served.let_go; served = served.served; lines = served.lines })));
   }
 
   -- an error before a store was opened

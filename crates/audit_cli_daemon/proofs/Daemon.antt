@@ -19,7 +19,7 @@ use Rattle.audit_server.specs.CoreModel.{core_model, refuses_after}
 use Rattle.audit_serve_ready.specs.Slot.{SlotData, vacant, kept_of}
 use Rattle.audit_serve_ready.specs.Door.{DoorModel}
 use Rattle.audit_serve_ready.specs.Clients.{ClientChange, a_pass, a_coming, a_refusal, a_going, next_first, AreChanges, StopsServing}
-use Rattle.audit_server.specs.NewCore.{IsNewCore}
+use Rattle.audit_server.specs.NewCore.{CoreTerms, IsNewCore}
 use Rattle.audit_server.proofs.Keeping.{kept_served, kept_stopped}
 use Rattle.audit_cli_base.specs.declared.fault.CommandError.{CommandError}
 use Rattle.audit_cli_daemon.specs.State.{ready_line}
@@ -66,9 +66,9 @@ module _ {D : Type 0} {g : sectors.Ghosts D} {S : Type 0} (N : CallModel S) (bac
   kept_when_stopped : (old new : Store D g) (core last : Core D g) (after : List (SlotData S)) (fault : CommandError) → store_in core ≡ old → new ≡ store_in last → EndsByRefusal N backlog core last no_clients after fault → StoreKeepsOn old new
   kept_when_stopped old new core last after fault made left stopped = kept_by_core old new core last made left (kept_stopped N backlog 0 core last no_clients after stopped.2)
 
-  store_stopped : (reserve : ℕ) (old new : Store D g) (written later : Option (List ℕ)) (core last : Core D g) (after : List (SlotData S)) (fault : CommandError) → IsNewCore reserve old core → new ≡ store_in last
-      → Appends written later (ready_line (active_header old)) → EndsByRefusal N backlog core last no_clients after fault → StopsDaemon N reserve backlog old new written later fault
-  store_stopped reserve old new written later core last after fault made left line stopped = inr (
+  store_stopped : (terms : CoreTerms) (old new : Store D g) (written later : Option (List ℕ)) (core last : Core D g) (after : List (SlotData S)) (fault : CommandError) → IsNewCore terms old core → new ≡ store_in last
+      → Appends written later (ready_line (active_header old)) → EndsByRefusal N backlog core last no_clients after fault → StopsDaemon N terms backlog old new written later fault
+  store_stopped terms old new written later core last after fault made left line stopped = inr (
     stopped.0,
     stopped.1,
     record {
@@ -84,16 +84,16 @@ module _ {D : Type 0} {g : sectors.Ghosts D} {S : Type 0} (N : CallModel S) (bac
   )
 
   -- a new core owes nothing, and where nobody is nothing is kept
-  new_owes : (reserve : ℕ) (old : Store D g) (core : Core D g) → IsNewCore reserve old core → OwesNothing core_model SESSIONS core
-  new_owes reserve old core made = λ k below.
+  new_owes : (terms : CoreTerms) (old : Store D g) (core : Core D g) → IsNewCore terms old core → OwesNothing core_model SESSIONS core
+  new_owes terms old core made = λ k below.
       core_model.owed_idle core k made.waiting ∙ ap length (ap (λ (outputs : List (List ℕ)). get_or outputs k []) made.outputs ∙ same_at [] SESSIONS k)
 
-  vacant_within : (reserve : ℕ) (old : Store D g) (core : Core D g) → IsNewCore reserve old core → AreWithinBacklog {S = S} core_model backlog core no_clients
-  vacant_within reserve old core made = λ k below.
-      inl (omega (arith, new_owes reserve old core made k below, ap (λ (slot : SlotData S). length (kept_of slot)) (same_at vacant SESSIONS k)))
+  vacant_within : (terms : CoreTerms) (old : Store D g) (core : Core D g) → IsNewCore terms old core → AreWithinBacklog {S = S} core_model backlog core no_clients
+  vacant_within terms old core made = λ k below.
+      inl (omega (arith, new_owes terms old core made k below, ap (λ (slot : SlotData S). length (kept_of slot)) (same_at vacant SESSIONS k)))
 
   -- What a daemon came to, whose core was new and whose places had no clients.
-  module _ (reserve : ℕ) (old new : Store D g) (core last : Core D g) (before after : List (SlotData S)) (vacant : before ≡ no_clients) (made : IsNewCore reserve old core) (left : new ≡ store_in last) where
+  module _ (terms : CoreTerms) (old new : Store D g) (core last : Core D g) (before after : List (SlotData S)) (vacant : before ≡ no_clients) (made : IsNewCore terms old core) (left : new ≡ store_in last) where
     served_by : {E : Type 0} (doors : DoorModel E S) (was now : E) → IsServedBy N doors backlog was now core last before after → IsServedBy N doors backlog was now core last no_clients after
     served_by doors was now served = subst (λ (slots : List (SlotData S)). IsServedBy N doors backlog was now core last slots after) vacant served
 
@@ -104,14 +104,14 @@ module _ {D : Type 0} {g : sectors.Ghosts D} {S : Type 0} (N : CallModel S) (bac
     kept_either doors was now (Ok done) served stopped = kept_when_served doors was now old new core last after made.store_is left (served_by doors was now served)
     kept_either doors was now (Err fault) served stopped = kept_when_stopped old new core last after fault made.store_is left (stopped_by fault stopped)
 
-    pub store_served : {E : Type 0} (doors : DoorModel E S) (was now : E) (result : Result (Unit {0}) CommandError) → OnOk result (IsServedBy N doors backlog was now core last before after) → OnOk result (ServesStore N doors reserve backlog was now old new)
-    store_served doors was now (Ok done) served = record { core = core; made = made; last = last; left = left; after = after; served = served_by doors was now served; within = (served_by doors was now served).within (new_owes reserve old core made) (vacant_within reserve old core made) }
+    pub store_served : {E : Type 0} (doors : DoorModel E S) (was now : E) (result : Result (Unit {0}) CommandError) → OnOk result (IsServedBy N doors backlog was now core last before after) → OnOk result (ServesStore N doors terms backlog was now old new)
+    store_served doors was now (Ok done) served = record { core = core; made = made; last = last; left = left; after = after; served = served_by doors was now served; within = (served_by doors was now served).within (new_owes terms old core made) (vacant_within terms old core made) }
     store_served doors was now (Err fault) served = tt
 
     pub daemon_stopped : (written later : Option (List ℕ)) (result : Result (Unit {0}) CommandError) → Appends written later (ready_line (active_header old)) → IfErr result (EndsByRefusal N backlog core last before after)
-        → IfErr result (StopsDaemon N reserve backlog old new written later)
+        → IfErr result (StopsDaemon N terms backlog old new written later)
     daemon_stopped written later (Ok done) line stopped = tt
-    daemon_stopped written later (Err fault) line stopped = store_stopped reserve old new written later core last after fault made left line (stopped_by fault stopped)
+    daemon_stopped written later (Err fault) line stopped = store_stopped terms old new written later core last after fault made left line (stopped_by fault stopped)
 
 pub whatever_came : {E P : Type 0} (result : Result (Unit {0}) E) → P → OnOk result P
 whatever_came (Ok done) holds = holds

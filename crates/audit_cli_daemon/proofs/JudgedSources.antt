@@ -1,7 +1,7 @@
 -- The words for sources, judged one after another.
 use denote.Ref.{Bor}
 use Rattle.std.proofs.Common.{arith, ◌≡◌, ◌≢◌, ◌⊎◌, inl, inr, refl, sym, ap, ◌∙◌, subst, ℕ, suc, ◌<◌, ◌≤◌, ◌+◌, Bool, true, false, ◌||◌, ◌==◌, nat_lt, is_none, Option, Some, None, List, [], ◌∷◌, ◌++◌, length, map, take, drop, get_or, true≢false}
-use Rattle.std.specs.List.{list_any}
+use Rattle.std.specs.List.{list_any, cons_option}
 use Rattle.std.proofs.lemmas.Bool.{eqb-true, eq-eqb, lt-ltb, ltb-true}
 use Rattle.std.proofs.lemmas.List.{take_more, take_all, append_assoc, length-map, map-append, take-map}
 use Rattle.std.proofs.Math.ListN.{get_or-map}
@@ -13,7 +13,7 @@ use Rattle.audit_serve_passes.specs.declared.bound_kinds.BoundKinds.{BoundKinds}
 use Rattle.audit_serve_passes.specs.Rights.{is_bound, bound_count}
 use Rattle.audit_serve_passes.specs.declared.rights.Rights.{Rights}
 use Rattle.audit_cli_daemon.specs.Rights.{rights_of_readers, source_rights, rights_at, modes_at}
-use Rattle.audit_cli_daemon.specs.Sources.{SourceData, words_of, source_in, sources_in, has_kind, has_kind_twice, are_no_sources}
+use Rattle.audit_cli_daemon.specs.Sources.{SourceData, words_of, source_in, sources_in, has_kind, has_kind_twice, are_no_sources, kinds_bound}
 
 pub or_true : (a b : Bool) → (a || b) ≡ true → (a ≡ true) ⊎ (b ≡ true)
 or_true true b either = inl refl
@@ -115,6 +115,14 @@ module _ (words : List (List ℕ)) (i : ℕ) (s : SourceData) (within : i < leng
       or_second (nat_lt 15 (length words)) (list_any (λ word. is_none (source_in word)) words || has_kind_twice (sources_in words))
       (or_second (list_any (λ word. is_none (source_in word)) words) (has_kind_twice (sources_in words))
       (ap has_kind_twice sources_around ∙ twice_here (sources_in (take i words)) (sources_in (drop (suc i) words)) s (sym (so.kinds s.kind) ∙ there)))
+
+-- the kind of one more, if it asks for a source
+pub kinds_more : (words : List (List ℕ)) (i : ℕ) (found : Option SourceData) → i < length words → source_in (get_or words i []) ≡ found → kinds_bound (sources_in (take (i + 1) words)) ≡ kinds_bound (sources_in (take i words)) ++ kinds_bound (cons_option found [])
+kinds_more words i found within is =
+    ap (λ (all : List (List ℕ)). kinds_bound (sources_in all)) (take_more words i [] within)
+    ∙ ap kinds_bound (filter_map-append source_in (take i words) (get_or words i [] ∷ []))
+    ∙ map-append (λ (source : SourceData). source.kind) (sources_in (take i words)) (sources_in (get_or words i [] ∷ []))
+    ∙ ap (λ (one : Option SourceData). kinds_bound (sources_in (take i words)) ++ kinds_bound (cons_option one [])) is
 
 -- a word asks for none
 pub judged_none : (words : List (List ℕ)) (i : ℕ) → i < length words → source_in (get_or words i []) ≡ None → are_no_sources words ≡ true

@@ -1,4 +1,5 @@
 -- What running a daemon comes to, apart from its sockets.
+use denote.Ref.{Bor}
 use Rattle.std.specs.Prelude.{◌≡◌, ◌⊎◌, ℕ, Option, None, Result, Ok, Err, List, ◌++◌, IfSome}
 use Rattle.std.specs.Io.KnownBytes.{Appends, Keeps}
 use Rattle.audit_disk_model.specs.declared.sectors.Sectors as sectors
@@ -27,7 +28,8 @@ use Rattle.audit_cli_daemon.specs.Rights.{rights_at, rights_of_others, modes_at,
 use Rattle.audit_serve_passes.specs.declared.bound_kinds.BoundKinds.{BoundKinds}
 use Rattle.audit_serve_passes.specs.declared.rights.Rights.{Rights}
 use Rattle.audit_serve_passes.specs.Rights.{is_bound}
-use Rattle.audit_cli_daemon.specs.Sources.{SourceData, words_of, sources_in, has_kind}
+use Rattle.audit_server.specs.NewCore.{CoreTerms}
+use Rattle.audit_cli_daemon.specs.Sources.{SourceData, words_of, sources_in, has_kind, kinds_bound}
 use Rattle.audit_cli_daemon.specs.Running.{ServesStore}
 use Rattle.audit_cli_daemon.specs.Sockets.{paths_at, ListenAt}
 use Rattle.audit_cli_daemon.specs.State.{ready_line, stopped_line}
@@ -35,20 +37,20 @@ use Rattle.audit_cli_daemon.specs.Words.{backlog_asked}
 
 module _ {D : Type 0} {g : sectors.Ghosts D} {S E : Type 0} (N : CallModel S) (doors : DoorModel E S)
     (Opens Ends : E → Type 0) where
-  -- clients that came in by such a door were served over a store, with this reserve and backlog, up to such an end
-  pub record ServesAtDoor (reserve backlog : ℕ) (opened left : Store D g) : Type 0 where
+  -- clients that came in by such a door were served over a store, with these terms and this backlog, up to such an end
+  pub record ServesAtDoor (terms : CoreTerms) (backlog : ℕ) (opened left : Store D g) : Type 0 where
     pub was : E
     pub opens : Opens was
     pub now : E
     pub ends : Ends now
-    pub served : ServesStore N doors reserve backlog was now opened left
+    pub served : ServesStore N doors terms backlog was now opened left
 
   -- The store's state was written before the first and after the last of them, and it was let go as they left it.
-  pub record ServesBetween (LetGo : Store D g → Type 0) (reserve backlog : ℕ) (opened : Store D g)
+  pub record ServesBetween (LetGo : Store D g → Type 0) (terms : CoreTerms) (backlog : ℕ) (opened : Store D g)
       (before after : Option (List ℕ)) : Type 0 where
     pub left : Store D g
     pub let_go : LetGo left
-    pub served : ServesAtDoor reserve backlog opened left
+    pub served : ServesAtDoor terms backlog opened left
     pub lines : Appends before after (ready_line (active_header opened) ++ stopped_line (active_header left))
 
 -- It ended with an error over this store, which was let go with the events that it had, and maybe more; a prefix of the
@@ -63,6 +65,13 @@ pub record EndsEarly {D : Type 0} {g : sectors.Ghosts D} (LetGo : Store D g → 
 -- the sources that the words of a command ask for
 abbrev pub sources_asked : Settings → List SourceData
 sources_asked settings = sources_in (words_of settings.writers.now)
+
+-- what its core is made with: the kinds of the sources are counted
+abbrev pub terms_of : Bor (List (Bor (List ℕ))) → ℕ → CoreTerms
+terms_of words reserve = record { reserve = reserve; counted = kinds_bound (sources_in (words_of words.now)) }
+
+abbrev pub terms_asked : Settings → ℕ → CoreTerms
+terms_asked settings reserve = terms_of settings.writers reserve
 
 -- the rights at its sockets
 abbrev pub rights_asked : Settings → BoundKinds → List Rights
@@ -79,8 +88,9 @@ module _ {D : Type 0} (g : sectors.Ghosts D) {O : Type 0} (stores : StoresModel 
     (At : List ℕ → Store D g → Type 0) (facts : SocketFacts) {S C J W Q F T : Type 0} (N : CallModel S)
     (doors : DoorModel (GaugedDoor (SocketDoor C J W UnixListener Q) F T) S) where
   -- So were they over the store that was opened in the file that was named, with the reserve and the backlog that were
-  -- asked for, and came in by sockets at the paths, with the rights, the permissions and the time for idle clients that
-  -- were asked for, until the order to stop came. Nothing else was done to the store, and none was opened besides.
+  -- asked for and the kinds of the sources counted, and came in by sockets at the paths, with the rights, the permissions
+  -- and the time for idle clients that were asked for, until the order to stop came. Nothing else was done to the store,
+  -- and none was opened besides.
   pub record ServesClientsAsked (settings : Settings) (was now : O) (before after : Option (List ℕ)) : Type 0 where
     pub reserve : ℕ
     pub reserve_is : number_asked settings.reserve DEFAULT_RESERVE ≡ Ok reserve
@@ -98,7 +108,8 @@ module _ {D : Type 0} (g : sectors.Ghosts D) {O : Type 0} (stores : StoresModel 
     pub served : ServesBetween N doors
         (IsDoorFor (rights_asked settings bound) (modes_at (rights_asked settings bound) mode)
         (ListenAt facts mode (paths_asked settings)) idle) IsTold
-        (OpensAndLetsGo stores settings.file.now was now opened) reserve backlog opened before after
+        (OpensAndLetsGo stores settings.file.now was now opened) (terms_asked settings reserve) backlog opened
+        before after
 
   -- After an error either no store was opened, and nothing was written; or it ended early over the store that was opened
   -- in the file that was named, and nothing else was done to it.

@@ -18,7 +18,7 @@ use Rattle.audit_server_model.specs.Serving.{IsRefusedAs}
 use Rattle.audit_server.specs.declared.server_core.Core.{Core}
 use Rattle.audit_server.specs.Core.{committer_of, Refuses}
 use Rattle.audit_server.specs.CoreModel.{core_model}
-use Rattle.audit_server.specs.NewCore.{IsNewCore}
+use Rattle.audit_server.specs.NewCore.{CoreTerms, IsNewCore}
 use Rattle.audit_cli_base.specs.Faults.{IsUnwritten}
 use Rattle.audit_cli_base.specs.declared.fault.CommandError.{CommandError}
 use Rattle.audit_cli_base.specs.declared.fault.CommandError.TheVariants.{Refused}
@@ -44,10 +44,10 @@ module _ {D : Type 0} {g : sectors.Ghosts D} {E S : Type 0} (N : CallModel S) (d
         → AreWithinBacklog core_model backlog new between
     pub finished : WritesOn N between after
 
-  -- the same by a new core over the store, with this reserve and backlog
-  pub record ServesStore (reserve backlog : ℕ) (was now : E) (old new : Store D g) : Type 0 where
+  -- the same by a new core over the store, with these terms and this backlog
+  pub record ServesStore (terms : CoreTerms) (backlog : ℕ) (was now : E) (old new : Store D g) : Type 0 where
     pub core : Core D g
-    pub made : IsNewCore reserve old core
+    pub made : IsNewCore terms old core
     pub last : Core D g
     pub left : new ≡ store_of (committer_of last)
     pub after : List (SlotData S)
@@ -61,10 +61,11 @@ module _ {D : Type 0} {g : sectors.Ghosts D} {S : Type 0} (N : CallModel S) wher
   EndsByRefusal backlog old new before after fault = (error : StoreError) × (fault ≡ Refused error)
       × StopsServing core_model N backlog (λ first later. Refuses first later error) 0 old new before after
 
-  -- A new core over the store, with this reserve and backlog, served clients up to the pass in which it refused a step.
-  pub record StopsStore (reserve backlog : ℕ) (error : StoreError) (old new : Store D g) : Type 0 where
+  -- A new core over the store, with these terms and this backlog, served clients up to the pass in which it refused a
+  -- step.
+  pub record StopsStore (terms : CoreTerms) (backlog : ℕ) (error : StoreError) (old new : Store D g) : Type 0 where
     pub core : Core D g
-    pub made : IsNewCore reserve old core
+    pub made : IsNewCore terms old core
     pub last : Core D g
     pub left : new ≡ store_of (committer_of last)
     pub after : List (SlotData S)
@@ -74,8 +75,9 @@ module _ {D : Type 0} {g : sectors.Ghosts D} {S : Type 0} (N : CallModel S) wher
 
   -- Why the clients weren't served to the end: the first line wasn't written, or memory was refused before it; or the
   -- core refused a step.
-  abbrev pub StopsDaemon : ℕ → ℕ → Store D g → Store D g → Option (List ℕ) → Option (List ℕ) → CommandError → Type 0
-  StopsDaemon reserve backlog old new before after fault =
+  abbrev pub StopsDaemon : CoreTerms → ℕ → Store D g → Store D g → Option (List ℕ) → Option (List ℕ) → CommandError
+      → Type 0
+  StopsDaemon terms backlog old new before after fault =
       ((new ≡ old) × IsUnwritten before after fault)
-      ⊎ ((error : StoreError) × (fault ≡ Refused error) × StopsStore reserve backlog error old new
+      ⊎ ((error : StoreError) × (fault ≡ Refused error) × StopsStore terms backlog error old new
       × Appends before after (ready_line (active_header old)))

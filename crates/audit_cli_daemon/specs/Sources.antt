@@ -32,6 +32,10 @@ source_in word = source_with (kind_in_word (before_first (λ b. b == 58) word)) 
 abbrev pub sources_in : List (List ℕ) → List SourceData
 sources_in words = filter_map source_in words
 
+-- their kinds
+abbrev pub kinds_bound : List SourceData → List ℕ
+kinds_bound sources = map (λ source. source.kind) sources
+
 -- one of these sources has this kind
 abbrev pub has_kind : List SourceData → ℕ → Bool
 has_kind sources kind = list_any (λ source. source.kind == kind) sources

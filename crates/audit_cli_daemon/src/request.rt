@@ -19,7 +19,7 @@ ghost use Rattle.audit_serve_passes.specs.declared.bound_kinds.BoundKinds.{Bound
 ghost use Rattle.audit_serve_passes.specs.Rights.{is_bound};
 ghost use Rattle.audit_cli_daemon.specs.Rights.{rights_of_others, modes_at, IsIdleTime, IsDoorFor};
 ghost use Rattle.audit_cli_daemon.specs.Sources.{has_kind};
-ghost use Rattle.audit_cli_daemon.specs.Carried.{sources_asked};
+ghost use Rattle.audit_cli_daemon.specs.Carried.{sources_asked, terms_of};
 ghost use Rattle.audit_cli_daemon.specs.Sockets.{rights_served, paths_served, ListenAt};
 ghost use Rattle.audit_cli_daemon.specs.State.{ready_line};
 ghost use Rattle.audit_serve_door.specs.Entrances.{rights_of, rights_of_door, mode_of, modes_of_door, idle_of_door};
@@ -37,7 +37,7 @@ use crate::client_journal::ClientJournal;
 use crate::gauge::{Gauge, GaugedDoor};
 use crate::running::serve_until_stopped;
 use crate::sockets::{Listening, Made, STOP_SUFFIX_LEN, Sockets};
-use crate::sources::kinds_bound_by;
+use crate::sources::{kinds_bound_by, kinds_of_sources};
 use crate::sparing::Sparing;
 use crate::state_line::write_state;
 use crate::stopping::stop;
@@ -105,13 +105,15 @@ pub struct Settings<'a> {
 
 // The words that were judged.
 #[derive(Clone, Copy)]
-struct Judged {
+struct Judged<'a> {
     // In seconds; 0 is for ever.
     idle: u64,
     reserve: u64,
     most: usize,
     mode: u32,
     rights: Rights,
+    // The words for sources, whose kinds are counted.
+    sources: &'a [&'a str],
 }
 
 /// Carries out a request over the stores of a system, `stores`, which are those of `rt`. Lines that begin with `audit: `
@@ -143,10 +145,11 @@ where
     // To stop one no store is opened.
     ensures stops { (socket : Bor (List ℕ)) → request.entry ≡ Request.Stop socket
         → O.calls.DidCalls stores.old stores.new [] }
-    // The status is that of the result, or the output couldn't be flushed. On success clients were served over the store that was opened in the file that
-    // was named, with the reserve and the backlog that were asked for, until the order to stop came, and its first and
-    // last state were written. After an error no store was opened and nothing was written, or that store was let go
-    // with its events, and a prefix of these lines was written. In both cases nothing else was done to a store.
+    // The status is that of the result, or the output couldn't be flushed. On success clients were served over the store
+    // that was opened in the file that was named, with the reserve and the backlog that were asked for and the kinds of
+    // the sources counted, until the order to stop came, and its first and last state were written. After an error no
+    // store was opened and nothing was written, or that store was let go with its events, and a prefix of these lines
+    // was written. In both cases nothing else was done to a store.
     ensures carried { (settings : Settings) → request.entry ≡ Request.Run settings
         → IsDaemonCarriedOut ⟦<FileDevice<F::File> as Sectors>⟧ O.calls O.at (F.sockets rt.now)
         ⟦<Client as ReadyStream>⟧.calls ⟦<DaemonDoor<F, F::File, Sparing<'static, M>> as Door>⟧.calls settings
@@ -276,13 +279,14 @@ where
     )
 }
 
-fn judge(settings: Settings<'_>) -> Result<Judged, CommandError>
+fn judge<'a>(settings: Settings<'a>) -> Result<Judged<'a>, CommandError>
     ensures wrong { HasBadSetting settings.entry → result ≡ Err CommandError.BadArgument }
     ensures fault { IfErr result (λ _. HasBadSetting settings.entry) }
     ensures idle { IfOk result (λ judged. number_asked settings.entry.idle DEFAULT_IDLE ≡ Ok judged.idle) }
     ensures reserve { IfOk result (λ judged. number_asked settings.entry.reserve DEFAULT_RESERVE ≡ Ok judged.reserve) }
     ensures backlog { IfOk result (λ judged. backlog_asked settings.entry.backlog ≡ Ok judged.most) }
     ensures most { IfOk result (λ judged. judged.most ≤ MAX_BACKLOG) }
+    ensures sources { IfOk result (λ judged. judged.sources ≡ settings.entry.writers) }
     ensures owner { settings.entry.socket_mode ≡ None → IfOk result (λ judged. judged.mode ≡ OWNER_ONLY) }
     ensures mode { IfOk result (λ judged. IfSome settings.entry.socket_mode (λ word. IsMode word.now judged.mode)) }
     ensures others { IfOk result (λ judged. (bound : BoundKinds)
@@ -304,6 +308,7 @@ fn judge(settings: Settings<'_>) -> Result<Judged, CommandError>
         } else {
             Rights::Append(bound)
         },
+        sources: settings.writers,
     })
 }
 
@@ -335,7 +340,7 @@ fn serve_store<F, D, O, W, M>(
     store: Store<D>,
     watch: StoreWatch<'_, F>,
     sockets: &Sockets<'_>,
-    judged: Judged,
+    judged: Judged<'_>,
     explains: bool,
     output: &mut W,
     messages: &mut Sparing<'_, M>,
@@ -352,10 +357,11 @@ where
     ensures cause { IfErr result IsNoWordFault }
     ensures served { OnOk result (ServesBetween ⟦<Client as ReadyStream>⟧.calls
         ⟦<DaemonDoor<F, F::File, Sparing<'static, M>> as Door>⟧.calls
-        (IsDoorFor (rights_served sockets.now judged.rights) (modes_at (rights_served sockets.now judged.rights)
-        judged.mode) (ListenAt (F.sockets rt.now) judged.mode (paths_served sockets.now)) judged.idle) IsTold
-        (LetsGo O.calls stores.old stores.new) judged.reserve judged.most store
-        (W.contents output.old) (W.contents output.new)) }
+        (IsDoorFor (rights_served sockets.now judged.entry.rights)
+        (modes_at (rights_served sockets.now judged.entry.rights) judged.entry.mode)
+        (ListenAt (F.sockets rt.now) judged.entry.mode (paths_served sockets.now)) judged.entry.idle) IsTold
+        (LetsGo O.calls stores.old stores.new) (terms_of judged.entry.sources judged.entry.reserve)
+        judged.entry.most store (W.contents output.old) (W.contents output.new)) }
     ensures ended { OnErr result (EndsEarly (LetsGo O.calls stores.old stores.new) store
         (W.contents output.old) (W.contents output.new)) }
 {
@@ -427,7 +433,7 @@ fn serve_listening<F: SystemFiles + SystemSockets + Clock, D: Sectors + Drop, W:
     store: Store<D>,
     watch: StoreWatch<'_, F>,
     listening: Listening,
-    judged: Judged,
+    judged: Judged<'_>,
     explains: bool,
     output: &mut W,
     messages: &RefCell<&mut M>,
@@ -445,8 +451,8 @@ where
     ensures served { OnOk result.1 (ServesAtDoor ⟦<Client as ReadyStream>⟧.calls
         ⟦<DaemonDoor<F, F::File, M> as Door>⟧.calls (IsDoorFor (map rights_of listening.entrances.items)
         (map mode_of listening.entrances.items)
-        (λ descriptors. descriptors ≡ map descriptor_of listening.entrances.items) judged.idle) IsTold
-        judged.reserve judged.most store result.0) }
+        (λ descriptors. descriptors ≡ map descriptor_of listening.entrances.items) judged.entry.idle) IsTold
+        (terms_of judged.entry.sources judged.entry.reserve) judged.entry.most store result.0) }
 {
     let gauge = gauge_of(&watch, judged.reserve, messages);
     let journal = ClientJournal::new(messages, explains);
@@ -455,11 +461,15 @@ where
         Ok(door) => door,
         Err(fault) => return (store, Err(fault)),
     };
+    let Ok(kinds) = kinds_of_sources(alloc, judged.sources) else {
+        return (store, Err(CommandError::Refused(StoreError::Memory)));
+    };
     let mut gauged = GaugedDoor::new(door, gauge);
     let (store, served) = serve_until_stopped(
         alloc,
         store,
         judged.reserve,
+        &kinds,
         judged.most,
         &mut gauged,
         output,

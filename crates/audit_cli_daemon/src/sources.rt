@@ -2,11 +2,12 @@
 ghost use Rattle.std.specs.Prelude.{◌≡◌, ℕ, Bool, true, false, IfOk, IfErr, option_map};
 ghost use Rattle.audit_serve_passes.specs.Rights.{is_bound};
 ghost use Rattle.audit_cli_daemon.specs.Sources.{source_shown, source_in, sources_in, words_of, has_kind};
-ghost use Rattle.audit_cli_daemon.specs.Sources.{are_no_sources};
+ghost use Rattle.audit_cli_daemon.specs.Sources.{are_no_sources, kinds_bound};
 
 use audit_cli_base::{CommandError, socket_path_asked};
 use audit_serve_passes::BoundKinds;
 use audit_text::kind_in_word;
+use std::alloc::{AllocError, Global};
 
 /// A source of events: their kind, and the path of the socket for its clients, which append events of that kind alone.
 #[derive(Clone, Copy)]
@@ -52,4 +53,17 @@ pub(crate) fn kinds_bound_by(words: &[&str]) -> Result<BoundKinds, CommandError>
         bound = more;
     }
     Ok(bound)
+}
+
+/// Returns the kinds of the sources that the words ask for, in order. The only error is that memory is refused.
+pub(crate) fn kinds_of_sources(alloc: Global, words: &[&str]) -> Result<Vec<u32>, AllocError>
+    ensures { IfOk result (λ kinds. kinds.items ≡ kinds_bound (sources_in (words_of words.now))) }
+{
+    let mut kinds = Vec::with_capacity(alloc, words.len())?;
+    for word in words {
+        if let Some(source) = source_in(word) {
+            kinds.push_reserved(source.kind);
+        }
+    }
+    Ok(kinds)
 }

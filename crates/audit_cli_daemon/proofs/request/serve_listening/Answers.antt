@@ -1,5 +1,5 @@
 use Rattle.std.specs.Prelude.{OnOk, OnErr}
-use Rattle.std.proofs.Common.{◌≡◌, ◌∙◌, true, map, sym, ap, subst}
+use Rattle.std.proofs.Common.{◌≡◌, ◌∙◌, ℕ, List, true, map, sym, ap, subst}
 use Rattle.audit_serve_door.specs.Entrances.{rights_of, rights_of_door, mode_of, modes_of_door, descriptor_of, descriptors_of_door, idle_of_door}
 use Rattle.audit_serve_door.specs.Metered.{metered_calls}
 use Rattle.audit_serve_door.specs.Nonblocking.{nonblocking_calls, unknown_prompt}
@@ -8,7 +8,8 @@ use Rattle.audit_serve_door.specs.Notes.{unknown_notes}
 use Rattle.audit_serve_door.specs.Comings.{who_waits, places_of, was_told, is_replaced, has_failed, socket_door_calls}
 use Rattle.audit_serve_door.specs.Idle.{IsVacant}
 use Rattle.audit_serve_door.specs.Waits.{NobodyWaits}
-use Rattle.audit_cli_daemon.specs.Carried.{ServesAtDoor}
+use Rattle.audit_cli_daemon.specs.Carried.{ServesAtDoor, terms_of}
+use Rattle.audit_cli_daemon.specs.Running.{ServesStore}
 use Rattle.audit_cli_daemon.specs.Gauged.{gauged_calls, watch_of_file, IsTold}
 use Rattle.audit_cli_daemon.specs.Rights.{IsIdleTime, IsDoorFor}
 use Rattle.audit_cli_daemon.proofs.Carried.{serves_at_door}
@@ -34,10 +35,11 @@ returns-clause-served g c =
       works = ap (λ door. has_failed door) c.new-gauged.ensures ∙ c.in-Ok.ensures.works;
       vacant = subst (λ door. IsVacant (idle_of_door door) (places_of door)) (sym c.new-gauged.ensures) (subst (λ idle. IsVacant idle (places_of c.in-Ok.door)) (sym c.in-Ok.ensures.idle) c.in-Ok.ensures.vacant);
     } in
-    subst (λ ending. OnOk ending (ServesAtDoor N doors opens IsTold c.args.judged.reserve c.args.judged.most c.args.store c.serve_until_stopped-store.result.0)) (sym c.and.ensures)
-    (serves_at_door N doors opens IsTold c.args.judged.reserve c.args.judged.most c.new-gauged.result c.serve_until_stopped-store.new.door c.args.store c.serve_until_stopped-store.result.0 c.serve_until_stopped-store.result.1 _ first
+    subst (λ ending. OnOk ending (ServesAtDoor N doors opens IsTold (terms_of c.args.judged.sources c.args.judged.reserve) c.args.judged.most c.args.store c.serve_until_stopped-store.result.0)) (sym c.and.ensures)
+    (serves_at_door N doors opens IsTold (terms_of c.args.judged.sources c.args.judged.reserve) c.args.judged.most c.new-gauged.result c.serve_until_stopped-store.new.door c.args.store c.serve_until_stopped-store.result.0 c.serve_until_stopped-store.result.1 _ first
     (subst (λ door. OnOk c.close_door-closed.result (was_told door ≡ true)) c.into_door.ensures c.close_door-closed.ensures.told)
-    c.serve_until_stopped-store.ensures.served)
+    (subst (λ (counted : List ℕ). OnOk c.serve_until_stopped-store.result.1 (ServesStore N doors (record { reserve = c.args.judged.reserve; counted = counted }) c.args.judged.most c.new-gauged.result c.serve_until_stopped-store.new.door c.args.store c.serve_until_stopped-store.result.0)) (c.deref.ensures.value ∙ c.in-Ok-kinds_of_sources.ensures)
+    c.serve_until_stopped-store.ensures.served))
 
 pub returns-in-Err-clause-kept : goal.returns-in-Err-clause-kept
 returns-in-Err-clause-kept g c = kept_none c.args.store

@@ -9,7 +9,7 @@ use Rattle.audit_serve_door.specs.Notes.{unknown_notes}
 use Rattle.audit_serve_door.specs.Comings.{socket_door_calls}
 use Rattle.audit_cli_daemon.specs.Gauged.{gauged_calls, watch_of_file, IsTold}
 use Rattle.audit_cli_calls.specs.StoreCalls.{LetsGo}
-use Rattle.audit_cli_daemon.specs.Carried.{ServesAtDoor}
+use Rattle.audit_cli_daemon.specs.Carried.{ServesAtDoor, terms_of}
 use Rattle.audit_cli_daemon.specs.Rights.{modes_at, IsDoorFor}
 use Rattle.audit_cli_daemon.specs.Sockets.{rights_served, paths_served, ListenAt}
 use Rattle.audit_cli_daemon.specs.State.{ready_line}
@@ -29,17 +29,17 @@ returns-clause-served g c =
     let opens = IsDoorFor (rights_served c.args.sockets.now c.args.judged.rights) (modes_at (rights_served c.args.sockets.now c.args.judged.rights) c.args.judged.mode) there c.args.judged.idle in
     let begun = g.W.Write.contents c.args.output.now in
     let pair = c.match-bind.store in
-    serves_between N doors opens IsTold (LetsGo g.O.Stores.calls c.args.stores.now c.closed-state.new.stores) c.args.judged.reserve c.args.judged.most c.args.store pair.0 begun (g.W.Write.contents c.match-bind.output) (g.W.Write.contents c.report_stopped.new.output) pair.1 c.report_stopped.result c.closed-state.result.count c.closed-state.result.root
+    serves_between N doors opens IsTold (LetsGo g.O.Stores.calls c.args.stores.now c.closed-state.new.stores) (terms_of c.args.judged.sources c.args.judged.reserve) c.args.judged.most c.args.store pair.0 begun (g.W.Write.contents c.match-bind.output) (g.W.Write.contents c.report_stopped.new.output) pair.1 c.report_stopped.result c.closed-state.result.count c.closed-state.result.root
     (elim c.match-bind.branch [
       | in-Ok w ↦ (
         subst (λ both. OnOk both.1 (Appends begun (g.W.Write.contents c.match-bind.output) (ready_line (active_header c.args.store)))) (sym w.store-is)
             (subst (λ output. OnOk w.serve_listening.result.1 (Appends begun (g.W.Write.contents output) (ready_line (active_header c.args.store)))) (sym w.output-is) w.serve_listening.ensures.ready),
-        subst (λ both. OnOk both.1 (ServesAtDoor N doors opens IsTold c.args.judged.reserve c.args.judged.most c.args.store both.0)) (sym w.store-is)
-            (served_there N doors IsTold _ _ _ _ _ there c.args.judged.idle c.args.judged.reserve c.args.judged.most c.args.store w.serve_listening.result.0 w.serve_listening.result.1 w.in-Ok.ensures.rights w.in-Ok.ensures.modes w.in-Ok.ensures.listen w.serve_listening.ensures.served),
+        subst (λ both. OnOk both.1 (ServesAtDoor N doors opens IsTold (terms_of c.args.judged.sources c.args.judged.reserve) c.args.judged.most c.args.store both.0)) (sym w.store-is)
+            (served_there N doors IsTold _ _ _ _ _ there c.args.judged.idle (terms_of c.args.judged.sources c.args.judged.reserve) c.args.judged.most c.args.store w.serve_listening.result.0 w.serve_listening.result.1 w.in-Ok.ensures.rights w.in-Ok.ensures.modes w.in-Ok.ensures.listen w.serve_listening.ensures.served),
       )
       | in-Err w ↦ (
         subst (λ both. OnOk both.1 (Appends begun (g.W.Write.contents c.match-bind.output) (ready_line (active_header c.args.store)))) (sym w.store-is) tt,
-        subst (λ both. OnOk both.1 (ServesAtDoor N doors opens IsTold c.args.judged.reserve c.args.judged.most c.args.store both.0)) (sym w.store-is) tt,
+        subst (λ both. OnOk both.1 (ServesAtDoor N doors opens IsTold (terms_of c.args.judged.sources c.args.judged.reserve) c.args.judged.most c.args.store both.0)) (sym w.store-is) tt,
       )
     ])
     c.report_stopped.ensures.served c.report_stopped.ensures.written c.closed-state.ensures.count c.closed-state.ensures.root c.closed-state.ensures.let_go

@@ -19,16 +19,16 @@ returns-in-Err-clause-fault g c = inl (c.in-Err.ensures.store, inr (c.no_memory-
 
 -- the line wasn't written
 pub returns-in-Err-write_state-clause-kept : goal.returns-in-Err-write_state-clause-kept
-returns-in-Err-write_state-clause-kept g c = kept_same g.E.Stream.ReadyStream.calls c.args.most c.args.store c.into_store.result (c.into_store.ensures ∙ c.in-Ok-with_reserve.ensures.store)
+returns-in-Err-write_state-clause-kept g c = kept_same g.E.Stream.ReadyStream.calls c.args.most c.args.store c.into_store.result (c.into_store.ensures ∙ c.in-Ok-counting.ensures.store)
 
 pub returns-in-Err-write_state-clause-fault : goal.returns-in-Err-write_state-clause-fault
-returns-in-Err-write_state-clause-fault g c = inl (c.into_store.ensures ∙ c.in-Ok-with_reserve.ensures.store, c.in-Err-write_state.ensures.fault)
+returns-in-Err-write_state-clause-fault g c = inl (c.into_store.ensures ∙ c.in-Ok-counting.ensures.store, c.in-Err-write_state.ensures.fault)
 
 pub returns-clause-kept : goal.returns-clause-kept
 returns-clause-kept g c =
-    let made : IsNewCore c.args.reserve c.args.store c.in-Ok-with_reserve.core = record { store_is = c.in-Ok-with_reserve.ensures.store; reserve_is = c.in-Ok-with_reserve.ensures.reserve; waiting = c.in-Ok-with_reserve.ensures.waiting; outputs = c.in-Ok-with_reserve.ensures.outputs; sessions = c.in-Ok-with_reserve.ensures.sessions } in
+    let made : IsNewCore (record { reserve = c.args.reserve; counted = c.args.kinds.now }) c.args.store c.in-Ok-counting.core = record { store_is = c.in-Ok-counting.ensures.store; reserve_is = c.in-Ok-counting.ensures.reserve; counted_is = c.in-Ok-counting.ensures.counted; waiting = c.in-Ok-counting.ensures.waiting; outputs = c.in-Ok-counting.ensures.outputs; sessions = c.in-Ok-counting.ensures.sessions } in
     let vacant : c.deref_mut.result.now ≡ no_clients = search rules in
-    kept_either g.E.Stream.ReadyStream.calls c.args.most c.args.reserve c.args.store c.into_store-2.result c.in-Ok-with_reserve.core c.serve_slots-served.new.core c.deref_mut.result.now c.serve_slots-served.new.slots vacant made c.into_store-2.ensures
+    kept_either g.E.Stream.ReadyStream.calls c.args.most (record { reserve = c.args.reserve; counted = c.args.kinds.now }) c.args.store c.into_store-2.result c.in-Ok-counting.core c.serve_slots-served.new.core c.deref_mut.result.now c.serve_slots-served.new.slots vacant made c.into_store-2.ensures
     g.E.Door.calls c.args.door.now c.serve_slots-served.new.door c.serve_slots-served.result c.serve_slots-served.ensures.served c.serve_slots-served.ensures.stopped
 
 pub returns-clause-ready : goal.returns-clause-ready
@@ -40,21 +40,21 @@ returns-clause-ready g c =
 
 pub returns-clause-served : goal.returns-clause-served
 returns-clause-served g c =
-    let made : IsNewCore c.args.reserve c.args.store c.in-Ok-with_reserve.core = record { store_is = c.in-Ok-with_reserve.ensures.store; reserve_is = c.in-Ok-with_reserve.ensures.reserve; waiting = c.in-Ok-with_reserve.ensures.waiting; outputs = c.in-Ok-with_reserve.ensures.outputs; sessions = c.in-Ok-with_reserve.ensures.sessions } in
+    let made : IsNewCore (record { reserve = c.args.reserve; counted = c.args.kinds.now }) c.args.store c.in-Ok-counting.core = record { store_is = c.in-Ok-counting.ensures.store; reserve_is = c.in-Ok-counting.ensures.reserve; counted_is = c.in-Ok-counting.ensures.counted; waiting = c.in-Ok-counting.ensures.waiting; outputs = c.in-Ok-counting.ensures.outputs; sessions = c.in-Ok-counting.ensures.sessions } in
     let vacant : c.deref_mut.result.now ≡ no_clients = search rules in
-    store_served g.E.Stream.ReadyStream.calls c.args.most c.args.reserve c.args.store c.into_store-2.result c.in-Ok-with_reserve.core c.serve_slots-served.new.core c.deref_mut.result.now c.serve_slots-served.new.slots vacant made c.into_store-2.ensures
+    store_served g.E.Stream.ReadyStream.calls c.args.most (record { reserve = c.args.reserve; counted = c.args.kinds.now }) c.args.store c.into_store-2.result c.in-Ok-counting.core c.serve_slots-served.new.core c.deref_mut.result.now c.serve_slots-served.new.slots vacant made c.into_store-2.ensures
     g.E.Door.calls c.args.door.now c.serve_slots-served.new.door c.serve_slots-served.result c.serve_slots-served.ensures.served
 
 pub returns-clause-fault : goal.returns-clause-fault
 returns-clause-fault g c =
-    let made : IsNewCore c.args.reserve c.args.store c.in-Ok-with_reserve.core = record { store_is = c.in-Ok-with_reserve.ensures.store; reserve_is = c.in-Ok-with_reserve.ensures.reserve; waiting = c.in-Ok-with_reserve.ensures.waiting; outputs = c.in-Ok-with_reserve.ensures.outputs; sessions = c.in-Ok-with_reserve.ensures.sessions } in
+    let made : IsNewCore (record { reserve = c.args.reserve; counted = c.args.kinds.now }) c.args.store c.in-Ok-counting.core = record { store_is = c.in-Ok-counting.ensures.store; reserve_is = c.in-Ok-counting.ensures.reserve; counted_is = c.in-Ok-counting.ensures.counted; waiting = c.in-Ok-counting.ensures.waiting; outputs = c.in-Ok-counting.ensures.outputs; sessions = c.in-Ok-counting.ensures.sessions } in
     let vacant : c.deref_mut.result.now ≡ no_clients = search rules in
     let line : Appends (g.W.Write.contents c.args.writer.now) (g.W.Write.contents c.write_state.new.writer) (ready_line (active_header c.args.store)) =
     subst (Appends (g.W.Write.contents c.args.writer.now) (g.W.Write.contents c.write_state.new.writer))
     (ap (λ count. numbered_line (codes "ready ") count c.commitment-begun.result.root) c.commitment-begun.ensures.count
     ∙ ap (λ root. numbered_line (codes "ready ") (active_header c.args.store).count root) c.commitment-begun.ensures.root)
     c.in_default-write_state.ensures.written in
-    daemon_stopped g.E.Stream.ReadyStream.calls c.args.most c.args.reserve c.args.store c.into_store-2.result c.in-Ok-with_reserve.core c.serve_slots-served.new.core c.deref_mut.result.now c.serve_slots-served.new.slots vacant made c.into_store-2.ensures
+    daemon_stopped g.E.Stream.ReadyStream.calls c.args.most (record { reserve = c.args.reserve; counted = c.args.kinds.now }) c.args.store c.into_store-2.result c.in-Ok-counting.core c.serve_slots-served.new.core c.deref_mut.result.now c.serve_slots-served.new.slots vacant made c.into_store-2.ensures
     (g.W.Write.contents c.args.writer.now) (g.W.Write.contents c.write_state.new.writer) c.serve_slots-served.result line c.serve_slots-served.ensures.stopped
 
 pub returns-clause-part : goal.returns-clause-part
