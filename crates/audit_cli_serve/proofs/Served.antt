@@ -32,7 +32,7 @@ use Rattle.audit_cli_serve.specs.declared.fault.ServingError.{ServingError}
 use Rattle.audit_cli_serve.specs.declared.fault.ServingError.TheVariants.{Command, BadFrameLine}
 use Rattle.audit_cli_serve.specs.Faults.{of_serving, of_loop}
 use Rattle.audit_server.specs.NewCore.{IsNewCore}
-use Rattle.audit_cli_serve.specs.Served.{LoopsOver, ServesRound, ServesRounds, LoopReachesOver, ReachesByRound, IsOpen, AreAccepted, AreLetGo, IsNotBegun, IsLineLost, HasRefused, StopsRound, StopsLoop}
+use Rattle.audit_cli_serve.specs.Served.{plain_terms, LoopsOver, ServesRound, ServesRounds, LoopReachesOver, ReachesByRound, IsOpen, AreAccepted, AreLetGo, IsNotBegun, IsLineLost, HasRefused, StopsRound, StopsLoop}
 
 -- no other fault is reported as a line that spells no bytes
 pub bad_of_loop : (fault : LoopError StoreError) (number : ℕ) → of_loop fault ≡ BadFrameLine number → fault ≡ looping.BadLine number
@@ -64,12 +64,12 @@ module _ {D : Type 0} {g : sectors.Ghosts D} where
   kept_by old new core last made left durably =
       subst (StoreKeepsOn old) (sym left) (subst (λ (store : Store D g). StoreKeepsOn store (store_of (committer_of last))) made (durably_keeps (data_of core) (data_of last) durably))
 
-  pub looped : (old new : Store D g) (core last : Core D g) {before after : Option (List ℕ)} {Shape : List StepData → Type 0} → IsNewCore 0 old core → new ≡ store_of (committer_of last) → LoopTransition core_model core last before after Shape
+  pub looped : (old new : Store D g) (core last : Core D g) {before after : Option (List ℕ)} {Shape : List StepData → Type 0} → IsNewCore plain_terms old core → new ≡ store_of (committer_of last) → LoopTransition core_model core last before after Shape
       → LoopsOver old new before after Shape
   looped old new core last made left run = record { core = core; made = made; last = last; left = left; run = run }
 
   -- whatever stopped the session
-  pub loop_reached : (old new : Store D g) (core last : Core D g) {known : Option (List ℕ)} → IsNewCore 0 old core → new ≡ store_of (committer_of last) → LoopReached core_model core last (BringsLines known) → LoopReachesOver old new known
+  pub loop_reached : (old new : Store D g) (core last : Core D g) {known : Option (List ℕ)} → IsNewCore plain_terms old core → new ≡ store_of (committer_of last) → LoopReached core_model core last (BringsLines known) → LoopReachesOver old new known
   loop_reached old new core last made left run = record { core = core; made = made; last = last; left = left; run = run }
 
   -- ---- why it stopped
@@ -79,11 +79,11 @@ module _ {D : Type 0} {g : sectors.Ghosts D} where
   no_memory_for old new fault is same = (Memory, is, inr (inr (refl, ap is_broken same)))
 
   -- the core refused a step
-  pub core_refused : (old new : Store D g) (core last : Core D g) (error : StoreError) → IsNewCore 0 old core → new ≡ store_of (committer_of last) → Refuses core last error → IsRefusedAs error old new
+  pub core_refused : (old new : Store D g) (core last : Core D g) (error : StoreError) → IsNewCore plain_terms old core → new ≡ store_of (committer_of last) → Refuses core last error → IsRefusedAs error old new
   core_refused old new core last error made left refused =
       subst (λ (store : Store D g). IsRefusedAs error old store) (sym left) (subst (λ (store : Store D g). IsRefusedAs error store (store_of (committer_of last))) made.store_is refused)
 
-  pub loop_stopped : (old new : Store D g) (core last : Core D g) (fault : LoopError StoreError) → IsNewCore 0 old core → new ≡ store_of (committer_of last)
+  pub loop_stopped : (old new : Store D g) (core last : Core D g) (fault : LoopError StoreError) → IsNewCore plain_terms old core → new ≡ store_of (committer_of last)
       → ((error : StoreError) → fault ≡ looping.Core error → Refuses core last error) → StopsLoop old new (of_loop fault)
   loop_stopped old new core last looping.Connection made left refused = inr (inl refl)
   loop_stopped old new core last (looping.Lines cause) made left refused = inr (inr (inl (cause, refl)))
@@ -138,7 +138,7 @@ module _ {D : Type 0} {g : sectors.Ghosts D} {T L : Type 0} (M : CallModel T) (N
   rounds_more sessions turns (first ∷ earlier) old mid new before between after h round =
       (h.0, h.1, h.2, rounds_more sessions turns earlier h.0 mid new h.1 between after h.3 round)
 
-  pub round_served : (old new : Store D g) (before after : L) (core last : Core D g) (sessions turns : ℕ) (streams later : List (DuplexStream T)) → IsNewCore 0 old core → new ≡ store_of (committer_of last)
+  pub round_served : (old new : Store D g) (before after : L) (core last : Core D g) (sessions turns : ℕ) (streams later : List (DuplexStream T)) → IsNewCore plain_terms old core → new ≡ store_of (committer_of last)
       → AreAccepted N sessions before after streams → Transition core_model (duplex_model M) core last streams later (IsServed core_model (length streams) turns core last)
       → ServesRound M N sessions turns old new before after
   round_served old new before after core last sessions turns streams later made left accepted run = record {
@@ -152,7 +152,7 @@ module _ {D : Type 0} {g : sectors.Ghosts D} {T L : Type 0} (M : CallModel T) (N
     run = subst (λ (count : ℕ). Transition core_model (duplex_model M) core last streams later (IsServed core_model count turns core last)) accepted.each run;
   }
 
-  pub round_reached : (old new : Store D g) (before after : L) (core last : Core D g) (sessions : ℕ) (streams later : List (DuplexStream T)) → IsNewCore 0 old core → new ≡ store_of (committer_of last)
+  pub round_reached : (old new : Store D g) (before after : L) (core last : Core D g) (sessions : ℕ) (streams later : List (DuplexStream T)) → IsNewCore plain_terms old core → new ≡ store_of (committer_of last)
       → AreAccepted N sessions before after streams → Reached core_model (duplex_model M) core last streams later AnySteps → ReachesByRound M N sessions old new before after
   round_reached old new before after core last sessions streams later made left accepted run = record {
     core = core;
@@ -170,7 +170,7 @@ module _ {D : Type 0} {g : sectors.Ghosts D} {T L : Type 0} (M : CallModel T) (N
   streams_refused sessions store before after fault (inl memory) = inl (no_memory_for store store fault memory refl)
   streams_refused sessions store before after fault (inr file) = inr (inl (file, refl))
 
-  pub round_stopped : (old new : Store D g) (before after : L) (core last : Core D g) (sessions : ℕ) (streams later : List (DuplexStream T)) (fault : ServeFault StoreError) → IsNewCore 0 old core
+  pub round_stopped : (old new : Store D g) (before after : L) (core last : Core D g) (sessions : ℕ) (streams later : List (DuplexStream T)) (fault : ServeFault StoreError) → IsNewCore plain_terms old core
       → new ≡ store_of (committer_of last) → AreAccepted N sessions before after streams → ((error : StoreError) → Some fault ≡ Some (serving.Core error) → Refuses core last error)
       → (Some fault ≡ Some serving.ReadFault → EndsAs core_model (duplex_model M) core last streams later (IsCut core_model (length streams) core last))
       → StopsRound M N sessions old new before after (of_serving fault)

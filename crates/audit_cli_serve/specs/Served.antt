@@ -14,7 +14,7 @@ use Rattle.audit_server_model.specs.Serving.{IsRefusedAs}
 use Rattle.audit_server.specs.declared.server_core.Core.{Core}
 use Rattle.audit_server.specs.Core.{committer_of}
 use Rattle.audit_server.specs.CoreModel.{core_model}
-use Rattle.audit_server.specs.NewCore.{IsNewCore}
+use Rattle.audit_server.specs.NewCore.{CoreTerms, IsNewCore}
 use Rattle.audit_text.specs.declared.fault.LinesError.{LinesError}
 use Rattle.audit_text.specs.declared.fault.LinesError.TheVariants.{Write, Memory}
 use Rattle.audit_serve_sockets.specs.Listening.{ListenerModel}
@@ -23,6 +23,10 @@ use Rattle.audit_cli_base.specs.declared.fault.CommandError.TheVariants.{File, L
 use Rattle.audit_cli_serve.specs.Rounds.{round_lines, AreCutOff}
 use Rattle.audit_cli_serve.specs.declared.fault.ServingError.{ServingError}
 use Rattle.audit_cli_serve.specs.declared.fault.ServingError.TheVariants.{Command, BadFrameLine, TooManyPasses}
+
+-- a core of `serve` and `loop` keeps no reserve, and counts no kind
+abbrev pub plain_terms : CoreTerms
+plain_terms = record { reserve = 0; counted = [] }
 
 -- memory was refused for the line of a round, or the line couldn't be written whole
 abbrev pub IsLineLost : ServingError → Type 0
@@ -33,7 +37,7 @@ module _ {D : Type 0} {g : sectors.Ghosts D} where
   pub record LoopsOver (old new : Store D g) (before after : Option (List ℕ))
       (Shape : List StepData → Type 0) : Type 0 where
     pub core : Core D g
-    pub made : IsNewCore 0 old core
+    pub made : IsNewCore plain_terms old core
     pub last : Core D g
     pub left : new ≡ store_of (committer_of last)
     pub run : LoopTransition core_model core last before after Shape
@@ -41,7 +45,7 @@ module _ {D : Type 0} {g : sectors.Ghosts D} where
   -- a session over these lines of a reader did some steps
   pub record LoopReachesOver (old new : Store D g) (known : Option (List ℕ)) : Type 0 where
     pub core : Core D g
-    pub made : IsNewCore 0 old core
+    pub made : IsNewCore plain_terms old core
     pub last : Core D g
     pub left : new ≡ store_of (committer_of last)
     pub run : LoopReached core_model core last (BringsLines known)
@@ -82,7 +86,7 @@ module _ {D : Type 0} {g : sectors.Ghosts D} {T L : Type 0} (M : CallModel T) (N
   -- passes.
   pub record ServesRound (sessions turns : ℕ) (old new : Store D g) (before after : L) : Type 0 where
     pub core : Core D g
-    pub made : IsNewCore 0 old core
+    pub made : IsNewCore plain_terms old core
     pub last : Core D g
     pub left : new ≡ store_of (committer_of last)
     pub streams : List (DuplexStream T)
@@ -102,7 +106,7 @@ module _ {D : Type 0} {g : sectors.Ghosts D} {T L : Type 0} (M : CallModel T) (N
   -- A new core over the store did some steps for such streams.
   pub record ReachesByRound (sessions : ℕ) (old new : Store D g) (before after : L) : Type 0 where
     pub core : Core D g
-    pub made : IsNewCore 0 old core
+    pub made : IsNewCore plain_terms old core
     pub last : Core D g
     pub left : new ≡ store_of (committer_of last)
     pub streams : List (DuplexStream T)
@@ -127,7 +131,7 @@ module _ {D : Type 0} {g : sectors.Ghosts D} {T L : Type 0} (M : CallModel T) (N
   -- a round had as many passes as the limit allows, and the sessions that were still live were ended
   pub record CutsRound (sessions : ℕ) (old new : Store D g) (before after : L) : Type 0 where
     pub core : Core D g
-    pub made : IsNewCore 0 old core
+    pub made : IsNewCore plain_terms old core
     pub last : Core D g
     pub left : new ≡ store_of (committer_of last)
     pub streams : List (DuplexStream T)

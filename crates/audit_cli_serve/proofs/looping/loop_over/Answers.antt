@@ -2,7 +2,7 @@ use Rattle.std.proofs.Common.{◌≡◌, ◌∙◌, inr, Result, Err, IfErr, sym
 use Rattle.audit_cli_serve.specs.declared.fault.ServingError.{ServingError}
 use Rattle.audit_cli_serve.specs.declared.fault.ServingError.TheVariants.{BadFrameLine}
 use Rattle.audit_server.specs.NewCore.{IsNewCore}
-use Rattle.audit_cli_serve.specs.Served.{StopsLoop}
+use Rattle.audit_cli_serve.specs.Served.{plain_terms, StopsLoop}
 use Rattle.audit_cli_serve.proofs.Served.{bad_of_loop, on_ok, on_err, kept_as, kept_by, looped, loop_reached, loop_stopped}
 use Rattle.audit_cli_serve.proofs.looping.loop_over.Goals.{in-Ok-run_lines, in-Err-run_lines}
 use Rattle.audit_cli_serve.proofs.looping.loop_over.Goals as goal
@@ -12,12 +12,12 @@ returns-clause-kept g c = kept_by c.args.store c.into_store.result c.in-Ok.core 
 
 pub returns-clause-reached : goal.returns-clause-reached
 returns-clause-reached g c =
-    let made : IsNewCore 0 c.args.store c.in-Ok.core = record { store_is = c.in-Ok.ensures.store; reserve_is = c.in-Ok.ensures.reserve; waiting = c.in-Ok.ensures.waiting; outputs = c.in-Ok.ensures.outputs; sessions = c.in-Ok.ensures.sessions } in
+    let made : IsNewCore plain_terms c.args.store c.in-Ok.core = record { store_is = c.in-Ok.ensures.store; reserve_is = c.in-Ok.ensures.reserve; counted_is = c.in-Ok.ensures.counted; waiting = c.in-Ok.ensures.waiting; outputs = c.in-Ok.ensures.outputs; sessions = c.in-Ok.ensures.sessions } in
     inr (loop_reached c.args.store c.into_store.result c.in-Ok.core c.run_lines.new.core made c.into_store.ensures c.run_lines.ensures.reaches)
 
 pub returns-clause-done : goal.returns-clause-done
 returns-clause-done g c =
-    let made : IsNewCore 0 c.args.store c.in-Ok.core = record { store_is = c.in-Ok.ensures.store; reserve_is = c.in-Ok.ensures.reserve; waiting = c.in-Ok.ensures.waiting; outputs = c.in-Ok.ensures.outputs; sessions = c.in-Ok.ensures.sessions } in
+    let made : IsNewCore plain_terms c.args.store c.in-Ok.core = record { store_is = c.in-Ok.ensures.store; reserve_is = c.in-Ok.ensures.reserve; counted_is = c.in-Ok.ensures.counted; waiting = c.in-Ok.ensures.waiting; outputs = c.in-Ok.ensures.outputs; sessions = c.in-Ok.ensures.sessions } in
     elim c.match-run_lines.branch [
       | in-Ok-run_lines w ↦
           let ran = w.in-Ok-run_lines.ensures.done in
@@ -27,7 +27,7 @@ returns-clause-done g c =
 
 pub returns-clause-bad : goal.returns-clause-bad
 returns-clause-bad g c = λ number is.
-    let made : IsNewCore 0 c.args.store c.in-Ok.core = record { store_is = c.in-Ok.ensures.store; reserve_is = c.in-Ok.ensures.reserve; waiting = c.in-Ok.ensures.waiting; outputs = c.in-Ok.ensures.outputs; sessions = c.in-Ok.ensures.sessions } in
+    let made : IsNewCore plain_terms c.args.store c.in-Ok.core = record { store_is = c.in-Ok.ensures.store; reserve_is = c.in-Ok.ensures.reserve; counted_is = c.in-Ok.ensures.counted; waiting = c.in-Ok.ensures.waiting; outputs = c.in-Ok.ensures.outputs; sessions = c.in-Ok.ensures.sessions } in
     elim c.match-run_lines.branch [
       | in-Ok-run_lines w ↦ absurd (cc (sym w.done-is ∙ is))
       | in-Err-run_lines w ↦
@@ -42,7 +42,7 @@ returns-in-Err-clause-kept g c = kept_as c.args.store c.in-Err.failed.store c.in
 
 pub returns-clause-fault : goal.returns-clause-fault
 returns-clause-fault g c =
-    let made : IsNewCore 0 c.args.store c.in-Ok.core = record { store_is = c.in-Ok.ensures.store; reserve_is = c.in-Ok.ensures.reserve; waiting = c.in-Ok.ensures.waiting; outputs = c.in-Ok.ensures.outputs; sessions = c.in-Ok.ensures.sessions } in
+    let made : IsNewCore plain_terms c.args.store c.in-Ok.core = record { store_is = c.in-Ok.ensures.store; reserve_is = c.in-Ok.ensures.reserve; counted_is = c.in-Ok.ensures.counted; waiting = c.in-Ok.ensures.waiting; outputs = c.in-Ok.ensures.outputs; sessions = c.in-Ok.ensures.sessions } in
     elim c.match-run_lines.branch [
       | in-Ok-run_lines w ↦ subst (λ (answer : Result (Unit {0}) ServingError). IfErr answer (StopsLoop c.args.store c.into_store.result)) (sym w.done-is) tt
       | in-Err-run_lines w ↦

@@ -2,7 +2,7 @@ use Rattle.std.proofs.Common.{◌∙◌, inr, Result, ℕ, sym, subst, rules}
 use Rattle.std.specs.Prelude.{IfOk, IfErr}
 use Rattle.audit_cli_serve.specs.declared.fault.ServingError.{ServingError}
 use Rattle.audit_server.specs.NewCore.{IsNewCore}
-use Rattle.audit_cli_serve.specs.Served.{ServesRound, StopsRound, AreAccepted}
+use Rattle.audit_cli_serve.specs.Served.{plain_terms, ServesRound, StopsRound, AreAccepted}
 use Rattle.audit_cli_serve.proofs.Served.{kept_as, kept_by, round_served, round_reached, round_stopped}
 use Rattle.audit_cli_serve.proofs.rounds.serve_round.Goals.{in-None, in-Some}
 use Rattle.audit_cli_serve.proofs.rounds.serve_round.Goals as goal
@@ -12,7 +12,7 @@ returns-clause-kept g c = kept_by c.args.store c.into_store.result c.in-Ok-new.c
 
 pub returns-clause-served : goal.returns-clause-served
 returns-clause-served g c =
-    let made : IsNewCore 0 c.args.store c.in-Ok-new.core = record { store_is = c.in-Ok-new.ensures.store; reserve_is = c.in-Ok-new.ensures.reserve; waiting = c.in-Ok-new.ensures.waiting; outputs = c.in-Ok-new.ensures.outputs; sessions = c.in-Ok-new.ensures.sessions } in
+    let made : IsNewCore plain_terms c.args.store c.in-Ok-new.core = record { store_is = c.in-Ok-new.ensures.store; reserve_is = c.in-Ok-new.ensures.reserve; counted_is = c.in-Ok-new.ensures.counted; waiting = c.in-Ok-new.ensures.waiting; outputs = c.in-Ok-new.ensures.outputs; sessions = c.in-Ok-new.ensures.sessions } in
     let accepted : AreAccepted g.L.Listener.model c.args.sessions c.args.socket.now c.accept_streams.new.socket c.deref_mut.result.now = search rules in
     elim c.match-end.branch [
       | in-None w ↦
@@ -23,13 +23,13 @@ returns-clause-served g c =
 
 pub returns-clause-reached : goal.returns-clause-reached
 returns-clause-reached g c =
-    let made : IsNewCore 0 c.args.store c.in-Ok-new.core = record { store_is = c.in-Ok-new.ensures.store; reserve_is = c.in-Ok-new.ensures.reserve; waiting = c.in-Ok-new.ensures.waiting; outputs = c.in-Ok-new.ensures.outputs; sessions = c.in-Ok-new.ensures.sessions } in
+    let made : IsNewCore plain_terms c.args.store c.in-Ok-new.core = record { store_is = c.in-Ok-new.ensures.store; reserve_is = c.in-Ok-new.ensures.reserve; counted_is = c.in-Ok-new.ensures.counted; waiting = c.in-Ok-new.ensures.waiting; outputs = c.in-Ok-new.ensures.outputs; sessions = c.in-Ok-new.ensures.sessions } in
     let accepted : AreAccepted g.L.Listener.model c.args.sessions c.args.socket.now c.accept_streams.new.socket c.deref_mut.result.now = search rules in
     inr (round_reached g.T.Duplex.calls g.L.Listener.model c.args.store c.into_store.result c.args.socket.now c.accept_streams.new.socket c.in-Ok-new.core c.serve-end.new.core c.args.sessions _ _ made c.into_store.ensures accepted c.serve-end.ensures.reaches)
 
 pub returns-clause-fault : goal.returns-clause-fault
 returns-clause-fault g c =
-    let made : IsNewCore 0 c.args.store c.in-Ok-new.core = record { store_is = c.in-Ok-new.ensures.store; reserve_is = c.in-Ok-new.ensures.reserve; waiting = c.in-Ok-new.ensures.waiting; outputs = c.in-Ok-new.ensures.outputs; sessions = c.in-Ok-new.ensures.sessions } in
+    let made : IsNewCore plain_terms c.args.store c.in-Ok-new.core = record { store_is = c.in-Ok-new.ensures.store; reserve_is = c.in-Ok-new.ensures.reserve; counted_is = c.in-Ok-new.ensures.counted; waiting = c.in-Ok-new.ensures.waiting; outputs = c.in-Ok-new.ensures.outputs; sessions = c.in-Ok-new.ensures.sessions } in
     let accepted : AreAccepted g.L.Listener.model c.args.sessions c.args.socket.now c.accept_streams.new.socket c.deref_mut.result.now = search rules in
     elim c.match-end.branch [
       | in-None w ↦ subst (λ (answer : Result ℕ ServingError). IfErr answer (StopsRound g.T.Duplex.calls g.L.Listener.model c.args.sessions c.args.store c.into_store.result c.args.socket.now c.accept_streams.new.socket)) (sym w.served-is) tt

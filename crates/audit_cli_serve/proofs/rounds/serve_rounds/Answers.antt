@@ -1,12 +1,19 @@
 use Rattle.std.proofs.Common.{inl, inr, refl, [], ◌∷◌, ◌++◌, ◌+◌, Result, ℕ, arith, length-append, subst}
 use Rattle.std.specs.Prelude.{IfOk, IfErr}
-use Rattle.audit_server_model.proofs.Serving.{kept_then}
+use Rattle.std.proofs.KnownBytes.{Appends-nil}
+use Rattle.audit_server_model.proofs.Serving.{kept_none, kept_then}
 use Rattle.audit_cli_serve.specs.declared.fault.ServingError.{ServingError}
 use Rattle.audit_cli_serve.specs.Served.{ServesRound, StopsRound}
 use Rattle.audit_cli_serve.specs.Rounds.{round_lines}
 use Rattle.audit_cli_serve.proofs.RoundLines.{round_more, cut_off}
 use Rattle.audit_cli_serve.proofs.Served.{rounds_more, none_gone, line_lost}
 use Rattle.audit_cli_serve.proofs.rounds.serve_rounds.Goals as goal
+
+pub loop-round-init : goal.loop-round-init
+loop-round-init g c = record {
+  kept = kept_none c.args.store;
+  served = ([], refl, (refl, refl), Appends-nil (g.W.Write.contents c.args.writer.now));
+}
 
 pub returns-in-Err-clause-kept : goal.returns-in-Err-clause-kept
 returns-in-Err-clause-kept g c = kept_then c.args.store c.loop-round.store c.serve_round-kept.result.0 c.loop-round.invariant.kept c.serve_round-kept.ensures.kept
