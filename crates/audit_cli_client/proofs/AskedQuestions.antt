@@ -11,6 +11,8 @@ use Rattle.audit_client.specs.Exporting.{GivesExport}
 use Rattle.audit_client.specs.Failing.{FailsNewest, FailsClosing, FailsExport, FailsPutting, FailsPuttingOne, IsUnasked}
 use Rattle.audit_client.specs.declared.store_state.StoreState.{StoreState}
 use Rattle.audit_client.specs.StateAsking.{FailsState}
+use Rattle.audit_client.specs.declared.kind_place.KindPlace.{KindPlace}
+use Rattle.audit_client.specs.PlaceAsking.{FailsPlace}
 use Rattle.audit_client.specs.Putting.{IsFile, AreGivenEntries}
 use Rattle.audit_client.specs.Watching.{GivesNewest}
 use Rattle.audit_cli_client.specs.declared.arguments.Evidence.{Evidence}
@@ -18,7 +20,7 @@ use Rattle.audit_cli_client.specs.declared.arguments.Question.{Question}
 use Rattle.audit_cli_client.specs.declared.arguments.Question.TheVariants as question
 use Rattle.audit_cli_client.specs.declared.fault.RemoteError.{RemoteError}
 use Rattle.audit_cli_client.specs.declared.fault.RemoteError.TheVariants.{Server}
-use Rattle.audit_cli_client.specs.Asked.{AsksOnly, AnswersQuestion, GivesState, GivesLast, IsGivenEvidence, FailsEvidence}
+use Rattle.audit_cli_client.specs.Asked.{AsksOnly, AnswersQuestion, GivesState, GivesPlace, GivesLast, IsGivenEvidence, FailsEvidence}
 use Rattle.audit_cli_client.specs.Arguments.{judged_question}
 use Rattle.audit_cli_client.specs.Faults.{of_asking}
 use denote.Ref.{Bor}
@@ -48,6 +50,11 @@ pub state_asked : (given : Result StoreState ClientError) (result : Result (Unit
     → ((error : ClientError) → given ≡ Err error → result ≡ Err (Server error)) → AsksOnly w0 w1 r0 r1 question.State result
 state_asked (Ok state) result w0 w1 r0 r1 done fails passes = answered w0 w1 r0 r1 question.State result (state, done)
 state_asked (Err error) result w0 w1 r0 r1 done fails passes = subst (AsksOnly w0 w1 r0 r1 question.State) (sym (passes error refl)) (inl (error, refl, fails))
+
+pub place_asked : (given : Result KindPlace ClientError) (result : Result (Unit {0}) RemoteError) (w0 w1 r0 r1 : Option (List ℕ)) (kind : ℕ) → IfOk given (GivesPlace w0 w1 r0 r1 kind) → IfErr given (FailsPlace w0 w1 r0 r1 kind)
+    → ((error : ClientError) → given ≡ Err error → result ≡ Err (Server error)) → AsksOnly w0 w1 r0 r1 (question.Place kind) result
+place_asked (Ok place) result w0 w1 r0 r1 kind done fails passes = answered w0 w1 r0 r1 (question.Place kind) result (place, done)
+place_asked (Err error) result w0 w1 r0 r1 kind done fails passes = subst (AsksOnly w0 w1 r0 r1 (question.Place kind)) (sym (passes error refl)) (inl (error, refl, fails))
 
 pub last_asked : (given : Result Commitment ClientError) (result : Result (Unit {0}) RemoteError) (w0 w1 r0 r1 : Option (List ℕ)) → IfOk given (GivesLast w0 w1 r0 r1) → IfErr given (FailsClosing w0 w1 r0 r1)
     → ((error : ClientError) → given ≡ Err error → result ≡ Err (Server error)) → AsksOnly w0 w1 r0 r1 question.Close result

@@ -6,12 +6,16 @@ use Rattle.std.specs.Str.{bytes_eq}
 use Rattle.audit_text.specs.Number.{number_in_text}
 use Rattle.std.specs.Option.{is_some}
 use Rattle.audit_cli_offline.specs.declared.report_form.ReportForm.{ReportForm}
-use Rattle.audit_text.specs.LineEvents.{form_asked, long_asked}
+use Rattle.audit_text.specs.LineEvents.{form_asked, long_asked, kind_in_word}
 use Rattle.audit_cli_base.specs.Arguments.{proof_asked}
 use Rattle.audit_cli_base.specs.declared.arguments.ProofRequest.{ProofRequest}
 use Rattle.audit_cli_base.specs.declared.fault.CommandError.{CommandError}
 use Rattle.audit_cli_base.specs.declared.fault.CommandError.TheVariants.{BadArgument}
 use Rattle.audit_cli_base.specs.SocketPath.{IsNoSocketPath}
+use Rattle.audit_text.specs.declared.line_form.LineForm.{LineForm}
+use Rattle.audit_text.specs.declared.line_form.LineForm.TheVariants.{Spelled, Text}
+use Rattle.audit_client.specs.declared.placing.Placing.{Placing}
+use Rattle.audit_client.specs.declared.placing.Placing.TheVariants as placing
 use Rattle.audit_client.specs.declared.stop_at.StopAt.{StopAt}
 use Rattle.audit_client.specs.declared.stop_at.StopAt.TheVariants as stop
 use Rattle.audit_cli_client.specs.declared.arguments.TheConstants.{MAX_SECONDS, MAX_WINDOW}
@@ -61,6 +65,11 @@ abbrev pub IsNoWindow : Option (Bor (List ℕ)) → Type 0
 IsNoWindow None = ⊥
 IsNoWindow (Some word) = window_asked word.now ≡ Err BadArgument
 
+-- the place of a kind
+abbrev pub place_question : Option ℕ → Option Question
+place_question None = None
+place_question (Some kind) = Some (question.Place kind)
+
 -- the entry of an index, and a proof, with the file for it
 abbrev pub entry_question : Bor (List ℕ) → Option ℕ → Option Question
 entry_question out None = None
@@ -77,7 +86,9 @@ question_in name None None None =
     if bytes_eq name (codes "commitment") then Some question.Commitment
     else if bytes_eq name (codes "state") then Some question.State
     else if bytes_eq name (codes "close") then Some question.Close else None
-question_in name (Some out) None None = if bytes_eq name (codes "export") then Some (question.Export out 0) else None
+question_in name (Some word) None None =
+    if bytes_eq name (codes "place") then place_question (kind_in_word word.now)
+    else if bytes_eq name (codes "export") then Some (question.Export word 0) else None
 question_in name (Some index) (Some out) None =
     if bytes_eq name (codes "entry") then entry_question out (number_in_text index.now) else None
 question_in name (Some first) (Some second) (Some out) =
@@ -102,18 +113,33 @@ abbrev pub judged_question : Option Question → Result Question CommandError
 judged_question None = Err BadArgument
 judged_question (Some asked) = Ok asked
 
+-- The places of events whose lines have this form: none; or, of a text, those from a number on, or the next ones of its
+-- kind. A first place is for placed events alone.
+abbrev pub placing_from : Option ℕ → Option Placing
+placing_from None = None
+placing_from (Some first) = Some (placing.From first)
+
+abbrev pub placing_asked : Option LineForm → Bool → Option (Bor (List ℕ)) → Option Placing
+placing_asked None placed first = None
+placing_asked (Some form) false None = Some placing.Unplaced
+placing_asked (Some form) false (Some word) = None
+placing_asked (Some Spelled) true first = None
+placing_asked (Some (Text kind)) true None = Some (placing.Next kind)
+placing_asked (Some (Text kind)) true (Some word) = placing_from (number_in_text word.now)
+
 -- one of the words of a task is wrong
 abbrev pub IsNoTask : Option (Bor (List ℕ)) → Option (Bor (List ℕ)) → Option (Bor (List ℕ)) → Option (Bor (List ℕ))
-    → Type 0
-IsNoTask text long window timeout =
-    (form_asked text ≡ None) ⊎ ((long_asked long text ≡ None) ⊎ (IsNoWindow window ⊎ AreNoSeconds timeout))
+    → Bool → Option (Bor (List ℕ)) → Option (Bor (List ℕ)) → Type 0
+IsNoTask text long window timeout placed first retry =
+    (form_asked text ≡ None) ⊎ ((long_asked long text ≡ None) ⊎ (IsNoWindow window ⊎ (AreNoSeconds timeout
+    ⊎ ((placing_asked (form_asked text) placed first ≡ None) ⊎ AreNoSeconds retry))))
 
 -- one of the words that are checked before the socket is opened is wrong
 abbrev pub HasRefusedWord : Request → Type 0
 HasRefusedWord (Ask socket words first timeout) = IsNoSocketPath socket.now 0
     ⊎ ((question_from first (question_in words.0.now words.1 words.2 words.3) ≡ None) ⊎ AreNoSeconds timeout)
-HasRefusedWord (Send socket text long window timeout until_refused) =
-    IsNoSocketPath socket.now 0 ⊎ IsNoTask text long window timeout
+HasRefusedWord (Send socket text long window timeout until_refused placed first keys retry) =
+    IsNoSocketPath socket.now 0 ⊎ IsNoTask text long window timeout placed first retry
 HasRefusedWord (Watch socket state every timeout is_quiet) =
     IsNoSocketPath socket.now 0 ⊎ (AreNoSeconds every ⊎ AreNoSeconds timeout)
 HasRefusedWord (Read socket state first under form kinds every timeout) =
@@ -126,10 +152,13 @@ stop_asked false = stop.End
 
 -- the task that these words ask for
 abbrev pub IsTaskOfWords : Option (Bor (List ℕ)) → Option (Bor (List ℕ)) → Option (Bor (List ℕ))
-    → Option (Bor (List ℕ)) → Bool → Task → Type 0
-IsTaskOfWords text long window timeout until_refused task = (form_asked text ≡ Some task.form)
+    → Option (Bor (List ℕ)) → Bool → Bool → Option (Bor (List ℕ)) → Option (Bor (List ℕ))
+    → Option (Bor (List ℕ)) → Task → Type 0
+IsTaskOfWords text long window timeout until_refused placed first keys retry task = (form_asked text ≡ Some task.form)
     × (long_asked long text ≡ Some task.long) × (window_or_default window ≡ Ok task.window)
     × (seconds_or_default timeout ≡ Ok task.seconds) × (task.stop_at ≡ stop_asked until_refused)
+    × (placing_asked (form_asked text) placed first ≡ Some task.placing) × (task.keys ≡ keys)
+    × IsPause retry task.retry
 
 -- what is read, and how it is printed, is that of the words
 pub record IsTaskOf (socket state : Bor (List ℕ)) (first under : Option (Bor (List ℕ))) (form : ReportForm)
@@ -146,8 +175,8 @@ abbrev pub IsOrderOf : Request → Order → Type 0
 IsOrderOf (Ask socket words first timeout) (order.Ask path asked seconds) = (path ≡ socket)
     × (question_from first (question_in words.0.now words.1 words.2 words.3) ≡ Some asked)
     × (seconds_or_default timeout ≡ Ok seconds)
-IsOrderOf (Send socket text long window timeout until_refused) (order.Send path task) =
-    (path ≡ socket) × IsTaskOfWords text long window timeout until_refused task
+IsOrderOf (Send socket text long window timeout until_refused placed first keys retry) (order.Send path task) =
+    (path ≡ socket) × IsTaskOfWords text long window timeout until_refused placed first keys retry task
 IsOrderOf (Watch socket state every timeout is_quiet) (order.Watch post pause) = (post.socket ≡ socket)
     × (post.state ≡ state) × IsPause every pause × (seconds_or_default timeout ≡ Ok post.seconds)
     × (post.is_quiet ≡ is_quiet)

@@ -13,6 +13,9 @@ use Rattle.audit_client.specs.Failing.{FailsNewest, FailsClosing, FailsEntry, Fa
 use Rattle.audit_client.specs.Failing.{IsUnasked}
 use Rattle.audit_client.specs.declared.store_state.StoreState.{StoreState}
 use Rattle.audit_client.specs.StateAsking.{state_reply, FailsState}
+use Rattle.audit_client.specs.declared.kind_place.KindPlace.{KindPlace}
+use Rattle.audit_client.specs.PlaceAsking.{place_reply, FailsPlace}
+use Rattle.audit_client.specs.PlaceLine.{place_line}
 use Rattle.audit_client.specs.Putting.{IsGivenEntry, IsGivenMember, IsGivenIncrement, AreGivenEntries}
 use Rattle.audit_client.specs.Watching.{GivesNewest}
 use Rattle.audit_cli_client.specs.declared.arguments.Evidence.{Evidence}
@@ -54,12 +57,19 @@ abbrev pub GivesState : Option (List ℕ) → Option (List ℕ) → Option (List
 GivesState written_old written_new read_old read_new state =
     Converses written_old written_new read_old read_new (request.State ASKED_TAG ∷ []) (state_reply state ∷ [])
 
+-- the place of this kind was asked for and given
+abbrev pub GivesPlace : Option (List ℕ) → Option (List ℕ) → Option (List ℕ) → Option (List ℕ) → ℕ → KindPlace → Type 0
+GivesPlace written_old written_new read_old read_new kind place =
+    Converses written_old written_new read_old read_new (request.Place ASKED_TAG kind ∷ []) (place_reply place ∷ [])
+
 -- The question was asked and answered, and nothing else asked.
 abbrev pub AnswersQuestion : Option (List ℕ) → Option (List ℕ) → Option (List ℕ) → Option (List ℕ) → Question → Type 0
 AnswersQuestion written_old written_new read_old read_new question.Commitment =
     (newest : Commitment) × GivesNewest written_old written_new read_old read_new newest
 AnswersQuestion written_old written_new read_old read_new question.State =
     (state : StoreState) × GivesState written_old written_new read_old read_new state
+AnswersQuestion written_old written_new read_old read_new (question.Place kind) =
+    (place : KindPlace) × GivesPlace written_old written_new read_old read_new kind place
 AnswersQuestion written_old written_new read_old read_new question.Close =
     (last : Commitment) × GivesLast written_old written_new read_old read_new last
 AnswersQuestion written_old written_new read_old read_new (question.Evidence asked out) =
@@ -74,6 +84,8 @@ FailsQuestion written_old written_new read_old read_new question.Commitment erro
     FailsNewest written_old written_new read_old read_new error
 FailsQuestion written_old written_new read_old read_new question.State error =
     FailsState written_old written_new read_old read_new error
+FailsQuestion written_old written_new read_old read_new (question.Place kind) error =
+    FailsPlace written_old written_new read_old read_new kind error
 FailsQuestion written_old written_new read_old read_new question.Close error =
     FailsClosing written_old written_new read_old read_new error
 FailsQuestion written_old written_new read_old read_new (question.Evidence asked out) error =
@@ -99,7 +111,7 @@ AsksOnly written_old written_new read_old read_new asked (Err fault) =
     ⊎ (AnswersQuestion written_old written_new read_old read_new asked
     ⊎ IsUnaskedFor written_old written_new read_old read_new asked)
 
--- what is printed for a commitment, a state, or the last commitment
+-- what is printed for a commitment, a state, the place of a kind, or the last commitment
 abbrev pub PrintsAnswer : Option (List ℕ) → Option (List ℕ) → Option (List ℕ) → Option (List ℕ) → Option (List ℕ)
     → Option (List ℕ) → Question → Type 0
 PrintsAnswer written_old written_new read_old read_new old new question.Commitment =
@@ -108,6 +120,9 @@ PrintsAnswer written_old written_new read_old read_new old new question.Commitme
 PrintsAnswer written_old written_new read_old read_new old new question.State =
     (state : StoreState) × GivesState written_old written_new read_old read_new state
     × Appends old new (store_state_line state)
+PrintsAnswer written_old written_new read_old read_new old new (question.Place kind) =
+    (place : KindPlace) × GivesPlace written_old written_new read_old read_new kind place
+    × Appends old new (place_line place.number place.count)
 PrintsAnswer written_old written_new read_old read_new old new question.Close =
     (last : Commitment) × GivesLast written_old written_new read_old read_new last
     × Appends old new (numbered_line (codes "closed ") last.count last.root)

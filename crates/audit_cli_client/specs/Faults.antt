@@ -65,6 +65,7 @@ abbrev pub of_sending : SendError → RemoteError
 of_sending (sending.Input cause) = Command (Lines cause)
 of_sending (sending.Client error) = Server error
 of_sending sending.Output = Command File
+of_sending sending.Keys = Command File
 
 abbrev pub of_asking : AskError RemoteError → RemoteError
 of_asking (asking.Client error) = Server error

@@ -5,7 +5,7 @@ ghost use Rattle.audit_cli_client.specs.Arguments.{question_in, question_from, j
 ghost use Rattle.audit_text.specs.Number.{number_in_text};
 
 use audit_cli_base::{CommandError, ProofRequest, proof_request};
-use audit_text::number_in_text;
+use audit_text::{kind_in_word, number_in_text};
 
 /// The most seconds of a timeout or a pause: a day.
 pub const MAX_SECONDS: u64 = 86_400;
@@ -20,6 +20,8 @@ pub enum Question<'a> {
     Commitment,
     /// The state of the store.
     State,
+    /// How many events of this kind the log has.
+    Place(u32),
     /// An entry or a proof, and the file for it.
     Evidence(Evidence, &'a str),
     /// All entries from an index on, and the file for them.
@@ -82,6 +84,10 @@ fn question_in<'a>(words: QuestionWords<'a>) -> Option<Question<'a>>
         (None, None, None) if name == "commitment" => Some(Question::Commitment),
         (None, None, None) if name == "state" => Some(Question::State),
         (None, None, None) if name == "close" => Some(Question::Close),
+        (Some(kind), None, None) if name == "place" => {
+            let kind = kind_in_word(kind.as_bytes())?;
+            Some(Question::Place(kind))
+        }
         (Some(out), None, None) if name == "export" => Some(Question::Export(out, 0)),
         (Some(index), Some(out), None) if name == "entry" => {
             let index = number_in_text(index.as_bytes())?;

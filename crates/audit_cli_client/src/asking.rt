@@ -6,6 +6,7 @@ ghost use Rattle.audit_proof.specs.declared.commitment.Commitment.{Commitment};
 ghost use Rattle.audit_client.specs.declared.fault.ClientError.{ClientError};
 ghost use Rattle.audit_client.specs.declared.putting.AskError.{AskError};
 ghost use Rattle.audit_client.specs.Failing.{FailsPutting, FailsPuttingOne, FailsExport, IsUnasked};
+ghost use Rattle.audit_client.specs.PlaceLine.{place_line};
 ghost use Rattle.audit_client.specs.Putting.{AreGivenEntries};
 ghost use Rattle.audit_cli_client.specs.declared.fault.RemoteError.{RemoteError};
 ghost use Rattle.audit_cli_client.specs.Asked.{AsksOnly, PrintsAnswer, IsGivenEvidence, FailsEvidence};
@@ -23,8 +24,8 @@ use audit_cli_base::{
 };
 use audit_cli_host::Dial;
 use audit_client::{
-    AskError, ClientError, Export, Out, StoreState, close_log, newest_commitment, put_entry,
-    put_export, put_increment, put_member, state_of_store,
+    AskError, ClientError, Export, KindPlace, Out, StoreState, close_log, newest_commitment,
+    place_of_kind, put_entry, put_export, put_increment, put_member, put_place, state_of_store,
 };
 use audit_disk::FileIdentity;
 use audit_proof::Commitment;
@@ -82,6 +83,10 @@ pub fn answer<F: Files, A: Write, B: Read, W: Write>(
             let state = state_of_store(alloc, to, from);
             print_state(alloc, state, output)
         }
+        Question::Place(kind) => {
+            let place = place_of_kind(alloc, to, from, kind);
+            print_place(alloc, place, output)
+        }
         Question::Close => {
             let last = close_log(alloc, to, from);
             print_commitment(alloc, b"closed ", last, output)
@@ -129,6 +134,23 @@ fn print_state<W: Write>(
     let state = given?;
     let mut line = Vec::new(alloc);
     put_store_state(&mut line, &state)?;
+    write_whole(output, &line)?;
+    Ok(())
+}
+
+// Prints the line of the place of a kind, or passes the client's error on.
+fn print_place<W: Write>(
+    alloc: Global,
+    given: Result<KindPlace, ClientError>,
+    output: &mut W,
+) -> Result<(), RemoteError>
+    ensures printed { OnOk result ((shown : KindPlace) × (given ≡ Ok shown) × Appends (W.contents output.old)
+        (W.contents output.new) (place_line shown.number shown.count)) }
+    ensures fault { (error : ClientError) → given ≡ Err error → result ≡ Err (RemoteError.Server error) }
+{
+    let place = given?;
+    let mut line = Vec::new(alloc);
+    put_place(&mut line, place.number, place.count)?;
     write_whole(output, &line)?;
     Ok(())
 }

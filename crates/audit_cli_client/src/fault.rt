@@ -294,7 +294,7 @@ impl From<SendError> for RemoteError {
         match error {
             SendError::Input(fault) => RemoteError::Command(CommandError::Lines(fault)),
             SendError::Client(error) => RemoteError::Server(error),
-            SendError::Output => RemoteError::Command(CommandError::File),
+            SendError::Output | SendError::Keys => RemoteError::Command(CommandError::File),
         }
     }
 }

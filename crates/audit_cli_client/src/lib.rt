@@ -14,6 +14,7 @@ pub mod laws;
 mod left_files;
 mod line;
 mod out;
+mod outage;
 mod printed_file;
 mod read_error;
 mod read_file;

@@ -6,7 +6,7 @@ ghost use Rattle.audit_text.specs.LineEvents.{form_asked, long_asked};
 ghost use Rattle.audit_cli_client.specs.declared.fault.RemoteError.{RemoteError};
 ghost use Rattle.audit_cli_client.specs.Faults.{IsNoJudgment, judgment_of};
 ghost use Rattle.audit_cli_client.specs.Arguments.{AreNoSeconds, IsNoWindow, HasRefusedWord, IsOrderOf};
-ghost use Rattle.audit_cli_client.specs.Arguments.{IsTaskOfWords, IsNoTask, stop_asked};
+ghost use Rattle.audit_cli_client.specs.Arguments.{IsTaskOfWords, IsNoTask, stop_asked, placing_asked};
 ghost use Rattle.audit_cli_client.specs.Requests.{IsClientRun, EndsOrder, Performs, status_of_done, done_after};
 ghost use Rattle.audit_cli_client.specs.ServerCalls.{CommandStreams};
 ghost use Rattle.audit_cli_client.specs.Arguments.{IsPause, seconds_or_default, window_or_default};
@@ -20,8 +20,8 @@ use crate::servers::Servers;
 use crate::watching::{Post, watch_for_ever, watch_once};
 use audit_cli_base::{CommandError, Status, report_flush, socket_path_asked};
 use audit_cli_offline::ReportForm;
-use audit_client::{FallibleWrite, StopAt};
-use audit_text::{LineForm, LongLines, form_asked, long_asked};
+use audit_client::{FallibleWrite, Placing, StopAt};
+use audit_text::{LineForm, LongLines, form_asked, long_asked, number_in_text};
 use std::alloc::Global;
 use std::io::{Read, Write};
 
@@ -59,6 +59,14 @@ pub enum Request<'a> {
         timeout: Option<&'a str>,
         /// Whether it ends once an event is refused.
         until_refused: bool,
+        /// Whether the events have places.
+        is_placed: bool,
+        /// The place of the first one; the server is asked for it if absent.
+        from: Option<&'a str>,
+        /// The file to which the keys of placed events are appended; they aren't kept if absent.
+        keys: Option<&'a str>,
+        /// How many seconds a server that is lost is tried again; it isn't if absent.
+        retry: Option<&'a str>,
     },
     /// Sees the newest commitment, and keeps it in a file if it follows from the one before.
     Watch {
@@ -197,7 +205,7 @@ enum Order<'a> {
     },
     Send {
         socket: &'a str,
-        task: Task,
+        task: Task<'a>,
     },
     Watch {
         post: Post<'a>,
@@ -258,9 +266,23 @@ fn judge<'a>(request: Request<'a>) -> Result<Order<'a>, CommandError>
             window,
             timeout,
             until_refused,
+            is_placed,
+            from,
+            keys,
+            retry,
         } => {
             socket_path_asked(socket, 0)?;
-            let task = task_asked(text, long, window, timeout, until_refused)?;
+            let task = task_asked(
+                text,
+                long,
+                window,
+                timeout,
+                until_refused,
+                is_placed,
+                from,
+                keys,
+                retry,
+            )?;
             Ok(Order::Send { socket, task })
         }
         Request::Watch {
@@ -309,28 +331,39 @@ fn judge<'a>(request: Request<'a>) -> Result<Order<'a>, CommandError>
     }
 }
 
-fn task_asked(
-    text: Option<&str>,
-    long: Option<&str>,
-    window: Option<&str>,
-    timeout: Option<&str>,
+fn task_asked<'a>(
+    text: Option<&'a str>,
+    long: Option<&'a str>,
+    window: Option<&'a str>,
+    timeout: Option<&'a str>,
     until_refused: bool,
-) -> Result<Task, CommandError>
-    ensures wrong { IsNoTask text.entry long.entry window.entry timeout.entry → result ≡ Err CommandError.BadArgument }
-    ensures asked { IfOk result (IsTaskOfWords text.entry long.entry window.entry timeout.entry until_refused) }
+    is_placed: bool,
+    from: Option<&'a str>,
+    keys: Option<&'a str>,
+    retry: Option<&'a str>,
+) -> Result<Task<'a>, CommandError>
+    ensures wrong { IsNoTask text.entry long.entry window.entry timeout.entry is_placed from.entry retry.entry
+        → result ≡ Err CommandError.BadArgument }
+    ensures asked { IfOk result (IsTaskOfWords text.entry long.entry window.entry timeout.entry until_refused is_placed
+        from.entry keys.entry retry.entry) }
     ensures fault { IfErr result (λ fault. (fault ≡ CommandError.BadArgument)
-        × IsNoTask text.entry long.entry window.entry timeout.entry) }
+        × IsNoTask text.entry long.entry window.entry timeout.entry is_placed from.entry retry.entry) }
 {
     let form = form_or_fault(text)?;
     let long = long_or_fault(long, text)?;
     let window = window_or_default(window)?;
     let seconds = seconds_or_default(timeout)?;
+    let placing = placing_or_fault(text, is_placed, from)?;
+    let retry = pause_asked(retry)?;
     Ok(Task {
         form,
         long,
         window,
         seconds,
         stop_at: stop_asked(until_refused),
+        placing,
+        keys,
+        retry,
     })
 }
 
@@ -423,6 +456,38 @@ fn long_or_fault(word: Option<&str>, text: Option<&str>) -> Result<LongLines, Co
     match long_asked(word, text) {
         Some(long) => Ok(long),
         None => Err(CommandError::BadArgument),
+    }
+}
+
+fn placing_or_fault(
+    text: Option<&str>,
+    is_placed: bool,
+    from: Option<&str>,
+) -> Result<Placing, CommandError>
+    ensures asked { IfOk result (λ placing. placing_asked (form_asked text.entry) is_placed from.entry ≡ Some placing) }
+    ensures wrong { placing_asked (form_asked text.entry) is_placed from.entry ≡ None
+        → result ≡ Err CommandError.BadArgument }
+    ensures fault { IfErr result (λ fault. (fault ≡ CommandError.BadArgument)
+        × (placing_asked (form_asked text.entry) is_placed from.entry ≡ None)) }
+{
+    match placing_asked(form_asked(text), is_placed, from) {
+        Some(placing) => Ok(placing),
+        None => Err(CommandError::BadArgument),
+    }
+}
+
+// Places are for lines that are the payloads of one kind, and a first place is for placed events.
+fn placing_asked(form: Option<LineForm>, is_placed: bool, from: Option<&str>) -> Option<Placing>
+    ensures { result ≡ placing_asked form is_placed from.entry }
+{
+    match (form, is_placed, from) {
+        (Some(_), false, None) => Some(Placing::Unplaced),
+        (Some(LineForm::Text(kind)), true, None) => Some(Placing::Next(kind)),
+        (Some(LineForm::Text(_)), true, Some(from)) => {
+            let first = number_in_text(from.as_bytes())?;
+            Some(Placing::From(first))
+        }
+        _ => None,
     }
 }
 

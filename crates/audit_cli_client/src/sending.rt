@@ -1,15 +1,23 @@
 //! Sending events to a server.
-ghost use Rattle.std.specs.Prelude.{◌≡◌};
+ghost use Rattle.std.specs.Prelude.{◌≡◌, ◌+◌, ◌≤◌, ℕ, None, IfOk, IfErr, OnErr};
+ghost use Rattle.std.specs.Io.Buffered.{reader_remaining};
+ghost use Rattle.audit_client.specs.Placing.{PlacesAndSends, FailsPlacing, LogsAndSends, FailsLogging, LogsInPart};
 ghost use Rattle.audit_cli_client.specs.Sent.{status_of_sent};
 
+use crate::alarm_file::{lacks_feed, open_lines};
 use crate::connection::connect;
 use crate::fault::RemoteError;
 use crate::line::{Line, LineEnd, Pace};
+use crate::outage::Outage;
 use audit_cli_base::Status;
 use audit_cli_host::Dial;
-use audit_client::{SendEnd, StopAt, send_events};
+use audit_client::{
+    ClientError, FallibleWrite, KeptInput, NoKeys, Places, Placing, SendEnd, SendError, StopAt,
+    log_and_send, place_and_send,
+};
 use audit_text::{CutLines, LineForm, LongLines};
 use std::alloc::Global;
+use std::fs::Files;
 use std::io::{BufReader, Read, Write};
 use std::time::Clock;
 
@@ -18,7 +26,7 @@ const INPUT_ROOM: usize = 1 << 16;
 
 /// How events are sent.
 #[derive(Clone, Copy)]
-pub struct Task {
+pub struct Task<'a> {
     /// How lines have their events.
     pub form: LineForm,
     /// What becomes of lines that are too long.
@@ -29,65 +37,249 @@ pub struct Task {
     pub seconds: u64,
     /// Where sending stops.
     pub stop_at: StopAt,
+    /// The places that the events are given.
+    pub placing: Placing,
+    /// The file to which the keys of placed events are appended, if they are kept.
+    pub keys: Option<&'a str>,
+    /// How many seconds a server that is lost is tried again, if so.
+    pub retry: Option<u64>,
 }
 
 /// Sends the events of the input to a server, and prints its answers. Returns the status of a command whose lines were
 /// all answered.
-pub fn send_to_socket<F: Dial + Clock, R: Read, W: Write, M: Write>(
+pub fn send_to_socket<F: Files + Dial + Clock, R: Read, W: Write, M: Write>(
     rt: &F,
     alloc: Global,
     socket: &str,
-    task: Task,
+    task: Task<'_>,
     input: &mut R,
     output: &mut W,
     messages: &mut M,
 ) -> Result<Status, RemoteError> {
+    let mut keys = match task.keys {
+        Some(path) => Some(begin_lines(rt, path)?),
+        None => None,
+    };
     match task.long {
         LongLines::Refused => {
-            let mut lines = BufReader::with_capacity(alloc, INPUT_ROOM, input)?;
-            send_lines(rt, alloc, socket, task, &mut lines, output, messages)
+            let mut lines = KeptInput::new(alloc, input);
+            send_on(
+                rt, alloc, socket, task, &mut lines, output, &mut keys, messages,
+            )
         }
         LongLines::Cut => {
             let cut = CutLines::new(alloc, input)?;
-            let mut lines = BufReader::with_capacity(alloc, INPUT_ROOM, cut)?;
-            send_lines(rt, alloc, socket, task, &mut lines, output, messages)
+            let mut lines = KeptInput::new(alloc, cut);
+            send_on(
+                rt, alloc, socket, task, &mut lines, output, &mut keys, messages,
+            )
         }
     }
 }
 
-fn send_lines<F: Dial + Clock, R: Read, W: Write, M: Write>(
+// Sends over a connection, and if it is lost over another one: the lines that weren't answered again, with the numbers
+// and places that they had, and then the next ones.
+fn send_on<F: Dial + Clock, R: Read, W: Write, K: Write, M: Write>(
     rt: &F,
     alloc: Global,
     socket: &str,
-    task: Task,
-    lines: &mut BufReader<R>,
+    task: Task<'_>,
+    input: &mut KeptInput<R>,
     output: &mut W,
+    keys: &mut Option<K>,
     messages: &mut M,
 ) -> Result<Status, RemoteError> {
-    let line = connect(rt, socket, task.seconds, Pace::Reply)?;
-    let end = send_over(alloc, task, lines, &line, output)?;
-    Ok(report_sent(&end, messages))
+    let mut task = task;
+    let mut outage = Outage::within(task.retry);
+    let mut total = SendEnd {
+        sent: 0,
+        answered: 0,
+        refused: 0,
+        error: None,
+    };
+    for _ in 0..u64::MAX {
+        match send_once(rt, alloc, socket, task, total.answered, input, output, keys) {
+            Ok(leg) => {
+                task.placing = placing_of(leg.places);
+                total = with_leg(&total, &leg.end);
+                if leg.end.answered > 0 {
+                    outage.end();
+                }
+                let Some(error) = loss_of(task, &total) else {
+                    return Ok(report_sent(&total, messages));
+                };
+                let left = leg.end.sent.saturating_sub(leg.end.answered);
+                if !input.go_back(leg.unread, left) || !outage.lasts(rt, error.into(), messages)? {
+                    return Ok(report_sent(&total, messages));
+                }
+            }
+            Err(fault) => {
+                if !outage.lasts(rt, fault, messages)? {
+                    return report_unsent(fault, &total, messages);
+                }
+            }
+        }
+    }
+    Ok(report_sent(&total, messages))
 }
 
-fn send_over<C: Clock, R: Read, W: Write>(
+// The loss of a connection after which another one is made, if any: not if sending was to stop at a refusal.
+fn loss_of(task: Task<'_>, total: &SendEnd) -> Option<SendError> {
+    if task.retry.is_none() || (task.stop_at == StopAt::Refusal && total.refused > 0) {
+        return None;
+    }
+    match total.error {
+        Some(SendError::Client(ClientError::Ended | ClientError::TimedOut)) => total.error,
+        _ => None,
+    }
+}
+
+// The same places, as given.
+fn placing_of(places: Places) -> Placing
+    ensures first { (first : ℕ) → places ≡ Places.From first → result ≡ Placing.From first }
+    ensures any { places ≡ Places.Any → result ≡ Placing.Unplaced }
+{
+    match places {
+        Places::Any => Placing::Unplaced,
+        Places::From(first) => Placing::From(first),
+    }
+}
+
+// What was sent and answered over all connections, with the last one.
+fn with_leg(total: &SendEnd, leg: &SendEnd) -> SendEnd
+    ensures answered { total.now.answered + leg.now.answered ≤ u64.MAX
+        → result.answered ≡ total.now.answered + leg.now.answered }
+    ensures error { result.error ≡ leg.now.error }
+{
+    SendEnd {
+        sent: total.answered.saturating_add(leg.sent),
+        answered: total.answered.saturating_add(leg.answered),
+        refused: total.refused.saturating_add(leg.refused),
+        error: leg.error,
+    }
+}
+
+// How sending over one connection ended.
+#[derive(Clone, Copy)]
+struct Leg {
+    places: Places,
+    end: SendEnd,
+    // How many bytes of the input were read and not taken.
+    unread: usize,
+}
+
+// Sends over one connection, the lines after the first `before`.
+fn send_once<F: Dial + Clock, R: Read, W: Write, K: Write>(
+    rt: &F,
     alloc: Global,
-    task: Task,
+    socket: &str,
+    task: Task<'_>,
+    before: u64,
+    input: &mut KeptInput<R>,
+    output: &mut W,
+    keys: &mut Option<K>,
+) -> Result<Leg, RemoteError> {
+    let line = connect(rt, socket, task.seconds, Pace::Reply)?;
+    let mut lines = BufReader::with_capacity(alloc, INPUT_ROOM, input)?;
+    let (places, end) = send_over(alloc, task, before, &mut lines, &line, output, keys)?;
+    let unread = lines.buffer().len();
+    Ok(Leg {
+        places,
+        end,
+        unread,
+    })
+}
+
+// Opens a file to which lines are appended. If its last line lacks its line feed, that is appended first.
+fn begin_lines<F: Files>(rt: &F, path: &str) -> Result<F::File, RemoteError> {
+    let mut file = open_lines(rt, path)?;
+    if lacks_feed(&mut file)? {
+        file.write_all(b"\n")?;
+    }
+    Ok(file)
+}
+
+fn send_over<C: Clock, R: Read, W: Write, K: Write>(
+    alloc: Global,
+    task: Task<'_>,
+    before: u64,
     lines: &mut BufReader<R>,
     line: &Line<'_, C>,
     output: &mut W,
-) -> Result<SendEnd, RemoteError> {
+    keys: &mut Option<K>,
+) -> Result<(Places, SendEnd), RemoteError> {
     let mut to = LineEnd::of(line);
     let mut from = BufReader::new(alloc, LineEnd::of(line))?;
-    Ok(send_events(
+    match keys {
+        Some(keys) => Ok(send_and_keep(
+            alloc, task, before, lines, &mut to, &mut from, output, keys,
+        )?),
+        None => Ok(send_task(alloc, task, before, lines, &mut to, &mut from, output)?),
+    }
+}
+
+// Sends the events of a task at their places.
+fn send_task<I: Read, A: FallibleWrite, B: Read, W: Write>(
+    alloc: Global,
+    task: Task<'_>,
+    before: u64,
+    lines: &mut BufReader<I>,
+    to: &mut A,
+    from: &mut B,
+    output: &mut W,
+) -> Result<(Places, SendEnd), ClientError>
+    ensures sends { IfOk result (λ sent. PlacesAndSends task.entry.placing task.entry.form before
+        (reader_remaining I.remaining lines.old) (A.contents to.old) (A.contents to.new) (B.remaining from.old)
+        (W.contents output.old) (W.contents output.new) None None sent.0 sent.1) }
+    ensures fault { IfErr result (FailsPlacing (A.contents to.old) (A.contents to.new) (B.remaining from.old)
+        (B.remaining from.new) task.entry.placing) }
+{
+    place_and_send(
         alloc,
+        task.placing,
         task.form,
+        before,
         lines,
-        &mut to,
-        &mut from,
+        to,
+        from,
         output,
+        &mut NoKeys,
         task.window,
         task.stop_at,
-    ))
+    )
+}
+
+// The same, and keeps their keys after the newest commitment.
+fn send_and_keep<I: Read, A: FallibleWrite, B: Read, W: Write, K: Write>(
+    alloc: Global,
+    task: Task<'_>,
+    before: u64,
+    lines: &mut BufReader<I>,
+    to: &mut A,
+    from: &mut B,
+    output: &mut W,
+    keys: &mut K,
+) -> Result<(Places, SendEnd), SendError>
+    ensures sends { IfOk result (λ sent. LogsAndSends task.entry.placing task.entry.form before
+        (reader_remaining I.remaining lines.old) (A.contents to.old) (A.contents to.new) (B.remaining from.old)
+        (W.contents output.old) (W.contents output.new) (K.contents keys.old) (K.contents keys.new) sent.0 sent.1) }
+    ensures fault { IfErr result (FailsLogging (A.contents to.old) (A.contents to.new) (B.remaining from.old)
+        (B.remaining from.new) task.entry.placing) }
+    ensures kept { OnErr result (LogsInPart (K.contents keys.old) (K.contents keys.new)) }
+{
+    log_and_send(
+        alloc,
+        task.placing,
+        task.form,
+        before,
+        lines,
+        to,
+        from,
+        output,
+        keys,
+        task.window,
+        task.stop_at,
+    )
 }
 
 // Prints why sending failed, if it did, and which lines weren't acknowledged. Returns the status.
@@ -95,14 +287,33 @@ fn report_sent<M: Write>(end: &SendEnd, messages: &mut M) -> Status
     ensures { result ≡ status_of_sent end.now }
 {
     let status = status_of_end(end, messages);
+    report_left(end, messages);
+    status
+}
+
+// Prints why there is no connection any more, and which lines weren't acknowledged on earlier ones. Without any the
+// fault is the result.
+fn report_unsent<M: Write>(
+    fault: RemoteError,
+    end: &SendEnd,
+    messages: &mut M,
+) -> Result<Status, RemoteError> {
+    if end.sent <= end.answered {
+        return Err(fault);
+    }
+    let status = fault.report(messages);
+    report_left(end, messages);
+    Ok(status)
+}
+
+fn report_left<M: Write>(end: &SendEnd, messages: &mut M) {
     if end.sent > end.answered {
         let left = RemoteError::NotAcknowledged {
             lines: end.sent - end.answered,
-            first: end.answered + 1,
+            first: end.answered.saturating_add(1),
         };
         left.report(messages);
     }
-    status
 }
 
 fn status_of_end<M: Write>(end: &SendEnd, messages: &mut M) -> Status

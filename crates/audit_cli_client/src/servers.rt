@@ -45,12 +45,12 @@ pub trait Servers {
         &mut self,
         alloc: Global,
         socket: &str,
-        task: Task,
+        task: Task<'_>,
         input: &mut R,
         output: &mut W,
         messages: &mut M,
     ) -> Result<Status, RemoteError>
-        ensures { calls.DidCalls self.old self.new (a_sending socket.now task
+        ensures { calls.DidCalls self.old self.new (a_sending socket.now task.entry
             (record {
               input = R.remaining input.old;
               output = W.contents output.old;
@@ -121,7 +121,7 @@ where
         &mut self,
         alloc: Global,
         socket: &str,
-        task: Task,
+        task: Task<'_>,
         input: &mut R,
         output: &mut W,
         messages: &mut M,

@@ -14,3 +14,4 @@ pub mod ReadWhole
 mod OneEntry
 mod OlderNodes
 pub mod NearRefusals
+pub mod KeptKeys

@@ -34,6 +34,8 @@ not_due_only Cause tag (reply.Refused given code) = refused_only Cause (given ==
 not_due_only Cause tag (reply.Commitment given count root) = tt
 not_due_only Cause tag (reply.Entry given entry) = tt
 not_due_only Cause tag (reply.State given count root end sectors generation version closed) = tt
+not_due_only Cause tag (reply.Place given number count) = tt
+not_due_only Cause tag (reply.Placed given index count root key) = tt
 not_due_only Cause tag (reply.Membership given hashes entry) = tt
 not_due_only Cause tag (reply.Incremental given hashes) = tt
 not_due_only Cause tag (reply.Acknowledgement given index count root) = tt

@@ -17,22 +17,23 @@ use Rattle.audit_text.specs.LineEvents.{event_in_line, AreEventsOf}
 use Rattle.audit_serve_sockets.specs.Input.{ReadsLine}
 use Rattle.audit_serve_sockets.specs.declared.limits.TheConstants.{MAX_DIGITS}
 use Rattle.audit_wire.specs.declared.request.Request.{Request}
+use Rattle.audit_client.specs.declared.places.Places.{Places}
 use Rattle.audit_wire.specs.Stream.{request_frame}
-use Rattle.audit_client.specs.Sending.{event_request, event_requests, event_frames, TakesEvents, TakesFirst, TakesAll, TakesNext, TakesRound, IsBadFirst, IsTakingFault}
+use Rattle.audit_client.specs.Sending.{event_to_send, event_request, event_requests, event_frames, TakesEvents, TakesFirst, TakesAll, TakesNext, TakesRound, IsBadFirst, IsTakingFault}
 
 -- ---- requests
 
-event_requests-append : (before : ℕ) (first later : List EventData) → event_requests before (first ++ later) ≡ event_requests before first ++ event_requests (before + length first) later
-event_requests-append before [] later = let e : before ≡ before + 0 = omega arith in ap (λ (n : ℕ). event_requests n later) e
-event_requests-append before (event ∷ events) later =
+event_requests-append : (places : Places) (before : ℕ) (first later : List EventData) → event_requests places before (first ++ later) ≡ event_requests places before first ++ event_requests places (before + length first) later
+event_requests-append places before [] later = let e : before ≡ before + 0 = omega arith in ap (λ (n : ℕ). event_requests places n later) e
+event_requests-append places before (event ∷ events) later =
     let e : suc before + length events ≡ before + length (event ∷ events) = omega arith in
-    ap (λ (rest : List Request). event_request (suc before) event ∷ rest)
-    (event_requests-append (suc before) events later ∙ ap (λ (n : ℕ). event_requests (suc before) events ++ event_requests n later) e)
+    ap (λ (rest : List Request). event_request places before event ∷ rest)
+    (event_requests-append places (suc before) events later ∙ ap (λ (n : ℕ). event_requests places (suc before) events ++ event_requests places n later) e)
 
-pub event_frames-append : (before : ℕ) (first later : List EventData) → event_frames before (first ++ later) ≡ event_frames before first ++ event_frames (before + length first) later
-event_frames-append before first later =
-    ap (flat_map request_frame) (event_requests-append before first later)
-    ∙ flat_map-append request_frame (event_requests before first) (event_requests (before + length first) later)
+pub event_frames-append : (places : Places) (before : ℕ) (first later : List EventData) → event_frames places before (first ++ later) ≡ event_frames places before first ++ event_frames places (before + length first) later
+event_frames-append places before first later =
+    ap (flat_map request_frame) (event_requests-append places before first later)
+    ∙ flat_map-append request_frame (event_requests places before first) (event_requests places (before + length first) later)
 
 -- ---- events
 
@@ -93,46 +94,46 @@ line_taken form (Some x) None line event h short is = absurd h
 line_taken form (Some x) (Some y) line event (inl h) short is = (line ∷ [], h, ap (λ (r : Result EventData LineError). r ∷ []) is)
 line_taken form (Some x) (Some y) line event (inr h) short is = absurd (omega (arith, h.long, short))
 
-pub bad_line : (form : LineForm) (old new : Option (List ℕ)) (line : List ℕ) (cause : LineError) → ReadsLine old new line → length line ≤ MAX_DIGITS → event_in_line form line ≡ Err cause → IfSome old (IsBadFirst form cause)
-bad_line form None new line cause h short is = tt
-bad_line form (Some x) None line cause h short is = absurd h
-bad_line form (Some x) (Some y) line cause (inl h) short is = (line, lines_of y, h, inl is)
-bad_line form (Some x) (Some y) line cause (inr h) short is = absurd (omega (arith, h.long, short))
+pub bad_line : (places : Places) (form : LineForm) (old new : Option (List ℕ)) (line : List ℕ) (cause : LineError) → ReadsLine old new line → length line ≤ MAX_DIGITS → event_to_send places form line ≡ Err cause → IfSome old (IsBadFirst places form cause)
+bad_line places form None new line cause h short is = tt
+bad_line places form (Some x) None line cause h short is = absurd h
+bad_line places form (Some x) (Some y) line cause (inl h) short is = (line, lines_of y, h, inl is)
+bad_line places form (Some x) (Some y) line cause (inr h) short is = absurd (omega (arith, h.long, short))
 
-pub long_line : (form : LineForm) (old new : Option (List ℕ)) (line : List ℕ) → ReadsLine old new line → MAX_DIGITS < length line → IfSome old (IsBadFirst form PayloadTooLong)
-long_line form None new line h long = tt
-long_line form (Some x) None line h long = absurd h
-long_line form (Some x) (Some y) line (inl h) long = (line, lines_of y, h, inr (long, refl))
-long_line form (Some x) (Some y) line (inr h) long = (line ++ h.rest, h.later, h.first, inr (omega (arith, long, length-append line h.rest), refl))
+pub long_line : (places : Places) (form : LineForm) (old new : Option (List ℕ)) (line : List ℕ) → ReadsLine old new line → MAX_DIGITS < length line → IfSome old (IsBadFirst places form PayloadTooLong)
+long_line places form None new line h long = tt
+long_line places form (Some x) None line h long = absurd h
+long_line places form (Some x) (Some y) line (inl h) long = (line, lines_of y, h, inr (long, refl))
+long_line places form (Some x) (Some y) line (inr h) long = (line ++ h.rest, h.later, h.first, inr (omega (arith, long, length-append line h.rest), refl))
 
 -- ---- the lines of a round
 
 -- as many lines were taken
-pub record IsTaken (form : LineForm) (old new : Option (List ℕ)) (before count : ℕ) (frames : List ℕ) : Type 0 where
+pub record IsTaken (places : Places) (form : LineForm) (old new : Option (List ℕ)) (before count : ℕ) (frames : List ℕ) : Type 0 where
   pub events : List EventData
   pub counted : count ≡ length events
   pub taken : TakesEvents form old new events
-  pub framed : frames ≡ event_frames before events
+  pub framed : frames ≡ event_frames places before events
 
-pub taken_none : (form : LineForm) (known : Option (List ℕ)) (before : ℕ) (frames : List ℕ) → frames ≡ [] → IsTaken form known known before 0 frames
-taken_none form known before frames none = record { events = []; counted = refl; taken = takes_none form known; framed = none }
+pub taken_none : (places : Places) (form : LineForm) (known : Option (List ℕ)) (before : ℕ) (frames : List ℕ) → frames ≡ [] → IsTaken places form known known before 0 frames
+taken_none places form known before frames none = record { events = []; counted = refl; taken = takes_none form known; framed = none }
 
-pub taken_more : {form : LineForm} {old mid new : Option (List ℕ)} {before count : ℕ} {frames next : List ℕ} → IsTaken form old mid before count frames → TakesNext form mid new (before + count) frames next true → IsTaken form old new before (count + 1) next
-taken_more {form = form} {old = old} {mid = mid} {new = new} {before = before} {count = count} {frames = frames} h k =
+pub taken_more : {places : Places} {form : LineForm} {old mid new : Option (List ℕ)} {before count : ℕ} {frames next : List ℕ} → IsTaken places form old mid before count frames → TakesNext places form mid new (before + count) frames next true → IsTaken places form old new before (count + 1) next
+taken_more {places = places} {form = form} {old = old} {mid = mid} {new = new} {before = before} {count = count} {frames = frames} h k =
     let event = k.0 in
-    let last = request_frame (event_request (suc (before + count)) event) in
+    let last = request_frame (event_request places (before + count) event) in
     record {
       events = h.events ++ event ∷ [];
       counted = omega (arith, h.counted, length-append h.events (event ∷ []));
       taken = takes_more form old mid new h.events (event ∷ []) h.taken k.1;
       framed =
           k.2 ∙ ap (λ (l : List ℕ). l ++ last) h.framed
-          ∙ ap (λ (n : ℕ). event_frames before h.events ++ request_frame (event_request (suc (before + n)) event)) h.counted
-          ∙ ap (λ (l : List ℕ). event_frames before h.events ++ l) (sym (append-nil (request_frame (event_request (suc (before + length h.events)) event))))
-          ∙ sym (event_frames-append before h.events (event ∷ []));
+          ∙ ap (λ (n : ℕ). event_frames places before h.events ++ request_frame (event_request places (before + n) event)) h.counted
+          ∙ ap (λ (l : List ℕ). event_frames places before h.events ++ l) (sym (append-nil (request_frame (event_request places (before + length h.events) event))))
+          ∙ sym (event_frames-append places before h.events (event ∷ []));
     }
 
-pub round_more : {form : LineForm} {old new : Option (List ℕ)} {before count : ℕ} {frames : List ℕ} → IsTaken form old new before count frames → TakesRound form old new before frames (record { count = count; more = true; error = None })
+pub round_more : {places : Places} {form : LineForm} {old new : Option (List ℕ)} {before count : ℕ} {frames : List ℕ} → IsTaken places form old new before count frames → TakesRound places form old new before frames (record { count = count; more = true; error = None })
 round_more {form = form} {old = old} {new = new} h = record {
   events = h.events;
   counted = h.counted;
@@ -143,8 +144,8 @@ round_more {form = form} {old = old} {new = new} h = record {
   stops = tt;
 }
 
-pub round_end : {form : LineForm} {old mid new : Option (List ℕ)} {before count : ℕ} {frames next : List ℕ} → IsTaken form old mid before count frames → TakesNext form mid new (before + count) frames next false
-    → TakesRound form old new before next (record { count = count; more = false; error = None })
+pub round_end : {places : Places} {form : LineForm} {old mid new : Option (List ℕ)} {before count : ℕ} {frames next : List ℕ} → IsTaken places form old mid before count frames → TakesNext places form mid new (before + count) frames next false
+    → TakesRound places form old new before next (record { count = count; more = false; error = None })
 round_end {form = form} {old = old} {mid = mid} h k = record {
   events = h.events;
   counted = h.counted;
@@ -155,8 +156,8 @@ round_end {form = form} {old = old} {mid = mid} h k = record {
   stops = tt;
 }
 
-pub round_fault : {form : LineForm} {old mid : Option (List ℕ)} (new : Option (List ℕ)) {before count : ℕ} {frames next : List ℕ} (error : LinesError) → IsTaken form old mid before count frames → next ≡ frames → IsTakingFault form mid (before + count + 1) error
-    → TakesRound form old new before next (record { count = count; more = false; error = Some error })
+pub round_fault : {places : Places} {form : LineForm} {old mid : Option (List ℕ)} (new : Option (List ℕ)) {before count : ℕ} {frames next : List ℕ} (error : LinesError) → IsTaken places form old mid before count frames → next ≡ frames → IsTakingFault places form mid (before + count + 1) error
+    → TakesRound places form old new before next (record { count = count; more = false; error = Some error })
 round_fault {form = form} {old = old} {mid = mid} new error h same fault = record {
   events = h.events;
   counted = h.counted;

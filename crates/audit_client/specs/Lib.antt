@@ -8,3 +8,7 @@ pub mod Sending
 pub mod Putting
 pub mod Failing
 pub mod StateAsking
+pub mod PlaceAsking
+pub mod PlaceLine
+pub mod Placing
+pub mod EntryKeys

@@ -5,12 +5,19 @@
 mod answering;
 mod asking;
 mod conversation;
+mod entry_key;
 mod exporting;
 mod fallible_write;
 mod fault;
 mod keeping;
+mod kept_input;
+mod kind_place;
 pub mod laws;
 mod older;
+mod place_asking;
+mod place_line;
+mod places;
+mod placing;
 mod putting;
 mod refusal_word;
 mod send_error;
@@ -26,10 +33,17 @@ pub use asking::{
     member_proof, newest_commitment,
 };
 pub use conversation::{ask, next_reply, send_bytes};
+pub use entry_key::NoKeys;
 pub use exporting::{Export, ask_ahead, entry_in, export_entries, piece_tag};
 pub use fallible_write::FallibleWrite;
 pub use fault::ClientError;
 pub use keeping::{Kept, WatchError, watch_and_keep};
+pub use kept_input::KeptInput;
+pub use kind_place::KindPlace;
+pub use place_asking::place_of_kind;
+pub use place_line::put_place;
+pub use places::Places;
+pub use placing::{Placing, log_and_send, place_and_send};
 pub use putting::{AskError, Out, put_entry, put_export, put_increment, put_member};
 pub use refusal_word::word_of_refusal;
 pub use send_error::SendError;

@@ -15,6 +15,7 @@ pub fn word_of_refusal(refusal: Refusal) -> &'static str
         Refusal::Device => "Device",
         Refusal::Closed => "Closed",
         Refusal::NotAllowed => "NotAllowed",
+        Refusal::NotCounted => "NotCounted",
         Refusal::Malformed => "Malformed",
     }
 }

@@ -10,4 +10,6 @@ pub enum SendError {
     Client(ClientError),
     /// The line of an answer couldn't be printed.
     Output,
+    /// The key of an event's entry couldn't be kept.
+    Keys,
 }

@@ -3,10 +3,12 @@ ghost use Rattle.std.specs.Prelude.{◌≡◌, ◌⊎◌, ◌+◌, ◌<◌, ◌�
 ghost use Rattle.std.specs.Io.Buffered.{reader_remaining};
 ghost use Rattle.audit_client.specs.Sending.{Sends, SendsOn, SendsAll, EndsFor, IsWithin, end_after};
 ghost use Rattle.audit_client.specs.Sending.{first_error, stops_at, BreaksOnlyIf, StaysNear, StopsNear};
+ghost use Rattle.audit_client.specs.EntryKeys.{KeepsAllKeys, KeepsKeys, KeysBreakOnlyIf};
 
 use crate::answering::{Answers, take_answers};
 use crate::fallible_write::FallibleWrite;
 use crate::fault::ClientError;
+use crate::places::Places;
 use crate::send_error::SendError;
 use crate::stop_at::StopAt;
 use crate::taking::{Taken, has_line, take_lines};
@@ -24,7 +26,7 @@ pub struct SendEnd {
     pub sent: u64,
     /// The number of them that were answered, and whose answers were printed.
     pub answered: u64,
-    /// The number of answers that are refusals.
+    /// The number of answers that are refusals, or say that an event lacks others before its place.
     pub refused: u64,
     /// Why sending failed, if it did. It didn't if it stopped at a refusal.
     pub error: Option<SendError>,
@@ -35,42 +37,56 @@ pub struct SendEnd {
 /// answers. All answers that are due are read before the next read of the input. The input has no limit, and the memory
 /// that is taken doesn't grow with it. If it stops at a refusal, at most `window` lines more are sent than are answered
 /// before the first one, and each line that was sent is still answered.
-pub fn send_events<I: Read, W: FallibleWrite, R: Read, O: FallibleWrite>(
+///
+/// An event that has a place is appended there or not at all; if not, the answer is how many events of its kind the log
+/// has. If its place is below that, it is in the log already, unless others send events of that kind. If it isn't, the
+/// event counts as refused, since those before it are missing. The key in the answer to an event that was appended is
+/// kept in a line of `keys` before the line of the answer is printed.
+pub fn send_events<I: Read, W: FallibleWrite, R: Read, O: FallibleWrite, K: FallibleWrite>(
     alloc: Global,
+    places: Places,
     form: LineForm,
+    before: u64,
     input: &mut BufReader<I>,
     to: &mut W,
     from: &mut R,
     output: &mut O,
+    keys: &mut K,
     window: u64,
     stop_at: StopAt,
 ) -> SendEnd
     // What was written, read and printed, whatever happened.
-    ensures sends { Sends form 0 (reader_remaining I.remaining input.old) (W.contents to.old) (W.contents to.new)
-        (R.remaining from.old) (O.contents output.old) (O.contents output.new) result }
+    ensures sends { Sends places form before (reader_remaining I.remaining input.old) (W.contents to.old)
+        (W.contents to.new) (R.remaining from.old) (O.contents output.old) (O.contents output.new) result }
     // At most `window` lines are sent ahead of the answers that were read, whatever the next answer is.
     ensures ahead { result.sent ≤ result.answered + window }
     // It ends only for a cause: the next line has no event or no number, the next answer didn't come, or all lines were
     // answered, and the last call that wrote to the connection failed.
-    ensures cause { 0 < window → EndsFor form (reader_remaining I.remaining input.old) (R.remaining from.old)
-        (R.remaining from.new) (W.failed to.new) result.sent result.answered result.error }
+    ensures cause { 0 < window → EndsFor places form before (reader_remaining I.remaining input.old)
+        (R.remaining from.old) (R.remaining from.new) (W.failed to.new) result.sent result.answered result.error }
     // That the output failed is said only if its last call did.
     ensures broken { BreaksOnlyIf (O.failed output.new) result.error }
     // If it stops at a refusal, at most `window` more lines are sent than are answered before the first one.
-    ensures near { stop_at ≡ StopAt.Refusal → StopsNear (R.remaining from.old) window result }
+    ensures near { stop_at ≡ StopAt.Refusal → StopsNear places before (R.remaining from.old) window result }
     // Without an error all lines that were sent were answered; and all lines were sent, unless it stopped at a refusal:
     // then the lines after them remain.
     ensures answered { result.error ≡ None → result.answered ≡ result.sent }
     ensures all { result.error ≡ None → stops_at stop_at result.refused ≡ false
-        → SendsAll form 0 (reader_remaining I.remaining input.old)
+        → SendsAll places form before (reader_remaining I.remaining input.old)
         (W.contents to.old) (W.contents to.new) (R.remaining from.old) (R.remaining from.new) (O.contents output.old)
         (O.contents output.new) result }
     ensures stopped { result.error ≡ None → stops_at stop_at result.refused ≡ true
-        → SendsOn form (reader_remaining I.remaining input.old) (reader_remaining I.remaining input.new)
+        → SendsOn places form before (reader_remaining I.remaining input.old) (reader_remaining I.remaining input.new)
         (W.contents to.old) (W.contents to.new) (R.remaining from.old) (R.remaining from.new) (O.contents output.old)
         (O.contents output.new) result
-        ⊎ SendsAll form 0 (reader_remaining I.remaining input.old) (W.contents to.old) (W.contents to.new)
+        ⊎ SendsAll places form before (reader_remaining I.remaining input.old) (W.contents to.old) (W.contents to.new)
         (R.remaining from.old) (R.remaining from.new) (O.contents output.old) (O.contents output.new) result }
+    // The keys in the answers were kept, each before its answer was printed, and at most a part of one more.
+    ensures kept { KeepsKeys (R.remaining from.old) (K.contents keys.old) (K.contents keys.new) result.answered }
+    ensures all_kept { result.error ≡ None → KeepsAllKeys (R.remaining from.old) (R.remaining from.new)
+        (K.contents keys.old) (K.contents keys.new) result.answered }
+    // That they couldn't be kept is said only if the last call for them failed.
+    ensures keys_broken { KeysBreakOnlyIf (K.failed keys.new) result.error }
 {
     let mut room = Room::new(alloc);
     let mut end = SendEnd {
@@ -81,10 +97,12 @@ pub fn send_events<I: Read, W: FallibleWrite, R: Read, O: FallibleWrite>(
     };
     for _ in 0..u64::MAX {
         if stops_at(stop_at, end.refused) {
-            return take_last(alloc, from, output, window, &end, &mut room);
+            return take_last(
+                alloc, places, before, from, output, keys, window, &end, &mut room,
+            );
         }
         let round = send_round(
-            alloc, form, input, to, from, output, window, &end, &mut room,
+            alloc, places, form, before, input, to, from, output, keys, window, &end, &mut room,
         );
         end = round.end;
         if !round.more {
@@ -104,38 +122,50 @@ fn stops_at(stop_at: StopAt, refused: u64) -> bool
 }
 
 // Reads and prints the answers to all lines that were sent.
-fn take_last<R: Read, O: FallibleWrite>(
+fn take_last<R: Read, O: FallibleWrite, K: FallibleWrite>(
     alloc: Global,
+    places: Places,
+    before: u64,
     from: &mut R,
     output: &mut O,
+    keys: &mut K,
     window: u64,
     end: &SendEnd,
     room: &mut Room,
 ) -> SendEnd
     requires within { IsWithin window end.now }
+    requires number { before + end.now.sent ≤ u64.MAX }
     ensures ahead { result.sent ≤ result.answered + window }
     ensures answered { result.error ≡ None → result.answered ≡ result.sent }
     ensures refused { end.now.refused ≤ result.refused }
     ensures broken { BreaksOnlyIf (O.failed output.new) result.error }
     // After rounds that sent lines and answered the first of them.
-    ensures sends { (form : LineForm) (i rest w v r o : Option (List ℕ)) → SendsOn form i rest w v r
+    ensures sends { (form : LineForm) (i rest w v r o : Option (List ℕ)) → SendsOn places form before i rest w v r
         (R.remaining from.old) o (O.contents output.old) end.now
-        → Sends form 0 i w v r o (O.contents output.new) result }
-    ensures cause { (form : LineForm) (i rest w v r o : Option (List ℕ)) → SendsOn form i rest w v r
+        → Sends places form before i w v r o (O.contents output.new) result }
+    ensures cause { (form : LineForm) (i rest w v r o : Option (List ℕ)) → SendsOn places form before i rest w v r
         (R.remaining from.old) o (O.contents output.old) end.now
-        → EndsFor form i r (R.remaining from.new) ⊥ result.sent result.answered result.error }
-    ensures on { result.error ≡ None → (form : LineForm) (i rest w v r o : Option (List ℕ)) → SendsOn form i rest w v r
-        (R.remaining from.old) o (O.contents output.old) end.now
-        → SendsOn form i rest w v r (R.remaining from.new) o (O.contents output.new) result }
-    ensures near { (r : Option (List ℕ)) → StaysNear r (R.remaining from.old) window end.now
-        → StopsNear r window result }
+        → EndsFor places form before i r (R.remaining from.new) ⊥ result.sent result.answered result.error }
+    ensures on { result.error ≡ None → (form : LineForm) (i rest w v r o : Option (List ℕ))
+        → SendsOn places form before i rest w v r (R.remaining from.old) o (O.contents output.old) end.now
+        → SendsOn places form before i rest w v r (R.remaining from.new) o (O.contents output.new) result }
+    ensures near { (r : Option (List ℕ)) → StaysNear places before r (R.remaining from.old) window end.now
+        → StopsNear places before r window result }
+    ensures kept { (r k : Option (List ℕ)) → KeepsAllKeys r (R.remaining from.old) k (K.contents keys.old)
+        end.now.answered → KeepsKeys r k (K.contents keys.new) result.answered }
+    ensures all_kept { result.error ≡ None → (r k : Option (List ℕ)) → KeepsAllKeys r (R.remaining from.old) k
+        (K.contents keys.old) end.now.answered
+        → KeepsAllKeys r (R.remaining from.new) k (K.contents keys.new) result.answered }
+    ensures keys_broken { KeysBreakOnlyIf (K.failed keys.new) result.error }
 {
     let first = end.answered;
     let answers = take_answers(
         alloc,
+        places,
         from,
         output,
-        first,
+        keys,
+        before + first,
         end.sent - first,
         &mut room.body,
         &mut room.line,
@@ -189,52 +219,67 @@ struct Round {
 
 // Sends the next lines, and then reads and prints answers. If the requests couldn't be written, the answers that the
 // server gave before are still read.
-fn send_round<I: Read, W: FallibleWrite, R: Read, O: FallibleWrite>(
+fn send_round<I: Read, W: FallibleWrite, R: Read, O: FallibleWrite, K: FallibleWrite>(
     alloc: Global,
+    places: Places,
     form: LineForm,
+    before: u64,
     input: &mut BufReader<I>,
     to: &mut W,
     from: &mut R,
     output: &mut O,
+    keys: &mut K,
     window: u64,
     end: &SendEnd,
     room: &mut Room,
 ) -> Round
     requires within { IsWithin window end.now }
+    requires number { before + end.now.sent ≤ u64.MAX }
     ensures within { result.more ≡ true → IsWithin window result.end }
+    ensures number { before + result.end.sent ≤ u64.MAX }
     ensures ahead { result.end.sent ≤ result.end.answered + window }
     ensures more { 0 < window → result.more ≡ true → end.now.sent < result.end.sent }
-    ensures cause { (i w r o : Option (List ℕ)) → SendsOn form i (reader_remaining I.remaining input.old)
+    ensures cause { (i w r o : Option (List ℕ)) → SendsOn places form before i (reader_remaining I.remaining input.old)
         w (W.contents to.old) r (R.remaining from.old) o (O.contents output.old) end.now
-        → EndsFor form i r (R.remaining from.new) (W.failed to.new) result.end.sent result.end.answered
+        → EndsFor places form before i r (R.remaining from.new) (W.failed to.new) result.end.sent result.end.answered
         result.end.error }
     ensures broken { BreaksOnlyIf (O.failed output.new) result.end.error }
     ensures answered { result.more ≡ false → result.end.error ≡ None → result.end.answered ≡ result.end.sent }
     // If nothing was refused before.
-    ensures near { end.now.refused ≡ 0 → (r : Option (List ℕ)) → StaysNear r (R.remaining from.old) window end.now
-        → StopsNear r window result.end }
+    ensures near { end.now.refused ≡ 0 → (r : Option (List ℕ))
+        → StaysNear places before r (R.remaining from.old) window end.now
+        → StopsNear places before r window result.end }
     ensures stays { result.more ≡ true → end.now.refused ≡ 0 → (r : Option (List ℕ))
-        → StaysNear r (R.remaining from.old) window end.now → StaysNear r (R.remaining from.new) window result.end }
+        → StaysNear places before r (R.remaining from.old) window end.now
+        → StaysNear places before r (R.remaining from.new) window result.end }
+    ensures kept { (r k : Option (List ℕ)) → KeepsAllKeys r (R.remaining from.old) k (K.contents keys.old)
+        end.now.answered → KeepsKeys r k (K.contents keys.new) result.end.answered }
+    ensures all_kept { result.end.error ≡ None → (r k : Option (List ℕ)) → KeepsAllKeys r (R.remaining from.old) k
+        (K.contents keys.old) end.now.answered
+        → KeepsAllKeys r (R.remaining from.new) k (K.contents keys.new) result.end.answered }
+    ensures keys_broken { KeysBreakOnlyIf (K.failed keys.new) result.end.error }
     // After rounds that sent lines and answered the first of them, from any input, connection and output on.
-    ensures sends { (i w r o : Option (List ℕ)) → SendsOn form i (reader_remaining I.remaining input.old)
+    ensures sends { (i w r o : Option (List ℕ)) → SendsOn places form before i (reader_remaining I.remaining input.old)
         w (W.contents to.old) r (R.remaining from.old) o (O.contents output.old) end.now
-        → Sends form 0 i w (W.contents to.new) r o (O.contents output.new) result.end }
-    ensures on { result.more ≡ true → (i w r o : Option (List ℕ)) → SendsOn form i
+        → Sends places form before i w (W.contents to.new) r o (O.contents output.new) result.end }
+    ensures on { result.more ≡ true → (i w r o : Option (List ℕ)) → SendsOn places form before i
         (reader_remaining I.remaining input.old) w (W.contents to.old) r (R.remaining from.old)
-        o (O.contents output.old) end.now → SendsOn form i (reader_remaining I.remaining input.new)
+        o (O.contents output.old) end.now → SendsOn places form before i (reader_remaining I.remaining input.new)
         w (W.contents to.new) r (R.remaining from.new) o (O.contents output.new) result.end }
-    ensures all { result.more ≡ false → result.end.error ≡ None → (i w r o : Option (List ℕ)) → SendsOn form i
-        (reader_remaining I.remaining input.old) w (W.contents to.old) r (R.remaining from.old)
-        o (O.contents output.old) end.now → SendsAll form 0 i w (W.contents to.new) r (R.remaining from.new)
-        o (O.contents output.new) result.end }
+    ensures all { result.more ≡ false → result.end.error ≡ None → (i w r o : Option (List ℕ))
+        → SendsOn places form before i (reader_remaining I.remaining input.old) w (W.contents to.old) r
+        (R.remaining from.old) o (O.contents output.old) end.now
+        → SendsAll places form before i w (W.contents to.new) r (R.remaining from.new) o (O.contents output.new)
+        result.end }
 {
     let due = end.sent - end.answered;
     let taken = take_lines(
         alloc,
+        places,
         form,
         input,
         lines_of_round(window, due),
-        end.sent,
+        before + end.sent,
         &mut room.line,
         &mut room.frames,
     );
@@ -242,9 +287,11 @@ fn send_round<I: Read, W: FallibleWrite, R: Read, O: FallibleWrite>(
     let count = answers_to_read(input, window, due, &taken, sent.is_ok());
     let answers = take_answers(
         alloc,
+        places,
         from,
         output,
-        end.answered,
+        keys,
+        before + end.answered,
         count,
         &mut room.body,
         &mut room.line,

@@ -4,6 +4,7 @@ use Rattle.audit_text.specs.Writing.{WritesInPart}
 use Rattle.audit_client.specs.declared.sending.SendEnd.{SendEnd}
 use Rattle.audit_client.proofs.SentLines.{few_answers, first_none, read_within, read_near, read_all, read_unwritten, round_ends, round_sends, round_on, round_all, first_breaks}
 use Rattle.audit_client.proofs.NearRefusals.{stops_more, stays_more}
+use Rattle.audit_client.proofs.KeptKeys.{keys_after, keys_joined, first_keys_break}
 use Rattle.audit_client.proofs.sending.send_round.Goals as goal
 
 pub end_after-requires-clause-refused : goal.end_after-requires-clause-refused
@@ -101,3 +102,15 @@ returns-clause-stays g c = λ more none r near.
     let room : c.args.end.now.sent + c.take_lines-taken.result.count ≤ c.args.end.now.answered + c.args.window = omega (arith, c.requires.within.answered, c.take_lines-taken.ensures.few, c.lines_of_round.ensures.within) in
     let right = first_none c.send_text-sent.result c.take_answers-answers.result.error c.take_lines-taken.result.error (sym c.first_error-error.ensures ∙ c.goes_on.ensures.right more) in
     rw c.end_after.ensures (stays_more c.take_lines-taken.result c.take_answers-answers.result _ near none (c.take_answers-answers.ensures.taken.all right.1) room)
+
+pub returns-clause-kept : goal.returns-clause-kept
+returns-clause-kept g c = λ r k kept. rw c.end_after.ensures (keys_after kept c.take_answers-answers.ensures.kept)
+
+pub returns-clause-all_kept : goal.returns-clause-all_kept
+returns-clause-all_kept g c = λ none r k kept.
+    let right = sym (ap (λ (after : SendEnd). after.error) c.end_after.ensures) ∙ none in
+    let answered = (first_none c.send_text-sent.result c.take_answers-answers.result.error c.take_lines-taken.result.error (sym c.first_error-error.ensures ∙ right)).1 in
+    rw c.end_after.ensures (keys_joined kept (c.take_answers-answers.ensures.all_kept answered))
+
+pub returns-clause-keys_broken : goal.returns-clause-keys_broken
+returns-clause-keys_broken g c = rw c.end_after.ensures (rw c.first_error-error.ensures (first_keys_break _ c.send_text-sent.result c.take_answers-answers.result.error c.take_lines-taken.result.error c.take_answers-answers.ensures.keys_broken))

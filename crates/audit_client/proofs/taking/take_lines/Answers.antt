@@ -11,7 +11,7 @@ pub returns-in-Ok-false-clause-taken : goal.returns-in-Ok-false-clause-taken
 returns-in-Ok-false-clause-taken g c =
     let is : c.in-Ok-false.field-0 ≡ false = search rules in
     round_end c.loop-count.invariant.taken
-    (subst (TakesNext c.args.form (reader_remaining g.I.Read.remaining c.loop-count.input) (reader_remaining g.I.Read.remaining c.take_line.new.input) (c.args.before + c.loop-count.count) c.loop-count.frames.items c.take_line.new.frames.items) is
+    (subst (TakesNext c.args.places c.args.form (reader_remaining g.I.Read.remaining c.loop-count.input) (reader_remaining g.I.Read.remaining c.take_line.new.input) (c.args.before + c.loop-count.count) c.loop-count.frames.items c.take_line.new.frames.items) is
     c.in-Ok-false.ensures.taken)
 
 pub returns-in-Err-clause-taken : goal.returns-in-Err-clause-taken
@@ -22,7 +22,7 @@ loop-count-preserved g c =
     let is : c.in-Ok-true.field-0 ≡ true = search rules in
     record {
       taken = taken_more c.loop-count.invariant.taken
-          (subst (TakesNext c.args.form (reader_remaining g.I.Read.remaining c.loop-count.input) (reader_remaining g.I.Read.remaining c.take_line.new.input) (c.args.before + c.loop-count.count) c.loop-count.frames.items c.take_line.new.frames.items) is
+          (subst (TakesNext c.args.places c.args.form (reader_remaining g.I.Read.remaining c.loop-count.input) (reader_remaining g.I.Read.remaining c.take_line.new.input) (c.args.before + c.loop-count.count) c.loop-count.frames.items c.take_line.new.frames.items) is
           c.in-Ok-true.ensures.taken);
       fits = omega (arith, c.in-Ok-true.ensures.fits (ap Ok is));
     }
@@ -30,5 +30,5 @@ loop-count-preserved g c =
 pub returns-clause-taken : goal.returns-clause-taken
 returns-clause-taken g c =
     let whole : c.loop-count.count ≡ c.args.window = omega (arith, c.loop-count-test.false, c.loop-count.auto.count-end) in
-    subst (λ (n : ℕ). TakesRound c.args.form (reader_remaining g.I.Read.remaining c.args.input.now) (reader_remaining g.I.Read.remaining c.loop-count.input) c.args.before c.loop-count.frames.items (record { count = n; more = true; error = None })) whole
+    subst (λ (n : ℕ). TakesRound c.args.places c.args.form (reader_remaining g.I.Read.remaining c.args.input.now) (reader_remaining g.I.Read.remaining c.loop-count.input) c.args.before c.loop-count.frames.items (record { count = n; more = true; error = None })) whole
     (round_more c.loop-count.invariant.taken)
