@@ -18,14 +18,15 @@ import read_export
 
 from checks.parts import program
 from checks.parts.files import read, read_text, write
-from checks.parts.logs import entries_of, keys_from, word_of
+from checks.parts.logs import entries_of, keys_from, unsealed_entry, word_of
 from checks.parts.program import done
 from checks.parts.scenes import program_of
 from checks.parts.wrong import Usage
-from model.chain import CLOSING_KIND, next_key, seal
+from model.chain import CLOSING_KIND, keystream_key, next_key, seal
+from model.tree import membership_proof
 
-ANSWERS = ["accepted", "not accepted", "index", "older", "32 BadProof", "verified open", "verified closed", "40 Short",
-           "41 BadLength", "42 BadLink",
+ANSWERS = ["accepted", "not accepted", "index", "older", "event", "another key can show another text",
+           "32 BadProof", "verified open", "verified closed", "40 Short", "41 BadLength", "42 BadLink",
            "43 BadMac", "44 WrongCommitment", "46 BadClose", "bad argument", "file fault"]
 
 
@@ -45,7 +46,7 @@ class Comparison:
         ours = status, output.getvalue(), messages.getvalue().replace(module.__name__ + ": ", "", 1)
         self.asked += 1
         last_line = (theirs[1] + theirs[2]).splitlines()[-1]
-        self.answers[re.sub("^(verified|index|older) [0-9].*?( open| closed|)$", r"\1\2",
+        self.answers[re.sub("^(verified|index|older|event) [0-9].*?( open| closed|)$", r"\1\2",
                             last_line.split(": ")[-1])] += 1
         if ours != theirs:
             self.differ += 1
@@ -133,6 +134,32 @@ def compare_largest_trees(comparison):
     comparison.check_bytes(head + bytes(32) + b"entry", "%d:%s" % ((1 << 24) + 1, value.hex()))
 
 
+def compare_receipts(comparison, entries, older, newer):
+    """Entries under the keys of receipts, under others and under words that are none; and texts that are no entry."""
+    def opened(proof, digits, *commitments):
+        comparison.ask(check_proof, "check", proof, *commitments, "--key", digits)
+
+    for index, key in zip(range(len(entries)), keys_from(read_export.read_key("first.key"))):
+        if index % 5 == 0 or index == len(entries) - 1:
+            digits = keystream_key(key, int.from_bytes(entries[index][:4], "big")).hex()
+            done("prove", "events.store", "member", str(index), str(len(entries)), "made")
+            for word in digits, digits.upper(), key.hex(), "0" * 64:
+                opened("made", word, newer)
+            opened("made", digits, older)
+    for word in ["", "0" * 63, "0" * 65, "0" * 63 + "g", "0x" + "0" * 62, "0" * 64 + "\n"]:
+        opened("made", word, newer)
+    for proof, *commitments in [("made", older, newer), ("made", newer, newer), ("increment.proof", newer),
+                                ("increment.proof", older, newer), ("first.key", newer), ("missing", newer)]:
+        opened(proof, "0" * 64, *commitments)
+    texts = [unsealed_entry(bytes(length), kind) for length in (0, 1, 15, 16, 64, 65, 32696)
+             for kind in (0, CLOSING_KIND)]
+    texts += [text + b"x" for text in texts[:-2]] + [text[:-1] for text in texts]
+    texts += [b"", bytes(8), bytes(71), bytes(73)]
+    for text in texts:
+        write("made", membership_proof(0, 1, [], text))
+        opened("made", "5a" * 32, word_of(1, history.leaf_hash(text)))
+
+
 def compare_exports(comparison, entries, newer):
     export = b"".join(entries)
     for data in [export, b"", export + b"\0"]:
@@ -187,6 +214,7 @@ def compare_all(comparison):
     compare_proofs(comparison, entries)
     compare_damaged_proofs(comparison, older, newer)
     compare_largest_trees(comparison)
+    compare_receipts(comparison, entries, older, newer)
     compare_exports(comparison, entries, newer)
     compare_closed_exports(comparison, entries)
     compare_words(comparison, newer)

@@ -6,26 +6,28 @@ usage: bin/check vectors EXECUTABLE
 The vectors are those of a log whose first key is 32 zero bytes, with five events; the model (model/) and the auditor's
 programs (auditor/) are written from the same document.
 """
+import contextlib
 import json
 import os
 import re
 
-from check_proof import contents, is_accepted, read_proof
-from checks.parts.clients import answers_at_end
+from check_proof import contents, event_under, is_accepted, read_proof
+from checks.parts.clients import Client
 from checks.parts.daemons import Daemon
 from checks.parts.files import folder_of_its_own, read, read_text, write
-from checks.parts.frames import request
+from checks.parts.frames import append_frame, place_frame, placed_frame, request
 from checks.parts.logs import word_of
 from checks.parts.places import DOCS
 from checks.parts.program import done, done_with
 from checks.parts.scenes import program_of
 from checks.parts.wrong import Wrong
-from history import BadArgument, leaf_hash, root
+from history import BadArgument, commitment, leaf_hash, root
 from model import wire
-from model.chain import CLOSE, ZERO_KEY, keystream_key, log_of, next_key
+from model.chain import CLOSE, ZERO_KEY, entry_keys, keystream_key, log_of, next_key
 from model.disk import header_of, header_sector
 from model.note import note, note_in
 from model.session import Rights, Server, Session
+from model.tree import membership, membership_proof
 from model.wire import Request, request_frame
 from read_export import read_on, under_keystream
 from state import FIRST, State
@@ -34,6 +36,10 @@ KIND = 1
 PAYLOADS = b"hi", b"a", b"b", b"c", b"d"
 # The name of the log in the note.
 NAMED = b"some.example/log"
+# The logs of the receipts, each with the index of the event that is opened.
+RECEIPTS = [([(KIND, b"hi"), (KIND, b"a")], 1),
+            ([(KIND, b"paid 250.00 EUR to DE02120300000000202051 by order 4711, approved by two")], 0)]
+UNBOUND = b"audit: a key is not bound to a text of fewer than 16 bytes: another key can show another text\n"
 # The events of the vectors of printed lines.
 PRINTED = [(1, b"hi"), (7, b""), (2, b"a\tb\\\n"), (7, "caf\u00e9 \"x\"".encode()), (1, b"\xff\x00"), (0xffffffff, b"")]
 
@@ -52,15 +58,19 @@ class Vectors:
         self.json, self.numbered = ("".join(line[4:] for line in block.splitlines(True))
                                     for block in re.findall(r"(?:^    .*\n)+", printed + "\n", re.M))
         blocks = re.findall(r"(?:^    .*\n)+", section, re.M)
-        if len(blocks) != 5:
-            raise Wrong("docs/formats.md: the test vectors aren't five blocks, but %d" % len(blocks))
+        if len(blocks) != 7:
+            raise Wrong("docs/formats.md: the test vectors aren't seven blocks, but %d" % len(blocks))
         blocks = [[line[4:] for line in block.splitlines()] for block in blocks]
-        self.values, self.proofs, self.header, self.frames, self.of_daemon = blocks
+        self.values, self.proofs, self.header, self.frames, self.of_daemon, self.placed, self.receipts = blocks
         self.last_root = re.search(r"The root of 4 is\n`([0-9a-f]{64})`", section)[1]
 
 
 def entries(events):
     return log_of(events).entries
+
+
+def second_keystream_key():
+    return keystream_key(next_key(ZERO_KEY), KIND)
 
 
 def value_lines(log):
@@ -74,6 +84,7 @@ def value_lines(log):
         ("  its link", log[0][-64:-32].hex()),
         ("  its MAC", log[0][-32:].hex()),
         ("second key", next_key(ZERO_KEY).hex()),
+        ("key of entry 1", second_keystream_key().hex()),
     ]
     lines += [("root of %d" % count, root(leaves[:count]).hex()) for count in (1, 2, 3, 5)]
     return ["%-17s%s" % line for line in lines]
@@ -90,26 +101,40 @@ def proofs(vectors, log):
     return inclusion + log[0], consistency
 
 
+def receipts(lines):
+    """For each of the document's receipts the proof, the commitment, the index and the key, and the line of its
+    event."""
+    text = "".join(line + "\n" for line in lines)
+    parts = re.findall(r"(01 .*(?:\n  .*)+)\n(\d+:.*)\nkey (\d+) (.*)\n(\{.*\n)", text)
+    return [(bytes.fromhex(proof), word, int(index), bytes.fromhex(key), line.encode())
+            for proof, word, index, key, line in parts]
+
+
 def header():
     """Sector 0 of a store of 8 sectors after its first event."""
     return header_sector(header_of(log_of([(KIND, PAYLOADS[0])]), 4, 8))
 
 
-def conversation(vectors, inclusion, consistency, log):
-    """The frames of the document's requests and replies in turn, with what it names in words put in its place."""
+def conversation(lines, meant):
+    """The frames of the document's requests, and those of its replies, with what it names in words put in its place."""
+    frames = []
+    for line in lines:
+        digits, _, words = line.partition("  ")
+        frames.append(bytes.fromhex(digits) + meant.get(words.strip(), b""))
+    return frames[0::2], frames[1::2]
+
+
+def meant_by(vectors, inclusion, consistency, log):
+    """What the document names in words."""
     leaves = [leaf_hash(entry) for entry in log]
-    meant = {
+    return {
         "the root of 1": root(leaves[:1]),
         "the root of 4, below": bytes.fromhex(vectors.last_root),
         "its hashes and entry, as above": inclusion[18:],
         "its hashes, as above": consistency[18:],
         "the first entry": log[0],
+        "the root of 2, and the key of entry 1": root(leaves[:2]) + second_keystream_key(),
     }
-    frames = []
-    for line in vectors.frames:
-        digits, _, words = line.partition("  ")
-        frames.append(bytes.fromhex(digits) + meant.get(words.strip(), b""))
-    return frames
 
 
 def append(tag, payload):
@@ -121,14 +146,15 @@ REQUESTS = [append(7, b"hi"), request(wire.COMMITMENT, 8), request(wire.MEMBERSH
             request(wire.ENTRY, 11, 0), request(wire.ENTRY, 12, 3), request(wire.CLOSE, 13), append(14, b"c"), bytes(2)]
 # The document appends two more events before it asks for proofs; their acknowledgements are left out there.
 MORE = [append(1, b"a"), append(2, b"b")]
-# What a daemon's client asks.
+# What a daemon's client asks, and what one sends to the socket that the kind is bound to.
 ASKING = request(wire.STATE, 8)
+PLACING = [place_frame(KIND, 9), placed_frame(b"a", 1, 10, KIND), placed_frame(b"b", 1, 11, KIND), place_frame(2, 12),
+           append_frame(b"c", 13, 2)]
 
 
-def model_replies(frames, events=(), of_daemon=False, generation=2):
+def model_replies(frames, session, **store):
     """What the model replies to each of these frames, in a session over a store of 64 sectors."""
-    server, session = Server(64, events, generation=generation), Session(Rights(), of_daemon)
-    replies = []
+    server, replies = Server(64, **store), []
     for frame in frames:
         server.feed(session, frame)
         server.flush()
@@ -150,12 +176,19 @@ def program_replies(requests):
     return [bytes.fromhex(line.decode()) for line in done("loop", "store", "socket", data=lines).split()]
 
 
-def daemon_reply(frame):
-    """The reply of a daemon to a client that sends this frame and ends."""
-    with Daemon("store", "socket") as daemon:
-        replies = answers_at_end(daemon.socket, frame)
+def daemon_replies(path, frames):
+    """The replies of a daemon to a client that sends each frame after the reply to the one before, as far as they come.
+    The store has the first event, and the kind is bound to the socket `source`."""
+    make_store(64)
+    done("append", "store", data=b"event 1 %s\n" % PAYLOADS[0].hex().encode())
+    with Daemon("store", "socket", "--writer", "%d:source" % KIND) as daemon:
+        client, replies = Client(path), []
+        with contextlib.suppress(OSError, Wrong):
+            for frame in frames:
+                replies.append(wire.frame(client.ask(frame)))
+        client.end()
         daemon.stop()
-    return b"".join(wire.frame(reply) for reply in replies)
+    return replies
 
 
 def differences(vectors):
@@ -179,6 +212,7 @@ def differences(vectors):
         yield "the root of 4"
     yield from differences_of_states(vectors.state, vectors.newest, log)
     yield from differences_of_lines(vectors)
+    yield from differences_of_receipts(receipts(vectors.receipts))
     yield from differences_of_program(vectors, inclusion, consistency, log)
 
 
@@ -242,6 +276,31 @@ def differences_of_lines(vectors):
         yield "the program prints other events"
 
 
+def receipt_by_model(events, index):
+    """What the document has of a receipt, as the model computes it."""
+    log = log_of(events)
+    proof = membership_proof(index, len(events), membership(log.leaves, index), log.entries[index])
+    return (proof, word_of(len(events), root(log.leaves)), index, entry_keys(ZERO_KEY, events)[index],
+            json_line(index, *events[index]))
+
+
+def differences_of_receipts(found):
+    """The document's receipts are the model's, and open their entries, for check_proof.py and for the program."""
+    if found != [receipt_by_model(*wanted) for wanted in RECEIPTS]:
+        yield "the receipts"
+    for (proof, word, index, key, line), (events, _) in zip(found, RECEIPTS):
+        kind, payload = events[index]
+        *_, entry = read_proof(proof)
+        if not is_accepted(read_proof(proof), [commitment(word)]) or event_under(key, entry) != (kind, payload):
+            yield "check_proof.py reads another event under the receipt %d" % index
+        write("proof", proof)
+        for form, printed in (([], b"event %d %d %s\n" % (index, kind, payload.hex().encode())),
+                              (["--text"], payload + b"\n"), (["--json"], line)):
+            warning = UNBOUND if len(payload) < 16 else b""
+            if done_with(warning, "check", "proof", word, "--key", key.hex(), *form) != printed:
+                yield "the program reads another event under the receipt %d" % index
+
+
 def differences_of_note(text, log):
     """The document's note is that of the log after three entries, for the model and for the program."""
     head = 3, root([leaf_hash(entry) for entry in log[:3]])
@@ -268,28 +327,37 @@ def differences_of_program(vectors, inclusion, consistency, log):
     if (fields, digest) != (sector[:48], sector[480:]) or sector != header():
         yield "the header sector"
 
-    frames = conversation(vectors, inclusion, consistency, log)
-    requests, replies = frames[0::2], frames[1::2]
+    meant = meant_by(vectors, inclusion, consistency, log)
+    requests, replies = conversation(vectors.frames, meant)
     if requests != REQUESTS:
         yield "the requests"
     asked = requests[:2] + MORE + requests[2:]
     make_store(64)
-    for name, given in ("model", model_replies(asked)), ("program", program_replies(asked)):
-        del given[2:4]
-        for request, reply, found in zip(requests, replies, given):
-            if reply != found:
-                yield "to %s the %s replies %s, and not %s" % (request.hex(), name, found.hex(), reply.hex())
-    if len(given) != len(replies):
-        yield "%d replies, and not %d" % (len(given), len(replies))
+    for name, given in (("model", model_replies(asked, Session(Rights(), False))), ("program", program_replies(asked))):
+        yield from differences_of_replies(name, requests, replies, given[:2] + given[4:])
+    yield from differences_of_daemon(vectors, meant)
 
-    asked, reply = bytes.fromhex(vectors.of_daemon[0]), bytes.fromhex("".join(vectors.of_daemon[1:]))
-    if asked != ASKING or [reply] != model_replies([asked], [(KIND, PAYLOADS[0])], True, 4):
-        yield "the state of a store"
-    make_store(64)
-    done("append", "store", data=b"event 1 %s\n" % PAYLOADS[0].hex().encode())
-    found = daemon_reply(asked)
-    if found != reply:
-        yield "to %s a daemon replies %s, and not %s" % (asked.hex(), found.hex(), reply.hex())
+
+def differences_of_replies(name, requests, replies, given):
+    for request, reply, found in zip(requests, replies, given):
+        if reply != found:
+            yield "to %s the %s replies %s, and not %s" % (request.hex(), name, found.hex(), reply.hex())
+    if len(given) != len(replies):
+        yield "%d replies of the %s, and not %d" % (len(given), name, len(replies))
+
+
+def differences_of_daemon(vectors, meant):
+    """The state of a store, and placed appends, by the model and by a daemon."""
+    state = [bytes.fromhex(vectors.of_daemon[0])], [bytes.fromhex("".join(vectors.of_daemon[1:]))]
+    placed = conversation(vectors.placed, meant)
+    if state[0] != [ASKING] or placed[0] != PLACING:
+        yield "the requests of a daemon's clients"
+    store = {"events": [(KIND, PAYLOADS[0])], "generation": 4, "counted": [KIND]}
+    for path, rights, (requests, replies) in (("socket", Rights(but=frozenset([KIND]), closes=False), state),
+                                              ("source", Rights(only=KIND, closes=False), placed)):
+        of_model = model_replies(requests, Session(rights, True), **store)
+        yield from differences_of_replies("model", requests, replies, of_model)
+        yield from differences_of_replies("daemon", requests, replies, daemon_replies(path, requests))
 
 
 def main(words):

@@ -20,7 +20,7 @@ import shutil
 import tempfile
 import time
 
-from checks.page import changes, events, files, hostile, looks, million, reports, taking, verdicts
+from checks.page import changes, events, files, hostile, looks, million, receipts, reports, taking, verdicts
 from checks.page.browsers import Browser
 from checks.parts.wrong import LeftOut, Usage, told
 
@@ -55,6 +55,7 @@ def tests_of(browser, room, options):
         "searches": lambda: events.test_searches(browser), "events": lambda: events.test_events(browser, room),
         "refused": lambda: hostile.test_refused(browser, room),
         "connections": lambda: hostile.test_connections(browser, room),
+        "receipts": lambda: receipts.test_receipts(browser, room),
         "reports": lambda: reports.test_reports(browser, room), "stops": lambda: reports.test_stops(browser, room),
         "taking": lambda: taking.test_taking(browser, room), "words": lambda: taking.test_words(browser, room),
         "changes": lambda: changes.test_changes(browser, room), "picture": lambda: changes.test_picture(browser),

@@ -136,10 +136,11 @@ window.verified = async (base64, key, commitment) => {
   const said = await pressed("export");
   return {...said, rows: seen("events").hidden ? [] : cells(), uncommitted: seen("uncommitted").checkVisibility()};
 };
-window.checked = async (base64, older, newer) => {
+window.checked = async (base64, older, newer, receipt = "") => {
   await dropOn("proof", fileOf(base64, "a.proof"));
   seen("older").value = older;
   seen("newer").value = newer;
+  seen("receipt").value = receipt;
   return {...await pressed("proof"), bad: document.querySelectorAll("#picture:not([hidden]) .bad").length,
     good: document.querySelectorAll("#picture:not([hidden]) .good").length, picture: !seen("picture").hidden};
 };

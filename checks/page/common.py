@@ -14,6 +14,7 @@ from checks.parts.places import EXAMPLES
 from checks.parts.program import SECONDS
 from checks.parts.rooms import FIRST_KEY
 from checks.parts.wrong import expect, expect_true
+from model.chain import entry_keys
 
 
 def opened(browser):
@@ -79,7 +80,8 @@ def shown_panels(browser, width=900, height=700):
     """A page in which each panel shows something, and the steps that open each panel."""
     with open(os.path.join(EXAMPLES, "packages.log"), "rb") as file:
         lines = file.read().splitlines()[:23]
-    entries = entries_of(FIRST_KEY, [(1, line) for line in lines] + [(CLOSING, b"")])
+    events = [(1, line) for line in lines] + [(CLOSING, b"")]
+    entries, receipt = entries_of(FIRST_KEY, events), entry_keys(FIRST_KEY, events)[5].hex()
     leaves = [history.leaf_hash(entry) for entry in entries]
     older, newer = (word_of(count, history.root(leaves[:count])) for count in (12, 24))
     page = Page(browser, PAGE, width, height)
@@ -98,6 +100,7 @@ def shown_panels(browser, width=900, height=700):
         ("proof", lambda: page.run("seen('tab-proof').click()")
          or call("checked", proof_bytes(*increment_proof(leaves, 12)), older, newer)),
         ("failed", lambda: call("checked", proof_bytes(*wrong), newer, "")),
+        ("receipt", lambda: call("checked", proof_bytes(*member_proof(leaves, 5, entries[5])), newer, "", receipt)),
         ("two", lambda: page.run("seen('tab-two').click(), seen('one').value = '%s', seen('other').value = '%s', "
                                  "pressed('two')" % (older, newer))),
     ]

@@ -72,7 +72,7 @@ def test_looks(browser):
             step()
             where = "%s in %d by %d pixels" % (name, width, height)
             expect_true(page.run("document.documentElement.scrollWidth") <= width, where + " is wider than the window")
-            panel = {"proof": "proof", "failed": "proof", "two": "two"}.get(name, "export")
+            panel = {"proof": "proof", "failed": "proof", "receipt": "proof", "two": "two"}.get(name, "export")
             top, bottom = page.run("(({top, bottom}) => [top, bottom])(seen('%s-verdict').getBoundingClientRect())"
                                    % panel)
             if name not in ("event", "wrong"):
@@ -135,7 +135,7 @@ def test_keys(browser):
     for name, step in steps:
         step()
         names += named_controls(page, name)
-        if name not in ("wrong", "event", "proof", "two"):
+        if name not in ("wrong", "event", "proof", "receipt", "two"):
             continue
         if name == "event":
             page.run("seen('filter-kinds').value = '1', seen('filter-form').requestSubmit(), rest()")

@@ -30,7 +30,7 @@ def test_taking(browser, room):
     def drop(panel, *files):
         made = ", ".join("fileOf('%s', '%s')" % (base64_of(data if isinstance(data, bytes) else data.encode()), name)
                          for name, data in files)
-        for field in ("key", "commitment", "older", "newer", "one", "other"):
+        for field in ("key", "commitment", "older", "newer", "receipt", "one", "other"):
             page.run("seen('%s').value = ''" % field)
         return page.run("seen('tab-%s').click(), dropOn('%s', %s)" % (panel, panel, made))
 
@@ -130,8 +130,17 @@ def expect_others_taken(room, entries, roots, key, export, increment, member, pa
     expect(drop("proof", ("events.export", export)), "events.export is taken as the export.",
            "an export in the proof's place")
     expect(open_panel(), "export", "the panel after an export in the proof's place")
-    expect(drop("proof", ("first.key", key)), "first.key is a key: it isn't needed here, and isn't shown.",
-           "a key in the proof's place")
+    expect(drop("two", ("first.key", key)), "first.key is a key: it isn't needed here, and isn't shown.",
+           "a key where none is needed")
+    said = drop("proof", ("a.key", key + "\n"), ("older", roots[5]))
+    expect((said, page.run("[seen('receipt').value, seen('older').value]")),
+           ("a.key is taken as the key of a receipt. If it is a log's first key, empty that field: it opens nothing "
+            "here. older is taken as the commitment.", [key, roots[5]]), "a key in the proof's place")
+    for panel in ("export", "proof", "two"):
+        for lines in ("log %s\nkey 1 %s\n" % (roots[0], key), "key 1 %s" % key):
+            said = drop(panel, ("receipts", lines))
+            expect(said, "receipts has the keys of receipts: type the 64 hex digits after \"key\" and the entry's "
+                         "number.", "a file of receipts")
     expect(drop("two", ("day.state", state_after(entries, 2))),
            "day.state is a state: it isn't needed here, and isn't shown.", "a state where none is needed")
     expect_true("isn't of use here: two commitments are compared" in drop("two", ("notes.txt", "hello")),

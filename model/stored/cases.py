@@ -1,8 +1,9 @@
 """The values in cases/: what whole command lines print, and what they are given. They are numbered as they stand there."""
 from history import leaf_hash
+from read_export import under_keystream
 
 from model import wire
-from model.chain import CLOSE, CLOSING_KIND, FIRST_LINK, ZERO_KEY, log_of, seal
+from model.chain import CLOSE, CLOSING_KIND, FIRST_LINK, ZERO_KEY, entry_keys, log_of, seal
 from model.disk import image_of
 from model.session import replies_to
 from model.sources import read
@@ -64,6 +65,24 @@ def contents_of_proofs():
         root_after(THREE), root_after([HI]), member(THREE, 1), member(THREE, 2), grown(THREE, 1),
         lambda: membership_proof(0, 1, [], head), lambda: leaf_hash(head),
         lambda: membership_proof(0, 1, [], longer_entry()), lambda: leaf_hash(longer_entry()))
+
+
+def opened_proofs():
+    """What a proof of each of two events is opened with, and proofs of bytes that are no entry."""
+    told = [HI, (7, b"paid 120 to account 4711")]
+    head = log_of([HI]).entries[0][:8]
+    own, other = entry_keys(ZERO_KEY, told)
+    return numbered(
+        root_after(told), root_after([HI]), lambda: other, lambda: own, member(told, 0), member(told, 1), grown(told, 1),
+        lambda: membership_proof(0, 1, [], head), lambda: leaf_hash(head),
+        lambda: membership_proof(0, 1, [], longer_entry()), lambda: leaf_hash(longer_entry()))
+
+
+def opened_events():
+    """An event as its proof shows it under its own key, and under that of another entry."""
+    payload = b"paid 120 to account 4711"
+    own, other = entry_keys(ZERO_KEY, [HI, (7, payload)])
+    return numbered(lambda: payload, lambda: under_keystream(own, under_keystream(other, payload)))
 
 
 def close():
@@ -261,6 +280,8 @@ FILES = {"cases/%s" % name: make for name, make in {
     "no_command_is_replay/stdout": lambda: replayed("no_command_is_replay"),
     "notes/script": lambda: numbered(root_after(THREE), root_after([HI]), grown(THREE, 1)),
     "notes/stdout": lambda: numbered(*repeat(root_after(THREE), 3)),
+    "opened_proofs/script": opened_proofs,
+    "opened_proofs/stdout": opened_events,
     "out_is_the_store/script": lambda: numbered(root_after([HI])),
     "out_is_the_store/stdout": lambda: numbered(root_after([HI])),
     "payload_of_the_limit/stdout": lambda: replayed("payload_of_the_limit"),

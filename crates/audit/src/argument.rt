@@ -68,6 +68,13 @@ pub(crate) fn explain_argument<F: Files, M: Write>(
                 "audit: {shown}: {kind}, which is checked under {number}"
             )
         }
+        Asked::Plain(Request::Open(asked)) => {
+            let shown = Shown(asked.proof);
+            writeln!(
+                messages,
+                "audit: {shown}: a consistency proof, which has no entry to open"
+            )
+        }
         Asked::Rotation(rotation) if is_same(rt, rotation.old, rotation.new) => {
             writeln!(messages, "audit: {}: NEW is OLD", Shown(rotation.new))
         }

@@ -136,6 +136,7 @@ pub(crate) fn explain_contents<F: Files, M: Write>(
 ) -> io::Result<()> {
     let (path, wanted) = match asked {
         Asked::Plain(Request::Check { proof, .. }) => (Some(proof), Contents::Proof),
+        Asked::Plain(Request::Open(asked)) => (Some(asked.proof), Contents::Proof),
         Asked::Plain(Request::Verify(asked)) => (Some(asked.export), Contents::Export),
         _ => (store_of(asked), Contents::Store),
     };

@@ -7,7 +7,7 @@ use audit_cli_daemon::{Request as Daemon, Settings};
 use audit_cli_offline::{CheckForm, ReportForm};
 use audit_cli_rotate::Request as Rotation;
 use audit_cli_serve::Request as Serving;
-use audit_cli_store::{Access, Request, ShowForm, Site, Verification};
+use audit_cli_store::{Access, Opening, Request, ShowForm, Site, Verification};
 use clap::{ArgMatches, Error};
 use std::alloc::Global;
 use std::convert::AsStr;
@@ -176,11 +176,36 @@ fn show_request<'a>(given: &ArgMatches<'a>) -> Request<'a> {
 }
 
 fn check_request<'a>(given: &ArgMatches<'a>) -> Request<'a> {
-    Request::Check {
-        proof: word(given, "PROOF"),
-        older: word(given, "OLDER"),
-        newer: given.get_str("NEWER"),
-        form: check_form(given),
+    let (proof, older, newer) = (
+        word(given, "PROOF"),
+        word(given, "OLDER"),
+        given.get_str("NEWER"),
+    );
+    match given.get_str("key") {
+        Some(key) => Request::Open(Opening {
+            proof,
+            commitment: older,
+            newer,
+            key,
+            form: opened_form(given),
+        }),
+        None => Request::Check {
+            proof,
+            older,
+            newer,
+            form: check_form(given),
+        },
+    }
+}
+
+// How the event of a proof is printed.
+fn opened_form(given: &ArgMatches<'_>) -> ReportForm {
+    if given.get_flag("json") {
+        ReportForm::Json
+    } else if given.get_flag("text") {
+        ReportForm::Text
+    } else {
+        ReportForm::Events
     }
 }
 

@@ -45,7 +45,7 @@ pub(crate) fn explain_fault<F: Files, M: Write>(
         Some(Said::BadEntry | Said::BadLink { .. }) => {
             explain_entry(rt, alloc, asked, said, messages)
         }
-        Some(Said::NotAllowed | Said::NoReply | Said::Ended) => {
+        Some(Said::NotAllowed | Said::NotCounted | Said::NoReply | Said::Ended) => {
             explain_server(asked, said, messages)
         }
         None if status == Status::Refused => explain_order(asked, messages),

@@ -10,6 +10,9 @@ use std::fmt::{self, Display, Formatter};
 // The hex digits of a root.
 const ROOT_DIGITS: usize = 64;
 
+// The hex digits of a key.
+const KEY_DIGITS: usize = 64;
+
 // What is appended to the path of a daemon's socket.
 const STOP_SUFFIX: usize = 5;
 
@@ -26,6 +29,10 @@ pub(crate) enum Form<'a> {
     Mode,
     /// A count and a root.
     Commitment,
+    /// A key.
+    Key,
+    /// No second commitment, where a key is given.
+    NoNewer,
     /// The name of a log.
     Name,
     /// The path of a socket.
@@ -63,11 +70,14 @@ impl Form<'_> {
             Form::Kinds => word.split(',').all(|part| is_any_kind(part)),
             Form::Mode => mode_asked(word).is_ok(),
             Form::Commitment => commitment_in_word(bytes).is_some(),
+            Form::Key => {
+                bytes.len() == KEY_DIGITS && bytes.iter().all(|byte| byte.is_ascii_hexdigit())
+            }
             Form::Name => is_log_name(bytes),
             Form::Socket => socket_path_asked(word, 0).is_ok(),
             Form::DaemonSocket => socket_path_asked(word, STOP_SUFFIX).is_ok(),
             Form::Source => source_in(word).is_some(),
-            Form::NewSource | Form::FurtherSource => false,
+            Form::NewSource | Form::FurtherSource | Form::NoNewer => false,
             Form::Long { text } => long_asked(Some(word), text).is_some(),
             Form::Proof => word == "member" || word == "increment",
         }
@@ -79,6 +89,7 @@ impl Form<'_> {
         match self {
             Form::Number { .. } | Form::Kind => flaw_of_digits(bytes, 0, Digits::Decimal),
             Form::Commitment => flaw_of_commitment(bytes),
+            Form::Key => flaw_of_digits(bytes, 0, Digits::Hex).or(Some(Flaw::Length(word.len()))),
             Form::Name if word.len() > MAX_NAME => Some(Flaw::Length(word.len())),
             Form::Socket | Form::DaemonSocket if !word.is_empty() => {
                 Some(Flaw::Length(word.len()))
@@ -106,6 +117,10 @@ impl Display for Form<'_> {
             ),
             Form::Mode => f.write_str("600 to 677, in octal digits"),
             Form::Commitment => f.write_str("COUNT:ROOT, a number and 64 hex digits"),
+            Form::Key => write!(f, "{KEY_DIGITS} hex digits"),
+            Form::NoNewer => {
+                f.write_str("for a consistency proof, and --key for an inclusion proof")
+            }
             Form::Name => write!(f, "1 to {MAX_NAME} bytes of ASCII, without spaces"),
             Form::Socket => write!(f, "a path of 1 to {MAX_SOCKET_PATH} bytes"),
             Form::DaemonSocket => {

@@ -317,13 +317,36 @@ static CHECK: Form = Form {
             is_required: false,
         },
     ],
-    options: &[Choice {
-        name: "print",
-        value: None,
-        help: "Prints a line with what an accepted proof is about, too",
-        needs: None,
-        excludes: None,
-    }],
+    options: &[
+        Choice {
+            name: "print",
+            value: None,
+            help: "Prints a line with what an accepted proof is about, too",
+            needs: None,
+            excludes: Some("key"),
+        },
+        Choice {
+            name: "key",
+            value: Some("HEX"),
+            help: "Prints the event of an accepted inclusion proof, opened with the key of its receipt",
+            needs: None,
+            excludes: Some("print"),
+        },
+        Choice {
+            name: "text",
+            value: None,
+            help: "Prints the event's payload alone, as a line of text",
+            needs: Some("key"),
+            excludes: Some("json"),
+        },
+        Choice {
+            name: "json",
+            value: None,
+            help: "Prints the event as a line with an object of JSON",
+            needs: Some("key"),
+            excludes: Some("text"),
+        },
+    ],
 };
 
 static NOTE: Form = Form {

@@ -17,6 +17,7 @@ pub(crate) enum Said {
     BadSize,
     NotAStore,
     NotAllowed,
+    NotCounted,
     BadProof,
     /// An entry of an export isn't the one that it is to be.
     BadEntry,
@@ -42,6 +43,7 @@ impl Said {
             | Said::BadSize
             | Said::NotAStore
             | Said::NotAllowed
+            | Said::NotCounted
             | Said::BadProof => status == Status::Refused,
         }
     }
@@ -160,6 +162,7 @@ fn said_in(line: &[u8]) -> Option<Said> {
         b"14 BadSize\n" => Some(Said::BadSize),
         b"1 NotAStore\n" => Some(Said::NotAStore),
         b"16 NotAllowed\n" => Some(Said::NotAllowed),
+        b"18 NotCounted\n" => Some(Said::NotCounted),
         b"32 BadProof\n" => Some(Said::BadProof),
         b"no reply in time\n" => Some(Said::NoReply),
         b"connection ended\n" => Some(Said::Ended),

@@ -87,6 +87,7 @@ fn file_in<'a>(word: Option<&'a str>) -> Option<&'a str> {
 fn commitment_words<'a>(asked: Asked<'a>) -> (Option<&'a str>, Option<&'a str>) {
     match asked {
         Asked::Plain(Request::Check { older, newer, .. }) => (Some(older), newer),
+        Asked::Plain(Request::Open(asked)) => (Some(asked.commitment), asked.newer),
         Asked::Plain(Request::Verify(asked)) => (Some(asked.commitment), None),
         Asked::Note(note) => (Some(note.commitment), None),
         _ => (None, None),
@@ -136,6 +137,10 @@ fn with_first<'a>(asked: Asked<'a>, word: &'a str) -> Asked<'a> {
             newer,
             form,
         }),
+        Asked::Plain(Request::Open(mut asked)) => {
+            asked.commitment = word;
+            Asked::Plain(Request::Open(asked))
+        }
         Asked::Plain(Request::Verify(mut asked)) => {
             asked.commitment = word;
             Asked::Plain(Request::Verify(asked))
@@ -164,6 +169,10 @@ fn with_second<'a>(asked: Asked<'a>, word: &'a str) -> Asked<'a> {
             newer: Some(word),
             form,
         }),
+        Asked::Plain(Request::Open(mut asked)) => {
+            asked.newer = Some(word);
+            Asked::Plain(Request::Open(asked))
+        }
         _ => asked,
     }
 }

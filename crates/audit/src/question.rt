@@ -27,7 +27,7 @@ impl Display for BadQuestion<'_> {
         match self {
             BadQuestion::Name(name) => write!(
                 f,
-                "{}: QUESTION is commitment, state, close, export, entry, member or increment",
+                "{}: QUESTION is commitment, state, place, close, export, entry, member or increment",
                 Shown(name)
             ),
             BadQuestion::Words(name, "") => write!(f, "{}: it takes no further word", Shown(name)),
@@ -50,6 +50,9 @@ pub(crate) fn bad_question<'a>(words: Words<'a>, from: Option<&'a str>) -> BadQu
     }
     let bad_words = BadQuestion::Words(name, wanted);
     match (first, second, third) {
+        (Some(kind), None, None) if name == "place" => {
+            word_or(judge("KIND", Some(kind), Form::Kind), bad_words)
+        }
         (Some(out), None, None) if name == "export" => BadQuestion::Out(out),
         (Some(index), Some(_), None) if name == "entry" => {
             word_or(judge("INDEX", Some(index), Form::ANY), bad_words)
@@ -72,6 +75,7 @@ fn word_or<'a>(wrong: Option<Wrong<'a>>, other: BadQuestion<'a>) -> BadQuestion<
 fn wanted_words(name: &str) -> Option<&'static str> {
     match name {
         "commitment" | "state" | "close" => Some(""),
+        "place" => Some("KIND"),
         "export" => Some("OUT"),
         "entry" => Some("INDEX OUT"),
         "member" => Some("INDEX COUNT OUT"),

@@ -26,6 +26,10 @@ pub fn remote_request<'a>(name: &str, given: &ArgMatches<'a>) -> Option<Remote<'
             window: given.get_str("window"),
             timeout,
             until_refused: given.get_flag("until-refused"),
+            is_placed: given.get_flag("placed"),
+            from: given.get_str("from"),
+            keys: given.get_str("receipts"),
+            retry: given.get_str("retry"),
         }),
         "watch" => Some(Remote::Watch {
             socket,

@@ -23,7 +23,7 @@ static SEND: Form = Form {
             value: Some("HOW"),
             help: "With --text, cut or refuse a line of more than 32696 bytes [default: refuse]",
             needs: None,
-            excludes: None,
+            excludes: Some("placed"),
         },
         Choice {
             name: "window",
@@ -46,14 +46,42 @@ static SEND: Form = Form {
             needs: None,
             excludes: None,
         },
+        Choice {
+            name: "placed",
+            value: None,
+            help: "With --text, has each event appended at its place among those of KIND alone, or not at all",
+            needs: Some("text"),
+            excludes: None,
+        },
+        Choice {
+            name: "from",
+            value: Some("PLACE"),
+            help: "With --placed, the place of the first line, from 0 on [default: the next, as the server says]",
+            needs: Some("placed"),
+            excludes: None,
+        },
+        Choice {
+            name: "receipts",
+            value: Some("FILE"),
+            help: "With --placed, appends the key of each event's entry to FILE; it opens that event alone",
+            needs: Some("placed"),
+            excludes: None,
+        },
+        Choice {
+            name: "retry",
+            value: Some("SECONDS"),
+            help: "With --placed, tries a server that is lost again for 1 to 86400 seconds, and goes on",
+            needs: Some("placed"),
+            excludes: None,
+        },
     ],
 };
 
 static ASK: Form = Form {
     name: "ask",
-    about: "Asks a server for its commitment or state, an entry, a proof or an export, or to close the log",
+    about: "Asks a server for its commitment or state, a kind's place, an entry, a proof or an export, or to close the log",
     after: Some(
-        "Questions: commitment | state | entry INDEX OUT | member INDEX COUNT OUT | increment OLDER NEWER OUT | export OUT | close",
+        "Questions: commitment | state | place KIND | entry INDEX OUT | member INDEX COUNT OUT | increment OLDER NEWER OUT | export OUT | close",
     ),
     words: &[
         Word {
@@ -63,7 +91,7 @@ static ASK: Form = Form {
         },
         Word {
             name: "QUESTION",
-            help: "commitment, state, entry, member, increment, export or close",
+            help: "commitment, state, place, entry, member, increment, export or close",
             is_required: true,
         },
         Word {

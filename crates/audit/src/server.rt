@@ -28,6 +28,7 @@ pub(crate) fn explain_server<M: Write>(
     };
     let cause = match said {
         Some(Said::NotAllowed) => refused,
+        Some(Said::NotCounted) => "the daemon counts the kinds of its --writer sockets alone",
         Some(Said::NoReply) => {
             "all 16 places are taken, or the server is stopped, busy or slower than --timeout"
         }

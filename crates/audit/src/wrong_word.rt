@@ -104,6 +104,11 @@ fn wrong_in_plain<'a>(request: Request<'a>) -> Option<Wrong<'a>> {
                 Form::Commitment,
             ))
         }
+        Request::Open(asked) => {
+            judge("OLDER", Some(asked.commitment), Form::Commitment)
+                .or(judge("NEWER", asked.newer, Form::NoNewer))
+                .or(judge("--key", Some(asked.key), Form::Key))
+        }
         Request::Verify(asked) => {
             judge("COMMIT", Some(asked.commitment), Form::Commitment)
                 .or(judge("--kind", asked.kinds, Form::Kinds))
@@ -167,6 +172,10 @@ fn wrong_in_remote<'a>(request: Remote<'a>) -> Option<Wrong<'a>> {
             window,
             timeout,
             until_refused: _,
+            is_placed: _,
+            from,
+            keys: _,
+            retry,
         } => {
             let socket = judge("SOCKET", Some(socket), Form::Socket);
             let text = wrong_in_text(text, long);
@@ -174,6 +183,8 @@ fn wrong_in_remote<'a>(request: Remote<'a>) -> Option<Wrong<'a>> {
                 .or(text)
                 .or(judge("--window", window, WINDOW))
                 .or(judge("--timeout", timeout, SECONDS))
+                .or(judge("--from", from, Form::ANY))
+                .or(judge("--retry", retry, SECONDS))
         }
         Remote::Watch {
             socket,

@@ -3,3 +3,4 @@ mod KindWords
 pub mod Lines
 pub mod SecondPass
 mod TextReports
+mod OpenedEntries

@@ -6,3 +6,4 @@ pub mod VerifiedExport
 pub mod Judgment
 pub mod TwoPasses
 pub mod ProofLines
+pub mod OpenedEntry

@@ -39,6 +39,8 @@ use Rattle.audit_disk.specs.SectorSource.{source_of}
 use Rattle.audit_store.specs.ReadOnlyOpening.{at_rest}
 use Rattle.audit_cli_store.specs.Exports.{export_after, PutsEntries}
 use Rattle.audit_cli_store.specs.Shown.{printed_state}
+use Rattle.audit_cli_store.specs.OpenedProofs.{OpensProofAt}
+use Rattle.audit_cli_store.specs.declared.opening.Opening.{Opening}
 use Rattle.audit_cli_store.specs.Headers.{IsHeaderOn, TellsHeader, ShowsHeader}
 use Rattle.audit_cli_store.specs.OnFiles.{put_text, blank_front, IsPutTo, exported_line, exported_text, AnswersAbout, AnswersOn, AnswersAt, IsDeviceFor, view_for, ProvesOn, IsProofAt, ProvesAt, FormatsNewFile, FormatsInPlace, FormatsSite, ClosesAt, IsDoneOnFile}
 use Rattle.audit_cli_store.specs.declared.answering.StoreQuestion.{StoreQuestion}
@@ -257,6 +259,10 @@ module _ {F : Type 0} (facts : F → FileFacts) (positioned : F → PositionedVi
     pub done_show_header : (file : Bor (List ℕ)) (form : ShowForm) (before after : Option (List ℕ)) (result : Result (Unit {0}) CommandError) → OnOk result (ShowsHeader facts positioned h file.now form before after) → IsDoneOnFile facts positioned h remaining (request.ShowHeader file form) before after result
     done_show_header file form before after (Ok done) shows = shows
     done_show_header file form before after (Err fault) shows = tt
+
+    pub done_open : (asked : Opening) (before after : Option (List ℕ)) (result : Result (Unit {0}) CommandError) → OnOk result (OpensProofAt facts remaining asked before after) → IsDoneOnFile facts positioned h remaining (request.Open asked) before after result
+    done_open asked before after (Ok done) opens = opens
+    done_open asked before after (Err fault) opens = tt
 
     pub done_export : (file out : Bor (List ℕ)) (access : Access) (from : Option (Bor (List ℕ))) (before after : Option (List ℕ)) (result : Result (Unit {0}) CommandError) → OnOk result ((first : ℕ) × (number_asked from 0 ≡ Ok first) × AnswersAt facts positioned h access file.now (Entries out first) before after)
         → IsDoneOnFile facts positioned h remaining (request.Export file out access from) before after result

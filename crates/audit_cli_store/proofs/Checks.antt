@@ -70,18 +70,18 @@ one_kind_by bytes (Some head) None p i one other member increment = none-some i 
 one_kind_by bytes (Some head) (Some another) p i one other member increment =
     omega (arith, (head_parts MEMBER_MARK bytes head one).marked, (head_parts INCREMENT_MARK bytes another other).marked)
 
-one_kind : (bytes : List ℕ) (p : Member) (i : Increment) → member_of bytes ≡ Some p → increment_of bytes ≡ Some i → ⊥
+pub one_kind : (bytes : List ℕ) (p : Member) (i : Increment) → member_of bytes ≡ Some p → increment_of bytes ≡ Some i → ⊥
 one_kind bytes p i member increment = one_kind_by bytes (head_of MEMBER_MARK bytes) (head_of INCREMENT_MARK bytes) p i refl refl member increment
 
 no_other_increment : (bytes : List ℕ) (p : Member) (found : Option Increment) → member_of bytes ≡ Some p → increment_of bytes ≡ found → increment_of bytes ≡ None
 no_other_increment bytes p None member increment = increment
 no_other_increment bytes p (Some i) member increment = absurd (one_kind bytes p i member increment)
 
-no_other_member : (bytes : List ℕ) (i : Increment) (found : Option Member) → increment_of bytes ≡ Some i → member_of bytes ≡ found → member_of bytes ≡ None
+pub no_other_member : (bytes : List ℕ) (i : Increment) (found : Option Member) → increment_of bytes ≡ Some i → member_of bytes ≡ found → member_of bytes ≡ None
 no_other_member bytes i None increment member = member
 no_other_member bytes i (Some p) increment member = absurd (one_kind bytes p i member increment)
 
-is_member : (bytes : List ℕ) (p : Member) → member_of bytes ≡ Some p → member_of bytes ≢ None
+pub is_member : (bytes : List ℕ) (p : Member) → member_of bytes ≡ Some p → member_of bytes ≢ None
 is_member bytes p spelled none = none-some p (sym none ∙ spelled)
 
 is_increment : (bytes : List ℕ) (i : Increment) → increment_of bytes ≡ Some i → increment_of bytes ≢ None

@@ -4,3 +4,4 @@ pub mod Exported
 pub mod Checks
 pub mod SalvagedEntries
 pub mod AnsweredFiles
+pub mod OpenedProofs

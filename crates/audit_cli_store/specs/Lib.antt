@@ -5,6 +5,7 @@ pub mod Proofs
 pub mod Closing
 pub mod Exports
 pub mod Checks
+pub mod OpenedProofs
 pub mod Salvaged
 pub mod OnFiles
 pub mod Requests

@@ -1,7 +1,7 @@
 -- What a request does with the file of a store that it names.
 use denote.Ref.{Bor}
 use Rattle.std.specs.Prelude.{◌≡◌, ◌⊎◌, ◌≤◌, ℕ, ◌-◌, Bool, true, false, Option, Some, None, Result, Ok, List}
-use Rattle.std.specs.Prelude.{[], ◌++◌, length, codes, IfSome, IsErr, if◌then◌else◌}
+use Rattle.std.specs.Prelude.{[], ◌++◌, length, codes, IfSome, OnOk, IsErr, if◌then◌else◌}
 use Rattle.std.specs.Str.{bytes_eq}
 use Rattle.std.specs.Fmt.{decimal}
 use Rattle.std.specs.Io.KnownBytes.{Appends, Keeps}
@@ -28,6 +28,7 @@ use Rattle.audit_cli_base.specs.declared.fault.CommandError.{CommandError}
 use Rattle.audit_cli_store.specs.Closing.{ClosesLog, IsNotAsked}
 use Rattle.audit_cli_store.specs.Exports.{export_after}
 use Rattle.audit_cli_store.specs.Headers.{ShowsHeader}
+use Rattle.audit_cli_store.specs.OpenedProofs.{OpensProofAt}
 use Rattle.audit_cli_store.specs.Proofs.{AsksOutside, proof_of_log}
 use Rattle.audit_cli_store.specs.Shown.{printed_state}
 use Rattle.audit_cli_store.specs.declared.answering.StoreQuestion.{StoreQuestion}
@@ -180,6 +181,8 @@ module _ {F : Type 0} (facts : F → FileFacts) (positioned : F → PositionedVi
     -- on success what was asked for was done with the file that was named; a close says so of an error, too
     abbrev pub IsDoneOnFile : Request → Option (List ℕ) → Option (List ℕ) → Result (Unit {0}) CommandError → Type 0
     IsDoneOnFile (request.Close file) before after result = ClosesAt file.now before after result
+    IsDoneOnFile (request.Open asked) before after result =
+        OnOk result (OpensProofAt facts remaining asked before after)
     IsDoneOnFile (request.Format file site sectors key_file) before after (Ok done) =
         FormatsSite file.now site sectors.now key_file.now before after
     IsDoneOnFile (request.Show file access form) before after (Ok done) =

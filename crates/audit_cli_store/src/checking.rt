@@ -13,9 +13,9 @@ use std::io::{Read, Write};
 
 // A proof, and whether it is accepted.
 #[derive(Drop)]
-struct Judged {
-    proof: Proof,
-    accepted: bool,
+pub(crate) struct Judged {
+    pub(crate) proof: Proof,
+    pub(crate) accepted: bool,
 }
 
 /// Checks a proof against one commitment or two, and writes whether it is accepted. In the form `Contents` a second
@@ -61,7 +61,7 @@ pub fn check_proof<R: Read, W: Write>(
 }
 
 // The proof in a file, and whether it is accepted.
-fn judged_in<R: Read>(
+pub(crate) fn judged_in<R: Read>(
     alloc: Global,
     reader: &mut R,
     older: &Commitment,

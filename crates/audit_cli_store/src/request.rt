@@ -8,6 +8,7 @@ use crate::auditing::{Verification, check_file, verify_and_report};
 use crate::closing::close_file;
 use crate::header_showing::show_header;
 use crate::making::format_site;
+use crate::opening::{Opening, open_file};
 use crate::replaying::replay;
 use crate::show_form::ShowForm;
 use audit_cli_base::{CommandError, FileDevice, Status, proof_request, report_end};
@@ -92,6 +93,8 @@ pub enum Request<'a> {
         /// What is written of an accepted proof.
         form: CheckForm,
     },
+    /// Check a membership proof, and write the event of its entry.
+    Open(Opening<'a>),
     /// Write the entries of the store in a file to another file.
     Export {
         /// The file.
@@ -183,6 +186,7 @@ where
             newer,
             form,
         } => check_file(rt, alloc, proof, older, newer, form, output),
+        Request::Open(asked) => open_file(rt, alloc, asked, output, messages),
         Request::Export {
             file,
             out,
