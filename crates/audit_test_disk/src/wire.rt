@@ -113,6 +113,21 @@ fn view_of(request: &Request) -> RequestView<'_> {
         },
         Request::Close { tag } => RequestView::Close { tag: *tag },
         Request::State { tag } => RequestView::State { tag: *tag },
+        Request::Place { tag, kind } => RequestView::Place {
+            tag: *tag,
+            kind: *kind,
+        },
+        Request::PlacedAppend {
+            tag,
+            kind,
+            place,
+            payload,
+        } => RequestView::PlacedAppend {
+            tag: *tag,
+            kind: *kind,
+            place: *place,
+            payload: payload.as_slice(),
+        },
     }
 }
 
@@ -259,6 +274,85 @@ fn a_state_is_a_request_of_daemons_alone(rt: HostRuntime) {
         check!(&rt; read_request_by(Grammar::Daemon, &body[..size]) == Err(Malformed), size);
     }
     check!(&rt; read_request_by(Grammar::Daemon, b"\x07\0\0\0\x08\0") == Err(Malformed));
+}
+
+// Frames about places, with their requests.
+const OF_PLACES: [(&[u8], RequestView<'static>); 2] = [
+    (&GET_PLACE, RequestView::Place { tag: 9, kind: 1 }),
+    (
+        &PLACED_APPEND,
+        RequestView::PlacedAppend {
+            tag: 10,
+            kind: 1,
+            place: 1,
+            payload: b"a",
+        },
+    ),
+];
+
+fn is_of_daemons_alone(body: &[u8], request: &RequestView) -> bool {
+    read_request_by(Grammar::Daemon, body) == Ok(*request)
+        && read_request_by(Grammar::Plain, body) == Err(Malformed)
+}
+
+#[test]
+fn places_are_requests_of_daemons_alone(rt: HostRuntime) {
+    for (frame, request) in &OF_PLACES {
+        let (_, body) = frame.split_at(2);
+        check!(&rt; is_of_daemons_alone(body, request));
+        check!(&rt; view_of(&request.own(rt.alloc()).expect(&rt, "memory")) == *request);
+    }
+}
+
+// The lengths of bodies about places that daemons read, and those that they don't: a place of a kind is 9 bytes long, and
+// an append at a place at least 17. A place of any kind may be asked for, but the reserved kind isn't appended.
+const PLACE_BODIES: [(&[u8], bool); 8] = [
+    (b"\x08\x00\x00\x00\x09\x00\x00\x00", false),
+    (b"\x08\x00\x00\x00\x09\xff\xff\xff\xff", true),
+    (b"\x08\x00\x00\x00\x09\x00\x00\x00\x01\x00", false),
+    (
+        b"\x09\x00\x00\x00\x0a\x00\x00\x00\x01\x00\x00\x00\x00\x00\x00\x00",
+        false,
+    ),
+    (
+        b"\x09\x00\x00\x00\x0a\x00\x00\x00\x01\x00\x00\x00\x00\x00\x00\x00\x01",
+        true,
+    ),
+    (
+        b"\x09\x00\x00\x00\x0a\xff\xff\xff\xfe\x00\x00\x00\x00\x00\x00\x00\x01",
+        true,
+    ),
+    (
+        b"\x09\x00\x00\x00\x0a\xff\xff\xff\xff\x00\x00\x00\x00\x00\x00\x00\x01",
+        false,
+    ),
+    (b"\x0a\x00\x00\x00\x0a\x00\x00\x00\x01", false),
+];
+
+#[test]
+fn bodies_about_places(rt: HostRuntime) {
+    for (place, (body, is_request)) in PLACE_BODIES.iter().enumerate() {
+        check!(&rt; read_request_by(Grammar::Daemon, body).is_ok() == *is_request, place);
+    }
+}
+
+// The length of the payload of an append at a place, if a daemon reads one in the body of a frame.
+fn placed_payload(frame: &[u8]) -> Option<usize> {
+    match read_request_by(Grammar::Daemon, frame.get(2..)?) {
+        Ok(RequestView::PlacedAppend { payload, .. }) => Some(payload.len()),
+        _ => None,
+    }
+}
+
+// It has 8 bytes less for its payload than a plain one.
+#[test]
+fn the_longest_append_at_a_place(rt: HostRuntime) {
+    let mut frame = frame_of(&rt, rt.alloc(), MAX_FRAME);
+    check!(&rt; frame.len() > 2 && placed_payload(&frame) == None);
+    frame[2] = 9;
+    check!(&rt; placed_payload(&frame) == Some(32_688));
+    frame.push(0).expect(&rt, "memory");
+    check!(&rt; placed_payload(&frame) == None);
 }
 
 #[test]
@@ -429,7 +523,41 @@ fn states_with_another_mark_or_length(rt: HostRuntime) {
     }
 }
 
-const REFUSALS: [(u8, Refusal, u8); 8] = [
+#[test]
+fn a_place_has_the_bytes_of_the_formats(rt: HostRuntime) {
+    let place = Reply::Place {
+        tag: 9,
+        number: 1,
+        count: 1,
+    };
+    check_reply(&rt, rt.alloc(), &place, &PLACE);
+}
+
+#[test]
+fn a_placed_event_has_the_bytes_of_the_formats(rt: HostRuntime) {
+    let placed = Reply::Placed {
+        tag: 10,
+        index: 1,
+        count: 2,
+        root: ROOT_OF_TWO,
+        key: KEY_OF_ENTRY_1,
+    };
+    check_reply(&rt, rt.alloc(), &placed, &PLACED);
+}
+
+// Each has one length.
+#[test]
+fn replies_about_places_of_another_length(rt: HostRuntime) {
+    for frame in [PLACE.as_slice(), PLACED.as_slice()] {
+        let mut body = Vec::from_slice(rt.alloc(), &frame[2..]).expect(&rt, "memory");
+        check!(&rt; read_reply(rt.alloc(), &body).is_ok());
+        check!(&rt; is_malformed(rt.alloc(), &frame[2..frame.len() - 1]));
+        body.push(0).expect(&rt, "memory");
+        check!(&rt; is_malformed(rt.alloc(), &body));
+    }
+}
+
+const REFUSALS: [(u8, Refusal, u8); 9] = [
     (0, Refusal::Malformed, 20),
     (2, Refusal::Full, 7),
     (3, Refusal::DamagedLog, 4),
@@ -438,6 +566,7 @@ const REFUSALS: [(u8, Refusal, u8); 8] = [
     (6, Refusal::Device, 11),
     (7, Refusal::Closed, 13),
     (8, Refusal::NotAllowed, 16),
+    (9, Refusal::NotCounted, 18),
 ];
 
 #[test]

@@ -1,4 +1,4 @@
-//! The tests of serving sessions: in passes, of clients that come and go, and by rights.
+//! The tests of serving sessions: in passes, of clients that come and go, by rights, and of placed appends.
 #![tactic(auto)]
 
 #[cfg(test)]
@@ -7,6 +7,8 @@ mod clients;
 mod latecomers;
 #[cfg(test)]
 mod passes;
+#[cfg(test)]
+mod places;
 #[cfg(test)]
 mod recorder;
 #[cfg(test)]

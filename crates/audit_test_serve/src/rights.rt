@@ -65,7 +65,7 @@ const MALFORMED: [Said; 1] = [Said {
 }];
 
 // Starts session 0 anew with these rights.
-fn begin<C: SessionCore>(core: &mut C, rights: Rights) -> bool
+pub(crate) fn begin<C: SessionCore>(core: &mut C, rights: Rights) -> bool
 where
     C::Error: Drop,
 {
@@ -76,20 +76,32 @@ where
     core.ended(0) && core.reopen(0, rights).is_ok()
 }
 
-// A core over a store of 64 sectors without events, as it is made.
-pub(crate) fn new_core(rt: &impl Abort, alloc: Global) -> Core<MemDisk> {
+// A store of 64 sectors without events.
+fn new_store(rt: &impl Abort, alloc: Global) -> Store<MemDisk> {
     let disk = MemDisk::new(alloc, 64).expect(rt, "a device");
-    let store = match Store::format(alloc, disk, Key::from_bytes([0; 32])) {
+    match Store::format(alloc, disk, Key::from_bytes([0; 32])) {
         Ok(store) => store,
         Err(failed) => panic!(rt; "a store: {}", failed.error),
-    };
-    match Core::new(alloc, store) {
+    }
+}
+
+// A core over such a store, as it is made.
+pub(crate) fn new_core(rt: &impl Abort, alloc: Global) -> Core<MemDisk> {
+    match Core::new(alloc, new_store(rt, alloc)) {
         Ok(core) => core,
         Err(_) => panic!(rt; "memory"),
     }
 }
 
-// The same with a daemon's client of these rights in session 0.
+// The same that counts the events of these kinds.
+pub(crate) fn counting_core(rt: &impl Abort, alloc: Global, kinds: &[u32]) -> Core<MemDisk> {
+    match Core::counting(alloc, new_store(rt, alloc), 0, kinds) {
+        Ok(core) => core,
+        Err(_) => panic!(rt; "memory"),
+    }
+}
+
+// A new core with a daemon's client of these rights in session 0.
 pub(crate) fn core_with(rt: &impl Abort, alloc: Global, rights: Rights) -> Core<MemDisk> {
     let mut core = new_core(rt, alloc);
     assert!(rt; begin(&mut core, rights));
@@ -276,7 +288,7 @@ fn closers_may_do_everything(rt: HostRuntime) {
 }
 
 // These kinds, bound to sources.
-fn bound(rt: &impl Abort, kinds: &[u32]) -> BoundKinds {
+pub(crate) fn bound(rt: &impl Abort, kinds: &[u32]) -> BoundKinds {
     let mut bound = BoundKinds::none();
     for kind in kinds {
         bound = bound.with(*kind).expect(rt, "a free place");

@@ -1,4 +1,6 @@
 // The expected values come from an independent model of the sessions, which shares no code with the crates.
+mod places;
+
 use audit_chain::{Event, Key};
 use audit_disk::{Fuse, MemDisk, Sectors};
 use audit_server_commit::{Committer, Query, Question};
@@ -33,6 +35,13 @@ fn committer_on<D: Sectors + Drop>(
     } else {
         Committer::with_reserve(alloc, store, reserve)
     };
+    the_committer(rt, made)
+}
+
+fn the_committer<D: Sectors + Drop>(
+    rt: &impl Abort,
+    made: Result<Committer<D>, Store<D>>,
+) -> Committer<D> {
     match made {
         Ok(committer) => committer,
         Err(_) => panic!(rt; "no memory"),
@@ -44,6 +53,8 @@ fn committer_on<D: Sectors + Drop>(
 #[derive(Clone, Copy)]
 enum Step<'a> {
     Append(u32, &'a [u8]),
+    // The tag, kind and place of an append, and its payload.
+    Placed(u32, u32, u64, &'a [u8]),
     Close(u32),
     Ask(Query),
     Flush,
@@ -86,9 +97,17 @@ fn takes<D: Sectors>(
     match step {
         Step::Append(tag, payload) => {
             let event = Event::new(alloc, 1, payload).expect(rt, "an event");
-            committer.append(2, *tag, event).is_ok()
+            committer.append(2, *tag, None, event).is_ok()
         }
-        Step::Close(tag) => committer.append(2, *tag, Event::closing(alloc)).is_ok(),
+        Step::Placed(tag, kind, place, payload) => {
+            let event = Event::new(alloc, *kind, payload).expect(rt, "an event");
+            committer.append(2, *tag, Some(*place), event).is_ok()
+        }
+        Step::Close(tag) => {
+            committer
+                .append(2, *tag, None, Event::closing(alloc))
+                .is_ok()
+        }
         Step::Ask(query) => {
             let (session, query) = (1, *query);
             committer.ask(Question { session, query }).is_ok()

@@ -96,6 +96,24 @@ impl Reading {
                 self.add(7);
                 self.add(*tag as u64);
             }
+            RequestView::Place { tag, kind } => {
+                self.add(8);
+                self.add(*tag as u64);
+                self.add(*kind as u64);
+            }
+            RequestView::PlacedAppend {
+                tag,
+                kind,
+                place,
+                payload,
+            } => {
+                self.add(9);
+                self.add(*tag as u64);
+                self.add(*kind as u64);
+                self.add(*place);
+                self.add(payload.len() as u64);
+                self.add_all(payload);
+            }
         }
     }
 }

@@ -4,7 +4,8 @@ use audit_chain::{Event, Key};
 use audit_disk::{ReadOnly, SectorSource, Sectors};
 use audit_proof::Commitment;
 use audit_store::{Failed, Receipt, RunEnd, StoreError};
-use std::alloc::Global;
+use audit_store_layout::Batch;
+use std::alloc::{AllocError, Global};
 
 // A store on a device, as `audit_store` has it.
 #[derive(Drop)]
@@ -61,6 +62,14 @@ impl<D: Sectors> Store<D> {
 
     pub(crate) fn incremental(&self, older: u64, newer: u64) -> Result<Vec<[u8; 32]>, StoreError> {
         self.inner.incremental(older, newer)
+    }
+
+    pub(crate) fn events_of_kind(&self, kind: u32) -> u64 {
+        self.inner.events_of_kind(kind)
+    }
+
+    pub(crate) fn entry_keys(&self, events: &[Event]) -> Result<Vec<[u8; 32]>, AllocError> {
+        self.inner.entry_keys(&Batch::new(events))
     }
 
     pub(crate) fn commitment(&self) -> Commitment {
