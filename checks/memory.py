@@ -27,7 +27,7 @@ from checks.parts.wrong import expect, expect_true
 COUNT = 2001
 STEP = 8
 REFUSED = rb"audit: (entry [0-9]+: )?12 Memory\n"
-# A million events take 74 bytes each: KiB of heap for a question, and for one more event.
+# A million events take 78 bytes each: KiB of heap for a question, and for one more event.
 LARGE, ASKING, APPENDING = 1048579, 90000, 260000
 # What is asked of the commitment of an empty store, and answered.
 QUESTIONS = 700

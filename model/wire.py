@@ -4,16 +4,21 @@ from typing import NamedTuple
 
 from model.chain import CLOSING_KIND, number
 
-APPEND, COMMITMENT, MEMBERSHIP, INCREMENT, ENTRY, CLOSE, STATE = range(1, 8)
+APPEND, COMMITMENT, MEMBERSHIP, INCREMENT, ENTRY, CLOSE, STATE, PLACE, PLACED = range(1, 10)
 REPLY = 0x80
 REFUSED = 0xff
 MAX_BODY = 32705
-# For each request but an append the widths of the numbers after its tag.
-WIDTHS = {COMMITMENT: [], MEMBERSHIP: [8, 8], INCREMENT: [8, 8], ENTRY: [8], CLOSE: [], STATE: []}
+# For each request the widths of the numbers after its tag.
+WIDTHS = {APPEND: [4], COMMITMENT: [], MEMBERSHIP: [8, 8], INCREMENT: [8, 8], ENTRY: [8], CLOSE: [], STATE: [], PLACE: [4],
+          PLACED: [4, 8]}
+# The requests that add an event, whose payload follows the numbers; and those of a daemon's clients alone.
+APPENDS = APPEND, PLACED
+OF_DAEMON = STATE, PLACE, PLACED
 
 
 class Request(NamedTuple):
-    """The byte of its kind, its tag, its numbers (of an append the event's kind) and the payload of an append."""
+    """The byte of its kind, its tag, its numbers (of an append the event's kind, and after it the place, if it has one) and the
+    payload of an append."""
     kind: int
     tag: int
     numbers: tuple = ()
@@ -25,8 +30,7 @@ def frame(body):
 
 
 def request_frame(request):
-    widths = [4] if request.kind == APPEND else WIDTHS[request.kind]
-    numbers = b"".join(number(value, width) for value, width in zip(request.numbers, widths))
+    numbers = b"".join(number(value, width) for value, width in zip(request.numbers, WIDTHS[request.kind]))
     return frame(number(request.kind, 1) + number(request.tag, 4) + numbers + request.payload)
 
 
@@ -39,18 +43,25 @@ def refusal(tag, code):
     return frame(number(REFUSED, 1) + number(tag, 4) + number(code, 1))
 
 
+def numbers_in(fields, widths):
+    """The numbers of these widths at the front of some bytes, and the bytes after them."""
+    if not widths:
+        return (), fields
+    first, *more = widths
+    numbers, rest = numbers_in(fields[first:], more)
+    return (int.from_bytes(fields[:first], "big"), *numbers), rest
+
+
 def request_in(body, of_daemon):
     """The request that a body is, by the grammar of a daemon's clients or by that of every session; None if it is malformed."""
-    if len(body) < 5:
+    kind = body[0]
+    if kind not in WIDTHS or kind in OF_DAEMON and not of_daemon:
         return None
-    kind, tag = body[0], int.from_bytes(body[1:5], "big")
-    if kind == APPEND:
-        event_kind = int.from_bytes(body[5:9], "big")
-        allowed = 9 <= len(body) <= MAX_BODY and event_kind != CLOSING_KIND
-        return Request(kind, tag, (event_kind,), body[9:]) if allowed else None
-    if kind not in WIDTHS or kind == STATE and not of_daemon or len(body) != 5 + sum(WIDTHS[kind]):
-        return None
-    return Request(kind, tag, tuple(int.from_bytes(body[at:at + 8], "big") for at in range(5, len(body), 8)))
+    (tag, *numbers), payload = numbers_in(body[1:], [4, *WIDTHS[kind]])
+    request, least = Request(kind, tag, tuple(numbers), payload), 5 + sum(WIDTHS[kind])
+    if kind in APPENDS:
+        return request if least <= len(body) <= MAX_BODY and numbers[0] != CLOSING_KIND else None
+    return request if len(body) == least else None
 
 
 def first_body(stream):

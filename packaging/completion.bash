@@ -2,7 +2,7 @@
 _audit() {
     local word=${COMP_WORDS[COMP_CWORD]} before=${COMP_WORDS[COMP_CWORD - 1]} command=${COMP_WORDS[1]}
     local commands="replay format append close rotate show prove check note export verify serve loop daemon stop send ask watch read help"
-    local valued="--mode --long --expect --reserve --sessions --socket-mode --reader --writer --idle --backlog --window --timeout --every --kind --from --save --first --under"
+    local valued="--mode --long --expect --reserve --sessions --socket-mode --reader --writer --idle --backlog --window --timeout --every --kind --from --save --first --under --receipts --retry"
     local options="--explain --no-progress --help" choices= files= place=0 question= index
     [[ $command = verify || $command = read ]] || valued="$valued --text"
     # Which word of the command this is: options and their values aren't counted.
@@ -21,13 +21,13 @@ _audit() {
     append) options="$options --text --follow --long --expect --reserve" ;;
     show) options="$options --free --read-only --header" ;;
     prove) options="$options --read-only" ;;
-    check) options="$options --print" ;;
+    check) options="$options --print --key --text --json" ;;
     verify) options="$options --text --numbers --json --kind --from --save" ;;
     export) options="$options --from --read-only --salvage" ;;
     serve) options="$options --sessions --socket-mode" ;;
     loop) options="$options --socket-mode" ;;
     daemon) options="$options --reader --writer --allow-close --idle --backlog --reserve --socket-mode" ;;
-    send) options="$options --text --long --window --until-refused --timeout" ;;
+    send) options="$options --text --long --window --until-refused --placed --from --receipts --retry --timeout" ;;
     ask) options="$options --from --timeout" ;;
     watch) options="$options --every --timeout --quiet" ;;
     read) options="$options --first --under --text --numbers --json --kind --every --timeout" ;;
@@ -39,7 +39,7 @@ _audit() {
         files=1
     elif [[ " $valued " == *" $before "* ]]; then
         case $before in
-        --reader | --save | --first | --under) files=1 ;;
+        --reader | --save | --first | --under | --receipts) files=1 ;;
         --long) choices="cut refuse" ;;
         --mode | --socket-mode) choices="600 640 660" ;;
         esac
@@ -51,7 +51,7 @@ _audit() {
             verify:[01]: | serve:[01]: | loop:[01]: | daemon:[01]: | stop:0: | send:0: | watch:[01]: | read:[01]: | prove:0: | ask:0: | \
             prove:4:* | ask:2:export | ask:3:entry | ask:4:member | ask:4:increment) files=1 ;;
         prove:1:) choices="member increment" ;;
-        ask:1:) choices="commitment state entry member increment export close" ;;
+        ask:1:) choices="commitment state place entry member increment export close" ;;
         help:0:) choices=$commands ;;
         esac
     fi

@@ -6,15 +6,16 @@ usage: bin/check daemon EXECUTABLE [--long] [SCENE ..]
 
 Beside each bad client 15 others append, each with one append in flight: with --long none of these may wait 50 ms longer
 than without the bad one, on a machine with nothing else to do. The short form may run beside other work, so it allows
-five seconds: what waits for a bad client waits for ever. With --long the daemon is killed 200 times, and a client asks
-for more than two million commitments.
+five seconds: what waits for a bad client waits for ever. With --long the daemon and its sources are killed 200 times,
+and a client asks for more than two million commitments.
 """
 import signal
 
-from checks.daemon import bad_clients, lives, memory, places, replaced, rights, saying, sources, states
+from checks.daemon import (
+    bad_clients, lives, memory, placed, places, receipts, replaced, rights, saying, sources, states)
 from checks.parts.scenes import play_in_rooms, scenes_in, words_of
 
-SCENES = scenes_in(states, saying, lives, rights, bad_clients, places, memory, replaced, sources)
+SCENES = scenes_in(states, saying, lives, rights, bad_clients, places, memory, replaced, sources, placed, receipts)
 
 
 def main(words):

@@ -20,27 +20,35 @@ from checks.parts.wrong import expect_true
 class RotatedLog:
     """A log file that is written and rotated, as logrotate does it: by a new file, by a copy, or packed."""
 
-    def __init__(self, path):
-        self.path, self.lines, self.file = path, [], open(path, "ab", buffering=0)
+    def __init__(self, path, word=b"line"):
+        self.path, self.word, self.lines, self.file = path, word, [], open(path, "ab", buffering=0)
+
+    def line(self, number):
+        return b"%s %d %s" % (self.word, number, b"x" * random.choice([0, 10, 200]))
 
     def write(self, count):
         for _ in range(count):
-            self.lines.append(b"line %d %s" % (len(self.lines), b"x" * random.choice([0, 10, 200])))
+            self.lines.append(self.line(len(self.lines)))
             self.file.write(self.lines[-1] + b"\n")
 
-    def rotate(self, how):
+    def rotate(self, how, between=lambda: None):
+        """Makes room for the next file. Something else may happen between two steps."""
         for number in range(50, 0, -1):
             for packed in "", ".gz":
                 if os.path.exists("%s.%d%s" % (self.path, number, packed)):
                     os.rename("%s.%d%s" % (self.path, number, packed), "%s.%d%s" % (self.path, number + 1, packed))
+        between()
         if how == "copied":
             shutil.copy2(self.path, self.path + ".1")
+            between()
             os.truncate(self.path, 0)
             return
         os.rename(self.path, self.path + ".1")
+        between()
         # A program writes to the old file until it is told.
         self.write(random.randrange(3))
         self.file = open(self.path, "ab", buffering=0)
+        between()
         if how == "packed":
             subprocess.run(["gzip", self.path + ".1"], check=True)
 

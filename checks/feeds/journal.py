@@ -1,4 +1,5 @@
 """Messages of a real journal, by tools/journal-feed."""
+import contextlib
 import hashlib
 import json
 import os
@@ -60,16 +61,40 @@ def messages_to(namespace, first, last):
             journal.send(b"MESSAGE=message %d\nPRIORITY=6\nSYSLOG_IDENTIFIER=feeds\n" % number)
 
 
+@contextlib.contextmanager
+def real_journal():
+    """A real journald with a namespace of its own, which is removed at the end."""
+    needs("journalctl", JOURNALD)
+    needs_root()
+    namespace = "feeds%d" % os.getpid()
+    journald = subprocess.Popen([JOURNALD, namespace], stdout=subprocess.DEVNULL, stderr=subprocess.DEVNULL)
+    try:
+        yield namespace
+    finally:
+        journald.kill()
+        journald.wait()
+        for place in "/var/log/journal", "/run/log/journal":
+            for name in os.listdir(place) if os.path.isdir(place) else []:
+                if name.endswith("." + namespace):
+                    shutil.rmtree(os.path.join(place, name))
+        shutil.rmtree("/run/systemd/journal." + namespace, ignore_errors=True)
+
+
 @scene
 def scene_journal():
     """Messages of a journal come by tools/journal-feed, which is killed, and goes on after the last acknowledged
     one."""
-    needs("journalctl", JOURNALD)
-    needs_root()
-    folder, namespace = os.getcwd(), "feeds%d" % os.getpid()
-    daemon = FedDaemon(folder)
-    wrapper, answers = kept_answers(folder)
-    journald = subprocess.Popen([JOURNALD, namespace], stdout=subprocess.DEVNULL, stderr=subprocess.DEVNULL)
+    folder = os.getcwd()
+    with real_journal() as namespace:
+        daemon = FedDaemon(folder)
+        wrapper, answers = kept_answers(folder)
+        last = send_messages_under_kills(folder, namespace, daemon, wrapper)
+    expect_journal_stored(folder, daemon, last)
+    expect_acknowledged_kept(daemon.store, answers, folder)
+
+
+def send_messages_under_kills(folder, namespace, daemon, wrapper):
+    """Sends messages, of which the number of the last is returned, while the feed is killed. Then the daemon ends."""
     feed = None
 
     def start():
@@ -98,15 +123,7 @@ def scene_journal():
     finally:
         if feed is not None:
             kill_group(feed)
-        journald.kill()
-        journald.wait()
-        for place in "/var/log/journal", "/run/log/journal":
-            for name in os.listdir(place) if os.path.isdir(place) else []:
-                if name.endswith("." + namespace):
-                    shutil.rmtree(os.path.join(place, name))
-        shutil.rmtree("/run/systemd/journal." + namespace, ignore_errors=True)
-    expect_journal_stored(folder, daemon, last)
-    expect_acknowledged_kept(daemon.store, answers, folder)
+    return last
 
 
 def send_long_messages(namespace):

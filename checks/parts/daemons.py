@@ -95,10 +95,10 @@ class Daemon:
 class FedDaemon(Daemon):
     """A new store in a folder, and the daemon that serves it to feeds."""
 
-    def __init__(self, folder, sectors=32768, options=()):
+    def __init__(self, folder, sectors=32768, options=(), **how):
         store = os.path.join(folder, "store")
         done("format", store, str(sectors), KEY)
-        super().__init__(store, os.path.join(folder, "socket"), *options)
+        super().__init__(store, os.path.join(folder, "socket"), *options, **how)
 
 
 class Serving:

@@ -8,12 +8,14 @@ from model.wire import Request, frame, refusal, reply_frame, request_frame
 __all__ = ["frame", "refusal"]
 
 KIND = 7
-APPEND_REPLY, COMMITMENT_REPLY, MEMBER_REPLY, INCREMENT_REPLY, ENTRY_REPLY, STATE_REPLY = (
+APPEND_REPLY, COMMITMENT_REPLY, MEMBER_REPLY, INCREMENT_REPLY, ENTRY_REPLY, STATE_REPLY, PLACE_REPLY, PLACED_REPLY = (
     wire.REPLY | kind for kind in (wire.APPEND, wire.COMMITMENT, wire.MEMBERSHIP, wire.INCREMENT, wire.ENTRY,
-                                   wire.STATE))
-FULL, CLOSED, NOT_ALLOWED, MALFORMED = 7, 13, 16, 20
+                                   wire.STATE, wire.PLACE, wire.PLACED))
+FULL, CLOSED, NOT_ALLOWED, NOT_COUNTED, MALFORMED = 7, 13, 16, 18, 20
 # The lengths of replies, with those of their frames.
-COMMITMENT_SIZE, APPEND_SIZE = 47, 55
+COMMITMENT_SIZE, APPEND_SIZE, PLACE_SIZE, PLACED_SIZE = 47, 55, 23, 87
+# The most bytes of the payload of a placed append.
+MAX_PLACED = 32688
 
 
 def request(kind, tag, *numbers):
@@ -22,6 +24,16 @@ def request(kind, tag, *numbers):
 
 def append_frame(payload, tag=1, kind=KIND):
     return request_frame(Request(wire.APPEND, tag, (kind,), payload))
+
+
+def place_frame(kind=KIND, tag=6):
+    """Asks for the number of events of a kind."""
+    return request(wire.PLACE, tag, kind)
+
+
+def placed_frame(payload, place, tag=1, kind=KIND):
+    """An append of the event that has this place among those of its kind."""
+    return request_frame(Request(wire.PLACED, tag, (kind, place), payload))
 
 
 COMMITMENT = request(wire.COMMITMENT, 9)
@@ -54,6 +66,14 @@ def commitment_reply(tag, count, root):
 def state_reply(tag, count, root, end, sectors, generation, version, mark):
     fields = b"".join(number(value, 8) for value in (end, sectors, generation))
     return reply_frame(wire.STATE, tag, number(count, 8) + root + fields + number(version, 2) + number(mark, 1))
+
+
+def place_reply(tag, number_of_kind, count):
+    return reply_frame(wire.PLACE, tag, number(number_of_kind, 8) + number(count, 8))
+
+
+def placed_acknowledgement(tag, index, count, root, key):
+    return reply_frame(wire.PLACED, tag, number(index, 8) + number(count, 8) + root + key)
 
 
 def member_reply(tag, hashes, entry):

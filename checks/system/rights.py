@@ -12,6 +12,8 @@ import time
 
 from checks.parts.clients import Client
 from checks.parts.files import mode_of, read, write
+from checks.parts.frames import NOT_COUNTED, refusal
+from checks.parts.liars import Server, scripted
 from checks.parts.logs import keys_from, payloads_of
 from checks.parts.memory import memory_of
 from checks.parts.places import tool
@@ -177,7 +179,8 @@ def cursors_are_files_of_their_own(room):
         expect_refused(room.path("locked"), b"is locked")
     # Another file beside it isn't overwritten either.
     shutil.copyfile(store, room.path("cursor.tmp"))
-    fed(room.path("cursor"))
+    with Server(room.path("socket"), scripted(refusal(1, NOT_COUNTED))):
+        fed(room.path("cursor"))
     expect(read(room.path("cursor")), b"here\n", "the place that journal-feed keeps")
     expect_true(read(room.path("cursor.tmp")) == before, "journal-feed overwrites a store beside its CURSOR")
 

@@ -1,6 +1,11 @@
 """The units of feeds and forwards."""
+import json
+import os
+import re
 import time
 
+from checks.parts.files import read_text
+from checks.parts.places import DOCS
 from checks.parts.scenes import scene
 from checks.parts.waiting import wait_for
 from checks.parts.wrong import expect_true
@@ -63,6 +68,41 @@ def scene_tail(machine):
     machine.start("audit-daemon@tail")
     comes(*[b"meanwhile %d" % number for number in range(8)], b"new")
     machine.stop("audit-tail@tail", "audit-daemon@tail")
+
+
+def block_of_operations(word):
+    """The code block of docs/operations.md in which a word is, as a file."""
+    blocks = re.findall(r"(?:^      .*\n|^\n)+", read_text(os.path.join(DOCS, "operations.md")), re.M)
+    block, = (found for found in blocks if word in found)
+    return "".join(line[6:] + "\n" for line in block.strip("\n").splitlines())
+
+
+@scene
+def scene_bound(machine):
+    """Feeds whose kinds are bound, as the document has them: whatever is killed, each line of a file and each message
+    is there once, in order."""
+    machine.make_store("some", 60000)
+    machine.write("/etc/systemd/system/audit-daemon@some.service.d/feed.conf", block_of_operations("mkdir -p feed"))
+    options = block_of_operations("JOURNAL_SOCKET=").replace("/var/log/audit/audit.log", "/var/log/bound.log")
+    machine.write("/etc/default/audit-some", options + "JOURNAL=SYSLOG_IDENTIFIER=bound\n")
+    machine.good("sh", "-c", 'echo line 0 >"$0"; chgrp adm "$0"; chmod 640 "$0"', "/var/log/bound.log")
+    machine.good("systemctl", "daemon-reload")
+    units = "audit-daemon@some", "audit-journal@some", "audit-tail@some"
+    for unit in units:
+        machine.start(unit)
+    lines = 1
+    for unit in units * 2:
+        machine.good("sh", "-c", "for i in $(seq %d %d); do echo line $i >>/var/log/bound.log; "
+                     "echo message $i | systemd-cat --identifier=bound; done" % (lines, lines + 19))
+        lines += 20
+        machine.good("systemctl", "kill", "--kill-who=all", "--signal=KILL", unit)
+    wait_for(lambda: machine.count("some") == 2 * lines - 1, "the last line", 60)
+    found = machine.payloads("some")
+    held = [payload for payload in found if not payload.startswith(b"{")]
+    expect_true(held == [b"line %d" % number for number in range(lines)], "the lines of a file: %r .." % held[:30])
+    told = [json.loads(payload)["MESSAGE"] for payload in found if payload.startswith(b"{")]
+    expect_true(told == ["message %d" % number for number in range(1, lines)], "the messages: %r .." % told[:30])
+    machine.stop(*reversed(units))
 
 
 # A program in place of ssh: it forwards the socket of its -L, as far as this machine has both ends.

@@ -1,6 +1,8 @@
 """Events, logs and digests that several tests share."""
+from model import wire
 from model.chain import CLOSE, log_of, number
 from model.disk import end_of, image_of
+from model.session import Rights, Server, Session
 from model.stored.value import digest_of_digests
 from model.tree import commitment, increment, membership, root
 
@@ -46,3 +48,11 @@ def state(case, log_events, sectors, generation, version=2):
 
 def state_of(case, log_events, make_image):
     return digest_of_digests(case, ("answers", lambda: answers(log_of(log_events))), ("image", lambda: b"".join(make_image())))
+
+
+def daemon_replies(requests, sectors, **store):
+    """What one of a daemon's clients is replied whose requests wait together."""
+    server, session = Server(sectors, **store), Session(Rights(), True)
+    server.feed(session, b"".join(map(wire.request_frame, requests)))
+    server.flush()
+    return session.output

@@ -1,9 +1,9 @@
 """The values in crates/audit_test_disk."""
 from model import wire
-from model.chain import CLOSE, FIRST_LINK, ZERO_KEY, log_of, number, seal
+from model.chain import CLOSE, FIRST_LINK, ZERO_KEY, entry_keys, log_of, number, seal
 from model.disk import Header, header_of, header_sector, padded
 from model.session import replies_to
-from model.stored.common import HI, root_of
+from model.stored.common import HI, daemon_replies, root_of
 from model.stored.streams import sum_of_readings
 from model.stored.value import digest, text
 from model.wire import Request
@@ -50,6 +50,9 @@ def headers():
     yield text("other_than_zeros", lambda: number(1, 32))
 
 
+A = 1, b"a"
+
+
 def vectors():
     hi = log_of([HI])
     append = Request(wire.APPEND, 7, (1,), b"hi")
@@ -62,6 +65,9 @@ def vectors():
     yield text("empty_commitment", lambda: replies_to([Request(wire.COMMITMENT, 9)], 64))
     for name, request in zip(("entry_reply", "state", "membership", "increment"), asked):
         yield text(name, lambda request=request: after_append(request))
+    yield text("root_of_two", lambda: root_of([HI, A]))
+    yield text("key_of_entry_1", lambda: entry_keys(ZERO_KEY, [HI, A])[1])
+    yield text("placed", lambda: daemon_replies([Request(wire.PLACED, 10, (1, 1), b"a")], 64, counted=[1], events=[HI]))
 
 
 def streams():

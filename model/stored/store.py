@@ -1,9 +1,9 @@
-"""The values in crates/audit_test_store, and in crates/audit_tool_endure."""
+"""The values in crates/audit_test_store, and those in crates/audit_test_serve and crates/audit_tool_endure."""
 from model import wire
-from model.chain import CLOSE, log_of, number
+from model.chain import CLOSE, ZERO_KEY, entry_keys, log_of, number
 from model.disk import header_of, header_sector, image_of, recovered
 from model.session import Rights, Server, Session, replies_to
-from model.stored.common import HI, closing_of, event, events, root_of, state, state_of
+from model.stored.common import HI, closing_of, daemon_replies, event, events, root_of, state, state_of
 from model.stored.value import digest, text
 from model.tree import commitment, increment, membership
 from model.wire import Request
@@ -166,6 +166,67 @@ def replies_until_flush(requests):
     return session.output
 
 
+def placed(tag, kind, place, payload=b""):
+    return Request(wire.PLACED, tag, (kind, place), payload)
+
+
+# What waits together: appends of one session, and questions of another. What is appended in the next flush.
+MIXED = [placed(1, 1, 0, b"a"), append(2, b"b"), placed(3, 1, 1, b"c"), placed(4, 1, 3, b"d"), placed(5, 7, 0, b"e"),
+         placed(6, 2, 0, b"f"), placed(7, 1, 2, b"g")]
+ASKED = [Request(wire.PLACE, tag, (kind,)) for tag, kind in ((8, 1), (9, 7), (10, 2))]
+LATER = [placed(11, 1, 2, b"h"), placed(12, 1, 3, b"h")]
+FULL = [placed(1, 1, 0), placed(2, 1, 1, bytes(441)), placed(3, 1, 2), placed(4, 1, 1), placed(5, 1, 2), placed(6, 1, 0)]
+CLOSED = [placed(1, 1, 0), Request(wire.CLOSE, 2), placed(3, 1, 1), placed(4, 1, 0)]
+SHUT = [placed(5, 1, 1), placed(6, 1, 2)]
+
+
+def frames_in(stream):
+    """The frames of a stream, one by one."""
+    frames = []
+    while stream:
+        body, stream = wire.first_body(stream)
+        frames.append(wire.frame(body))
+    return frames
+
+
+def told(rounds, sectors, counted, reserve=0):
+    """What the sessions of a new store are replied in the last of some rounds, frame by frame. Each round is flushed."""
+    server = Server(sectors, counted=counted, reserve=reserve)
+    for requests in rounds:
+        sessions = [Session(Rights(), True) for _ in requests]
+        for session, asked in zip(sessions, requests):
+            server.feed(session, b"".join(map(wire.request_frame, asked)))
+        server.flush()
+    return [frame for session in sessions for frame in frames_in(session.output)]
+
+
+# For each round the replies in it that aren't refusals.
+TOLD = {
+    "mixed": (lambda: told([(MIXED, ASKED)], 16, [1, 7]), (0, 1, 2, 3, 4, 6, 7, 8)),
+    "later": (lambda: told([(MIXED, ASKED), (LATER,)], 16, [1, 7]), (0, 1)),
+    "full": (lambda: told([(FULL,)], 4, [1]), (0, 2, 3, 5)),
+    "closed": (lambda: told([(CLOSED,)], 5, [1], 1), (0, 1, 3)),
+    "shut": (lambda: told([(CLOSED,), (SHUT,)], 5, [1], 1), (1,)),
+}
+
+
+def commit_places():
+    for name, (replies, kept) in TOLD.items():
+        for place in kept:
+            yield text("%s/%d" % (name, place), lambda replies=replies, place=place: replies()[place])
+
+
+def store_places():
+    for place in range(3):
+        yield text("%d/key" % place, lambda place=place: entry_keys(ZERO_KEY, [(1, b""), (1, b""), (7, b"")])[place])
+
+
+def serve_places():
+    """The reply to the second append of a source, at its place."""
+    placed_a = placed(10, 1, 1, b"a")
+    yield text("placed", lambda: daemon_replies([placed_a], 64, events=[HI], counted=[1]))
+
+
 def index_events(count, size):
     return [(place + 1, bytes([place]) * size) for place in range(count)]
 
@@ -199,8 +260,10 @@ def endure():
 
 TESTS = "crates/audit_test_store/src/"
 FILES = {
-    TESTS + "commit.rt": commit, TESTS + "index.rt": index, TESTS + "layout.rt": layout, TESTS + "store/appends.rt": appends,
+    TESTS + "commit.rt": commit, TESTS + "commit/places.rt": commit_places, TESTS + "store/places.rt": store_places,
+    TESTS + "index.rt": index, TESTS + "layout.rt": layout, TESTS + "store/appends.rt": appends,
     TESTS + "store/closing.rt": closing, TESTS + "store/faults.rt": faults, TESTS + "store/large.rt": large,
     TESTS + "store/many.rt": many, TESTS + "store/memory.rt": memory, TESTS + "store/rows.rt": rows, TESTS + "store/stops.rt": stops,
     TESTS + "store/versions.rt": versions, "crates/audit_tool_endure/src/stops.rt": endure,
+    "crates/audit_test_serve/src/places.rt": serve_places,
 }
