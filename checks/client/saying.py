@@ -148,7 +148,7 @@ def expect_numbers_named(expect_said):
 
 def expect_wrong_words_named(log, expect_said):
     """Wrong words of questions, and what form they should have."""
-    questions = {"nothing": "nothing: QUESTION is commitment, state, close, export, entry, member or increment",
+    questions = {"nothing": "nothing: QUESTION is commitment, state, place, close, export, entry, member or increment",
                  "close x": "close: it takes no further word",
                  "state x": "state: it takes no further word",
                  "export": "export: it takes OUT", "export -": "-: OUT is a regular file, or is made",

@@ -361,12 +361,18 @@ fn explain_words<W: Write, M: Write>(
     output: &mut W,
     messages: &mut M,
 ) -> Status {
+    if error.kind() == ErrorKind::OutOfMemory {
+        return report(CommandError::Refused(StoreError::Memory), messages);
+    }
     let Ok(shown) = shown_words(alloc, words) else {
         return report(CommandError::Refused(StoreError::Memory), messages);
     };
     match fault_in(alloc, &shown) {
         Some(shown) if shown.kind() == error.kind() => {
             print_usage(&shown, notes, output, messages)
+        }
+        Some(shown) if shown.kind() == ErrorKind::OutOfMemory => {
+            report(CommandError::Refused(StoreError::Memory), messages)
         }
         _ => report(CommandError::BadArgument, messages),
     }
@@ -391,16 +397,13 @@ fn shown_words(alloc: Global, words: &[String]) -> Result<Vec<String>, AllocErro
     Ok(shown)
 }
 
-// Prints clap's help or usage, or reports that memory ran out.
+// Prints clap's help or usage.
 fn print_usage<W: Write, M: Write>(
     error: &Error,
     notes: &Notes<'_>,
     output: &mut W,
     messages: &mut M,
 ) -> Status {
-    if error.kind() == ErrorKind::OutOfMemory {
-        return report(CommandError::Refused(StoreError::Memory), messages);
-    }
     if error.use_stderr() {
         let _ = write!(messages, "{error}");
         return Status::Usage;
