@@ -282,7 +282,12 @@ def reply_in(bytes_):
         numbers(0, "count")
         numbers(40, "end", "sectors", "generation")
         found.update(root=fields[8:40], version=int.from_bytes(fields[64:66], "big"), closed=fields[66])
-    elif kind == 0xff and len(fields) == 1 and fields[0] in (4, 7, 8, 9, 11, 13, 16, 20):
+    elif kind == 0x88 and len(fields) == 16:
+        numbers(0, "index", "count")
+    elif kind == 0x89 and len(fields) == 80:
+        numbers(0, "index", "count")
+        found["root"] = fields[16:48]
+    elif kind == 0xff and len(fields) == 1 and fields[0] in (4, 7, 8, 9, 11, 13, 16, 18, 20):
         found["code"] = fields[0]
     else:
         return "malformed"
@@ -327,9 +332,11 @@ def replies():
     for number in (0, 5, (1 << 64) - 1):
         yield frames.acknowledgement((1 << 32) - 1, number, number, root)
         yield frames.commitment_reply(0, number, root)
+        yield frames.place_reply(2, number, number)
+        yield frames.placed_acknowledgement(4, number, number, root, hashes[0])
         for mark in (0, 1):
             yield frames.state_reply(3, number, root, 3, number, 1, 2, mark)
-    for code in (4, 7, 8, 9, 11, 13, 16, 20):
+    for code in (4, 7, 8, 9, 11, 13, 16, 18, 20):
         yield frames.refusal(17, code)
 
 
@@ -351,7 +358,7 @@ def scene_mutated_replies():
     for _ in range(rounds(20000)):
         expect_reply(mutated(ROLLS.choice(whole)), "a changed reply")
     for kind in range(256):
-        for size in (0, 1, 5, 6, 45, 53, 72, 73):
+        for size in (0, 1, 5, 6, 20, 45, 53, 72, 73, 84):
             body = bytes([kind]) + bytes(size)
             expect_reply(len(body).to_bytes(2, "big") + body, "a frame of kind %d with %d bytes" % (kind, size))
 
@@ -365,8 +372,10 @@ def scene_vectors():
     inclusion, consistency = vectors.proofs(found, log.entries)
     two, three = (commitment_of(log_of(log.events[:count])) for count in (2, 3))
     expect((check(inclusion, three), check(consistency, two, three)), (True, True), "the proofs of the document")
-    for frame in vectors.conversation(found, inclusion, consistency, log.entries)[1::2]:
-        expect_reply(frame, "a reply of the document")
+    meant = vectors.meant_by(found, inclusion, consistency, log.entries)
+    for lines in found.frames, found.placed:
+        for frame in vectors.conversation(lines, meant)[1]:
+            expect_reply(frame, "a reply of the document")
     expect(str(Commitment.parse("3:" + three.root.hex().upper())), "3:" + three.root.hex(), "a commitment's word")
     for word in ("", "3", "3:", ":" + 64 * "0", "3:" + 63 * "0", "18446744073709551616:" + 64 * "0", "3:" + 64 * "g",
                  "-1:" + 64 * "0", " 3:" + 64 * "0", "3:" + 64 * "0" + "\n", "000000000000000000003:" + 64 * "0"):

@@ -21,7 +21,7 @@ IN_FLIGHT = 64
 MOST_IN_FLIGHT = 256
 _NO_MORE = object()
 _REFUSALS = {4: "DamagedLog", 7: "Full", 8: "NoSuchVersion", 9: "Worn", 11: "Device", 13: "Closed", 16: "NotAllowed",
-             20: "Malformed"}
+             18: "NotCounted", 20: "Malformed"}
 # The two numbers at the head of a proof.
 _HEAD = struct.Struct(">QQ")
 
