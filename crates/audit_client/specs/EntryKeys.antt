@@ -44,7 +44,7 @@ pub record KeepsAllKeys (read_old read_new keys_old keys_new : Option (List ℕ)
   pub read : ReadsReplies read_old read_new answers
   pub kept : Appends keys_old keys_new (flat_map key_kept answers)
 
--- so many, and then at most a part of one more
+-- the keys of that many replies were kept, and at most a part of the next one
 pub record KeepsKeys (read_old keys_old keys_new : Option (List ℕ)) (count : ℕ) : Type 0 where
   pub read_new : Option (List ℕ)
   pub mid : Option (List ℕ)
