@@ -9,13 +9,16 @@ import time
 from checks.daemon.common import OWN, Daemon, sectors_for, sources_at
 from checks.parts.clients import connected, in_process
 from checks.parts.files import mode_of, read
-from checks.parts.frames import append_frame, reply_of
-from checks.parts.logs import History, entries_of
+from checks.parts.frames import ENTRY_REPLY, MAX_PLACED, append_frame, entry_frame, placed_frame, reply_of
+from checks.parts.logs import History, entries_of, keys_from
+from checks.parts.memory import memory_of
 from checks.parts.processes import forget, start
 from checks.parts.program import SECONDS
+from checks.parts.rooms import FIRST_KEY
 from checks.parts.scenes import scene
 from checks.parts.waiting import wait_until
 from checks.parts.wrong import expect, expect_true
+from model.chain import keystream_key
 from read_export import under_keystream
 
 
@@ -139,3 +142,66 @@ def each_acknowledged_event_has_a_receipt(room):
     room.done("export", store, room.path("export"))
     expect([payload for kind, payload in room.events(store) if kind == OWN], payloads, "the list in the store")
     expect_receipts(sending, entries_of(read(room.path("export"))))
+
+
+class ReceiptKeys:
+    """The keys of the receipts of a source's events, the only ones of a log, and which of them a daemon has in memory."""
+
+    def __init__(self, daemon, store):
+        self.daemon, self.store, self.chain = daemon, store, keys_from(FIRST_KEY)
+        self.keys = []
+
+    def of_reply(self, reply):
+        """The key of the next event's receipt, which a reply must have."""
+        expect(reply[-32:], self.next(), "the key of receipt %d" % (len(self.keys) - 1))
+
+    def next(self):
+        self.keys.append(keystream_key(next(self.chain), OWN))
+        return self.keys[-1]
+
+    def expect_in_memory(self, wanted, what):
+        self.daemon.settle()
+        memory = memory_of(self.daemon.process)
+        if memory is not None:
+            expect_true(self.store.encode() in memory, "the memory that was searched isn't the daemon's")
+            expect([index for index, key in enumerate(self.keys) if key in memory], wanted, what)
+
+
+def kept_reply(path, keys, place):
+    """A source whose acknowledgement waits in the daemon behind entries that it doesn't read."""
+    stream = connected(path)
+    stream.sendall(entry_frame(0) * 24)
+    keys.daemon.settle()
+    stream.sendall(placed_frame(b"kept", place, kind=OWN))
+    keys.next()
+    keys.expect_in_memory([place], "the key of a receipt that waits")
+    return stream
+
+
+@scene
+def receipts_are_forgotten(room):
+    """The key of a receipt is in a daemon's memory while its reply waits, and no longer: one at a time, in batches
+    with questions, behind entries that a client takes late, or never."""
+    words, (path,) = sources_at(room, OWN)
+    store = room.store("store", sectors=sectors_for(4000))
+    daemon = Daemon(room, store, *words)
+    keys = ReceiptKeys(daemon, store)
+    with connected(path) as stream:
+        for place in range(20):
+            stream.sendall(placed_frame(b"x" * (MAX_PLACED if place == 0 else place), place, kind=OWN))
+            keys.of_reply(reply_of(stream))
+        keys.expect_in_memory([], "the keys of receipts that were read one by one")
+        stream.sendall(b"".join(placed_frame(b"many", place, kind=OWN) for place in range(20, 148)) + entry_frame(0) * 5)
+        for _ in range(128):
+            keys.of_reply(reply_of(stream))
+        for _ in range(5):
+            expect(reply_of(stream)[0], ENTRY_REPLY, "an entry")
+        keys.expect_in_memory([], "the keys of receipts that were read with entries")
+    with kept_reply(path, keys, 148) as stream:
+        for _ in range(24):
+            expect(reply_of(stream)[0], ENTRY_REPLY, "an entry")
+        expect(reply_of(stream)[-32:], keys.keys[148], "the key of a receipt that waited")
+        keys.expect_in_memory([], "the keys of receipts that were read late")
+    kept_reply(path, keys, 149).close()
+    keys.expect_in_memory([], "the keys of receipts that were never read")
+    daemon.stopped_well()

@@ -6,6 +6,7 @@ mod hash;
 mod hashes;
 pub mod laws;
 mod limits;
+mod wiping;
 
 pub use bytes::{are_equal, are_zero, array_at, u16_at, u32_at, u64_at};
 pub use hash::{Hash, is_same_hash};
@@ -15,3 +16,4 @@ pub use limits::{
     HASH_LEN, LAYERS, MAX_COUNT, MAX_DEPTH, MAX_ENTRY, MAX_ENTRY_SECTORS, MAX_INCREMENT_HASHES,
     MAX_MEMBER_HASHES, MAX_PAYLOAD, RESERVED_KIND, SECTOR_SIZE, SESSIONS,
 };
+pub use wiping::{reserve_and_wipe, wipe};

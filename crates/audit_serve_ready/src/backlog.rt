@@ -1,13 +1,18 @@
 ghost use Rattle.std.specs.Prelude.{◌≡◌};
 
+use audit_base::{reserve_and_wipe, wipe};
 use std::alloc::{AllocError, Global};
 use std::marker::Model;
 
-/// Bytes that wait to be written, of which the first are removed as they are written. Removing moves no byte.
+/// Bytes that wait to be written, of which the first are removed as they are written. Removing moves no byte. Among them
+/// may be keys of entries, so what is removed is overwritten, and so is a buffer that the bytes leave.
 #[derive(Drop)]
 pub(crate) struct Backlog {
     bytes: Vec<u8>,
     start: usize,
+    alloc: Global,
+    // What was read back from the bytes that were overwritten last.
+    wiped: u8,
 }
 
 impl Model for Backlog {
@@ -29,6 +34,8 @@ impl Backlog {
         Backlog {
             bytes: Vec::new(alloc),
             start: 0,
+            alloc,
+            wiped: 0,
         }
     }
 
@@ -60,7 +67,25 @@ impl Backlog {
             return Ok(());
         }
         self.compact();
-        self.bytes.extend_from_slice(&more)
+        let done = self.extend(&more);
+        self.discard(more);
+        done
+    }
+
+    // Copies bytes behind the others.
+    fn extend(&mut self, more: &[u8]) -> Result<(), AllocError>
+        ensures { MatchResult result (λ done. self.new ≡ self.old ++ more.now) (λ error. self.new ≡ self.old) }
+    {
+        self.wiped = reserve_and_wipe(self.alloc, &mut self.bytes, more.len(), self.wiped)?;
+        self.bytes.extend_from_slice(more)
+    }
+
+    /// Drops bytes that aren't kept.
+    pub(crate) fn discard(&mut self, bytes: Vec<u8>)
+        ensures { self.new ≡ self.old }
+    {
+        let mut bytes = bytes;
+        self.wiped = wipe(&mut bytes, self.wiped);
     }
 
     // Moves the bytes to the front of their buffer if more of it was removed than is left.
@@ -80,12 +105,15 @@ impl Backlog {
         requires { count ≤ length self.old }
         ensures { self.new ≡ drop count self.old }
     {
-        self.start += count;
+        let end = self.start + count;
+        self.wiped = wipe(&mut self.bytes[self.start..end], self.wiped);
+        self.start = end;
     }
 
     pub(crate) fn clear(&mut self)
         ensures { self.new ≡ [] }
     {
+        self.wiped = wipe(&mut self.bytes, self.wiped);
         self.bytes.clear();
         self.start = 0;
     }

@@ -275,6 +275,7 @@ impl<S: ReadyStream + Drop> Slot<S> {
         ensures noted { noted_of self.new ≡ noted_after_sending [] self.old self.new }
     {
         if self.is_mute() {
+            self.kept.discard(bytes);
             return;
         }
         if self.kept.append(bytes).is_err() {

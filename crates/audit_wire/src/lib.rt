@@ -56,4 +56,4 @@ pub use reply_reading::{first_frame, read_reply};
 pub use request::Request;
 pub use request_writing::write_request;
 pub use view::RequestView;
-pub use writing::write_reply;
+pub use writing::{frame_size, write_reply};

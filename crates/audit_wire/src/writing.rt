@@ -41,7 +41,15 @@ pub fn write_reply(_alloc: Global, reply: &Reply, out: &mut Vec<u8>) -> Result<(
     Ok(())
 }
 
-/// Returns the length of a reply's body.
+/// Returns the length of a reply's frame in bytes.
+pub fn frame_size(reply: &Reply) -> usize
+    requires { IsReply reply.now }
+    ensures { result ≡ length (frame (reply_body reply.now)) }
+{
+    LENGTH_BYTES + body_size(reply)
+}
+
+// The length of a reply's body.
 fn body_size(reply: &Reply) -> usize
     requires { IsReply reply.now }
     ensures size { result ≡ length (reply_body reply.now) }
