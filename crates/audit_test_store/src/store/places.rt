@@ -1,5 +1,7 @@
-//! How many events of a kind a store holds, and the keys of the entries that an append would seal.
+//! How many events of a kind a store holds, and the keys of the entries of a batch.
 use super::*;
+use audit_chain::FIRST_LINK;
+use audit_store_layout::{Batch, seal_batch};
 
 // Events of these kinds without payloads.
 fn of_kinds(rt: &impl Abort, alloc: Global, kinds: &[u32]) -> Vec<Event> {
@@ -56,35 +58,33 @@ const KEYS: [&str; 3] = [
     "1fa2960d04ad6b5eb5d8b2a94a9d87598b8a69e8f0ffe894b11c066d75571189",
 ];
 
-// Whether these are the keys of an append of these kinds.
-fn are_keys<D: Sectors>(
-    rt: &impl Abort,
-    alloc: Global,
-    store: &Store<D>,
-    kinds: &[u32],
-    keys: &[&str],
-) -> bool {
+// Keys of no entry.
+const NO_KEY: [u8; 32] = [0xff; 32];
+
+// Seals a batch of these kinds, the first of a log whose first key is zero, with this room for the keys of its entries.
+fn seal_kinds(rt: &impl Abort, alloc: Global, kinds: &[u32], keys: &mut [[u8; 32]]) {
     let events = of_kinds(rt, alloc, kinds);
-    let found = store.entry_keys(&events).expect(rt, "memory");
-    for (place, digits) in keys.iter().enumerate() {
-        if found.get(place).copied() != Some(hash(rt, digits)) {
-            return false;
-        }
-    }
-    found.len() == keys.len()
+    let first = Key::from_bytes([0; 32]);
+    let sealed = seal_batch(alloc, &first, &FIRST_LINK, &Batch::new(&events), keys).expect(
+        rt,
+        "a sealed batch",
+    );
+    check!(rt; sealed.entries.len() == kinds.len());
 }
 
-// They are those of the next entries, also in a store that was opened again.
+// They are those of the batch's entries, in order; what is behind them stays. Where there is less room, the others are
+// left out.
 #[test]
-fn keys_of_the_next_entries(rt: HostRuntime) {
+fn keys_of_a_batch(rt: HostRuntime) {
     let alloc = rt.alloc();
-    let mut store = formatted(&rt, alloc, device(&rt, alloc, 16));
-    check!(&rt; are_keys(&rt, alloc, &store, &[1, 1, 7], &KEYS));
-    check!(&rt; are_keys(&rt, alloc, &store, &[], &[]));
-    store
-        .append(&batch_of_hi(&rt, alloc))
-        .expect(&rt, "an append");
-    check!(&rt; are_keys(&rt, alloc, &store, &[1, 7], &KEYS[1..]));
-    let again = opened(&rt, alloc, store.into_disk());
-    check!(&rt; are_keys(&rt, alloc, &again, &[1, 7], &KEYS[1..]));
+    let mut keys = [NO_KEY; 4];
+    seal_kinds(&rt, alloc, &[1, 1, 7], &mut keys);
+    check!(&rt; keys[0] == hash(&rt, KEYS[0]) && keys[1] == hash(&rt, KEYS[1]));
+    check!(&rt; keys[2] == hash(&rt, KEYS[2]) && keys[3] == NO_KEY);
+    let mut few = [NO_KEY; 2];
+    seal_kinds(&rt, alloc, &[1, 1, 7], &mut few);
+    check!(&rt; few[0] == hash(&rt, KEYS[0]) && few[1] == hash(&rt, KEYS[1]));
+    let mut none = [NO_KEY; 1];
+    seal_kinds(&rt, alloc, &[], &mut none);
+    check!(&rt; none[0] == NO_KEY);
 }

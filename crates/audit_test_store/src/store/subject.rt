@@ -4,8 +4,7 @@ use audit_chain::{Event, Key};
 use audit_disk::{ReadOnly, SectorSource, Sectors};
 use audit_proof::Commitment;
 use audit_store::{Failed, Receipt, RunEnd, StoreError};
-use audit_store_layout::Batch;
-use std::alloc::{AllocError, Global};
+use std::alloc::Global;
 
 // A store on a device, as `audit_store` has it.
 #[derive(Drop)]
@@ -66,10 +65,6 @@ impl<D: Sectors> Store<D> {
 
     pub(crate) fn events_of_kind(&self, kind: u32) -> u64 {
         self.inner.events_of_kind(kind)
-    }
-
-    pub(crate) fn entry_keys(&self, events: &[Event]) -> Result<Vec<[u8; 32]>, AllocError> {
-        self.inner.entry_keys(&Batch::new(events))
     }
 
     pub(crate) fn commitment(&self) -> Commitment {
