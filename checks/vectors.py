@@ -18,13 +18,14 @@ from checks.parts.files import folder_of_its_own, read, read_text, write
 from checks.parts.frames import append_frame, place_frame, placed_frame, request
 from checks.parts.logs import word_of
 from checks.parts.places import DOCS
-from checks.parts.program import done, done_with
+from checks.parts.program import done, done_with, whole
 from checks.parts.scenes import program_of
 from checks.parts.wrong import Wrong
 from history import BadArgument, commitment, leaf_hash, root
 from model import wire
 from model.chain import CLOSE, ZERO_KEY, entry_keys, keystream_key, log_of, next_key
 from model.disk import header_of, header_sector
+from model.links import ACCEPTED, NEW_HALF, OLD_HALF, judged, link_bytes, link_in, link_of
 from model.note import note, note_in
 from model.session import Rights, Server, Session
 from model.tree import membership, membership_proof
@@ -40,6 +41,10 @@ NAMED = b"some.example/log"
 RECEIPTS = [([(KIND, b"hi"), (KIND, b"a")], 1),
             ([(KIND, b"paid 250.00 EUR to DE02120300000000202051 by order 4711, approved by two")], 0)]
 UNBOUND = b"audit: a key is not bound to a text of fewer than 16 bytes: another key can show another text\n"
+# The first key of the log that goes on after the link, and what the program prints of links.
+NEXT_KEY = b"\x01" * 32
+SAID_OF_LINKS = {(0, b"accepted\n", b""): ACCEPTED, (1, b"not accepted: old half\n", b""): OLD_HALF,
+                 (1, b"not accepted: new half\n", b""): NEW_HALF, (1, b"", b"audit: 32 BadProof\n"): None}
 # The events of the vectors of printed lines.
 PRINTED = [(1, b"hi"), (7, b""), (2, b"a\tb\\\n"), (7, "caf\u00e9 \"x\"".encode()), (1, b"\xff\x00"), (0xffffffff, b"")]
 
@@ -58,10 +63,10 @@ class Vectors:
         self.json, self.numbered = ("".join(line[4:] for line in block.splitlines(True))
                                     for block in re.findall(r"(?:^    .*\n)+", printed + "\n", re.M))
         blocks = re.findall(r"(?:^    .*\n)+", section, re.M)
-        if len(blocks) != 7:
-            raise Wrong("docs/formats.md: the test vectors aren't seven blocks, but %d" % len(blocks))
+        if len(blocks) != 8:
+            raise Wrong("docs/formats.md: the test vectors aren't eight blocks, but %d" % len(blocks))
         blocks = [[line[4:] for line in block.splitlines()] for block in blocks]
-        self.values, self.proofs, self.header, self.frames, self.of_daemon, self.placed, self.receipts = blocks
+        self.values, self.proofs, self.header, self.frames, self.of_daemon, self.placed, self.receipts, self.link = blocks
         self.last_root = re.search(r"The root of 4 is\n`([0-9a-f]{64})`", section)[1]
 
 
@@ -213,6 +218,7 @@ def differences(vectors):
     yield from differences_of_states(vectors.state, vectors.newest, log)
     yield from differences_of_lines(vectors)
     yield from differences_of_receipts(receipts(vectors.receipts))
+    yield from differences_of_link(vectors.link)
     yield from differences_of_program(vectors, inclusion, consistency, log)
 
 
@@ -309,6 +315,32 @@ def differences_of_note(text, log):
     write("note", text)
     if [done("note", NAMED.decode(), word) for word in (word_of(*head), "@note")] != [text, text]:
         yield "the program prints another note"
+
+
+def differences_of_link(lines):
+    """The document's link is the model's, and is accepted under the document's commitments alone, for the model and for the
+    program; with another byte it isn't."""
+    old = log_of([(KIND, payload) for payload in PAYLOADS[:3]] + [CLOSE])
+    link, new = link_of(old, NEXT_KEY)
+    text, ends = bytes.fromhex("".join(lines[:-2])), [commitment(word) for word in lines[-2:]]
+    if text != link_bytes(link) or link_in(text) != link or ends != [(len(log.leaves), root(log.leaves)) for log in (old, new)]:
+        yield "the link"
+    others = [ends[0], (2, bytes(32))], [(4, bytes(32)), ends[1]]
+    for (older, newer), verdict in zip((ends, *others), (ACCEPTED, NEW_HALF, OLD_HALF)):
+        if judged(link, older, newer) != verdict or judged_by_program(text, older, newer) != verdict:
+            yield "the link under %s and %s isn't judged as %s" % (word_of(*older), word_of(*newer), verdict)
+    for place in range(0, len(text), 7):
+        changed = text[:place] + bytes((text[place] ^ 1,)) + text[place + 1:]
+        of_model = judged(link_in(changed), *ends) if link_in(changed) else None
+        if of_model == ACCEPTED or judged_by_program(changed, *ends) != of_model:
+            yield "the link with another byte at %d" % place
+
+
+def judged_by_program(text, older, newer):
+    """What the program says of a link, or nothing if it is none."""
+    write("link", text)
+    ended = whole("check", "link", word_of(*older), word_of(*newer), "--link")
+    return SAID_OF_LINKS.get(ended, "status %d" % ended[0])
 
 
 def is_state(text):

@@ -20,7 +20,7 @@ import shutil
 import tempfile
 import time
 
-from checks.page import changes, events, files, hostile, looks, million, receipts, reports, taking, verdicts
+from checks.page import changes, events, files, hostile, links, looks, million, receipts, reports, taking, verdicts
 from checks.page.browsers import Browser
 from checks.parts.wrong import LeftOut, Usage, told
 
@@ -50,6 +50,7 @@ def tests_of(browser, room, options):
         "file": lambda: files.test_file(),
         "exports": lambda: verdicts.test_exports(browser, exports, options["--keep"]),
         "proofs": lambda: verdicts.test_proofs(browser, proofs, options["--keep"]),
+        "links": lambda: links.test_links(browser),
         "states": lambda: verdicts.test_states(browser, tails, options["--keep"]),
         "hostile": lambda: hostile.test_hostile(browser, room), "pages": lambda: events.test_pages(browser),
         "searches": lambda: events.test_searches(browser), "events": lambda: events.test_events(browser, room),

@@ -5,6 +5,7 @@ from read_export import under_keystream
 from model import wire
 from model.chain import CLOSE, CLOSING_KIND, FIRST_LINK, ZERO_KEY, entry_keys, log_of, seal
 from model.disk import image_of
+from model.links import LINK_KIND, Link, link_bytes, link_events, link_of
 from model.session import replies_to
 from model.sources import read
 from model.stored.common import HI, THREE
@@ -14,6 +15,8 @@ from model.verdict import state_after
 from model.wire import Request
 
 EMPTY = 7, b""
+# The first key of a log that goes on.
+NEXT_KEY = b"\x01" * 32
 TWO = [HI, EMPTY]
 FOUR = [*THREE, (9, bytes(place % 256 for place in range(512)))]
 
@@ -83,6 +86,25 @@ def opened_events():
     payload = b"paid 120 to account 4711"
     own, other = entry_keys(ZERO_KEY, [HI, (7, payload)])
     return numbered(lambda: payload, lambda: under_keystream(own, under_keystream(other, payload)))
+
+
+def checked_links():
+    """A link from a closed log, and two that say no numbers: these have a zero before one, or are of another kind."""
+    old = log_of([HI, (7, b""), CLOSE])
+    link, new = link_of(old, NEXT_KEY)
+    (said, _) = link_events(old)
+    values = [lambda: root(old.leaves), lambda: root(new.leaves), lambda: link_bytes(link)]
+    for numbers in (LINK_KIND, b"audit-counts 1\n1 1\n7 01\n"), (1, b"audit-counts 1\n1 1\n"):
+        values += said_otherwise(link, [said, numbers])
+    return numbered(*values)
+
+
+def said_otherwise(link, events):
+    """The root of the log of these two events, and the link with its entries."""
+    log = log_of(events, NEXT_KEY)
+    own, other = entry_keys(NEXT_KEY, events)
+    changed = Link(*link[:3], own, other, *log.entries)
+    return [lambda: root(log.leaves), lambda: link_bytes(changed)]
 
 
 def close():
@@ -266,6 +288,7 @@ def verified_further_script():
 
 FILES = {"cases/%s" % name: make for name, make in {
     "checked_proofs/script": checked_proofs,
+    "checked_links/script": checked_links,
     "close/stdout": close,
     "contents_of_proofs/script": contents_of_proofs,
     "exported_stores/script": exported_stores_script,

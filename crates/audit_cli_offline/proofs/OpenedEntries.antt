@@ -1,5 +1,5 @@
 -- What the keys of keystreams open.
-use Rattle.std.proofs.Common.{inl, inr, ◌≡◌, ◌⊎◌, ℕ, ◌<◌, ◌^◌, List, [], ◌++◌, Result, Ok, append-nil, length, take, drop, refl, sym, ap, ◌∙◌, codes, bytes_eq}
+use Rattle.std.proofs.Common.{inl, inr, ◌≡◌, ◌⊎◌, ℕ, ◌<◌, ◌^◌, List, ◌++◌, length, take, drop, refl, sym, ap, ◌∙◌, codes, bytes_eq}
 use Rattle.std.specs.Int.{w32, to_be_bytes, from_be_bytes}
 use Rattle.std.proofs.lemmas.Bool.{cases_Bool, true≢false}
 use Rattle.std.proofs.lemmas.List.{take_at, drop_at}
@@ -8,20 +8,9 @@ use Rattle.std.proofs.lemmas.Slice.Eq.{bytes_eq-Decides}
 use Rattle.sha2.specs.Sha256.{sha256}
 use Rattle.audit_chain.specs.Key.{entry_key}
 use Rattle.audit_chain.specs.Event.{EventData}
-use Rattle.audit_chain.specs.EntryForm.{EntryParts, BeginsWithEntry, bytes_of_parts, sealed_parts}
+use Rattle.audit_chain.specs.EntryForm.{sealed_parts}
 use Rattle.audit_chain.proofs.Opening.{opened_event-cipher_of}
-use Rattle.audit_cli_offline.specs.OpenedEntry.{IsEntryOf, read_under, entry_key_text, KeysCollide}
-
--- one entry alone is what is read at the start
-pub begins_with : (bytes : List ℕ) (parts : EntryParts) → IsEntryOf bytes parts → BeginsWithEntry bytes parts
-begins_with bytes parts is = record { parts_fit = is.0; rest = []; split = is.1 ∙ sym (append-nil (bytes_of_parts parts)) }
-
-ok_same : {E : Type 0} (a b : EntryParts) → (r : Result EntryParts E) → r ≡ Ok a → r ≡ Ok b → a ≡ b
-ok_same a b r first second = cc (sym first ∙ second)
-
-pub as_long : {E : Type 0} (bytes : List ℕ) (read parts : EntryParts) (r : Result EntryParts E) → r ≡ Ok read → r ≡ Ok parts → IsEntryOf bytes parts → length (bytes_of_parts read) ≡ length bytes
-as_long bytes read parts r found same is =
-    ap (λ (p : EntryParts). length (bytes_of_parts p)) (ok_same read parts r found same) ∙ sym (ap length is.1)
+use Rattle.audit_cli_offline.specs.OpenedEntry.{read_under, entry_key_text, KeysCollide}
 
 -- the key of its keystream opens an entry
 pub opens : (key last_link : List ℕ) (event : EventData) → read_under (entry_key key event.kind) (sealed_parts key last_link event) ≡ event

@@ -17,13 +17,14 @@ mod two_passes;
 mod verified_end;
 mod verifying;
 
+pub use audit_link::{OpenedEvent, open_entry};
 pub use check_form::CheckForm;
 pub use checking::{Proof, judge_proof, read_proof, write_judgment};
 pub use commitment_word::commitment_in_word;
 pub use ending::write_end_message;
 pub use fault::OfflineError;
 pub use kinds_word::kinds_in_word;
-pub use opening::{OpenedEvent, open_entry, write_opened};
+pub use opening::write_opened;
 pub use printing::Printing;
 pub use report_form::ReportForm;
 pub use two_passes::verify_in_two_passes;

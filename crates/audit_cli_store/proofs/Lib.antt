@@ -5,3 +5,4 @@ pub mod Checks
 pub mod SalvagedEntries
 pub mod AnsweredFiles
 pub mod OpenedProofs
+pub mod LinkFiles

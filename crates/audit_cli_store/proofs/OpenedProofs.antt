@@ -18,7 +18,7 @@ use Rattle.audit_cli_offline.specs.declared.checking.Proof.TheVariants as proofs
 use Rattle.audit_cli_offline.specs.declared.report_form.ReportForm.{ReportForm}
 use Rattle.audit_cli_offline.specs.Judgment.{SpellsProof}
 use Rattle.audit_cli_offline.specs.OpenedEntry.{IsEntryOf, OpensAs, event_in, read_under}
-use Rattle.audit_cli_offline.specs.declared.opening.OpenedEvent.{OpenedEvent}
+use Rattle.audit_link.specs.declared.opening.OpenedEvent.{OpenedEvent}
 use Rattle.audit_chain.specs.EventData.{EventData}
 use Rattle.audit_chain.specs.Keystream.{keystream}
 use Rattle.audit_chain.proofs.Words.{length-xor_bytes}
@@ -81,6 +81,7 @@ event_of form key (Err faults.InUse) bytes commitment member m old new spelled w
 event_of form key (Err faults.Replaced) bytes commitment member m old new spelled writes = absurd writes
 event_of form key (Err (faults.TooSmall sectors)) bytes commitment member m old new spelled writes = absurd writes
 event_of form key (Err (faults.OtherCount count)) bytes commitment member m old new spelled writes = absurd writes
+event_of form key (Err (faults.OtherLog held own)) bytes commitment member m old new spelled writes = absurd writes
 event_of form key (Err faults.Salvaged) bytes commitment member m old new spelled writes = absurd writes
 event_of form key (Err (faults.Export fault)) bytes commitment member m old new spelled writes = absurd writes
 event_of form key (Err faults.NotAccepted) bytes commitment member m old new spelled writes = absurd writes

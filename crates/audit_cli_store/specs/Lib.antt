@@ -6,6 +6,7 @@ pub mod Closing
 pub mod Exports
 pub mod Checks
 pub mod OpenedProofs
+pub mod LinkChecks
 pub mod Salvaged
 pub mod OnFiles
 pub mod Requests

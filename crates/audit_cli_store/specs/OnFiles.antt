@@ -28,6 +28,7 @@ use Rattle.audit_cli_base.specs.declared.fault.CommandError.{CommandError}
 use Rattle.audit_cli_store.specs.Closing.{ClosesLog, IsNotAsked}
 use Rattle.audit_cli_store.specs.Exports.{export_after}
 use Rattle.audit_cli_store.specs.Headers.{ShowsHeader}
+use Rattle.audit_cli_store.specs.LinkChecks.{ChecksLinkAt}
 use Rattle.audit_cli_store.specs.OpenedProofs.{OpensProofAt}
 use Rattle.audit_cli_store.specs.Proofs.{AsksOutside, proof_of_log}
 use Rattle.audit_cli_store.specs.Shown.{printed_state}
@@ -183,6 +184,8 @@ module _ {F : Type 0} (facts : F → FileFacts) (positioned : F → PositionedVi
     IsDoneOnFile (request.Close file) before after result = ClosesAt file.now before after result
     IsDoneOnFile (request.Open asked) before after result =
         OnOk result (OpensProofAt facts remaining asked before after)
+    IsDoneOnFile (request.CheckLink asked) before after result =
+        OnOk result (ChecksLinkAt facts remaining asked before after)
     IsDoneOnFile (request.Format file site sectors key_file) before after (Ok done) =
         FormatsSite file.now site sectors.now key_file.now before after
     IsDoneOnFile (request.Show file access form) before after (Ok done) =

@@ -15,12 +15,13 @@ use Rattle.audit_cli_base.specs.declared.status.Status.TheVariants as ends
 use Rattle.audit_cli_base.specs.declared.fault.CommandError.{CommandError}
 use Rattle.audit_cli_base.specs.declared.fault.CommandError.TheVariants.{BadArgument, Lines}
 use Rattle.audit_cli_store.specs.OnFiles.{IsDoneOnFile}
+use Rattle.audit_cli_store.specs.LinkChecks.{LacksCommitment}
 use Rattle.audit_cli_store.specs.OpenedProofs.{HasWrongWords}
 use Rattle.audit_cli_store.specs.Replay.{replay_output}
 use Rattle.audit_cli_store.specs.declared.request.Site.{Site}
 use Rattle.audit_cli_store.specs.declared.request.Site.TheVariants.{NewFile, InPlace}
 use Rattle.audit_cli_store.specs.declared.request.Request.{Request}
-use Rattle.audit_cli_store.specs.declared.request.Request.TheVariants.{Replay, Format, Check, Open}
+use Rattle.audit_cli_store.specs.declared.request.Request.TheVariants.{Replay, Format, Check, CheckLink, Open}
 use Rattle.audit_cli_store.specs.declared.request.Request.TheVariants.{Export, Prove}
 
 -- ---- words
@@ -34,6 +35,7 @@ abbrev pub IsWordFault : Request → CommandError → Type 0
 IsWordFault (Format file site sectors key_file) fault = IsFormatFault site sectors.now fault
 IsWordFault (Check proof older newer form) fault = AreNoCommitments older.now newer × (fault ≡ BadArgument)
 IsWordFault (Open asked) fault = HasWrongWords asked × (fault ≡ BadArgument)
+IsWordFault (CheckLink asked) fault = LacksCommitment asked × (fault ≡ BadArgument)
 IsWordFault (Export file out access from) fault = number_asked from 0 ≡ Err fault
 IsWordFault (Prove file kind first second out access) fault =
     (proof_asked kind.now first.now second.now ≡ None) × (fault ≡ BadArgument)

@@ -7,6 +7,7 @@ use crate::answering::{StoreQuestion, answer_file, export_file, prove_file};
 use crate::auditing::{Verification, check_file, verify_and_report};
 use crate::closing::close_file;
 use crate::header_showing::show_header;
+use crate::link_checking::{LinkCheck, check_link_file};
 use crate::making::format_site;
 use crate::opening::{Opening, open_file};
 use crate::replaying::replay;
@@ -95,6 +96,8 @@ pub enum Request<'a> {
     },
     /// Check a membership proof, and write the event of its entry.
     Open(Opening<'a>),
+    /// Check a link against the commitments of two logs.
+    CheckLink(LinkCheck<'a>),
     /// Write the entries of the store in a file to another file.
     Export {
         /// The file.
@@ -187,6 +190,7 @@ where
             form,
         } => check_file(rt, alloc, proof, older, newer, form, output),
         Request::Open(asked) => open_file(rt, alloc, asked, output, messages),
+        Request::CheckLink(asked) => check_link_file(rt, alloc, asked, output),
         Request::Export {
             file,
             out,

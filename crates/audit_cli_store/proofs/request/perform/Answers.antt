@@ -4,7 +4,7 @@ use Rattle.std.proofs.lemmas.Result.{err_from_is_err_and}
 use Rattle.audit_cli_store.specs.Requests.{IsWordFault, IsReplayed, IsReplayOf}
 use Rattle.audit_cli_store.proofs.request.perform.Goals as goal
 
--- Only a format, an export, a check, an opening and a proof have words that are checked before a file is opened.
+-- Only a format, an export, a check, an opening, a link and a proof have words that are checked before a file is opened.
 
 pub returns-in-Close-clause-words : goal.returns-in-Close-clause-words
 returns-in-Close-clause-words g c = λ fault asked. absurd (subst (λ request. IsWordFault request fault) c.in-Close.is asked)
@@ -24,6 +24,9 @@ returns-in-Verify-clause-words g c = λ fault asked. absurd (subst (λ request. 
 pub returns-in-Check-clause-words : goal.returns-in-Check-clause-words
 returns-in-Check-clause-words g c = λ fault asked. c.check_file.ensures fault (subst (λ request. IsWordFault request fault) c.in-Check.is asked)
 
+pub returns-in-CheckLink-clause-words : goal.returns-in-CheckLink-clause-words
+returns-in-CheckLink-clause-words g c = λ fault asked. c.check_link_file.ensures.words fault (subst (λ request. IsWordFault request fault) c.in-CheckLink.is asked)
+
 pub returns-in-Open-clause-words : goal.returns-in-Open-clause-words
 returns-in-Open-clause-words g c = λ fault asked. c.open_file.ensures.words fault (subst (λ request. IsWordFault request fault) c.in-Open.is asked)
 
@@ -40,6 +43,9 @@ returns-in-ShowHeader-clause-replayed g c = rw c.in-ShowHeader.is tt
 
 pub returns-in-Check-clause-replayed : goal.returns-in-Check-clause-replayed
 returns-in-Check-clause-replayed g c = rw c.in-Check.is tt
+
+pub returns-in-CheckLink-clause-replayed : goal.returns-in-CheckLink-clause-replayed
+returns-in-CheckLink-clause-replayed g c = rw c.in-CheckLink.is tt
 
 pub returns-in-Open-clause-replayed : goal.returns-in-Open-clause-replayed
 returns-in-Open-clause-replayed g c = rw c.in-Open.is tt
@@ -94,6 +100,9 @@ returns-in-Show-clause-done g c = rw c.in-Show.is (done_show g.F.File.SystemFile
 
 pub returns-in-ShowHeader-clause-done : goal.returns-in-ShowHeader-clause-done
 returns-in-ShowHeader-clause-done g c = rw c.in-ShowHeader.is (done_show_header g.F.File.SystemFile.facts g.F.File.PositionedFile.positioned _ g.F.File.Read.remaining c.in-ShowHeader.file c.in-ShowHeader.form (g.W.Write.contents c.args.output.now) (g.W.Write.contents c.show_header.new.output) c.show_header.result c.show_header.ensures)
+
+pub returns-in-CheckLink-clause-done : goal.returns-in-CheckLink-clause-done
+returns-in-CheckLink-clause-done g c = rw c.in-CheckLink.is c.check_link_file.ensures.checked
 
 pub returns-in-Open-clause-done : goal.returns-in-Open-clause-done
 returns-in-Open-clause-done g c = rw c.in-Open.is c.open_file.ensures.opened

@@ -1,6 +1,6 @@
 use Rattle.std.proofs.Common.{rules, arith, length, ◌≡◌, ◌∙◌}
-use Rattle.audit_cli_offline.proofs.OpenedEntries.{begins_with, as_long}
-use Rattle.audit_cli_offline.proofs.opening.open_entry.Goals as goal
+use Rattle.audit_link.proofs.Opened.{begins_with, as_long}
+use Rattle.audit_link.proofs.opening.open_entry.Goals as goal
 
 pub returns-in_default : goal.returns-in_default
 returns-in_default c = λ parts is. let e = c.read_entry.ensures.only parts (begins_with c.args.entry.now parts is) in absurd (grind arith)

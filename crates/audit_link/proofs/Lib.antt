@@ -1,0 +1,8 @@
+pub mod Lines
+mod OneReading
+mod Said
+mod Opened
+mod Added
+mod TwoEntries
+mod Places
+mod Judged
