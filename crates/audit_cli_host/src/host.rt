@@ -1,7 +1,7 @@
 use crate::dial::Dial;
 use crate::noted_file::NotedFile;
 use crate::notes::Notes;
-use audit_disk::{SystemFile, SystemFiles};
+use audit_disk::{FileIdentity, SystemFile, SystemFiles};
 use audit_serve_sockets::SystemSockets;
 use mio::net::UnixStream as Dialed;
 use std::alloc::{Allocator, Global};
@@ -179,6 +179,8 @@ where
 {
     ghost sockets = { λ host. R.sockets host.rt.now };
 
+    ghost call_failed = { λ host. R.call_failed host.rt.now };
+
     // A server opens its store before it makes its sockets.
     fn listen(&self, alloc: Global, path: &str) -> io::Result<UnixListener> {
         self.notes.end_opening();
@@ -187,6 +189,35 @@ where
 
     fn permit(&self, path: &str, mode: u32) -> io::Result<()> {
         self.noted(path, self.rt.permit(path, mode))
+    }
+
+    fn open_lock(&self, path: &str, is_new: bool) -> io::Result<Self::File> {
+        self.opened(path, self.rt.open_lock(path, is_new))
+    }
+
+    fn see(&self, path: &str) -> io::Result<Metadata> {
+        self.noted(path, self.rt.see(path))
+    }
+
+    fn see_open(&self, file: &Self::File) -> io::Result<Metadata> {
+        file.noted(self.rt.see_open(file.inner()))
+    }
+
+    fn own_user(&self) -> io::Result<u32> {
+        self.noted("/proc/self", self.rt.own_user())
+    }
+
+    // That another program's file is there is no failure of a call.
+    fn judge_owned(&self, found: &Metadata, user: u32) -> io::Result<()> {
+        self.rt.judge_owned(found, user)
+    }
+
+    fn judge_identity(&self, found: &Metadata, identity: FileIdentity) -> io::Result<()> {
+        self.rt.judge_identity(found, identity)
+    }
+
+    fn remove_at(&self, path: &str) -> io::Result<()> {
+        self.noted(path, self.rt.remove_at(path))
     }
 }
 

@@ -45,6 +45,19 @@ impl<'n, 'w, F> NotedFile<'n, 'w, F> {
         self
     }
 
+    /// The file that is wrapped.
+    pub(crate) fn inner(&self) -> &F {
+        &self.inner
+    }
+
+    /// Returns the result of a call about the file, after noting its error.
+    pub(crate) fn noted<T>(&self, outcome: io::Result<T>) -> io::Result<T>
+        ensures { result ≡ outcome }
+    {
+        self.notes.watch(self.subject, &outcome);
+        outcome
+    }
+
     fn moved(&self, motion: Motion, place: u64) {
         self.notes
             .moved(motion, self.subject, place, self.total.get());

@@ -5,7 +5,7 @@ use Rattle.hex.specs.Hex.{encode_with, encode_lower, lower_digits}
 use Rattle.std.specs.List.{flat_map}
 use Rattle.std.specs.Io.KnownBytes.{Appends, Keeps}
 use Rattle.audit_wire.specs.Frame.{frame}
-use Rattle.audit_serve_sockets.specs.Frames.{AreBodies, frame_line, HasLines}
+use Rattle.audit_serve_sockets.specs.Frames.{AreBodies, AreUnfinished, frame_line, HasLines}
 
 encoded_both : (digits bytes more : List ℕ) → encode_with digits (bytes ++ more) ≡ encode_with digits bytes ++ encode_with digits more
 unfolding encode_with
@@ -72,6 +72,18 @@ line_more old now next rest whole body after line h split short text written = r
 
 pub all_written : (old now : Option (List ℕ)) (rest whole : List ℕ) → HasLinesBefore old now rest whole → rest ≡ [] → HasLines old now whole
 all_written old now rest whole h none = subst (HasLines old now) (sym (append-nil h.front) ∙ ap (λ r. h.front ++ r) (sym none) ∙ h.all) h.lines
+
+-- what is left doesn't begin with a whole frame
+pub cut_off_before : (old now : Option (List ℕ)) (rest whole : List ℕ) → HasLinesBefore old now rest whole → 0 < length rest
+    → ((body later : List ℕ) → length body < 2 ^ 16 → rest ≡ frame body ++ later → ⊥) → AreUnfinished whole
+cut_off_before old now rest whole h some none = record {
+  bodies = h.lines.bodies;
+  are = h.lines.are;
+  rest = rest;
+  split = sym h.all ∙ ap (λ (front : List ℕ). front ++ rest) h.lines.all;
+  some = some;
+  none = none;
+}
 
 -- nothing more was written
 appends_kept : (old now next : Option (List ℕ)) (front : List ℕ) → Appends old now front → Keeps now next → Appends old next front

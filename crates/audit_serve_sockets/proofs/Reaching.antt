@@ -11,7 +11,8 @@ use Rattle.audit_serve_passes.proofs.StreamSteps.{bytes_of-append, elsewhere-app
 use Rattle.audit_serve_passes.proofs.Turns.{end_brings_nothing}
 use Rattle.audit_serve_passes.proofs.Reaching.{flush_brings_nothing}
 use Rattle.audit_serve_sockets.specs.Input.{spelled, SpellsInput, SpellsFirst}
-use Rattle.audit_serve_sockets.specs.Looping.{ArePieces, Brings, BringsFront, BringsLines, IsLinePass, AreLinePasses, LoopTransition, LoopReached}
+use Rattle.audit_serve_sockets.specs.Frames.{AreUnfinished}
+use Rattle.audit_serve_sockets.specs.Looping.{ArePieces, Brings, BringsFront, BringsLines, IsLinePass, AreLinePasses, LoopTransition, LoopReached, CutsFrameOff}
 use Rattle.audit_serve_sockets.proofs.Inputs.{HasSpelled}
 use Rattle.audit_serve_sockets.proofs.Lines.{both_mapped}
 use Rattle.audit_serve_sockets.proofs.Feeding.{brings_more, none_of_both}
@@ -128,6 +129,30 @@ module _ {C : Type 0} {M : CoreModel C} where
     reaches = M.done_in_part old new (a_flush ∷ []) (λ session. no_bytes session ++ bytes_for 0 output session) (M.more_done old mid new (a_flush ∷ []) [] no_bytes (bytes_for 0 output) flushed took);
     others = λ k apart. cond-false (eqb k 0) output [] (ne_eqb k 0 apart);
     shape = inr refl;
+  }
+
+  -- the output isn't whole frames
+  pub output_cut_off : (old mid new : C) (output : List ℕ) → M.DidSteps old mid (a_flush ∷ []) no_bytes → M.DidSteps mid new [] (bytes_for 0 output) → AreUnfinished output → CutsFrameOff M old new
+  output_cut_off old mid new output flushed took cut = record {
+    steps = a_flush ∷ [];
+    taken = λ session. no_bytes session ++ bytes_for 0 output session;
+    reaches = M.done_in_part old new (a_flush ∷ []) (λ session. no_bytes session ++ bytes_for 0 output session) (M.more_done old mid new (a_flush ∷ []) [] no_bytes (bytes_for 0 output) flushed took);
+    earlier = [];
+    last = output;
+    split = refl;
+    cut_off = cut;
+  }
+
+  -- so is that of later steps
+  pub cut_off_after : (old mid new : C) (steps : List StepData) (taken : ℕ → List ℕ) → M.DidSteps old mid steps taken → CutsFrameOff M mid new → CutsFrameOff M old new
+  cut_off_after old mid new steps taken did h = record {
+    steps = steps ++ h.steps;
+    taken = λ session. taken session ++ h.taken session;
+    reaches = M.then_in_part old mid new steps h.steps taken h.taken did h.reaches;
+    earlier = taken 0 ++ h.earlier;
+    last = h.last;
+    split = ap (λ (more : List ℕ). taken 0 ++ more) h.split ∙ sym (append_assoc (taken 0) h.earlier h.last);
+    cut_off = h.cut_off;
   }
 
   -- ---- lines

@@ -1,6 +1,10 @@
 -- At which path a socket listens, and with which permissions its file was made.
 use Rattle.std.specs.Prelude.{◌≡◌, ◌⊎◌, ℕ, ℤ, List}
+use Rattle.std.specs.IoError.{error_kind}
 use Rattle.std.specs.Net.Unix.{unix_listener_raw_fd}
+use Rattle.std.specs.declared.io.Error.{Error}
+use Rattle.std.specs.declared.io.ErrorKind.TheVariants.{OutOfMemory}
+use Rattle.audit_disk.specs.FileFacts.{FileFacts}
 use Rattle.audit_disk.specs.declared.files.TheConstants.{OWNER_ONLY}
 use Rattle.audit_serve_sockets.specs.declared.socket_file.SocketFile.{SocketFile}
 use Rattle.audit_serve_sockets.specs.declared.socket_file.SocketName.{SocketName}
@@ -37,3 +41,9 @@ mode_of_socket socket = mode_of_name socket.name
 -- the same of a socket
 abbrev pub IsBound : SocketFacts → List ℕ → ℕ → SocketFile → Type 0
 IsBound facts path mode socket = ListensAt facts path mode (descriptor_of_socket socket)
+
+-- Why a socket wasn't made: a call of the system or of a file failed, or memory was refused. `Failed` says that a call of
+-- the system did.
+abbrev pub IsSocketFault : {F : Type 0} → Type 0 → (F → FileFacts) → Error → Type 0
+IsSocketFault {F = F} Failed facts error =
+    Failed ⊎ (((file : F) × (facts file).failed) ⊎ (error_kind error ≡ OutOfMemory))

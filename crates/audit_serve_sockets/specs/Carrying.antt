@@ -6,3 +6,7 @@ use Rattle.std.specs.Prelude.{◌≡◌, ◌≢◌, ◌⊎◌, ℕ, List}
 abbrev pub LosesPiece : {W R : Type 0} → (W → Type 0) → (R → Type 0) → (R → List ℕ → Type 0) → List ℕ → W → R → Type 0
 LosesPiece Unwritten Unread Gave piece from to =
     Unwritten from ⊎ (Unread to ⊎ ((bytes : List ℕ) × (Gave to bytes × (bytes ≢ piece))))
+
+-- so was a piece that was sent from the first end to the second
+abbrev pub LosesSome : {W R : Type 0} → (W → Type 0) → (R → Type 0) → (R → List ℕ → Type 0) → W → R → Type 0
+LosesSome Unwritten Unread Gave from to = (piece : List ℕ) × LosesPiece Unwritten Unread Gave piece from to

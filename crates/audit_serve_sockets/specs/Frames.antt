@@ -20,3 +20,12 @@ pub record HasLines (old new : Option (List ℕ)) (bytes : List ℕ) : Type 0 wh
   pub are : AreBodies bodies
   pub all : bytes ≡ flat_map frame bodies
   pub written : Appends old new (flat_map frame_line bodies)
+
+-- the bytes are frames, followed by some bytes that don't begin with a whole frame
+pub record AreUnfinished (bytes : List ℕ) : Type 0 where
+  pub bodies : List (List ℕ)
+  pub are : AreBodies bodies
+  pub rest : List ℕ
+  pub split : bytes ≡ flat_map frame bodies ++ rest
+  pub some : 0 < length rest
+  pub none : (body later : List ℕ) → length body < 2 ^ 16 → rest ≡ frame body ++ later → ⊥

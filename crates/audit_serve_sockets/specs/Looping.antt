@@ -5,7 +5,7 @@ use Rattle.audit_serve_passes.specs.declared.limits.TheConstants.{MAX_PIECE}
 use Rattle.audit_serve_passes.specs.Steps.{StepData, a_piece, an_end, a_flush, bytes_fed}
 use Rattle.audit_serve_passes.specs.Core.{CoreModel}
 use Rattle.audit_serve_passes.specs.Transition.{AreElsewhere}
-use Rattle.audit_serve_sockets.specs.Frames.{HasLines}
+use Rattle.audit_serve_sockets.specs.Frames.{HasLines, AreUnfinished}
 use Rattle.audit_serve_sockets.specs.Input.{SpellsFirst}
 
 -- the steps feed pieces to session 0, and nothing else
@@ -69,3 +69,13 @@ pub record LoopReached {C : Type 0} (M : CoreModel C) (old new : C) (Shape : Lis
   pub reaches : M.DidStepsInPart old new steps taken
   pub others : (k : ℕ) → (k ≡ 0 → ⊥) → taken k ≡ []
   pub shape : Shape steps
+
+-- The core did steps, and the output that was taken last from session 0 isn't whole frames.
+pub record CutsFrameOff {C : Type 0} (M : CoreModel C) (old new : C) : Type 0 where
+  pub steps : List StepData
+  pub taken : ℕ → List ℕ
+  pub reaches : M.DidStepsInPart old new steps taken
+  pub earlier : List ℕ
+  pub last : List ℕ
+  pub split : taken 0 ≡ earlier ++ last
+  pub cut_off : AreUnfinished last

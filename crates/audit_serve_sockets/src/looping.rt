@@ -1,22 +1,26 @@
-ghost use Rattle.std.specs.Prelude.{◌≡◌, ◌∷◌, [], ◌+◌, List, ℕ, length, IfOk, IfErr, IfSome, OnOk, Err};
+ghost use Rattle.std.specs.Prelude.{◌≡◌, ◌⊎◌, ◌≤◌, ◌^◌, ◌∷◌, [], ◌+◌, List, ℕ, length, IfOk, IfErr, IfSome, OnOk, Err};
+ghost use Rattle.audit_text.specs.declared.fault.LinesError.TheVariants.{Write as NotWritten, Read as NotRead};
 ghost use Rattle.audit_serve_passes.specs.declared.limits.TheConstants.{MAX_PIECE};
 ghost use Rattle.audit_serve_passes.specs.Steps.{a_flush, IsPartOf};
 ghost use Rattle.audit_serve_passes.specs.Transition.{CoreTransition};
 ghost use Rattle.audit_serve_sockets.specs.declared.loop_fault.LoopError.TheVariants as fault;
 ghost use Rattle.audit_serve_sockets.specs.Input.{SpellsInput, SpellsUpToBad};
 ghost use Rattle.audit_serve_sockets.specs.Looping.{Brings, BringsFront, BringsLines, AreLinePasses, IsWholeLoop};
-ghost use Rattle.audit_serve_sockets.specs.Looping.{LoopTransition, LoopReached};
-ghost use Rattle.audit_serve_sockets.specs.LoopFaults.{IsNoLinesError};
+ghost use Rattle.audit_serve_sockets.specs.declared.loop_fault.RelayError.TheVariants as relay;
+ghost use Rattle.audit_serve_sockets.specs.Carrying.{LosesSome};
+ghost use Rattle.audit_serve_sockets.specs.Looping.{LoopTransition, LoopReached, CutsFrameOff};
+ghost use Rattle.audit_serve_sockets.specs.LoopFaults.{IsReplyError, IsSendingError, IsSendingBackError};
 
 use crate::frame_line::bytes_of_line;
 use crate::input_line::next_line;
 use crate::link::Link;
 use crate::loop_fault::{LoopError, RelayError};
 use crate::replying::write_frames;
+use crate::tried::{TriedRead, TriedWrite};
 use audit_serve_passes::{MAX_PIECE, SessionCore};
 use audit_text::LinesError;
 use std::alloc::Global;
-use std::io::{BufRead, Read, Write};
+use std::io::BufRead;
 
 // The session that the lines belong to.
 const SESSION: usize = 0;
@@ -36,10 +40,10 @@ pub fn run_lines<C, A, B, R, W>(
 ) -> Result<(), LoopError<C::Error>>
 where
     C: SessionCore,
-    A: Read + Write + Drop,
-    B: Read + Write + Drop,
-    R: BufRead,
-    W: Write,
+    A: TriedRead + TriedWrite + Drop,
+    B: TriedRead + TriedWrite + Drop,
+    R: BufRead + TriedRead,
+    W: TriedWrite,
     // Whatever happens, the core did steps that feed a prefix of what the first lines spell, in order.
     ensures reaches { LoopReached C.model core.old core.new (BringsLines (R.remaining reader.old)) }
     // If the core refused a step, what its refusal states holds.
@@ -54,6 +58,17 @@ where
         → (lines : List (List ℕ)) × (length lines + 1 ≡ number) × LoopTransition C.model core.old core.new
         (W.contents writer.old) (W.contents writer.new) (AreLinePasses lines)
         × IfSome (R.remaining reader.old) (SpellsUpToBad lines) }
+    // `Connection` needs a call that failed at an end of the link, bytes that were read there and weren't sent, or output
+    // of the core that isn't whole frames. `Read` needs a call of the reader that failed, or as many lines as are
+    // counted; `Write` a call of the writer that failed.
+    ensures lost { result ≡ Err fault.Connection
+        → LosesSome A.unwritten B.unread B.gave link.new.client link.new.server
+        ⊎ (LosesSome B.unwritten A.unread A.gave link.new.server link.new.client
+        ⊎ CutsFrameOff C.model core.old core.new) }
+    ensures unread { result ≡ Err (fault.Lines NotRead) → R.unread reader.new
+        ⊎ ((lines : List (List ℕ)) × (2 ^ 64 ≤ length lines + 2) × LoopTransition C.model core.old core.new
+        (W.contents writer.old) (W.contents writer.new) (AreLinePasses lines)) }
+    ensures unwritten { result ≡ Err (fault.Lines NotWritten) → W.unwritten writer.new }
 {
     let mut buffer = [0; MAX_PIECE];
     serve_lines(alloc, core, link, &mut buffer, reader, writer)?;
@@ -74,10 +89,10 @@ fn serve_lines<C, A, B, R, W>(
 ) -> Result<(), LoopError<C::Error>>
 where
     C: SessionCore,
-    A: Read + Write + Drop,
-    B: Read + Write + Drop,
-    R: BufRead,
-    W: Write,
+    A: TriedRead + TriedWrite + Drop,
+    B: TriedRead + TriedWrite + Drop,
+    R: BufRead + TriedRead,
+    W: TriedWrite,
     requires room { length buffer.old ≡ MAX_PIECE }
     ensures reaches { LoopReached C.model core.old core.new (BringsLines (R.remaining reader.old)) }
     ensures refused { (error : C.Error) → result ≡ Err (fault.Core error) → C.refuses core.old core.new error }
@@ -88,6 +103,14 @@ where
         → (lines : List (List ℕ)) × (length lines + 1 ≡ number) × LoopTransition C.model core.old core.new
         (W.contents writer.old) (W.contents writer.new) (AreLinePasses lines)
         × IfSome (R.remaining reader.old) (SpellsUpToBad lines) }
+    ensures lost { result ≡ Err fault.Connection
+        → LosesSome A.unwritten B.unread B.gave link.new.client link.new.server
+        ⊎ (LosesSome B.unwritten A.unread A.gave link.new.server link.new.client
+        ⊎ CutsFrameOff C.model core.old core.new) }
+    ensures unread { result ≡ Err (fault.Lines NotRead) → R.unread reader.new
+        ⊎ ((lines : List (List ℕ)) × (2 ^ 64 ≤ length lines + 2) × LoopTransition C.model core.old core.new
+        (W.contents writer.old) (W.contents writer.new) (AreLinePasses lines)) }
+    ensures unwritten { result ≡ Err (fault.Lines NotWritten) → W.unwritten writer.new }
 {
     let mut line = Vec::new(alloc);
     for number in 1..u64::MAX {
@@ -112,13 +135,15 @@ fn send<C, A, B>(
 ) -> Result<(), LoopError<C::Error>>
 where
     C: SessionCore,
-    A: Read + Write + Drop,
-    B: Read + Write + Drop,
+    A: TriedRead + TriedWrite + Drop,
+    B: TriedRead + TriedWrite + Drop,
     requires room { length buffer.old ≡ MAX_PIECE }
     ensures reaches { LoopReached C.model core.old core.new (BringsFront bytes.now) }
     ensures refused { (error : C.Error) → result ≡ Err (fault.Core error) → C.refuses core.old core.new error }
     ensures done { OnOk result (CoreTransition C.model core.old core.new (Brings bytes.now [])) }
-    ensures fault { IfErr result IsNoLinesError }
+    ensures fault { IfErr result IsSendingError }
+    ensures lost { result ≡ Err fault.Connection
+        → LosesSome A.unwritten B.unread B.gave link.new.client link.new.server }
 {
     let mut rest = bytes;
     while !rest.is_empty() {
@@ -142,15 +167,19 @@ fn reply<C, A, B, W>(
 ) -> Result<(), LoopError<C::Error>>
 where
     C: SessionCore,
-    A: Read + Write + Drop,
-    B: Read + Write + Drop,
-    W: Write,
+    A: TriedRead + TriedWrite + Drop,
+    B: TriedRead + TriedWrite + Drop,
+    W: TriedWrite,
     requires room { length buffer.old ≡ MAX_PIECE }
     ensures reaches { LoopReached C.model core.old core.new (IsPartOf a_flush) }
     ensures refused { (error : C.Error) → result ≡ Err (fault.Core error) → C.refuses core.old core.new error }
     ensures done { OnOk result (LoopTransition C.model core.old core.new (W.contents writer.old) (W.contents writer.new)
         (λ steps. steps ≡ a_flush ∷ [])) }
-    ensures fault { IfErr result IsNoLinesError }
+    ensures fault { IfErr result IsReplyError }
+    ensures lost { result ≡ Err fault.Connection
+        → LosesSome B.unwritten A.unread A.gave link.new.server link.new.client
+        ⊎ CutsFrameOff C.model core.old core.new }
+    ensures unwritten { result ≡ Err (fault.Lines NotWritten) → W.unwritten writer.new }
 {
     if let Err(error) = core.flush() {
         return Err(LoopError::Core(error));
@@ -158,21 +187,21 @@ where
     let output = core.take_output(SESSION);
     let replies = send_back(alloc, link, &output, buffer)?;
     write_frames(alloc, &replies, writer)?;
-    if writer.flush().is_err() {
-        return Err(LoopError::Lines(LinesError::Write));
-    }
-    Ok(())
+    Ok(writer.flush_text()?)
 }
 
 // Sends bytes from the server's end in pieces, and returns all that arrive at the client's end.
-fn send_back<A: Read + Write + Drop, B: Read + Write + Drop>(
+fn send_back<A: TriedRead + TriedWrite + Drop, B: TriedRead + TriedWrite + Drop>(
     alloc: Global,
     link: &mut Link<A, B>,
     bytes: &[u8],
     buffer: &mut [u8],
 ) -> Result<Vec<u8>, RelayError>
     requires room { length buffer.old ≡ MAX_PIECE }
-    ensures { IfOk result (λ arrived. arrived.items ≡ bytes.now) }
+    ensures arrived { IfOk result (λ arrived. arrived.items ≡ bytes.now) }
+    ensures fault { IfErr result IsSendingBackError }
+    ensures lost { result ≡ Err relay.Connection
+        → LosesSome B.unwritten A.unread A.gave link.new.server link.new.client }
 {
     let mut arrived = Vec::with_capacity(alloc, bytes.len())?;
     let mut rest = bytes;

@@ -1,17 +1,29 @@
-ghost use Rattle.std.specs.Prelude.{◌≡◌, ◌<◌, ◌+◌, ◌^◌, ◌++◌, [], length, codes, IfOk, IfSome, OnOk, OnErr, MatchOption};
+ghost use Rattle.std.specs.Prelude.{◌≡◌, ◌<◌, ◌+◌, ◌^◌, ◌++◌, [], length, codes, Err, IfOk, IfErr, IfSome, OnOk, OnErr};
+ghost use Rattle.std.specs.Prelude.{MatchOption};
 ghost use Rattle.std.specs.Io.KnownBytes.{Appends};
 ghost use Rattle.audit_text.specs.Writing.{WritesInPart};
-ghost use Rattle.audit_serve_sockets.specs.Frames.{frame_line, HasLines};
+ghost use Rattle.audit_text.specs.declared.fault.LinesError.TheVariants.{Write as NotWritten};
+ghost use Rattle.audit_serve_sockets.specs.declared.loop_fault.RelayError.TheVariants as relay;
+ghost use Rattle.audit_serve_sockets.specs.Frames.{frame_line, AreUnfinished, HasLines};
+ghost use Rattle.audit_serve_sockets.specs.LoopFaults.{IsRelayError};
 
 use crate::loop_fault::RelayError;
-use audit_text::{push_hex, write_whole};
+use crate::tried::TriedWrite;
+use audit_text::push_hex;
 use audit_wire::{LENGTH_BYTES, first_frame};
 use std::alloc::{AllocError, Global};
-use std::io::Write;
 
 /// Writes a line of hex digits for each frame in the bytes. Bytes after the last complete frame are an error.
-pub fn write_frames<W: Write>(alloc: Global, bytes: &[u8], writer: &mut W) -> Result<(), RelayError>
+pub fn write_frames<W: TriedWrite>(
+    alloc: Global,
+    bytes: &[u8],
+    writer: &mut W,
+) -> Result<(), RelayError>
     ensures written { OnOk result (HasLines (W.contents writer.old) (W.contents writer.new) bytes.now) }
+    // `Connection` needs bytes that aren't whole frames, and `Write` a call of the writer that failed.
+    ensures fault { IfErr result IsRelayError }
+    ensures cut_off { result ≡ Err relay.Connection → AreUnfinished bytes.now }
+    ensures unwritten { result ≡ Err (relay.Lines NotWritten) → W.unwritten writer.new }
 {
     let mut line = Vec::new(alloc);
     let mut rest = bytes;
@@ -20,7 +32,7 @@ pub fn write_frames<W: Write>(alloc: Global, bytes: &[u8], writer: &mut W) -> Re
             return Err(RelayError::Connection);
         };
         put_frame(&mut line, body)?;
-        write_whole(writer, &line)?;
+        writer.write_text(&line)?;
         rest = after;
     }
     Ok(())

@@ -1,13 +1,14 @@
-ghost use Rattle.std.specs.Prelude.{◌≡◌, ◌⊎◌, IfOk};
+ghost use Rattle.std.specs.Prelude.{◌≡◌, ◌⊎◌, IfOk, IfErr, OnErr};
 ghost use Rattle.std.specs.Net.Unix.{unix_listener_raw_fd};
 ghost use Rattle.audit_disk.specs.declared.files.TheConstants.{OWNER_ONLY};
-ghost use Rattle.audit_serve_sockets.specs.Bound.{IsBound, descriptor_of_socket, mode_of_name, mode_of_socket};
+ghost use Rattle.audit_serve_sockets.specs.Bound.{IsBound, IsSocketFault, descriptor_of_socket, mode_of_name};
+ghost use Rattle.audit_serve_sockets.specs.Bound.{mode_of_socket};
 
-use crate::socket_lock::{SocketLock, Taking, own_user, remove_own};
+use crate::socket_lock::{SocketLock, Taking, remove_own};
 use crate::system_sockets::SystemSockets;
 use audit_disk::{FileIdentity, OWNER_ONLY, SystemFile};
 use std::alloc::Global;
-use std::fs::{self, Files};
+use std::fs::Files;
 use std::io::{self, ErrorKind};
 use std::os::unix::fs::{FileTypeExt, MetadataExt};
 use std::os::unix::net::{UnixListener, UnixStream};
@@ -44,9 +45,10 @@ impl SocketName {
 }
 
 impl SocketFile {
-    ghost use Rattle.std.specs.Prelude.{◌≡◌, IfOk};
+    ghost use Rattle.std.specs.Prelude.{◌≡◌, IfOk, IfErr, OnErr};
     ghost use Rattle.std.specs.Net.Unix.{unix_listener_raw_fd};
-    ghost use Rattle.audit_serve_sockets.specs.Bound.{IsBound, descriptor_of_socket, mode_of_name, mode_of_socket};
+    ghost use Rattle.audit_serve_sockets.specs.Bound.{IsBound, IsSocketFault, descriptor_of_socket, mode_of_name};
+    ghost use Rattle.audit_serve_sockets.specs.Bound.{mode_of_socket};
 
     /// Makes the socket's file, and takes the lock beside it (`SOCKET.lock`) until its end. Only its owner has access
     /// when it is created; then `mode` is set if it differs. A socket of this user beside a lock that nobody holds is
@@ -62,6 +64,8 @@ impl SocketFile {
         ensures mode { IfOk result (λ bound. mode_of_socket bound.0 ≡ mode) }
         // It listens at this path, and its file has this mode.
         ensures listens { IfOk result (λ bound. IsBound (R.sockets rt.now) path.now mode bound.0) }
+        // An error needs a call that failed, or memory that was refused.
+        ensures fault { IfErr result (IsSocketFault (R.call_failed rt.now) R.File.facts) }
     {
         match SocketLock::<R::File>::take(rt, alloc, path)? {
             Taking::Taken(mut lock) => match bind_under(rt, alloc, path, mode, lock.was_left()) {
@@ -90,6 +94,7 @@ impl SocketFile {
         R::File: SystemFile,
         ensures mode { IfOk result (λ bound. mode_of_socket bound ≡ mode) }
         ensures listens { IfOk result (λ bound. IsBound (R.sockets rt.now) path.now mode bound) }
+        ensures failed { OnErr result (R.call_failed rt.now) }
     {
         let was_left = match lock {
             Some(lock) => lock.was_left(),
@@ -133,12 +138,13 @@ fn bind_under<R: SystemSockets>(
 ) -> io::Result<SocketFile>
     ensures mode { IfOk result (λ bound. mode_of_socket bound ≡ mode) }
     ensures listens { IfOk result (λ bound. IsBound (R.sockets rt.now) path.now mode bound) }
+    ensures failed { OnErr result (R.call_failed rt.now) }
 {
     let bound = bind_new(rt, alloc, path, mode);
     if !is_in_use(&bound) || !was_left || !is_own_socket(rt, path).unwrap_or(false) {
         return bound;
     }
-    fs::remove_file(rt, path)?;
+    rt.remove_at(path)?;
     bind_new(rt, alloc, path, mode)
 }
 
@@ -154,6 +160,7 @@ where
     R::File: SystemFile,
     ensures mode { IfOk result (λ bound. mode_of_socket bound.0 ≡ mode) }
     ensures listens { IfOk result (λ bound. IsBound (R.sockets rt.now) path.now mode bound.0) }
+    ensures fault { IfErr result (IsSocketFault (R.call_failed rt.now) R.File.facts) }
 {
     let bound = bind_new(rt, alloc, path, mode)?;
     match take_anew(rt, alloc, path) {
@@ -168,9 +175,10 @@ where
     }
 }
 
-fn take_anew<R: Files>(rt: &R, alloc: Global, path: &str) -> io::Result<SocketLock<R::File>>
+fn take_anew<R: SystemSockets>(rt: &R, alloc: Global, path: &str) -> io::Result<SocketLock<R::File>>
 where
     R::File: SystemFile,
+    ensures { IfErr result (IsSocketFault (R.call_failed rt.now) R.File.facts) }
 {
     SocketLock::<R::File>::displace(rt, alloc, path)?;
     match SocketLock::<R::File>::take(rt, alloc, path)? {
@@ -188,12 +196,13 @@ fn bind_new<R: SystemSockets>(
 ) -> io::Result<SocketFile>
     ensures mode { IfOk result (λ bound. mode_of_socket bound ≡ mode) }
     ensures listens { IfOk result (λ bound. IsBound (R.sockets rt.now) path.now mode bound) }
+    ensures failed { OnErr result (R.call_failed rt.now) }
 {
     let listener = rt.listen(alloc, path)?;
     match named(rt, path, mode) {
         Ok(name) => Ok(SocketFile { listener, name }),
         Err(error) => {
-            let _ = fs::remove_file(rt, path);
+            let _ = rt.remove_at(path);
             Err(error)
         }
     }
@@ -203,8 +212,9 @@ fn bind_new<R: SystemSockets>(
 fn named<R: SystemSockets>(rt: &R, path: &str, mode: u32) -> io::Result<SocketName>
     ensures mode { IfOk result (λ name. mode_of_name name ≡ mode) }
     ensures permitted { IfOk result (λ _. (mode ≡ OWNER_ONLY) ⊎ (R.sockets rt.now).permits path.now mode) }
+    ensures failed { OnErr result (R.call_failed rt.now) }
 {
-    let identity = FileIdentity::of(&fs::symlink_metadata(rt, path)?);
+    let identity = FileIdentity::of(&rt.see(path)?);
     if mode != OWNER_ONLY {
         rt.permit(path, mode)?;
     }
@@ -219,7 +229,7 @@ fn is_in_use(bound: &io::Result<SocketFile>) -> bool {
     }
 }
 
-fn is_own_socket<R: Files>(rt: &R, path: &str) -> io::Result<bool> {
-    let found = fs::symlink_metadata(rt, path)?;
-    Ok(found.file_type().is_socket() && found.uid() == own_user(rt)?)
+fn is_own_socket<R: SystemSockets>(rt: &R, path: &str) -> io::Result<bool> {
+    let found = rt.see(path)?;
+    Ok(found.file_type().is_socket() && found.uid() == rt.own_user()?)
 }

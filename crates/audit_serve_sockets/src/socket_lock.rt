@@ -1,14 +1,15 @@
+ghost use Rattle.std.specs.Prelude.{◌≡◌, ◌⊎◌, Ok, IfOk, IfErr, OnErr};
+ghost use Rattle.std.specs.IoError.{error_kind};
+ghost use Rattle.audit_serve_sockets.specs.Bound.{IsSocketFault};
+
+use crate::system_sockets::SystemSockets;
 use audit_disk::{FileIdentity, SystemFile};
 use std::alloc::Global;
-use std::fs::{self, Files, OpenFile, OpenOptions, TryLockError};
+use std::fs::{self, Files, TryLockError};
 use std::io::{self, ErrorKind};
-use std::os::unix::fs::{MetadataExt, OpenOptionsExt};
 
 // What follows a socket's path in the path of its lock.
 const LOCK_SUFFIX: &str = ".lock";
-
-// The permissions of a lock's file.
-const LOCK_MODE: u32 = 0o600;
 
 // How often a lock is tried whose file is removed at the same time.
 const TRIES: usize = 16;
@@ -44,11 +45,20 @@ struct Opened<F> {
 }
 
 impl<F: SystemFile> SocketLock<F> {
+    ghost use Rattle.std.specs.Prelude.{◌≡◌, ◌⊎◌, Ok, IfOk, IfErr};
+    ghost use Rattle.audit_serve_sockets.specs.Bound.{IsSocketFault};
+
     /// Takes the lock of the socket at this path, without waiting. Its file is made if there is none. A file that isn't
     /// this user's own is an error.
-    pub(crate) fn take<R: Files>(rt: &R, alloc: Global, socket: &str) -> io::Result<Taking<R::File>>
+    pub(crate) fn take<R: SystemSockets>(
+        rt: &R,
+        alloc: Global,
+        socket: &str,
+    ) -> io::Result<Taking<R::File>>
     where
         R::File: SystemFile,
+        ensures fault { IfErr result (IsSocketFault (R.call_failed rt.now) R.File.facts) }
+        ensures held { result ≡ Ok Taking.Held → ((file : R.File) × (R.File.facts file).failed) }
     {
         let path = lock_path(alloc, socket)?;
         for _ in 0..TRIES {
@@ -58,9 +68,9 @@ impl<F: SystemFile> SocketLock<F> {
                 Err(TryLockError::WouldBlock) => return Ok(Taking::Held),
                 Err(TryLockError::Error(error)) => return Err(error),
             }
-            let identity = FileIdentity::of(&file.metadata()?);
+            let identity = FileIdentity::of(&rt.see_open(&file)?);
             // Whoever held the lock may have removed its file in between.
-            if names(rt, path.as_str(), identity) {
+            if is_at(rt, path.as_str(), identity).is_ok() {
                 return Ok(Taking::Taken(SocketLock {
                     file,
                     path,
@@ -74,8 +84,12 @@ impl<F: SystemFile> SocketLock<F> {
     }
 
     /// Removes the file of a lock that another program holds, whose socket isn't there any more.
-    pub(crate) fn displace<R: Files>(rt: &R, alloc: Global, socket: &str) -> io::Result<()> {
-        fs::remove_file(rt, lock_path(alloc, socket)?.as_str())
+    pub(crate) fn displace<R: SystemSockets>(rt: &R, alloc: Global, socket: &str) -> io::Result<()>
+    where
+        R::File: SystemFile,
+        ensures { IfErr result (IsSocketFault (R.call_failed rt.now) R.File.facts) }
+    {
+        rt.remove_at(lock_path(alloc, socket)?.as_str())
     }
 
     /// Whether a program that was killed left the lock.
@@ -97,21 +111,18 @@ impl<F: SystemFile> SocketLock<F> {
     }
 }
 
-fn lock_path(alloc: Global, socket: &str) -> io::Result<String> {
+fn lock_path(alloc: Global, socket: &str) -> io::Result<String>
+    ensures { IfErr result (λ error. error_kind error ≡ ErrorKind.OutOfMemory) }
+{
     Ok(format!(in alloc; "{socket}{LOCK_SUFFIX}")?)
 }
 
-fn open_lock<R: Files>(rt: &R, path: &str) -> io::Result<Opened<R::File>>
+fn open_lock<R: SystemSockets>(rt: &R, path: &str) -> io::Result<Opened<R::File>>
 where
     R::File: SystemFile,
+    ensures { OnErr result (R.call_failed rt.now) }
 {
-    let made = OpenOptions::new()
-        .read(true)
-        .write(true)
-        .create_new(true)
-        .mode(LOCK_MODE)
-        .open(rt, path);
-    match made {
+    match rt.open_lock(path, true) {
         Ok(file) => Ok(Opened {
             file,
             existed: false,
@@ -121,32 +132,28 @@ where
     }
 }
 
-fn open_existing<R: Files>(rt: &R, path: &str) -> io::Result<Opened<R::File>>
+fn open_existing<R: SystemSockets>(rt: &R, path: &str) -> io::Result<Opened<R::File>>
 where
     R::File: SystemFile,
+    ensures { OnErr result (R.call_failed rt.now) }
 {
-    if !is_own_file(rt, path)? {
-        return Err(io::Error::from(ErrorKind::AddrInUse));
-    }
-    let file = OpenOptions::new().read(true).write(true).open(rt, path)?;
+    rt.judge_owned(&rt.see(path)?, rt.own_user()?)?;
+    let file = rt.open_lock(path, false)?;
     Ok(Opened {
         file,
         existed: true,
     })
 }
 
-fn is_own_file<R: Files>(rt: &R, path: &str) -> io::Result<bool> {
-    let found = fs::symlink_metadata(rt, path)?;
-    Ok(found.is_file() && found.uid() == own_user(rt)?)
+// Fails unless a path names the file with this identity.
+fn is_at<R: SystemSockets>(rt: &R, path: &str, identity: FileIdentity) -> io::Result<()>
+    ensures { OnErr result (R.call_failed rt.now) }
+{
+    rt.judge_identity(&rt.see(path)?, identity)
 }
 
-/// The user that the process runs as, to whom its folder in /proc belongs.
-pub(crate) fn own_user<R: Files>(rt: &R) -> io::Result<u32> {
-    Ok(fs::metadata(rt, "/proc/self")?.uid())
-}
-
-/// Whether a path names the file with this identity.
-pub(crate) fn names<R: Files>(rt: &R, path: &str, identity: FileIdentity) -> bool {
+// Whether a path names the file with this identity.
+fn names<R: Files>(rt: &R, path: &str, identity: FileIdentity) -> bool {
     match fs::symlink_metadata(rt, path) {
         Ok(found) => FileIdentity::of(&found) == identity,
         Err(_) => false,

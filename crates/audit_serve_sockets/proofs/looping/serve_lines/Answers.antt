@@ -1,9 +1,10 @@
-use Rattle.std.proofs.Common.{◌++◌, ◌∷◌, [], refl, arith, Some, None, ◌≡◌, rules}
+use Rattle.std.proofs.Common.{◌++◌, ◌∷◌, [], refl, arith, Some, None, Err, ◌≡◌, inl, inr, rules}
 use Rattle.std.proofs.lemmas.List.{length-append}
+use Rattle.audit_serve_sockets.specs.declared.loop_fault.LoopError.TheVariants.{Connection}
 use Rattle.audit_serve_sockets.specs.FrameLine.{bytes_of_line}
 use Rattle.audit_serve_sockets.proofs.Feeding.{no_line, line_served}
 use Rattle.audit_serve_sockets.proofs.Inputs.{none_spelled, line_spelled, all_spelled, bad_spelled}
-use Rattle.audit_serve_sockets.proofs.Reaching.{spelled_first, lines_reached, send_stopped, reply_stopped}
+use Rattle.audit_serve_sockets.proofs.Reaching.{spelled_first, lines_reached, send_stopped, reply_stopped, cut_off_after}
 use Rattle.audit_serve_sockets.proofs.looping.serve_lines.Goals as goal
 
 pub loop-number-init : goal.loop-number-init
@@ -88,3 +89,13 @@ pub returns-clause-reaches : goal.returns-clause-reaches
 returns-clause-reaches g c =
     let so_far = c.loop-number.invariant.served in
     lines_reached c.args.core.now c.loop-number.core (g.R.Read.remaining c.args.reader.now) so_far.0 so_far.2 (spelled_first _ (g.R.Read.remaining c.loop-number.reader) so_far.0 so_far.3)
+
+pub returns-in_err-reply-clause-lost : goal.returns-in_err-reply-clause-lost
+returns-in_err-reply-clause-lost g c is =
+    let so_far = c.loop-number.invariant.served.2 in
+    let sent = c.in_ok-send.ensures.done in
+    let lost : c.reply.result ≡ Err Connection = search rules in
+    elim (c.reply.ensures.lost lost) [
+      | inl piece ↦ inr (inl piece)
+      | inr cut ↦ inr (inr (cut_off_after c.args.core.now c.loop-number.core c.reply.new.core so_far.steps so_far.taken so_far.did (cut_off_after c.loop-number.core c.send.new.core c.reply.new.core sent.steps sent.taken sent.did cut)))
+    ]

@@ -7,4 +7,4 @@ loop-rest-init g c = nothing_written _ _
 
 pub loop-rest-preserved : goal.loop-rest-preserved
 loop-rest-preserved g c =
-    line_more _ _ _ _ _ _ _ c.deref.result.now c.loop-rest.invariant c.in-Some.ensures.found c.in-Some.ensures.size (c.deref.ensures.value ∙ c.in_ok-put_frame.ensures) c.in_ok-write_whole.ensures.written
+    line_more _ _ _ _ _ _ _ c.deref.result.now c.loop-rest.invariant c.in-Some.ensures.found c.in-Some.ensures.size (c.deref.ensures.value ∙ c.in_ok-put_frame.ensures) c.in_ok-write_text.ensures.written
