@@ -2,7 +2,7 @@
 _audit() {
     local word=${COMP_WORDS[COMP_CWORD]} before=${COMP_WORDS[COMP_CWORD - 1]} command=${COMP_WORDS[1]}
     local commands="replay format append close rotate show prove check note export verify serve loop daemon stop send ask watch read help"
-    local valued="--mode --long --expect --reserve --sessions --socket-mode --reader --writer --idle --backlog --window --timeout --every --kind --from --save --first --under --receipts --retry"
+    local valued="--mode --long --expect --reserve --sessions --socket-mode --reader --writer --idle --backlog --window --timeout --every --kind --from --save --first --under --receipts --retry --extends"
     local options="--explain --no-progress --help" choices= files= place=0 question= index
     [[ $command = verify || $command = read ]] || valued="$valued --text"
     # Which word of the command this is: options and their values aren't counted.
@@ -18,15 +18,15 @@ _audit() {
     done
     case $command in
     format) options="$options --mode --in-place --erase" ;;
-    append) options="$options --text --follow --long --expect --reserve" ;;
+    append) options="$options --text --follow --long --expect --reserve --extends" ;;
     show) options="$options --free --read-only --header" ;;
     prove) options="$options --read-only" ;;
-    check) options="$options --print --key --text --json" ;;
+    check) options="$options --print --key --text --json --link" ;;
     verify) options="$options --text --numbers --json --kind --from --save" ;;
     export) options="$options --from --read-only --salvage" ;;
     serve) options="$options --sessions --socket-mode" ;;
     loop) options="$options --socket-mode" ;;
-    daemon) options="$options --reader --writer --allow-close --idle --backlog --reserve --socket-mode" ;;
+    daemon) options="$options --reader --writer --allow-close --idle --backlog --reserve --socket-mode --extends" ;;
     send) options="$options --text --long --window --until-refused --placed --from --receipts --retry --timeout" ;;
     ask) options="$options --from --timeout" ;;
     watch) options="$options --every --timeout --quiet" ;;
@@ -39,7 +39,7 @@ _audit() {
         files=1
     elif [[ " $valued " == *" $before "* ]]; then
         case $before in
-        --reader | --save | --first | --under | --receipts) files=1 ;;
+        --reader | --save | --first | --under | --receipts | --extends) files=1 ;;
         --long) choices="cut refuse" ;;
         --mode | --socket-mode) choices="600 640 660" ;;
         esac

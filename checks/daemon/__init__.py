@@ -12,10 +12,11 @@ and a client asks for more than two million commitments.
 import signal
 
 from checks.daemon import (
-    bad_clients, lives, memory, placed, places, receipts, replaced, rights, saying, sources, states)
+    bad_clients, extending, lives, memory, placed, places, receipts, replaced, rights, saying, sources, states)
 from checks.parts.scenes import play_in_rooms, scenes_in, words_of
 
-SCENES = scenes_in(states, saying, lives, rights, bad_clients, places, memory, replaced, sources, placed, receipts)
+SCENES = scenes_in(states, saying, lives, rights, bad_clients, places, memory, replaced, sources, placed, receipts,
+                   extending)
 
 
 def main(words):

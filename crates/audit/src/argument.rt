@@ -68,6 +68,13 @@ pub(crate) fn explain_argument<F: Files, M: Write>(
                 "audit: {shown}: {kind}, which is checked under {number}"
             )
         }
+        Asked::Plain(Request::CheckLink(asked)) => {
+            let shown = Shown(asked.link);
+            writeln!(
+                messages,
+                "audit: {shown}: a link, which is checked under two commitments, OLDER and NEWER"
+            )
+        }
         Asked::Plain(Request::Open(asked)) => {
             let shown = Shown(asked.proof);
             writeln!(

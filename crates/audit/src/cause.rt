@@ -2,6 +2,7 @@
 use crate::bytes::Bytes;
 use crate::command::Asked;
 use crate::contents::{Contents, contents_of};
+use crate::heard::Said;
 use crate::noted::unread_note;
 use crate::places::store_of;
 use audit_cli_client::Request as Remote;
@@ -89,6 +90,26 @@ fn print_kept_cause<F: Files, M: Write>(
     }
 }
 
+/// Prints why the file of a witness wasn't read, which a command names whose store has to extend it.
+pub(crate) fn explain_witness<F: Files, M: Write>(
+    rt: &F,
+    path: &str,
+    said: Option<Said>,
+    notes: &Notes<'_>,
+    messages: &mut M,
+) -> io::Result<()> {
+    if said != Some(Said::FileFault) {
+        return Ok(());
+    }
+    if is_other(rt, path) {
+        return print_other(path, messages);
+    }
+    match notes.last() {
+        Some((name, error)) => writeln!(messages, "audit: {}: {error}", Shown(name)),
+        None => Ok(()),
+    }
+}
+
 // Whether something is there that is no regular file.
 fn is_other<F: Files>(rt: &F, path: &str) -> bool {
     match fs::metadata(rt, path) {
@@ -127,7 +148,7 @@ fn print_kind<F: Files, M: Write>(
     }
 }
 
-/// Prints what a file is that was given in the place of a store, an export or a proof.
+/// Prints what a file is that was given in the place of a store, an export, a proof or a link.
 pub(crate) fn explain_contents<F: Files, M: Write>(
     rt: &F,
     alloc: Global,
@@ -137,6 +158,7 @@ pub(crate) fn explain_contents<F: Files, M: Write>(
     let (path, wanted) = match asked {
         Asked::Plain(Request::Check { proof, .. }) => (Some(proof), Contents::Proof),
         Asked::Plain(Request::Open(asked)) => (Some(asked.proof), Contents::Proof),
+        Asked::Plain(Request::CheckLink(asked)) => (Some(asked.link), Contents::Link),
         Asked::Plain(Request::Verify(asked)) => (Some(asked.export), Contents::Export),
         _ => (store_of(asked), Contents::Store),
     };

@@ -1,4 +1,4 @@
-use crate::forms::{EXPLAIN, NO_PROGRESS, WRITER, command_line};
+use crate::forms::{EXPLAIN, EXTENDS, NO_PROGRESS, WRITER, command_line};
 use crate::noted::NoteRequest;
 use crate::remote_command::remote_request;
 use audit_cli_append::Request as Lines;
@@ -7,7 +7,7 @@ use audit_cli_daemon::{Request as Daemon, Settings};
 use audit_cli_offline::{CheckForm, ReportForm};
 use audit_cli_rotate::Request as Rotation;
 use audit_cli_serve::Request as Serving;
-use audit_cli_store::{Access, Opening, Request, ShowForm, Site, Verification};
+use audit_cli_store::{Access, LinkCheck, Opening, Request, ShowForm, Site, Verification};
 use clap::{ArgMatches, Error};
 use std::alloc::Global;
 use std::convert::AsStr;
@@ -17,6 +17,8 @@ use std::convert::AsStr;
 pub struct CommandLine<'a> {
     /// The command with its arguments.
     pub asked: Asked<'a>,
+    /// The file of a witness, whose newest commitment the log of its store has to extend.
+    pub extends: Option<&'a str>,
     /// Whether causes and warnings are printed even without a terminal.
     pub explain: bool,
     /// Whether a terminal shows how far the command is.
@@ -53,14 +55,24 @@ pub fn request_of<'m, 'a: 'm>(matches: &'m ArgMatches<'a>) -> CommandLine<'m> {
     match matches.subcommand() {
         Some((name, given)) => CommandLine {
             asked: asked_by(name, given),
+            extends: extends_asked(name, given),
             explain: given.get_flag(EXPLAIN),
             shows_progress: !given.get_flag(NO_PROGRESS),
         },
         None => CommandLine {
             asked: Asked::Plain(Request::Replay),
+            extends: None,
             explain: false,
             shows_progress: false,
         },
+    }
+}
+
+// The file of a witness that a command names, if it opens a store to append to it.
+fn extends_asked<'a>(name: &str, given: &ArgMatches<'a>) -> Option<&'a str> {
+    match name {
+        "append" | "daemon" => given.get_str(EXTENDS),
+        _ => None,
     }
 }
 
@@ -181,6 +193,13 @@ fn check_request<'a>(given: &ArgMatches<'a>) -> Request<'a> {
         word(given, "OLDER"),
         given.get_str("NEWER"),
     );
+    if given.get_flag("link") {
+        return Request::CheckLink(LinkCheck {
+            link: proof,
+            old: older,
+            new: newer,
+        });
+    }
     match given.get_str("key") {
         Some(key) => Request::Open(Opening {
             proof,

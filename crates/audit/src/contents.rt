@@ -3,6 +3,7 @@ use audit_base::{ENTRY_OVERHEAD, MAX_PAYLOAD, u32_at};
 use audit_cli_offline::read_proof;
 use audit_cli_store::STATE_WORD;
 use audit_disk::SECTOR_SIZE;
+use audit_link::read_link;
 use audit_log::Header;
 use audit_text::read_input;
 use audit_verify::{StateError, read_bookmark};
@@ -12,7 +13,7 @@ use std::fs::{self, Files, Metadata};
 use std::io::Read;
 use std::os::unix::fs::FileTypeExt;
 
-// The most bytes of a proof.
+// More bytes than a proof or a link has.
 const MAX_PROOF: u64 = 40_000;
 
 /// The active header of a store.
@@ -31,6 +32,7 @@ pub(crate) enum Contents {
     Store,
     Export,
     Proof,
+    Link,
 }
 
 impl Display for Contents {
@@ -39,6 +41,7 @@ impl Display for Contents {
             Contents::Store => "a store, which 'export' and 'prove' read",
             Contents::Export => "an export, which 'verify' reads",
             Contents::Proof => "a proof, which 'check' reads",
+            Contents::Link => "a link, which 'check --link' reads",
         })
     }
 }
@@ -82,8 +85,10 @@ pub(crate) fn contents_of<F: Files>(rt: &F, alloc: Global, path: &str) -> Option
         return Some(Contents::Store);
     }
     let found = metadata_of(rt, path)?;
-    if found.len() <= MAX_PROOF && is_proof(rt, alloc, path) {
-        return Some(Contents::Proof);
+    if found.len() <= MAX_PROOF
+        && let Some(found) = proof_or_link(rt, alloc, path)
+    {
+        return Some(found);
     }
     let mut start = [0; ENTRY_OVERHEAD];
     fs::open(rt, path).ok()?.read_exact(&mut start).ok()?;
@@ -120,14 +125,13 @@ fn head_in<R: Read>(file: &mut R, slot: u64) -> Option<StoreHead> {
     })
 }
 
-fn is_proof<F: Files>(rt: &F, alloc: Global, path: &str) -> bool {
-    let Ok(mut file) = fs::open(rt, path) else {
-        return false;
-    };
-    match read_input(alloc, &mut file) {
-        Ok(bytes) => read_proof(alloc, &bytes).is_ok(),
-        Err(_) => false,
+fn proof_or_link<F: Files>(rt: &F, alloc: Global, path: &str) -> Option<Contents> {
+    let mut file = fs::open(rt, path).ok()?;
+    let bytes = read_input(alloc, &mut file).ok()?;
+    if read_proof(alloc, &bytes).is_ok() {
+        return Some(Contents::Proof);
     }
+    read_link(alloc, &bytes).is_ok().then_some(Contents::Link)
 }
 
 // Whether a file of this length may begin with an entry that begins so. Zeros are none.

@@ -1,5 +1,5 @@
 //! What is printed when a command has ended.
-use crate::cause::explain_rest;
+use crate::cause::{explain_rest, explain_witness};
 use crate::command::Asked;
 use crate::disk_blocks::warn_of_blocks;
 use crate::explaining::explain_fault;
@@ -15,13 +15,15 @@ use std::net::Net;
 
 /// How a command ended.
 #[derive(Clone, Copy)]
-pub(crate) struct End {
+pub(crate) struct End<'a> {
     /// Why it failed, if it said that.
     pub(crate) said: Option<Said>,
     /// Its status.
     pub(crate) status: Status,
     /// Whether causes and warnings are printed on request.
     pub(crate) explains: bool,
+    /// The path of a witness's file that wasn't read.
+    pub(crate) unread: Option<&'a str>,
 }
 
 /// Prints causes and warnings. A daemon doesn't wait for whoever reads them.
@@ -29,7 +31,7 @@ pub(crate) fn explain_end<F: Files + Net, M: Write>(
     rt: &F,
     alloc: Global,
     asked: Asked<'_>,
-    end: End,
+    end: End<'_>,
     notes: &Notes<'_>,
     messages: &mut M,
 ) {
@@ -47,7 +49,7 @@ fn print_end<F: Files, M: Write>(
     rt: &F,
     alloc: Global,
     asked: Asked<'_>,
-    end: End,
+    end: End<'_>,
     notes: &Notes<'_>,
     messages: &mut M,
 ) -> io::Result<()> {
@@ -55,10 +57,14 @@ fn print_end<F: Files, M: Write>(
         said,
         status,
         explains,
+        unread,
     } = end;
     let said = said.filter(|said| said.ends_with(status));
     if explains || always_explains(asked) {
-        explain_fault(rt, alloc, asked, said, status, notes, messages)?;
+        match unread {
+            Some(path) => explain_witness(rt, path, said, notes, messages)?,
+            None => explain_fault(rt, alloc, asked, said, status, notes, messages)?,
+        }
     }
     if said.is_none() {
         explain_rest(rt, asked, messages)?;

@@ -14,6 +14,9 @@ pub const EXPLAIN: &str = "explain";
 /// An option of `daemon` that may be given more than once.
 pub const WRITER: &str = "writer";
 
+/// An option of the commands that open a store to append to it.
+pub const EXTENDS: &str = "extends";
+
 /// Another option of every command.
 pub const NO_PROGRESS: &str = "no-progress";
 
@@ -178,6 +181,13 @@ static APPEND: Form = Form {
             needs: None,
             excludes: None,
         },
+        Choice {
+            name: EXTENDS,
+            value: Some("STATE"),
+            help: "Only if the log extends the newest commitment in the file of a witness; else nothing is written",
+            needs: None,
+            excludes: None,
+        },
     ],
 };
 
@@ -313,11 +323,18 @@ static CHECK: Form = Form {
         },
         Word {
             name: "NEWER",
-            help: "The newer commitment, for an incremental proof",
+            help: "The newer commitment, for an incremental proof or a link",
             is_required: false,
         },
     ],
     options: &[
+        Choice {
+            name: "link",
+            value: None,
+            help: "PROOF is a link: from OLDER, the last commitment of a log, to NEWER, the second of the log that goes on",
+            needs: None,
+            excludes: Some("key"),
+        },
         Choice {
             name: "print",
             value: None,
@@ -603,6 +620,13 @@ static DAEMON: Form = Form {
             name: "socket-mode",
             value: Some("MODE"),
             help: "The permissions of the sockets, 600 to 677 in octal digits [default: 600]",
+            needs: None,
+            excludes: None,
+        },
+        Choice {
+            name: EXTENDS,
+            value: Some("STATE"),
+            help: "Only if the log extends the newest commitment in the file of a witness; else nothing is written",
             needs: None,
             excludes: None,
         },

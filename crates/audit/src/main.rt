@@ -24,6 +24,7 @@ mod remote_forms;
 mod server;
 mod streams;
 mod warning;
+mod witnessed;
 mod words;
 mod wrong_word;
 

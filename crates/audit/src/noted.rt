@@ -88,6 +88,7 @@ fn commitment_words<'a>(asked: Asked<'a>) -> (Option<&'a str>, Option<&'a str>) 
     match asked {
         Asked::Plain(Request::Check { older, newer, .. }) => (Some(older), newer),
         Asked::Plain(Request::Open(asked)) => (Some(asked.commitment), asked.newer),
+        Asked::Plain(Request::CheckLink(asked)) => (Some(asked.old), asked.new),
         Asked::Plain(Request::Verify(asked)) => (Some(asked.commitment), None),
         Asked::Note(note) => (Some(note.commitment), None),
         _ => (None, None),
@@ -141,6 +142,10 @@ fn with_first<'a>(asked: Asked<'a>, word: &'a str) -> Asked<'a> {
             asked.commitment = word;
             Asked::Plain(Request::Open(asked))
         }
+        Asked::Plain(Request::CheckLink(mut asked)) => {
+            asked.old = word;
+            Asked::Plain(Request::CheckLink(asked))
+        }
         Asked::Plain(Request::Verify(mut asked)) => {
             asked.commitment = word;
             Asked::Plain(Request::Verify(asked))
@@ -172,6 +177,10 @@ fn with_second<'a>(asked: Asked<'a>, word: &'a str) -> Asked<'a> {
         Asked::Plain(Request::Open(mut asked)) => {
             asked.newer = Some(word);
             Asked::Plain(Request::Open(asked))
+        }
+        Asked::Plain(Request::CheckLink(mut asked)) => {
+            asked.new = Some(word);
+            Asked::Plain(Request::CheckLink(asked))
         }
         _ => asked,
     }

@@ -25,7 +25,11 @@ fn store_of_plain<'a>(request: Request<'a>) -> Option<&'a str> {
         | Request::ShowHeader { file, .. }
         | Request::Export { file, .. }
         | Request::Prove { file, .. } => Some(file),
-        Request::Replay | Request::Check { .. } | Request::Open(_) | Request::Verify(_) => None,
+        Request::Replay
+        | Request::Check { .. }
+        | Request::CheckLink(_)
+        | Request::Open(_)
+        | Request::Verify(_) => None,
     }
 }
 

@@ -3,6 +3,7 @@ use crate::ending::{End, explain_end};
 use crate::heard::Heard;
 use crate::noted::{NoteRequest, Noted, fault_of};
 use crate::places::key_file_of;
+use crate::witnessed::Witnessed;
 use audit_cli_append::Request as Lines;
 use audit_cli_base::{CommandError, Status, report, report_end};
 use audit_cli_calls::SystemStores;
@@ -15,6 +16,7 @@ use audit_cli_rotate::Request as Rotation;
 use audit_cli_serve::Request as Serving;
 use audit_cli_store::Request;
 use audit_disk::{SystemFile, SystemFiles};
+use audit_proof::Commitment;
 use audit_serve_sockets::SystemSockets;
 use audit_store::StoreError;
 use audit_text::Shown;
@@ -105,11 +107,13 @@ where
         notes.watch_key(notes.subject_of(file));
     }
     let noted = Noted::read(rt, alloc, asked);
+    let witnessed = Witnessed::read(rt, alloc, line.extends);
     run_noted(
         rt,
         alloc,
         noted.in_place(asked),
         noted.fault,
+        witnessed,
         explains,
         notes,
         terminals,
@@ -119,12 +123,14 @@ where
     )
 }
 
-// Runs a command whose commitments were read from the notes that its words name, or not for this fault.
+// Runs a command whose commitments were read from the notes that its words name, or not for this fault. The log of its
+// store has to extend the commitment that was read from the file of a witness, if one is named.
 fn run_noted<F: SystemFiles + SystemSockets + Clock + Dial, R: Read, W: Write, M: Write>(
     rt: &F,
     alloc: Global,
     asked: Asked<'_>,
     unread: Option<CommandError>,
+    witnessed: Witnessed<'_>,
     explains: bool,
     notes: &Notes<'_>,
     terminals: Terminals,
@@ -136,19 +142,32 @@ where
     F::File: SystemFile,
 {
     let mut heard = Heard::new(messages, notes, only_answers(asked));
+    let older = witnessed.older;
     let status = if let Some(fault) = unread {
         report(fault, &mut heard)
+    } else if let Some(fault) = witnessed.fault {
+        fault.report(&mut heard)
     } else if terminals.output && prints_text(asked) {
         let mut screen = Screen::new(alloc, output);
-        carry_out(rt, alloc, asked, explains, input, &mut screen, &mut heard)
+        carry_out(
+            rt,
+            alloc,
+            asked,
+            older,
+            explains,
+            input,
+            &mut screen,
+            &mut heard,
+        )
     } else {
-        carry_out(rt, alloc, asked, explains, input, output, &mut heard)
+        carry_out(rt, alloc, asked, older, explains, input, output, &mut heard)
     };
     let said = heard.said();
     let end = End {
         said,
         status,
         explains,
+        unread: witnessed.unread,
     };
     explain_end(rt, alloc, asked, end, notes, messages);
     status
@@ -179,6 +198,7 @@ fn carry_out<F: SystemFiles + SystemSockets + Clock + Dial, R: Read, W: Write, M
     rt: &F,
     alloc: Global,
     asked: Asked<'_>,
+    older: Option<Commitment>,
     explains: bool,
     input: &mut R,
     output: &mut W,
@@ -190,11 +210,11 @@ where
     match asked {
         Asked::Plain(request) => answer(rt, alloc, request, input, output, messages),
         Asked::Note(request) => note(alloc, request, output, messages),
-        Asked::Lines(request) => append(rt, alloc, request, input, output, messages),
+        Asked::Lines(request) => append(rt, alloc, request, older, input, output, messages),
         Asked::Rotation(request) => rotate(rt, alloc, request, output, messages),
         Asked::Remote(request) => ask(rt, alloc, request, input, output, messages),
         Asked::Serving(request) => serve(rt, alloc, request, input, output, messages),
-        Asked::Daemon(request) => attend(rt, alloc, request, explains, output, messages),
+        Asked::Daemon(request) => attend(rt, alloc, request, older, explains, output, messages),
     }
 }
 
@@ -232,6 +252,7 @@ fn append<F: SystemFiles + Clock, R: Read, W: Write, M: Write>(
     rt: &F,
     alloc: Global,
     request: Lines<'_>,
+    older: Option<Commitment>,
     input: &mut R,
     output: &mut W,
     messages: &mut M,
@@ -239,7 +260,8 @@ fn append<F: SystemFiles + Clock, R: Read, W: Write, M: Write>(
 where
     F::File: SystemFile,
 {
-    audit_cli_append::run(rt, alloc, request, input, output, messages)
+    let mut stores = SystemStores::extending(rt, older);
+    audit_cli_append::run(rt, &mut stores, alloc, request, input, output, messages)
 }
 
 #[inline(never)]
@@ -253,7 +275,8 @@ fn rotate<F: SystemFiles, W: Write, M: Write>(
 where
     F::File: SystemFile,
 {
-    audit_cli_rotate::run(rt, alloc, request, output, messages)
+    let mut stores = SystemStores::new(rt);
+    audit_cli_rotate::run(rt, &mut stores, alloc, request, output, messages)
 }
 
 #[inline(never)]
@@ -293,6 +316,7 @@ fn attend<F: SystemFiles + SystemSockets + Dial + Clock, W: Write, M: Write>(
     rt: &F,
     alloc: Global,
     request: Daemon<'_>,
+    older: Option<Commitment>,
     explains: bool,
     output: &mut W,
     messages: &mut M,
@@ -300,7 +324,7 @@ fn attend<F: SystemFiles + SystemSockets + Dial + Clock, W: Write, M: Write>(
 where
     F::File: SystemFile,
 {
-    let mut stores = SystemStores::new(rt);
+    let mut stores = SystemStores::extending(rt, older);
     audit_cli_daemon::run(rt, &mut stores, alloc, request, explains, output, messages)
 }
 

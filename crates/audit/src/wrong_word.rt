@@ -104,6 +104,11 @@ fn wrong_in_plain<'a>(request: Request<'a>) -> Option<Wrong<'a>> {
                 Form::Commitment,
             ))
         }
+        Request::CheckLink(asked) => judge("OLDER", Some(asked.old), Form::Commitment).or(judge(
+            "NEWER",
+            asked.new,
+            Form::Commitment,
+        )),
         Request::Open(asked) => {
             judge("OLDER", Some(asked.commitment), Form::Commitment)
                 .or(judge("NEWER", asked.newer, Form::NoNewer))

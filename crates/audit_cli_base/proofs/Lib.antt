@@ -3,3 +3,5 @@ mod StartFiles
 pub mod Blank
 pub mod Sectors
 pub mod OpenedStore
+mod Witnessed
+mod OtherLogs

@@ -3,10 +3,13 @@ use Rattle.std.specs.Prelude.{◌≡◌, ◌⊎◌, ℕ, Option, Result, Ok, Err
 use Rattle.std.specs.Io.KnownBytes.{Keeps}
 use Rattle.audit_store.specs.declared.store_error.StoreError.{StoreError}
 use Rattle.audit_store.specs.declared.store_error.StoreError.TheVariants as store
+use Rattle.audit_store.specs.declared.extending_error.ExtendingError.{ExtendingError}
+use Rattle.audit_store.specs.declared.extending_error.ExtendingError.TheVariants as extending
 use Rattle.audit_disk.specs.declared.file_fault.FileFault.{FileFault}
 use Rattle.audit_disk.specs.declared.file_fault.FileFault.TheVariants as file
 use Rattle.audit_text.specs.declared.fault.LinesError.{LinesError}
 use Rattle.audit_text.specs.declared.fault.LinesError.TheVariants as lines
+use Rattle.audit_proof.specs.declared.commitment.Commitment.{Commitment}
 use Rattle.audit_proof.specs.declared.codec.ProofError.{ProofError}
 use Rattle.audit_proof.specs.declared.codec.ProofError.TheVariants as reading
 use Rattle.audit_verify.specs.declared.fault.Cause.{Cause}
@@ -18,7 +21,7 @@ use Rattle.audit_cli_base.specs.declared.status.Status.TheVariants as ends
 use Rattle.audit_cli_base.specs.declared.fault.CommandError.{CommandError}
 use Rattle.audit_cli_base.specs.declared.fault.CommandError.TheVariants.{BadArgument, File, InUse, Replaced}
 use Rattle.audit_cli_base.specs.declared.fault.CommandError.TheVariants.{TooSmall, Lines, Refused, Export}
-use Rattle.audit_cli_base.specs.declared.fault.CommandError.TheVariants.{BadProof}
+use Rattle.audit_cli_base.specs.declared.fault.CommandError.TheVariants.{BadProof, OtherLog}
 
 -- the status as a number
 abbrev pub exit_status_of : Status → ℕ
@@ -57,6 +60,11 @@ status_of (Lines cause) = status_of_lines cause
 status_of (Refused error) = status_of_refusal error
 status_of (Export fault) = status_of_cause fault.cause
 status_of _ = ends.Refused
+
+-- the error of a store that has to extend a commitment
+abbrev pub of_extending : Commitment → ExtendingError → CommandError
+of_extending held (extending.Refused error) = Refused error
+of_extending held (extending.OtherLog own) = OtherLog held own
 
 -- not a wrong argument
 abbrev pub IsNoWordFault : CommandError → Type 0

@@ -5,7 +5,7 @@ use crate::status::Status;
 use audit_cli_offline::OfflineError;
 use audit_disk::FileFault;
 use audit_disk_model::DeviceFault;
-use audit_proof::ProofError;
+use audit_proof::{Commitment, ProofError};
 use audit_store::StoreError;
 use audit_text::LinesError;
 use audit_verify::{Cause, VerifyFault};
@@ -43,6 +43,14 @@ pub enum CommandError {
         /// The number that it holds.
         count: u64,
     },
+    /// The log of the store doesn't extend a commitment that it has to extend.
+    #[error("the log is another one")]
+    OtherLog {
+        /// The commitment.
+        held: Commitment,
+        /// The store's own.
+        own: Commitment,
+    },
     /// The store is damaged, and the entries that could still be read were written.
     #[error("the store is damaged")]
     Salvaged,
@@ -77,6 +85,7 @@ impl CommandError {
             CommandError::File | CommandError::InUse | CommandError::Replaced => Status::Device,
             CommandError::TooSmall { .. }
             | CommandError::OtherCount { .. }
+            | CommandError::OtherLog { .. }
             | CommandError::Salvaged => Status::Refused,
             CommandError::Lines(LinesError::Memory) => Status::Memory,
             CommandError::Lines(LinesError::Read | LinesError::Write) => Status::Device,

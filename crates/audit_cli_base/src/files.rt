@@ -1,13 +1,16 @@
 //! Stores in files.
 ghost use Rattle.std.specs.Prelude.{◌≡◌, ◌≤◌, ℕ, List, true, false, Ok, Err, IfOk, IfErr, OnOk, IsTrue};
 ghost use Rattle.audit_cli_base.specs.Blank.{IsBlankUpTo};
-ghost use Rattle.audit_cli_base.specs.Faults.{IsNoWordFault};
+ghost use Rattle.audit_cli_base.specs.Faults.{IsNoWordFault, of_extending};
 ghost use Rattle.audit_cli_base.specs.OpenedStore.{IsStoreOn, IsStoreAt, IsDeviceAt, IsReadDeviceAt};
+ghost use Rattle.audit_cli_base.specs.OpenedStore.{IsExtendingFault};
 ghost use Rattle.audit_disk.specs.FileDisk.{file_disk_view};
 ghost use Rattle.audit_disk.specs.FileFacts.{IsMadeDevice};
 ghost use Rattle.audit_disk.specs.Positioned.{IsUncalled, ShowsFront};
 ghost use Rattle.audit_log.specs.Reads.{OnlyReads};
+ghost use Rattle.audit_store.specs.Extending.{ExtendsCommitment, ExtendsGiven};
 ghost use Rattle.audit_store.specs.ReadOnlyOpening.{at_rest};
+ghost use Rattle.audit_store.specs.Store.{index_of};
 
 use crate::fault::CommandError;
 use crate::system_use::is_used_by_system;
@@ -18,7 +21,8 @@ use audit_disk::{
 };
 use audit_disk_model::{DeviceFault, Sectors};
 use audit_log::MAX_SECTORS;
-use audit_store::{Store, StoreError};
+use audit_proof::Commitment;
+use audit_store::{ExtendingError, Store, StoreError};
 use std::alloc::Global;
 use std::fs::{self, OpenFile};
 
@@ -77,6 +81,61 @@ fn repaired<D: Sectors + Drop>(
             identity,
         }),
         Err(failed) => Err(CommandError::Refused(failed.error)),
+    }
+}
+
+/// Opens the store in a file as [`open_store`] does, if its log extends the older commitment where one is given. If it
+/// doesn't, the error is `OtherLog`: the file was read, and nothing was written.
+pub fn open_store_extending<F: SystemFiles>(
+    rt: &F,
+    alloc: Global,
+    file: &str,
+    older: Option<Commitment>,
+) -> Result<Opened<FileStore<F::File>>, CommandError>
+where
+    F::File: SystemFile,
+    ensures cause { IfErr result IsNoWordFault }
+    ensures at { IfOk result (λ opened. IsStoreAt F.File.facts F.File.positioned file.now opened.content) }
+    ensures extends { IfOk result (λ opened. ExtendsGiven older (index_of opened.content).leaves) }
+{
+    let Some(older) = older else {
+        return open_store(rt, alloc, file);
+    };
+    let opened = extending(alloc, open_bounded(rt, alloc, file)?, older)?;
+    opened.content.wipe_stack();
+    Ok(opened)
+}
+
+// Opens the store on a device if its log extends a commitment. It is no part of its caller for the reasons of
+// `repaired`.
+#[inline(never)]
+fn extending<D: Sectors + Drop>(
+    alloc: Global,
+    opened: Opened<D>,
+    older: Commitment,
+) -> Result<Opened<Store<D>>, CommandError>
+    ensures cause { IfErr result IsNoWordFault }
+    ensures on { IfOk result (λ store. IsStoreOn (D.view opened.content) store.content) }
+    ensures extends { IfOk result (λ store. ExtendsCommitment older (index_of store.content).leaves) }
+    ensures fault { IfErr result (IsExtendingFault older (D.view opened.content)) }
+{
+    let Opened { content, identity } = opened;
+    match Store::open_extending(alloc, content, older) {
+        Ok(store) => Ok(Opened {
+            content: store,
+            identity,
+        }),
+        Err(failed) => Err(fault_of(older, failed.error)),
+    }
+}
+
+fn fault_of(held: Commitment, error: ExtendingError) -> CommandError
+    ensures fault { result ≡ of_extending held error }
+    ensures cause { IsNoWordFault result }
+{
+    match error {
+        ExtendingError::Refused(error) => CommandError::Refused(error),
+        ExtendingError::OtherLog(own) => CommandError::OtherLog { held, own },
     }
 }
 

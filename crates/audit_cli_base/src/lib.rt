@@ -2,9 +2,11 @@
 #![tactic(auto)]
 
 mod arguments;
+mod commitment_word;
 mod fault;
 mod files;
 mod key_file;
+pub mod laws;
 mod mode;
 mod output_file;
 mod replacing;
@@ -25,7 +27,7 @@ pub use arguments::{
 pub use fault::CommandError;
 pub use files::{
     FileDevice, FileStore, Opened, device_in_place, make_device, open_device_to_read,
-    open_device_to_salvage, open_store, store_to_read,
+    open_device_to_salvage, open_store, open_store_extending, store_to_read,
 };
 pub use key_file::{key_at, key_of_file, read_key};
 pub use mode::mode_asked;

@@ -1,8 +1,10 @@
 ghost use Rattle.std.specs.Prelude.{◌≡◌, IsOk, IsErr};
 ghost use Rattle.audit_cli_base.specs.Faults.{status_of, status_of_end};
 
+use crate::commitment_word::CommitmentWord;
 use crate::fault::CommandError;
 use crate::status::Status;
+use audit_proof::Commitment;
 use audit_store::StoreError;
 use audit_text::LinesError;
 use audit_verify::VerifyFault;
@@ -11,8 +13,8 @@ use std::io::Write;
 
 /// Prints in one line why a command failed, and returns the program's exit status. If the line can't be printed, only
 /// the status reports the fault. Nothing is printed for a proof that isn't accepted, or for salvaged entries, because
-/// the command has already printed that. For a device that is too small a second line states its size. It allocates
-/// nothing.
+/// the command has already printed that. For a device that is too small a second line states its size, and for another
+/// log both commitments. It allocates nothing.
 pub fn report<M: Write>(fault: CommandError, messages: &mut M) -> Status
     ensures { result ≡ status_of fault }
 {
@@ -24,6 +26,7 @@ pub fn report<M: Write>(fault: CommandError, messages: &mut M) -> Status
         CommandError::Replaced => writeln!(messages, "audit: store replaced"),
         CommandError::TooSmall { sectors } => print_too_small(sectors, messages),
         CommandError::OtherCount { count } => writeln!(messages, "audit: count is {count}"),
+        CommandError::OtherLog { held, own } => print_other_log(held, own, messages),
         CommandError::Lines(cause) => print_lines_fault(cause, messages),
         CommandError::Refused(error) => print_refusal(error, messages),
         CommandError::Export(fault) => print_export_fault(fault, messages),
@@ -69,6 +72,17 @@ fn print_too_small<M: Write>(sectors: u64, messages: &mut M) -> io::Result<()> {
         return writeln!(messages, "audit: there is 1 sector");
     }
     writeln!(messages, "audit: there are {sectors} sectors")
+}
+
+// That the log is another one, and then the commitment that it has to extend, and its own.
+fn print_other_log<M: Write>(
+    held: Commitment,
+    own: Commitment,
+    messages: &mut M,
+) -> io::Result<()> {
+    let (held, own) = (CommitmentWord(held), CommitmentWord(own));
+    writeln!(messages, "audit: other log")?;
+    writeln!(messages, "audit: held {held}, the store has {own}")
 }
 
 fn print_lines_fault<M: Write>(fault: LinesError, messages: &mut M) -> io::Result<()> {

@@ -28,6 +28,7 @@ mod state_lock;
 mod state_text;
 mod store_state_line;
 mod watching;
+mod witnessed;
 
 pub use arguments::{Evidence, Question};
 pub use asking::answer;
@@ -39,3 +40,4 @@ pub use servers::{Servers, SystemServers};
 pub use state_file::StateFile;
 pub use state_text::StateText;
 pub use watching::{Post, follow_look};
+pub use witnessed::{witnessed_at, witnessed_in};

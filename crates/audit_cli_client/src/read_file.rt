@@ -7,14 +7,13 @@ use crate::line::{LineEnd, Pace};
 use crate::printed_file::PrintedFile;
 use crate::read_error::{fault_of_reading, fault_of_unseen};
 use crate::reading::ReadTask;
-use crate::state_file::StateFile;
 use crate::state_lock::{Locked, lock_state, metadata_if_any, remove_made};
-use crate::state_text::StateAt;
+use crate::witnessed::witnessed_at;
 use audit_cli_base::{CommandError, OutputFile, read_key};
 use audit_cli_host::Dial;
 use audit_cli_offline::{Printing, VerifiedEnd, kinds_in_word, write_end_message, write_last_line};
 use audit_cli_read::{BookmarkFile, EventOutlet};
-use audit_client::{FallibleWrite, Kept};
+use audit_client::FallibleWrite;
 use audit_client_read::{Outlet, newest_under, read_on};
 use audit_disk::{FileIdentity, SystemFile};
 use audit_proof::Commitment;
@@ -106,7 +105,7 @@ where
     let Bookmark { state, newest } = bookmark_of(rt, alloc, task, found.as_ref())?;
     let held = newest.unwrap_or(state.commitment());
     let witnessed = match task.under {
-        Some(path) => Some(witnessed_in(rt, alloc, path)?),
+        Some(path) => Some(witnessed_at(rt, alloc, path)?),
         None => None,
     };
     let line = connect(rt, task.socket, task.seconds, Pace::Question)?;
@@ -190,19 +189,6 @@ fn bookmark_in<R: Read>(alloc: Global, file: &mut R) -> Result<Bookmark, RemoteE
         Ok(mark) => Ok(mark),
         Err(StateError::Damaged) => Err(RemoteError::Command(CommandError::BadArgument)),
         Err(StateError::Memory) => Err(crate::fault::no_memory()),
-    }
-}
-
-// The newest commitment in the file of a witness, which has one at least.
-fn witnessed_in<F: Files>(rt: &F, alloc: Global, path: &str) -> Result<Commitment, RemoteError> {
-    if !fs::metadata(rt, path)?.is_file() {
-        return Err(RemoteError::Command(CommandError::File));
-    }
-    let file = fs::open(rt, path)?;
-    let kept = StateFile::read(alloc, StateAt { rt, path, file })?;
-    match kept.newest() {
-        Some(newest) => Ok(newest),
-        None => Err(RemoteError::BadStateLine(1)),
     }
 }
 

@@ -151,8 +151,9 @@ where
     // store was opened and nothing was written, or that store was let go with its events, and a prefix of these lines
     // was written. In both cases nothing else was done to a store.
     ensures carried { (settings : Settings) → request.entry ≡ Request.Run settings
-        → IsDaemonCarriedOut ⟦<FileDevice<F::File> as Sectors>⟧ O.calls O.at (F.sockets rt.now)
-        ⟦<Client as ReadyStream>⟧.calls ⟦<DaemonDoor<F, F::File, Sparing<'static, M>> as Door>⟧.calls settings
+        → IsDaemonCarriedOut ⟦<FileDevice<F::File> as Sectors>⟧ O.calls (O.at stores.old)
+        (F.sockets rt.now) ⟦<Client as ReadyStream>⟧.calls
+        ⟦<DaemonDoor<F, F::File, Sparing<'static, M>> as Door>⟧.calls settings
         stores.old stores.new (W.contents output.old) (W.contents output.new) (W.flushed output.new)
         (W.unflushed output.new) result }
 {
@@ -187,8 +188,9 @@ where
     ensures only { result ≡ Status.Usage → HasBadSetting settings.entry }
     ensures unwritten { HasBadSetting settings.entry → Keeps (W.contents output.old) (W.contents output.new) }
     ensures unopened { HasBadSetting settings.entry → O.calls.DidCalls stores.old stores.new [] }
-    ensures carried { IsDaemonCarriedOut ⟦<FileDevice<F::File> as Sectors>⟧ O.calls O.at (F.sockets rt.now)
-        ⟦<Client as ReadyStream>⟧.calls ⟦<DaemonDoor<F, F::File, Sparing<'static, M>> as Door>⟧.calls settings.entry
+    ensures carried { IsDaemonCarriedOut ⟦<FileDevice<F::File> as Sectors>⟧ O.calls (O.at stores.old)
+        (F.sockets rt.now) ⟦<Client as ReadyStream>⟧.calls
+        ⟦<DaemonDoor<F, F::File, Sparing<'static, M>> as Door>⟧.calls settings.entry
         stores.old stores.new (W.contents output.old) (W.contents output.new) (W.flushed output.new)
         (W.unflushed output.new) result }
 {
@@ -218,8 +220,9 @@ where
     ensures only { result ≡ Status.Usage → HasBadSetting settings.entry }
     ensures unwritten { HasBadSetting settings.entry → Keeps (W.contents output.old) (W.contents output.new) }
     ensures unopened { HasBadSetting settings.entry → O.calls.DidCalls stores.old stores.new [] }
-    ensures carried { IsDaemonCarriedOut ⟦<FileDevice<F::File> as Sectors>⟧ O.calls O.at (F.sockets rt.now)
-        ⟦<Client as ReadyStream>⟧.calls ⟦<DaemonDoor<F, F::File, Sparing<'static, M>> as Door>⟧.calls settings.entry
+    ensures carried { IsDaemonCarriedOut ⟦<FileDevice<F::File> as Sectors>⟧ O.calls (O.at stores.old)
+        (F.sockets rt.now) ⟦<Client as ReadyStream>⟧.calls
+        ⟦<DaemonDoor<F, F::File, Sparing<'static, M>> as Door>⟧.calls settings.entry
         stores.old stores.new (W.contents output.old) (W.contents output.new) (W.flushed output.new)
         (W.unflushed output.new) result }
 {
@@ -263,8 +266,9 @@ where
     ensures only { result ≡ Err CommandError.BadArgument → HasBadSetting settings.entry }
     ensures unwritten { HasBadSetting settings.entry → Keeps (W.contents output.old) (W.contents output.new) }
     ensures unopened { HasBadSetting settings.entry → O.calls.DidCalls stores.old stores.new [] }
-    ensures served { IsDaemonDone ⟦<FileDevice<F::File> as Sectors>⟧ O.calls O.at (F.sockets rt.now)
-        ⟦<Client as ReadyStream>⟧.calls ⟦<DaemonDoor<F, F::File, Sparing<'static, M>> as Door>⟧.calls settings.entry
+    ensures served { IsDaemonDone ⟦<FileDevice<F::File> as Sectors>⟧ O.calls (O.at stores.old)
+        (F.sockets rt.now) ⟦<Client as ReadyStream>⟧.calls
+        ⟦<DaemonDoor<F, F::File, Sparing<'static, M>> as Door>⟧.calls settings.entry
         stores.old stores.new (W.contents output.old) (W.contents output.new) result }
 {
     let judged = judge(settings)?;

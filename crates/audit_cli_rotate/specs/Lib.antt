@@ -4,4 +4,5 @@ pub mod Links
 pub mod Linked
 pub mod Lines
 pub mod Rotated
+pub mod Files
 pub mod Carried

@@ -1,5 +1,5 @@
 //! The request to rotate a log, and how it is carried out.
-ghost use Rattle.std.specs.Prelude.{◌≡◌, ◌⊎◌, Err};
+ghost use Rattle.std.specs.Prelude.{◌≡◌, ◌⊎◌, [], Err};
 ghost use Rattle.std.specs.Io.KnownBytes.{Keeps};
 ghost use Rattle.audit_cli_base.specs.declared.fault.CommandError.{CommandError};
 ghost use Rattle.audit_cli_base.specs.Arguments.{sectors_asked};
@@ -8,8 +8,10 @@ ghost use Rattle.audit_cli_rotate.specs.Carried.{rotation_end_status, IsRotation
 
 use crate::fault::RotationError;
 use crate::files::rotate_file;
-use audit_cli_base::{CommandError, FileDevice, Status, key_at, report_flush, sectors_asked};
-use audit_cli_calls::FlushedOutput;
+use audit_cli_base::{
+    CommandError, FileDevice, FileStore, Status, key_at, report_flush, sectors_asked,
+};
+use audit_cli_calls::{FlushedOutput, NewStores};
 use audit_disk::{SystemFile, SystemFiles};
 use audit_disk_model::Sectors;
 use std::alloc::Global;
@@ -29,34 +31,44 @@ pub struct Request<'a> {
     pub key_file: &'a str,
 }
 
-/// Carries out a request. Lines that begin with `audit: ` are written to `messages`, all others to `output`, which is
+/// Carries out a request over the stores of a system, `stores`, which are those of `rt`. Lines that begin with `audit: ` are written to `messages`, all others to `output`, which is
 /// flushed at the end. Returns the status with which the program exits.
 ///
 /// A run that was interrupted is continued by another one with the same words: what is done is found, and not done
 /// twice.
-pub fn run<F: SystemFiles, W: FlushedOutput, M: Write>(
+pub fn run<F, O, W, M>(
     rt: &F,
+    stores: &mut O,
     alloc: Global,
     request: Request<'_>,
     output: &mut W,
     messages: &mut M,
 ) -> Status
 where
+    F: SystemFiles,
     F::File: SystemFile,
-    // A wrong number of sectors ends the program before anything is written. An output that can't be flushed is another
-    // fault.
+    O: NewStores<FileStore<F::File>, FileDevice<F::File>>,
+    W: FlushedOutput,
+    M: Write,
+    // A wrong number of sectors ends the program before a store is opened or anything is written. An output that can't
+    // be flushed is another fault.
     ensures words { (fault : CommandError) → sectors_asked request.entry.sectors.now ≡ Err fault
         → (result ≡ status_of fault) ⊎ (result ≡ Status.Device) }
     ensures unwritten { (fault : CommandError) → sectors_asked request.entry.sectors.now ≡ Err fault
         → Keeps (W.contents output.old) (W.contents output.new) }
-    // The status is that of the result. On success the log of the store in the old file is closed, and a store of the
-    // size and with the first key asked for continues it: one that was made, or one that an earlier run had made in the
-    // new file. The lines of the two were written.
-    ensures carried { IsRotationCarriedOut F.File.facts F.File.positioned
-        ⟦<FileDevice<F::File> as Sectors>⟧ F.File.remaining request.entry
+    ensures unopened { (fault : CommandError) → sectors_asked request.entry.sectors.now ≡ Err fault
+        → O.calls.DidCalls stores.old stores.new [] }
+    // The status is that of the result. On success the log of the store that was opened in the old file is closed, and a
+    // store of the size and with the first key asked for continues it: one that was made under the temporary name, or one
+    // that an earlier run had made, found in the new file. The lines of the two were written. After an error no store was
+    // opened and nothing was written; or the old log is as it was, or was closed by a rotation to a device that was made
+    // so, and nothing or a prefix of the lines of that rotation was written. In each case nothing else was done to a
+    // store, and no other device was made.
+    ensures carried { IsRotationCarriedOut F.File.facts F.File.positioned F.File.remaining
+        ⟦<FileDevice<F::File> as Sectors>⟧ O.made_at O.calls (O.at stores.old) request.entry stores.old stores.new
         (W.contents output.old) (W.contents output.new) (W.flushed output.new) (W.unflushed output.new) result }
 {
-    let done = perform(rt, alloc, request, output);
+    let done = perform(rt, stores, alloc, request, output);
     let flushed = output.flush_last();
     let status = report_rotation(done, request, messages);
     report_flush(status, flushed, messages)
@@ -76,26 +88,33 @@ fn report_rotation<M: Write>(
 }
 
 // The words and the key are judged first.
-fn perform<F: SystemFiles, W: Write>(
+fn perform<F, O, W>(
     rt: &F,
+    stores: &mut O,
     alloc: Global,
     request: Request<'_>,
     output: &mut W,
 ) -> Result<(), RotationError>
 where
+    F: SystemFiles,
     F::File: SystemFile,
+    O: NewStores<FileStore<F::File>, FileDevice<F::File>>,
+    W: Write,
     ensures words { (fault : CommandError) → sectors_asked request.entry.sectors.now ≡ Err fault
         → result ≡ Err (RotationError.Command fault) }
     ensures unwritten { (fault : CommandError) → sectors_asked request.entry.sectors.now ≡ Err fault
         → Keeps (W.contents output.old) (W.contents output.new) }
-    ensures rotated { IsRotationDone F.File.facts F.File.positioned
-        ⟦<FileDevice<F::File> as Sectors>⟧ F.File.remaining request.entry
+    ensures unopened { (fault : CommandError) → sectors_asked request.entry.sectors.now ≡ Err fault
+        → O.calls.DidCalls stores.old stores.new [] }
+    ensures rotated { IsRotationDone F.File.facts F.File.positioned F.File.remaining
+        ⟦<FileDevice<F::File> as Sectors>⟧ O.made_at O.calls (O.at stores.old) request.entry stores.old stores.new
         (W.contents output.old) (W.contents output.new) result }
 {
     let sectors = sectors_asked(request.sectors)?;
     let first_key = key_at(rt, alloc, request.key_file)?;
     rotate_file(
         rt,
+        stores,
         alloc,
         request.old,
         request.new,

@@ -101,7 +101,7 @@ where
     // over the store that was opened in the file that was named; whatever happens, the output has the lines of what was
     // served, in order. After an error no store was opened, or that store was let go with its events. Nothing else was
     // done to a store.
-    ensures carried { IsServingCarriedOut ⟦<FileDevice<F::File> as Sectors>⟧ O.calls O.at
+    ensures carried { IsServingCarriedOut ⟦<FileDevice<F::File> as Sectors>⟧ O.calls (O.at stores.old)
         ⟦<UnixStream as Duplex>⟧.calls ⟦<SocketFile as Listener<UnixStream>>⟧.model (IsBound (F.sockets rt.now))
         request.entry stores.old stores.new (R.remaining input.old) (W.contents output.old) (W.contents output.new)
         (W.flushed output.new) (W.unflushed output.new) result }
@@ -134,7 +134,7 @@ where
     ensures words { RefusesWords (IsServingFault request.entry) (W.contents output.old) (W.contents output.new) result }
     ensures only { result ≡ Err (ServingError.Command CommandError.BadArgument) → HasWrongWord request.entry }
     ensures unopened { HasWrongWord request.entry → O.calls.DidCalls stores.old stores.new [] }
-    ensures served { IsServingDone ⟦<FileDevice<F::File> as Sectors>⟧ O.calls O.at
+    ensures served { IsServingDone ⟦<FileDevice<F::File> as Sectors>⟧ O.calls (O.at stores.old)
         ⟦<UnixStream as Duplex>⟧.calls ⟦<SocketFile as Listener<UnixStream>>⟧.model (IsBound (F.sockets rt.now))
         request.entry stores.old stores.new (R.remaining input.old) (W.contents output.old) (W.contents output.new)
         result }
@@ -197,13 +197,13 @@ where
     W: Write,
     requires { sessions ≤ SESSIONS }
     ensures words { IfErr result IsNoWordError }
-    ensures served { OnOk result (ServesOpened ⟦<FileDevice<F::File> as Sectors>⟧ O.calls O.at
+    ensures served { OnOk result (ServesOpened ⟦<FileDevice<F::File> as Sectors>⟧ O.calls (O.at stores.old)
         ⟦<UnixStream as Duplex>⟧.calls ⟦<SocketFile as Listener<UnixStream>>⟧.model (IsBound (F.sockets rt.now))
         file.now socket.now mode sessions rounds stores.old stores.new (W.contents output.old)
         (W.contents output.new)) }
     ensures stopped { IfErr result (λ fault. IsUnopened O.calls
         file.now stores.old stores.new (W.contents output.old) (W.contents output.new) fault
-        ⊎ StopsOpened ⟦<FileDevice<F::File> as Sectors>⟧ O.calls O.at
+        ⊎ StopsOpened ⟦<FileDevice<F::File> as Sectors>⟧ O.calls (O.at stores.old)
         ⟦<UnixStream as Duplex>⟧.calls ⟦<SocketFile as Listener<UnixStream>>⟧.model (IsBound (F.sockets rt.now))
         file.now socket.now mode sessions stores.old stores.new (W.contents output.old) (W.contents output.new)
         fault) }
@@ -333,12 +333,12 @@ where
     R: Read,
     W: Write,
     ensures words { IfErr result IsNoWordError }
-    ensures looped { OnOk result (LoopsOpened ⟦<FileDevice<F::File> as Sectors>⟧ O.calls O.at
+    ensures looped { OnOk result (LoopsOpened ⟦<FileDevice<F::File> as Sectors>⟧ O.calls (O.at stores.old)
         (IsBound (F.sockets rt.now)) file.now socket.now mode stores.old stores.new
         (R.remaining input.old) (W.contents output.old) (W.contents output.new)) }
     ensures stopped { IfErr result (λ fault. IsUnopened O.calls
         file.now stores.old stores.new (W.contents output.old) (W.contents output.new) fault
-        ⊎ KeepsSome ⟦<FileDevice<F::File> as Sectors>⟧ O.calls O.at file.now stores.old stores.new) }
+        ⊎ KeepsSome ⟦<FileDevice<F::File> as Sectors>⟧ O.calls (O.at stores.old) file.now stores.old stores.new) }
 {
     let Opened { content, identity } = stores.open(alloc, file)?;
     let watch = StoreWatch::new(rt, file, identity, content.sectors());

@@ -1,6 +1,7 @@
 // Whole command lines over files. The expected output was computed by an independent model.
 use audit_cli_append as append;
 use audit_cli_base::{CommandError, Status, mode_asked, report_end};
+use audit_cli_calls::SystemStores;
 use audit_cli_store::{Access, Request, ShowForm, Site, run};
 use std::fs::{self, OpenOptions};
 use std::io::{self, ErrorKind};
@@ -58,8 +59,10 @@ fn acknowledges(rt: &HostRuntime, file: &str, input: &[u8], printed: &str) -> bo
     let mut input = input;
     let mut output = Vec::new(rt.alloc());
     let mut messages = Vec::new(rt.alloc());
+    let mut stores = SystemStores::new(rt);
     let found = append::run(
         rt,
+        &mut stores,
         rt.alloc(),
         request,
         &mut input,

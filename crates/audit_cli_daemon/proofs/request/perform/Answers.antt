@@ -13,7 +13,7 @@ returns-clause-served g c =
 
 pub returns-in_err-sockets-clause-served : goal.returns-in_err-sockets-clause-served
 returns-in_err-sockets-clause-served g c =
-    unopened _ g.O.Stores.calls g.O.Stores.at (g.F.SystemSockets.sockets c.args.rt.now) _ _ c.args.stores.now c.args.settings (g.W.Write.contents c.args.output.now) _ (search rules)
+    unopened _ g.O.Stores.calls (g.O.Stores.at c.args.stores.now) (g.F.SystemSockets.sockets c.args.rt.now) _ _ c.args.stores.now c.args.settings (g.W.Write.contents c.args.output.now) _ (search rules)
 
 pub returns-in-Err-clause-served : goal.returns-in-Err-clause-served
 returns-in-Err-clause-served g c = inl (inl (g.O.Stores.calls.nothing_called c.args.stores.now), kept_bytes (g.W.Write.contents c.args.output.now))
