@@ -41,12 +41,7 @@ pub trait NewStores<S, D: Sectors>: Stores<S> {
     ghost made_at: { List ℕ → ℕ → D → Type 0 };
 
     /// Makes a file that only its owner can open, with a device of zero sectors. An existing file isn't overwritten.
-    fn make(
-        &mut self,
-        alloc: Global,
-        path: &str,
-        sectors: u64,
-    ) -> Result<Opened<D>, CommandError>
+    fn make(&mut self, alloc: Global, path: &str, sectors: u64) -> Result<Opened<D>, CommandError>
         ensures did { Self.calls.DidCalls self.old self.new (a_making path.now sectors (made_by result) ∷ []) }
         ensures cause { IfErr result IsNoWordFault }
         ensures size { IfOk result (λ opened. (D.view opened.content).size ≡ sectors) }
