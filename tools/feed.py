@@ -255,6 +255,8 @@ class Sender:
         # The place of the next item's event. Whether an earlier run may have sent items that come. What is kept, and
         # when it was.
         self.next, self.is_doubtful, self.state, self.saved = self.number, False, None, time.monotonic()
+        # Whether the daemon has fewer events than were acknowledged and hasn't appended one yet. Then it may be fenced.
+        self.is_behind = False
         # When an answer came, if some item waits for one.
         self.heard, self.is_said, self.also = self.saved, False, []
 
@@ -267,6 +269,7 @@ class Sender:
         elif self.number < mark.number:
             self.say("the log has %d events of kind %d, and %d were acknowledged"
                      % (self.number, self.daemon.kind, mark.number))
+            self.is_behind = True
         elif mark.state == BUSY:
             self.next, self.is_doubtful, self.state = mark.number, True, BUSY
         elif self.number > mark.number:
@@ -294,7 +297,9 @@ class Sender:
         sent = Sent(item, self.next)
         self.order.append(sent)
         self.send(sent)
-        if len(self.daemon.frames) >= 2 * AT_ONCE:
+        if self.is_behind:
+            self.settle(0)
+        elif len(self.daemon.frames) >= 2 * AT_ONCE:
             self.settle(AHEAD - AT_ONCE)
 
     def begin(self, item):
@@ -347,6 +352,9 @@ class Sender:
             raise Ended("bad reply")
         if body[0] == PLACED_REPLY and len(body) == PLACED_SIZE:
             sent.is_stored = True
+            if self.is_behind:
+                self.is_behind = False
+                self.save(BUSY)
         elif body[0] == PLACE_REPLY and len(body) == PLACE_SIZE:
             self.displaced(sent, PLACE_FIELDS.unpack(body[5:])[0])
         else:
@@ -407,7 +415,8 @@ class Sender:
             self.log = self.daemon.log()
 
     def save(self, state):
-        if self.place.origin is None:
+        """Keeps the place; not that in the log of a daemon that may be fenced, as its successor has more events."""
+        if self.place.origin is None or self.is_behind:
             return
         number = self.order[0].number if self.order else self.next
         self.kept.save("%s %d %s %s" % (self.place.text(), number, state, self.log))
