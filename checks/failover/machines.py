@@ -8,6 +8,7 @@ import threading
 import time
 
 from checks.failover.etcd import Link, Member
+from checks.failover.placed import KINDS, source_at
 from checks.parts import program
 from checks.parts.places import tool
 from checks.parts.tools import call
@@ -38,10 +39,13 @@ take)
     nbdfuse "$PWD/mounted/store" "nbd+unix:///?socket=$PWD/nbd" >/dev/null 2>>messages &
     echo $! >file.pid
     until [ -s mounted/store ]; do kill -0 "$(cat client.pid)" && sleep 0.05 || exit 1; done
+    # The address of the store leads here now.
+    ln -sfn "$PWD" address
+    mv -T address ../address.of.store
     ;;
 run)
     echo $$ >daemon.pid
-    exec setpriv --pdeathsig KILL {audit} daemon mounted/store socket >/dev/null 2>>messages
+    exec setpriv --pdeathsig KILL {audit} daemon mounted/store socket {sources} >/dev/null 2>>messages
     ;;
 look)
     echo alive | {audit} send socket --text 7 --timeout 3 >/dev/null 2>&1
@@ -81,7 +85,8 @@ class Machine:
         os.makedirs(self.folder + "/mounted")
         with open(self.script, "w") as file:
             text = SCRIPT.replace("{fence}", device.fence).replace("{attach}", device.attach)
-            file.write(text.replace("{audit}", program.PATH))
+            sources = " ".join("--writer %d:%s" % (kind, source_at(".", kind)) for kind in KINDS)
+            file.write(text.replace("{audit}", program.PATH).replace("{sources}", sources))
         os.chmod(self.script, 0o755)
 
     def start(self):

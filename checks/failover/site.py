@@ -1,6 +1,7 @@
 """Two machines, their device and etcd, and sources."""
 import collections
 import contextlib
+import os
 import subprocess
 import threading
 import time
@@ -8,7 +9,9 @@ import time
 from checks.failover.devices import size
 from checks.failover.etcd import MEMBERS, Member, make_certificates
 from checks.failover.machines import Machine, audit
+from checks.failover.placed import placed_sources
 from checks.parts import program
+from checks.parts.daemons import events_in
 from checks.parts.tools import call
 from checks.parts.waiting import SECONDS, wait_for
 from checks.parts.wrong import expect_true
@@ -77,7 +80,8 @@ class Site:
             Member(number)
         for member in Member.all:
             member.start()
-        self.device, self.machines, self.sources, self.times = make_device(), [], [], collections.defaultdict(list)
+        self.device, self.machines, self.sources, self.placed = make_device(), [], [], []
+        self.times = collections.defaultdict(list)
         self.machines = [Machine(name, self.device) for name in ("first", "second")]
 
     def begin(self):
@@ -90,6 +94,7 @@ class Site:
         for machine in self.machines:
             machine.start()
         self.sources = [Source(number, self.machines) for number in range(SOURCES)]
+        self.placed = placed_sources(os.path.abspath("address.of.store"), [machine.folder for machine in self.machines])
         self.serving()
 
     def serving(self):
@@ -121,7 +126,9 @@ class Site:
             print("%s: the first acknowledgement after %.1f s" % (what, self.times[what][-1]), flush=True)
 
     def check_log(self):
-        """Every acknowledged event is at its index."""
+        """Every acknowledged event is at its index, and the list of each source with places is there."""
+        for source in self.placed:
+            source.finish()
         for source in self.sources:
             source.end()
         for machine in self.machines:
@@ -130,17 +137,22 @@ class Site:
         store = self.machines[0].path("mounted/store")
         newest = audit("show", store).split()[1:3]
         audit("export", store, "export")
-        held = audit("verify", "export", "key", ":".join(newest), "--text").splitlines()
+        held = events_in("export", "key", ":".join(newest))
         for source in self.sources:
             for index, line in source.held.items():
-                expect_true(index < len(held) and held[index] == line, "event %d isn't what was acknowledged" % index)
+                expect_true(held[index:index + 1] == [(1, line.encode())],
+                            "event %d isn't what was acknowledged" % index)
             expect_true(len(set(source.held.values())) == len(source.held) == len(source.acks),
                         "a line is acknowledged twice")
+        for source in self.placed:
+            source.expect_whole(held)
         call(self.machines[0].script, "drop")
 
     def end(self):
         for source in self.sources:
             source.is_over.set()
+        for source in self.placed:
+            source.end()
         for machine in self.machines:
             machine.lose()
         self.device.end()
