@@ -43,10 +43,10 @@ def audit(*words):
 class Replica:
     """An NBD server of one image, which takes one connection at a time."""
 
-    def __init__(self, number):
+    def __init__(self, number, sectors=SECTORS):
         self.image, self.socket = "replica%d.image" % number, os.path.abspath("replica%d.socket" % number)
         with open(self.image, "wb") as image:
-            image.truncate(SECTORS * 512)
+            image.truncate(sectors * 512)
         self.start()
 
     def start(self):

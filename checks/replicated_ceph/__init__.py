@@ -2,23 +2,25 @@
 on, and come back; then two machines take the image from each other.
 
 usage: bin/check replicated-ceph EXECUTABLE [--qemu] [KILLS [TAKEOVERS]]
+       bin/check replicated-ceph EXECUTABLE --unsafe [TAKEOVERS]
 
 The defaults are 10 kills of an OSD and 100 takeovers, and the store has room for about 200 of both. With --qemu the
 image is attached by qemu-storage-daemon, otherwise by nbdkit with rbd-exclusive.py and nbdfuse. It needs Debian's
 ceph-mon, ceph-osd, ceph-common, fuse3, and nbdkit, nbdkit-plugin-python and libnbd-bin, or qemu-system-common and
-qemu-block-extra, and FUSE.
+qemu-block-extra, and FUSE. --unsafe counts what is lost with librbd's cache, in 100 takeovers by default, and as many
+without it, and with the feature exclusive-lock alone; it needs all of these.
 
 What it shows, and fails if it isn't so:
 - while an OSD is away, the daemon acknowledges on, and each of the others by itself holds every acknowledged event. The
-one
-  that comes back is healed by Ceph: nothing is copied by hand;
+  one that comes back is healed by Ceph: nothing is copied by hand;
 - with two OSDs away nothing is acknowledged; once one is back, the daemon goes on;
 - while one machine has the image, another can't attach it (not with --qemu, which doesn't keep the lock to itself);
 - a machine that fences the other first (fence-ceph) opens a store with every acknowledged event at its index, whether
-the
-  other hung as a whole, its client of the image, its daemon, or nothing. The fenced daemon ends with `11 Device`, status 3,
-  at its next append, also if it was idle. Until then it answers questions, with a past that its successor's log extends.
+  the other hung as a whole, its client of the image, its daemon, or nothing. The fenced daemon ends with `11 Device`,
+  status 3, at its next append, also if it was idle. Until then it answers questions, with a past that its successor's
+  log extends.
 """
+import functools
 import os
 import subprocess
 
@@ -31,14 +33,18 @@ from checks.replicated_ceph.common import CLIENTS, FEW, MANY, PATH, SIZES, good,
 from checks.replicated_ceph.machines import Machine
 from checks.replicated_ceph.scenes import kill_osds, lose_two_osds, read_replicas, refuse_second
 from checks.replicated_ceph.takeovers import take_over
+from checks.replicated_ceph.unsafe import play_unsafe
 
 
-def play(cluster, kills, takeovers):
+def begin(cluster):
     cluster.begin()
     cluster.make_image("store", how.sectors * 512)
     say("the cluster is there")
     with open("key", "w") as key:
         key.write("%064d\n" % 7)
+
+
+def play(kills, takeovers, cluster):
     machine = Machine("first")
     machine.attach()
     good("format", "--in-place", machine.file, str(how.sectors), "key")
@@ -73,17 +79,31 @@ def numbers_of(words):
     return kills, takeovers, next(size for size in SIZES if size > events + 64)
 
 
-def main(words):
-    how.qemu = "--qemu" in words
+def task_of(words):
+    """What to play on a cluster."""
+    given, rest = {"--qemu", "--unsafe"} & set(words), [word for word in words if word not in ("--qemu", "--unsafe")]
     try:
-        kills, takeovers, how.sectors = numbers_of(program_of([word for word in words if word != "--qemu"], 2))
+        if "--unsafe" in given:
+            takeovers, how.sectors = int((program_of(rest, 1) or [100])[0]), SIZES[0]
+            how.qemu = True
+            expect_complete()
+            how.qemu = False
+            return lambda _: play_unsafe(takeovers)
+        how.qemu = "--qemu" in given
+        kills, takeovers, how.sectors = numbers_of(program_of(rest, 2))
     except (StopIteration, ValueError):
         raise Usage from None
+    return functools.partial(play, kills, takeovers)
+
+
+def main(words):
+    task = task_of(words)
     expect_complete()
     with folder_of_its_own("replicated-ceph-") as folder:
         cluster = ceph.Cluster(os.path.join(folder, "ceph"))
         try:
-            play(cluster, kills, takeovers)
+            begin(cluster)
+            task(cluster)
             return 0
         except Exception as wrong:
             print("replicated-ceph: %s" % told(wrong))

@@ -3,6 +3,7 @@ import time
 
 from checks.parts import program
 from checks.parts.ceph import POOL
+from checks.parts.places import tool
 from checks.parts.waiting import SECONDS
 from checks.parts.wrong import expect_true
 
@@ -46,8 +47,9 @@ def count(text):
 
 
 class How:
-    """Whether the image is attached by qemu-storage-daemon, and the size of the store."""
-    qemu = False
+    """Whether the image is attached by qemu-storage-daemon, otherwise the plugin of nbdkit; and the size of the
+    store."""
+    qemu, plugin = False, tool("rbd-exclusive.py")
     sectors = None
 
 

@@ -45,8 +45,7 @@ class Machine:
                      "driver=rbd,node-name=image,pool=%s,image=store,cache.direct=on" % POOL,
                      "--export", "type=fuse,id=export,node-name=image,writable=on,mountpoint=" + self.file)
         else:
-            self.run("client", "nbdkit", "--foreground", "--unix", self.nbd, "python", tool("rbd-exclusive.py"),
-                     "image=" + IMAGE)
+            self.run("client", "nbdkit", "--foreground", "--unix", self.nbd, "python", how.plugin, "image=" + IMAGE)
 
     def attach(self):
         """Attaches the image, whoever has it: that one is fenced first."""
