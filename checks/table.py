@@ -37,6 +37,7 @@ CHECKS = entries("checks", [
     ("siem", "verified events get into SQLite once, each day those that are new", "1 s"),
     ("sealing", "first keys that are sealed to an auditor by age and gpg, and by commands that fail", "5 s"),
     ("chain", "logs that continue each other are verified in order, and broken chains are reported", "5 s"),
+    ("rotating", "a log that goes on in prepared stores, killed at any moment, and a witness that follows it", "20 s"),
     ("anchors", "notes; anchors that are signed, stamped, killed and changed; marks, and times of events", "1 min"),
     ("metrics", "what `metrics` writes of stores and witnesses, and that its rules raise each alert", "10 s"),
     ("units", "the package and its units on a systemd that is booted in namespaces", "2 min"),

@@ -9,11 +9,12 @@ from checks.parts.places import AUDITOR, TOP, at_top
 from checks.parts.wrong import expect
 
 UNITS = """alarm@.service anchor@.service anchor@.timer daemon@.service failover@.service forward@.service journal@.service
-mark@.service mark@.timer metrics@.service metrics@.timer read@.service tail@.service watch@.service watch@.timer""".split()
+mark@.service mark@.timer metrics@.service metrics@.timer read@.service rotate@.service rotate@.timer tail@.service
+watch@.service watch@.timer""".split()
 TOOLS = """witness-git fleet metrics journal-feed file-feed failover fence-ceph send-confirming into-sqlite verify-chain
-format-sealed anchor anchor-check mark event-times""".split()
+format-sealed anchor anchor-check mark event-times rotate-log begin-after audit-log""".split()
 FILES = """rsyslog.conf rsyslog-read.conf rsyslog-collect.conf rsyslog-forward.conf stunnel-logger.conf
-stunnel-host.conf device.conf failover.conf rbd-exclusive.py feed.py anchors.py shown.sh metrics.rules.yml""".split()
+stunnel-host.conf device.conf failover.conf rbd-exclusive.py feed.py anchors.py links.py shown.sh metrics.rules.yml""".split()
 PROGRAMS = "check_proof.py history.py read_export.py state.py".split()
 
 

@@ -12,10 +12,10 @@ import tempfile
 from checks.parts import program
 from checks.parts.scenes import play_all, scenes_in, words_of
 from checks.parts.wrong import LeftOut, Wrong, told
-from checks.units import daemons, feeds, readers, watching
+from checks.units import daemons, feeds, readers, rotating, watching
 from checks.units.machine import Machine
 
-SCENES = scenes_in(daemons, feeds, watching, readers)
+SCENES = scenes_in(daemons, feeds, watching, readers, rotating)
 
 
 def on_machine(machine, call):
