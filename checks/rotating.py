@@ -166,6 +166,21 @@ def rotate_killed(number, whole):
 
 
 @scene
+def scene_gone_on():
+    """A rotation is stopped once its link is written, and the log gets events before it is rotated after all."""
+    begin(2)
+    append([b"one"])
+    shutil.copytree("log", "copy")
+    rotated("copy")
+    os.mkdir("log/rotating")
+    shutil.copy("copy/current.link", "log/rotating/link")
+    os.rename("log/prepared/001.store", "log/rotating/next.store")
+    append([b"two"])
+    rotated()
+    expect_chain([[b"one", b"two"], []])
+
+
+@scene
 def scene_refused():
     """What can't be rotated stays as it was, and is rotated once that is put right."""
     begin(1)

@@ -1,5 +1,5 @@
 """What the tools know of links between logs (docs/formats.md), without a key: the commitment to the two entries with which
-a log goes on, and the verdict of `audit check --link`."""
+a log goes on, the verdict of `audit check --link`, and what the header of a store says."""
 import hashlib
 import os
 import re
@@ -7,6 +7,7 @@ import stat
 import subprocess
 
 COMMITMENT = re.compile(r"(0|[1-9][0-9]{0,7}):([0-9a-f]{64})")
+HEADER = re.compile(r"commit ([0-9]+) ([0-9a-f]{64})\n.* state (open|closed)\n")
 MARK, MOST_HASHES, FIXED, OVERHEAD = 3, 24, 130, 72
 # The longest link: all hashes, and two entries of the longest payload.
 MOST = FIXED + 32 * MOST_HASHES + 2 * (OVERHEAD + 32696)
@@ -46,10 +47,27 @@ def commitment_to_pair(path):
     return "2:" + hashlib.sha256(b"\1" + b"".join(leaves)).hexdigest()
 
 
+def answered(*words):
+    """How the program ends, and what it prints."""
+    ended = subprocess.run([os.environ.get("AUDIT", "audit"), *words], stdin=subprocess.DEVNULL, capture_output=True,
+                           text=True)
+    return ended.returncode, ended.stdout, ended.stderr.strip().split("\n")[0].removeprefix("audit: ")
+
+
 def verdict(link, old, new):
     """What the program says of a link: `accepted`, or which half isn't so."""
-    words = [os.environ.get("AUDIT", "audit"), "check", link, old, new, "--link"]
-    ended = subprocess.run(words, stdin=subprocess.DEVNULL, capture_output=True, text=True)
-    if ended.returncode not in (0, 1):
-        raise OSError(ended.stderr.strip() or "%s ended with status %d" % (words[0], ended.returncode))
-    return (ended.stdout.strip() or ended.stderr.strip().removeprefix("audit: "))
+    status, output, said = answered("check", link, old, new, "--link")
+    if status not in (0, 1):
+        raise OSError("%s: %s" % (link, said))
+    return output.strip() or said
+
+
+def header_of(store):
+    """The count, the root and the state of a store, or None if there is none."""
+    if not os.path.lexists(store):
+        return None
+    status, output, said = answered("show", store, "--header")
+    found = HEADER.fullmatch(output) if status == 0 else None
+    if found is None:
+        raise OSError("%s: %s" % (store, said))
+    return found[1], found[2], found[3]
