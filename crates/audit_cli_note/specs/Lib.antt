@@ -1,2 +1,1 @@
-pub mod NoteText
 pub mod NoteWords

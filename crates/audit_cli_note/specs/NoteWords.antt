@@ -7,8 +7,8 @@ use Rattle.audit_disk.specs.FileFacts.{FileFacts}
 use Rattle.audit_text.specs.Writing.{WritesInPart}
 use Rattle.audit_text.specs.declared.fault.LinesError.TheVariants.{Read, Write, Memory}
 use Rattle.audit_proof.specs.declared.commitment.Commitment.{Commitment}
-use Rattle.audit_cli_offline.specs.CommitmentWord.{commitment_in_word}
-use Rattle.audit_cli_note.specs.NoteText.{is_log_name, note_text, SpellsNote, IsUnreadNote}
+use Rattle.audit_note.specs.CommitmentWord.{commitment_in_word}
+use Rattle.audit_note.specs.NoteText.{is_log_name, note_text, SpellsNote, IsNoNote}
 use Rattle.audit_cli_note.specs.declared.fault.NoteError.{NoteError}
 use Rattle.audit_cli_note.specs.declared.fault.NoteError.TheVariants.{NoNote, File, Lines}
 
@@ -48,7 +48,7 @@ module _ {F : Type 0} (facts : F → FileFacts) (remaining : F → Option (List 
 
 -- Why no commitment was read: the text is no note, or reading failed, or memory was refused.
 abbrev pub IsNoteFileFault : Option (List ℕ) → NoteError → Type 0
-IsNoteFileFault known NoNote = IfSome known (λ text. IsUnreadNote text NoNote)
+IsNoteFileFault known NoNote = IfSome known IsNoNote
 IsNoteFileFault known File = ⊥
 IsNoteFileFault known (Lines cause) = (cause ≡ Read) ⊎ (cause ≡ Memory)
 
@@ -56,6 +56,6 @@ IsNoteFileFault known (Lines cause) = (cause ≡ Read) ⊎ (cause ≡ Memory)
 -- or memory was refused.
 abbrev pub IsNoteAtFault : {F : Type 0} → (F → FileFacts) → (F → Option (List ℕ)) → Type 0 → List ℕ → NoteError → Type 0
 IsNoteAtFault {F = F} facts remaining failed path NoNote = (file : F) × ((facts file).opened_to_read path)
-    × IfSome (remaining file) (λ text. IsUnreadNote text NoNote)
+    × IfSome (remaining file) IsNoNote
 IsNoteAtFault facts remaining failed path File = failed
 IsNoteAtFault facts remaining failed path (Lines cause) = (cause ≡ Read) ⊎ (cause ≡ Memory)

@@ -1,12 +1,12 @@
 //! Words of a command line that name a file with a note.
 ghost use Rattle.std.specs.Prelude.{◌≡◌, None, Some, IfOk, IfErr, IfSome, MatchOption, string_bytes};
 ghost use Rattle.audit_verify.specs.Bookmark.{IsSoundNewest};
-ghost use Rattle.audit_cli_offline.specs.CommitmentWord.{commitment_in_word};
+ghost use Rattle.audit_note.specs.CommitmentWord.{commitment_in_word};
 ghost use Rattle.audit_cli_note.specs.NoteWords.{path_after_sign, IsNoteAt, IsNoteAtFault, IsNoteFileFault, IsNoteTo};
 
 use crate::fault::NoteError;
-use crate::reading::read_note;
 use audit_disk::{SystemFile, SystemFiles};
+use audit_note::read_note;
 use audit_proof::Commitment;
 use audit_text::{LinesError, read_input};
 use hex::encode;
@@ -48,7 +48,10 @@ fn read_commitment<R: Read>(alloc: Global, reader: &mut R) -> Result<Commitment,
     ensures fault { IfErr result (IsNoteFileFault (R.remaining reader.old)) }
 {
     match read_input(alloc, reader) {
-        Ok(text) => Ok(read_note(alloc, &text)?.commitment),
+        Ok(text) => match read_note(&text) {
+            Some(note) => Ok(note.commitment),
+            None => Err(NoteError::NoNote),
+        },
         Err(LinesError::InputTooLong) => Err(NoteError::NoNote),
         Err(fault) => Err(NoteError::Lines(fault)),
     }

@@ -1,12 +1,11 @@
 //! Notes that are written.
 ghost use Rattle.std.specs.Prelude.{◌≡◌, ◌⊎◌, None, Err, false, IfOk, OnOk, IfErr};
-ghost use Rattle.audit_cli_offline.specs.CommitmentWord.{commitment_in_word};
-ghost use Rattle.audit_cli_note.specs.NoteText.{is_log_name, note_text};
+ghost use Rattle.audit_note.specs.CommitmentWord.{commitment_in_word};
+ghost use Rattle.audit_note.specs.NoteText.{is_log_name, note_text};
 ghost use Rattle.audit_cli_note.specs.NoteWords.{WritesNote, IsNoteUnwritten};
 
 use crate::fault::NoteError;
-use crate::name::is_log_name;
-use audit_cli_offline::commitment_in_word;
+use audit_note::{commitment_in_word, is_log_name};
 use audit_proof::Commitment;
 use audit_text::{push_hex, push_number, write_whole};
 use std::alloc::{AllocError, Global};
@@ -39,7 +38,7 @@ pub fn write_note<W: Write>(
 
 /// Returns the note of a log with this name and commitment as text: a line with a version, and one each for the name,
 /// the count in decimal, and the root in lowercase hex digits.
-#[tactic(auto, unfolding(crate::specs::NoteText::note_text))]
+#[tactic(auto, unfolding(audit_note::specs::NoteText::note_text))]
 pub fn note_text(alloc: Global, name: &[u8], commitment: &Commitment) -> Result<Vec<u8>, AllocError>
     ensures { IfOk result (λ text. text.items ≡ note_text name.now commitment.now) }
 {

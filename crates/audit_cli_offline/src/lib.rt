@@ -4,7 +4,6 @@
 
 mod check_form;
 mod checking;
-mod commitment_word;
 mod ending;
 mod fault;
 mod kinds_word;
@@ -18,9 +17,9 @@ mod verified_end;
 mod verifying;
 
 pub use audit_link::{OpenedEvent, open_entry};
+pub use audit_note::commitment_in_word;
 pub use check_form::CheckForm;
 pub use checking::{Proof, judge_proof, read_proof, write_judgment};
-pub use commitment_word::commitment_in_word;
 pub use ending::write_end_message;
 pub use fault::OfflineError;
 pub use kinds_word::kinds_in_word;

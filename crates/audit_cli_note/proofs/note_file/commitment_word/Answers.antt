@@ -1,7 +1,7 @@
 use Rattle.std.proofs.Common.{◌∙◌, ◌++◌, ap}
 use Rattle.std.specs.Prelude.{codes}
 use Rattle.std.specs.Fmt.{decimal}
-use Rattle.audit_cli_note.proofs.Notes.{word_found}
+use Rattle.audit_note.proofs.Notes.{word_found}
 use Rattle.audit_cli_note.proofs.note_file.commitment_word.Goals as goal
 
 pub returns : goal.returns

@@ -1,4 +1,4 @@
-use Rattle.audit_cli_note.proofs.Notes.{too_long_if}
+use Rattle.audit_note.proofs.Notes.{too_long_if}
 use Rattle.audit_cli_note.proofs.note_file.read_commitment.Goals as goal
 
 pub returns-in-Err-InputTooLong-clause-fault : goal.returns-in-Err-InputTooLong-clause-fault

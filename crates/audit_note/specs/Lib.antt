@@ -1,0 +1,2 @@
+pub mod CommitmentWord
+pub mod NoteText
