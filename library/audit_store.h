@@ -33,8 +33,8 @@ enum {
     AUDIT_STORE_NOT_ACCEPTED = 1,      /* a proof that doesn't show what is claimed */
     AUDIT_STORE_MORE = 2,              /* the bytes end early: call again with more */
     AUDIT_STORE_MISUSED = 3,           /* a struct that no call made, or a buffer that is too short */
-    AUDIT_STORE_MALFORMED = 20,        /* a frame that is no reply */
-    AUDIT_STORE_BAD_PROOF = 32,        /* bytes that are no proof */
+    AUDIT_STORE_MALFORMED = 20,        /* a frame that is no reply, or a text that isn't one of its kind */
+    AUDIT_STORE_BAD_PROOF = 32,        /* bytes that are no proof, or one of bytes that aren't an entry */
     AUDIT_STORE_SHORT = 40,            /* an export that ends within an entry */
     AUDIT_STORE_BAD_LENGTH = 41,       /* an entry whose length is over the limit */
     AUDIT_STORE_BAD_LINK = 42,         /* an entry that doesn't follow the one before it */
@@ -44,11 +44,15 @@ enum {
 };
 
 enum {
-    AUDIT_STORE_PAYLOAD_MAX = 32696, /* the longest payload */
-    AUDIT_STORE_ENTRY_MAX = 32768,   /* the longest entry */
-    AUDIT_STORE_PROOF_MAX = 33554,   /* the longest proof */
-    AUDIT_STORE_REQUEST_MAX = 32707, /* the longest frame of a request */
-    AUDIT_STORE_REPLY_MAX = 33544    /* the longest frame of a reply */
+    AUDIT_STORE_PAYLOAD_MAX = 32696,        /* the longest payload */
+    AUDIT_STORE_PLACED_PAYLOAD_MAX = 32688, /* the longest payload of a placed append */
+    AUDIT_STORE_ENTRY_MAX = 32768,          /* the longest entry */
+    AUDIT_STORE_PROOF_MAX = 33554,          /* the longest proof */
+    AUDIT_STORE_REQUEST_MAX = 32707,        /* the longest frame of a request */
+    AUDIT_STORE_REPLY_MAX = 33544,          /* the longest frame of a reply */
+    AUDIT_STORE_STATE_TEXT_MAX = 2029,      /* the longest text of a saved state */
+    AUDIT_STORE_NOTE_MAX = 371,             /* the longest note */
+    AUDIT_STORE_NOTE_NAME = 18              /* the byte of a note at which the name of its log begins */
 };
 
 /* The kind of the event that closes a log. */
@@ -59,6 +63,25 @@ struct audit_store_commitment {
     uint64_t count;
     uint8_t root[32];
 };
+
+/*
+ * Reads a commitment as a word, COUNT:ROOT, as the program prints and takes it: the count in 1 to 20 decimal digits and
+ * below 2^64, a colon, and the root in 64 hex digits of either case. OK, or MALFORMED; `commitment` is then as it was.
+ */
+uint32_t audit_store_read_commitment(const uint8_t *word, size_t word_length,
+                                     struct audit_store_commitment *commitment);
+
+/* A note: its commitment, and the length of its log's name, which begins at byte AUDIT_STORE_NOTE_NAME of its text. */
+struct audit_store_note {
+    struct audit_store_commitment commitment;
+    size_t name_size;
+};
+
+/*
+ * Reads a note from its whole text (docs/formats.md). OK, or MALFORMED if the bytes are the text of none; `note` is
+ * then as it was. A note has one text alone. Who signed it is for others to check.
+ */
+uint32_t audit_store_read_note(const uint8_t *text, size_t text_length, struct audit_store_note *note);
 
 /* ---- Proofs ---- */
 
@@ -76,6 +99,30 @@ uint32_t audit_store_check_inclusion(const uint8_t *proof, size_t proof_length,
 uint32_t audit_store_check_consistency(const uint8_t *proof, size_t proof_length,
                                        const struct audit_store_commitment *older,
                                        const struct audit_store_commitment *newer);
+
+/* An event that was handed out: how many bytes were taken, its payload's length, its index in the log and its kind. */
+struct audit_store_event {
+    size_t taken;
+    size_t size;
+    uint64_t index;
+    uint32_t kind;
+};
+
+/*
+ * Checks an inclusion proof as audit_store_check_inclusion does and, if it is accepted, opens its entry with the key of
+ * a receipt, which the acknowledgement of a placed append has. The payload's buffer has at least
+ * AUDIT_STORE_PAYLOAD_MAX bytes.
+ *
+ * OK: the event that the entry reads as is in `event` and at the start of `payload`; `event->taken` is `proof_length`.
+ * NOT_ACCEPTED, BAD_PROOF; also BAD_PROOF if the proof is accepted, but of bytes that aren't one entry.
+ * MISUSED: the buffer is too short. With any answer but OK nothing is written.
+ *
+ * A wrong key isn't noticed: the entry then reads as another text. For a text of fewer than 16 bytes a key can be
+ * searched for under which it reads as another text: `event->size` says how long it is.
+ */
+uint32_t audit_store_open_inclusion(const uint8_t *proof, size_t proof_length,
+                                    const struct audit_store_commitment *commitment, const uint8_t key[32],
+                                    struct audit_store_event *event, uint8_t *payload, size_t payload_length);
 
 /* ---- Exports ---- */
 
@@ -95,16 +142,16 @@ struct audit_store_verifier {
     uint8_t bytes[32768];
 };
 
-/* An event that was handed out: how many bytes of the piece were taken, its payload's length, its index and kind. */
-struct audit_store_event {
-    size_t taken;
-    size_t size;
-    uint64_t index;
-    uint32_t kind;
-};
-
 /* Begins the verification of a whole export, by the first key of its log. */
 void audit_store_verify_first(const uint8_t first_key[32], struct audit_store_verifier *verifier);
+
+/*
+ * Begins the verification of the entries after a saved state, by the whole text of that, as `audit verify --save` writes
+ * it (docs/formats.md): `verifier->count` and the indices go on from there. OK, or MALFORMED if the bytes are the text
+ * of no state; the verifier is then as it was. A newest commitment in the text is passed over. The text has the log's
+ * key, too: erase it after use.
+ */
+uint32_t audit_store_verify_state(const uint8_t *text, size_t text_length, struct audit_store_verifier *verifier);
 
 /*
  * Feeds the next bytes of the export, cut anywhere. The payload's buffer has at least AUDIT_STORE_PAYLOAD_MAX bytes.
@@ -147,6 +194,18 @@ size_t audit_store_write_consistency(uint32_t tag, uint64_t older, uint64_t newe
 size_t audit_store_write_entry(uint32_t tag, uint64_t index, uint8_t *frame, size_t frame_length);
 size_t audit_store_write_close(uint32_t tag, uint8_t *frame, size_t frame_length);
 size_t audit_store_write_state(uint32_t tag, uint8_t *frame, size_t frame_length);
+
+/*
+ * For a source whose kind is bound to its socket and that numbers its events, from 0 on. It asks for the place of its
+ * kind, the number of its events in the log, and goes on with the event of that number. A placed append is appended if
+ * its place is the number of events of its kind, and answered by PLACED. Otherwise it isn't, and the answer is PLACE:
+ * if `index` is above the place, the log has the event already, from a connection that was lost; if not, `index` is the
+ * event to go on with. So events that are sent again after any loss are neither lost nor doubled (docs/programming.md).
+ * The payload has at most AUDIT_STORE_PLACED_PAYLOAD_MAX bytes, and the rest is as above.
+ */
+size_t audit_store_write_place(uint32_t tag, uint32_t kind, uint8_t *frame, size_t frame_length);
+size_t audit_store_write_placed_append(uint32_t tag, uint32_t kind, uint64_t place, const uint8_t *payload,
+                                       size_t payload_length, uint8_t *frame, size_t frame_length);
 
 /* The kinds of replies. */
 enum {

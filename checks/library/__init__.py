@@ -7,11 +7,11 @@ library is linked from the archive that `rt lib` leaves in crates/audit_c; AUDIT
 one that is built already. With --long there are 20,000 mutations and 200 kills, and figures are printed. A compiler of
 C or Go, or valgrind, that isn't there is left out with a line.
 """
-from checks.library import asked, built, examples, handled, judged
+from checks.library import asked, built, examples, handled, judged, placed, watched
 from checks.library.common import use_library
 from checks.parts.scenes import play_side_by_side, scenes_in, words_of
 
-SCENES = scenes_in(built, judged, asked, handled, examples)
+SCENES = scenes_in(built, judged, watched, asked, placed, handled, examples)
 
 
 def main(words):

@@ -62,8 +62,9 @@ def compiled(name, text, *words):
 def scene_layouts():
     """The structs have the same layout in the header and in the package, and the numbers the same names."""
     from audit_store import _library as names
-    structs = {"audit_store_commitment": names.GivenCommitment, "audit_store_verifier": names.Verifier,
-               "audit_store_event": names.GivenEvent, "audit_store_reply": names.Reply}
+    structs = {"audit_store_commitment": names.GivenCommitment, "audit_store_note": names.GivenNote,
+               "audit_store_verifier": names.Verifier, "audit_store_event": names.GivenEvent,
+               "audit_store_reply": names.Reply}
     prints = ""
     wanted = []
     for name, layout in structs.items():
@@ -73,8 +74,8 @@ def scene_layouts():
             prints += '    printf("%%zu\\n", offsetof(struct %s, %s));\n' % (name, field)
             wanted.append(getattr(layout, field).offset)
     for name in ("OK", "NOT_ACCEPTED", "MORE", "MISUSED", "MALFORMED", "BAD_PROOF", "PAYLOAD_MAX", "ENTRY_MAX",
-                 "REQUEST_MAX", "CLOSING", "ACKNOWLEDGEMENT", "COMMITMENT", "INCLUSION", "CONSISTENCY", "ENTRY",
-                 "STATE", "REFUSED"):
+                 "PLACED_PAYLOAD_MAX", "REQUEST_MAX", "NOTE_NAME", "CLOSING", "ACKNOWLEDGEMENT", "COMMITMENT",
+                 "INCLUSION", "CONSISTENCY", "ENTRY", "STATE", "PLACE", "PLACED", "REFUSED"):
         prints += '    printf("%%zu\\n", (size_t)AUDIT_STORE_%s);\n' % name
         wanted.append(getattr(names, name))
     text = "#include <audit_store.h>\n#include <stdio.h>\nint main(void)\n{\n%s    return 0;\n}\n" % prints
@@ -83,17 +84,21 @@ def scene_layouts():
 
 @scene
 def scene_sizes():
-    """The header's sizes of proofs and replies are those of the formats."""
-    text = "".join('    printf("%%d\\n", (int)AUDIT_STORE_%s);\n' % name for name in ("PROOF_MAX", "REPLY_MAX"))
+    """The header's sizes of proofs, replies, notes and states are those of the formats."""
+    text = "".join('    printf("%%d\\n", (int)AUDIT_STORE_%s);\n' % name
+                   for name in ("PROOF_MAX", "REPLY_MAX", "NOTE_MAX", "STATE_TEXT_MAX"))
     text = "#include <audit_store.h>\n#include <stdio.h>\nint main(void)\n{\n%s    return 0;\n}\n" % text
     longest = 32 * 24 + 32768
-    expect(compiled("sizes", text).split(), [str(18 + longest), str(8 + longest)], "the longest proof and reply")
+    note = 13 + 5 + 255 + 1 + 6 + 20 + 1 + 5 + 64 + 1
+    state = 14 + 15 + 69 + 70 + 11 + 24 * 70 + 28 + 70 + 72
+    expect(compiled("sizes", text).split(), [str(18 + longest), str(8 + longest), str(note), str(state)],
+           "the longest proof, reply, note and state")
 
 
 @scene
 def scene_documentation():
     """The examples of the package's documentation do what they show."""
-    for name in ("", ".checking", ".exports", ".client", ".aio", ".handler"):
+    for name in ("", ".checking", ".exports", ".places", ".client", ".aio", ".handler"):
         failed, _ = doctest.testmod(importlib.import_module("audit_store" + name))
         expect(failed, 0, "the examples of audit_store" + name)
 
@@ -138,7 +143,8 @@ def scene_wheel():
 
 @scene
 def scene_packages():
-    """The two Debian packages of the library have its files, and a program is linked and run with what is in them."""
+    """The Debian packages of the library and of the Python package have their files; a program in C is linked and run, and
+    one in Python run, with what is in them."""
     if shutil.which("dpkg-deb") is None or shutil.which("cc") is None:
         raise LeftOut("there is no dpkg-deb or C compiler")
     os.mkdir("out")
@@ -147,9 +153,10 @@ def scene_packages():
     expect((done.returncode, done.stderr), (0, ""), "bin/package")
     packages = done.stdout.split()
     expect([os.path.basename(path).split("_")[0] for path in packages],
-           ["audit-store", "libauditstore1", "libauditstore-dev"], "the packages")
-    for path in packages[1:]:
+           ["audit-store", "libauditstore1", "libauditstore-dev", "python3-audit-store"], "the packages")
+    for path in packages[1:3]:
         subprocess.run(["dpkg-deb", "--extract", path, "unpacked"], check=True)
+    subprocess.run(["dpkg-deb", "--extract", packages[3], "python"], check=True)
     lib = os.path.abspath("unpacked/usr/lib/x86_64-linux-gnu")
     held = sorted(os.path.relpath(os.path.join(root, name), "unpacked") for root, _, names in os.walk("unpacked")
                   for name in names)
@@ -163,3 +170,10 @@ def scene_packages():
     done = subprocess.run(["./verify", "key", "0:" + 64 * "0"], stdin=subprocess.DEVNULL, capture_output=True,
                           env=dict(os.environ, LD_LIBRARY_PATH=lib))
     expect(done.stdout, b"verified 0\n", "the program")
+    site = os.path.abspath("python/usr/lib/python3/dist-packages")
+    modules = {name for name in os.listdir(at_top("python", "audit_store")) if name.endswith((".py", ".typed"))}
+    expect(set(os.listdir(os.path.join(site, "audit_store"))), modules, "the modules of the package")
+    found = {name: value for name, value in os.environ.items() if name != "AUDIT_STORE_LIBRARY"}
+    done = subprocess.run([sys.executable, "-c", "import audit_store; print(audit_store.__file__)"], capture_output=True,
+                          text=True, env=dict(found, LD_LIBRARY_PATH=lib, PYTHONPATH=site))
+    expect((done.stdout, done.stderr), (os.path.join(site, "audit_store", "__init__.py") + "\n", ""), "the package")

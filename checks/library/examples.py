@@ -2,10 +2,13 @@
 import os
 import shutil
 import subprocess
+import threading
+import time
 
 from checks.library import common
 from checks.library.asked import FIRST_KEY, exported, liar
 from checks.library.judged import events_of
+from checks.library.placed import fed
 from checks.parts import program
 from checks.parts.daemons import FedDaemon
 from checks.parts.files import read, write
@@ -32,37 +35,73 @@ def compiled(name):
     return os.path.abspath(name)
 
 
+def logged(logger, path, lines, kind="7"):
+    return subprocess.run([logger, path, kind, "proofs"], input=lines, capture_output=True, timeout=program.SECONDS)
+
+
 @scene
 def scene_logger_in_c():
-    """The logger appends lines, and the program accepts each receipt that it keeps."""
+    """The logger appends lines, and the program opens each receipt that it keeps as its line."""
     logger = compiled("logger")
     os.mkdir("proofs")
-    with FedDaemon(os.getcwd()) as daemon:
-        done = subprocess.run([logger, daemon.socket, "7", "proofs"], input=b"one\ntwo\n\nfour\n", capture_output=True,
-                              timeout=program.SECONDS)
+    daemon, path = fed()
+    with daemon:
+        # The program warns of a text of 1 to 15 bytes.
+        lines = [b"a line of some length", b"a line of some other length", b"", b"and the last one of these"]
+        done = logged(logger, path, b"\n".join(lines) + b"\n")
         expect((done.returncode, done.stderr), (0, b""), "the logger")
         for index, line in enumerate(done.stdout.decode().splitlines()):
-            number, word = line.split()
+            number, word, key = line.split()
             expect(int(number), index, "the index of a receipt")
-            expect(program.done("check", "proofs/" + number, word), b"accepted\n", "a receipt")
+            opened = program.done("check", "proofs/" + number, word, "--key", key, "--text")
+            expect(opened, lines[index] + b"\n", "a receipt")
         expect(index, 3, "the last receipt")
-        lines = b"a\0b\n" + b"x" * 32696 + b"\n\xff"
-        done = subprocess.run([logger, daemon.socket, "7", "proofs"], input=lines, capture_output=True,
-                              timeout=program.SECONDS)
+        lines = b"a\0b\n" + b"x" * 32688 + b"\n\xff"
+        done = logged(logger, path, lines)
         expect((done.returncode, done.stderr), (0, b""), "the logger with bytes of all kinds")
         from audit_store import verify
         found = [event.payload for event in verify(exported(daemon)[0], FIRST_KEY, exported(daemon)[1])]
         expect(found[4:], lines.split(b"\n"), "the events")
-        for kind, data in (("7", b"x" * 32697), ("x", b"a"), ("4294967296", b"a"), ("-1", b"a"), ("", b"a")):
-            done = subprocess.run([logger, daemon.socket, kind, "proofs"], input=data, capture_output=True)
+        for kind, data in (("7", b"x" * 32689), ("x", b"a"), ("4294967295", b"a"), ("-1", b"a"), ("", b"a"), ("8", b"a")):
+            done = logged(logger, path, data, kind)
             expect((done.returncode, done.stdout, done.stderr.count(b"\n")), (1, b"", 1), "the kind %r" % kind)
         with open("/dev/full", "wb") as full:
-            done = subprocess.run([logger, daemon.socket, "7", "proofs"], input=b"a\n", stdout=full,
-                                  stderr=subprocess.PIPE)
+            done = subprocess.run([logger, path, "7", "proofs"], input=b"a\n", stdout=full, stderr=subprocess.PIPE)
         expect((done.returncode, done.stderr), (1, b"logger: a receipt that can't be printed\n"), "a full output")
-    with liar([LONG_FRAME]) as path:
-        done = subprocess.run([logger, path, "7", "proofs"], input=b"a\n", capture_output=True, timeout=30)
-    expect((done.returncode, done.stderr), (1, b"logger: the daemon is gone\n"), "a frame longer than any reply")
+    with liar([LONG_FRAME]) as other:
+        done = logged(logger, other, b"a\n")
+    expect((done.returncode, done.stderr), (1, b"logger: a frame that is longer than any reply\n"), "a long frame")
+
+
+@scene
+def scene_logger_under_kills():
+    """The daemon is killed under the logger: each line is in the log once and in order, and has a receipt or a dash."""
+    logger = compiled("logger")
+    os.mkdir("proofs")
+    kills = 40 if program.LONG else 5
+    daemon, path = fed()
+    with daemon:
+        lines = [b"line %d of some length" % number for number in range(60 * kills)]
+        running = subprocess.Popen([logger, path, "7", "proofs"], stdin=subprocess.PIPE, stdout=subprocess.PIPE)
+        printed = []
+        feeder = threading.Thread(target=lambda: printed.append(running.communicate(b"\n".join(lines))[0]))
+        feeder.start()
+        for turn in range(kills):
+            time.sleep(0.02 + 0.003 * (turn % 17))
+            daemon.kill()
+            daemon.start()
+        feeder.join(10 * program.SECONDS)
+        expect((running.returncode, len(printed)), (0, 1), "the logger")
+        receipts = printed[0].decode().splitlines()
+        expect(len(receipts), len(lines), "a line for each line")
+        from audit_store import verify
+        found = [event.payload for event in verify(exported(daemon)[0], FIRST_KEY, exported(daemon)[1])]
+        expect(found, lines, "the events")
+        for number in range(0, len(lines), 7):
+            if receipts[number] != "-":
+                index, word, key = receipts[number].split()
+                opened = program.done("check", "proofs/" + index, word, "--key", key, "--text")
+                expect(opened, lines[number] + b"\n", "a receipt")
 
 
 @scene

@@ -1,19 +1,22 @@
 """Verdicts and frames, against the model and the auditor's programs."""
 import ctypes
 import random
+import re
 
 from check_proof import BadProof as BadBytes
-from check_proof import is_accepted, read_proof
+from check_proof import event_under, is_accepted, read_proof
 from checks import vectors
 from checks.library.common import commitment_of, read_in_pieces
 from checks.parts import frames, program
 from checks.parts.files import read_text
+from checks.parts.logs import keys_from
 from checks.parts.places import at_top
 from checks.parts.scenes import scene
 from checks.parts.wrong import Wrong, expect
 from model import tree, wire
-from model.chain import CLOSE, ZERO_KEY, log_of
-from history import BadArgument
+from model.chain import CLOSE, ZERO_KEY, keystream_key, log_of
+from model.note import note, note_in
+from history import BadArgument, leaf_hash
 from model.verdict import state_after, verdict
 from model.wire import Request, request_frame
 from read_export import read_on
@@ -115,6 +118,141 @@ def scene_mutated_proofs():
             count = commitments[place].count + ROLLS.choice((-1, 1, 1 << 20))
             commitments = commitments[:place] + [commitments[place]._replace(count=count)] + commitments[place + 1:]
         expect(judged(proof, commitments), judged_by_auditor(proof, commitments), "a changed proof %s" % proof.hex())
+
+
+# ---- Opening
+
+def opened(proof, commitment, key):
+    """What the library opens of a proof: its event, whether it isn't accepted, or nothing."""
+    from audit_store import BadProof, open_proof
+    try:
+        event = open_proof(proof, commitment, key)
+    except BadProof:
+        return None
+    return tuple(event) if event else False
+
+
+def opened_by_auditor(proof, commitment, key):
+    """The same by the auditor's programs."""
+    verdict_ = judged_by_auditor(proof, [commitment])
+    if not verdict_:
+        return verdict_
+    _, index, _, _, entry = read_proof(proof)
+    event = event_under(key, entry)
+    return event and (index, *event)
+
+
+def entries_like(entry):
+    """Bytes that are one entry, and others that aren't."""
+    yield entry
+    yield entry[:-1]
+    yield entry + b"x"
+    yield entry[:4] + b"\0\0\x7f\xb9" + entry[8:]
+    yield from (entry[:size] for size in (0, 7, 8, 71))
+    yield bytes(72)
+
+
+@scene
+def scene_opened():
+    """The proof of each entry is opened by its key as the model sealed it, and by another one as the auditor's programs
+    read it; proofs of other bytes, other commitments, and changed ones have their verdicts."""
+    from audit_store import Commitment
+    log = log_of(events_of(9) + [(7, ROLLS.randbytes(32696))])
+    commitment, count = commitment_of(log), len(log.events)
+    keys = [keystream_key(key, kind) for key, (kind, _) in zip(keys_from(ZERO_KEY), log.events)]
+    proofs = [tree.membership_proof(index, count, tree.membership(log.leaves, index), log.entries[index])
+              for index in range(count)]
+    for index, (kind, payload) in enumerate(log.events):
+        expect(opened(proofs[index], commitment, keys[index]), (index, kind, payload), "the event of a proof")
+        other = keys[(index + 1) % count]
+        expect(opened(proofs[index], commitment, other), opened_by_auditor(proofs[index], commitment, other),
+               "the event under another key")
+        expect(opened(proofs[index], commitment._replace(root=bytes(32)), keys[index]), False, "another root")
+        expect(opened(proofs[index], commitment._replace(count=count + 1), keys[index]), False, "another count")
+    for entry in entries_like(log.entries[3]):
+        proof = tree.membership_proof(0, 1, [], entry)
+        alone = Commitment(1, leaf_hash(entry))
+        expect(opened(proof, alone, keys[3]), opened_by_auditor(proof, alone, keys[3]), "a proof of %r" % entry[:80])
+    for _ in range(rounds(3000)):
+        index = ROLLS.randrange(9)
+        proof = mutated(proofs[index])
+        expect(opened(proof, commitment, keys[index]), opened_by_auditor(proof, commitment, keys[index]),
+               "a changed proof %s" % proof.hex())
+    consistency = tree.increment_proof(4, count, tree.increment(log.leaves, 4))
+    expect(opened(consistency, commitment, keys[0]), None, "a consistency proof")
+
+
+@scene
+def scene_opened_into_short_buffers():
+    """Nothing is written into a buffer that is too short, nor with any other refusal."""
+    from audit_store import _library as names
+    from audit_store.checking import given
+    log = log_of(events_of(3))
+    proof = tree.membership_proof(1, 3, tree.membership(log.leaves, 1), log.entries[1])
+    for proof_, size, answer in ((proof, names.PAYLOAD_MAX - 1, names.MISUSED), (proof[:20], names.PAYLOAD_MAX, 32),
+                                 (proof[:17] + b"\0" + proof[18:], names.PAYLOAD_MAX, 1)):
+        event, payload = names.GivenEvent(), ctypes.create_string_buffer(b"\xaa" * names.PAYLOAD_MAX, names.PAYLOAD_MAX)
+        ctypes.memset(ctypes.byref(event), 0xaa, ctypes.sizeof(event))
+        before = bytes(event), payload.raw
+        found = names.library.open_inclusion(proof_, len(proof_), given(commitment_of(log)), ZERO_KEY, event, payload,
+                                             size)
+        expect(found, answer, "an opening that is refused")
+        expect((bytes(event), payload.raw), before, "what it left")
+
+
+# ---- Commitments and notes
+
+WORDS = ("", ":", "3", "3:", ":" + 64 * "0", "3:" + 63 * "0", "3:" + 65 * "0", "18446744073709551615:" + 64 * "f",
+         "18446744073709551616:" + 64 * "0", "3:" + 64 * "g", "-1:" + 64 * "0", "+1:" + 64 * "0", " 3:" + 64 * "0",
+         "3 :" + 64 * "0", "3:" + 64 * "0" + "\n", "3\n:" + 64 * "0", "00000000000000000003:" + 64 * "A",
+         "000000000000000000003:" + 64 * "0", "3:" + 64 * "0" + ":", "3::" + 64 * "0", "\u0663:" + 64 * "0",
+         "3:" + 63 * "0" + "\0", "3:" + 62 * "0" + "\u00e9")
+
+
+def word_in(word):
+    """The commitment that a word spells, by docs/formats.md."""
+    parts = re.fullmatch(rb"([0-9]{1,20}):([0-9a-fA-F]{64})", word)
+    return (int(parts[1]), bytes.fromhex(parts[2].decode())) if parts and int(parts[1]) < 1 << 64 else None
+
+
+@scene
+def scene_words_and_notes():
+    """Words of commitments and notes are read as the formats and the model say, and no others are."""
+    from audit_store import _library as names
+    from audit_store import Note
+
+    def word_by_library(word):
+        found = names.GivenCommitment()
+        ctypes.memset(ctypes.byref(found), 0xaa, ctypes.sizeof(found))
+        before = bytes(found)
+        held = ctypes.create_string_buffer(word, len(word) or 1)
+        if names.library.read_commitment(held.raw, len(word), found) == names.OK:
+            return found.count, bytes(found.root)
+        expect(bytes(found), before, "a commitment that wasn't read")
+        return None
+
+    def note_by_library(text):
+        try:
+            found = Note.parse(text)
+        except ValueError:
+            return None
+        return found.name.encode(), found.commitment.count, found.commitment.root
+
+    words = [word.encode() for word in WORDS]
+    words += [mutated(b"%d:%s" % (ROLLS.choice((0, 7, 1 << 40)), ROLLS.randbytes(32).hex().encode()))
+              for _ in range(rounds(3000))]
+    for word in words:
+        expect(word_by_library(word), word_in(word), "the word %r" % word)
+    for name in (b"a", b"some.example/log", b"!~" * 127 + b"x"):
+        for count in (0, 7, (1 << 64) - 1):
+            root = ROLLS.randbytes(32)
+            expect(note_by_library(note(name, count, root)), (name, count, root), "a note")
+            for _ in range(rounds(300)):
+                text = mutated(note(name, count, root))
+                expect(note_by_library(text), note_in(text), "a changed note %r" % text)
+    for text in (note(b"x" * 256, 1, bytes(32)), note(b"", 1, bytes(32)), note(b"a b", 1, bytes(32)),
+                 note(b"a", 1 << 64, bytes(32)), note(b"a", 1, bytes(32)).upper(), b""):
+        expect(note_by_library(text), None, "the text %r" % text)
 
 
 # ---- Exports
@@ -247,6 +385,15 @@ def scene_requests():
                 payload = ROLLS.randbytes(size)
                 expect(written("append", tag, kind, payload, size),
                        request_frame(Request(wire.APPEND, tag, (kind,), payload)), "an append")
+            for place in NUMBERS:
+                for size in (0, 1, 100, 32688):
+                    payload = ROLLS.randbytes(size)
+                    expect(written("placed_append", tag, kind, place, payload, size),
+                           request_frame(Request(wire.PLACED, tag, (kind, place), payload)), "a placed append")
+        for kind in (0, 1, 0xfffffffe, 0xffffffff):
+            expect(written("place", tag, kind), request_frame(Request(wire.PLACE, tag, (kind,))), "a question")
+    expect(written("placed_append", 1, 1, 0, bytes(32689), 32689), b"", "a placed append of 32,689 bytes")
+    expect(written("placed_append", 1, 0xffffffff, 0, b"", 0), b"", "a placed append of the closing kind")
     expect(written("append", 1, 0xffffffff, b"", 0), b"", "an append of the closing kind")
     expect(written("append", 1, 1, bytes(32697), 32697), b"", "an append of 32,697 bytes")
 

@@ -11,17 +11,18 @@ functions are proved; what this package adds is tested.
 from typing import TYPE_CHECKING
 
 from audit_store._library import LIBRARY_VERSION
-from audit_store.checking import BadProof, Commitment, check
+from audit_store.checking import BadProof, Commitment, Note, check
 from audit_store.client import Acknowledgement, Client, ConnectionEnded, Refused, State, StoreError, Unproved
-from audit_store.exports import Event, NotVerified, SavedState, verify
+from audit_store.exports import Event, NotVerified, SavedState, open_proof, verify
+from audit_store.places import Displaced, Place, Receipt
 
 if TYPE_CHECKING:
     from audit_store.aio import AsyncClient
     from audit_store.handler import Full, Handler
 
-__all__ = ["Acknowledgement", "AsyncClient", "BadProof", "Client", "Commitment", "ConnectionEnded", "Event", "Full",
-           "Handler", "LIBRARY_VERSION", "NotVerified", "Refused", "SavedState", "State", "StoreError", "Unproved",
-           "check", "verify"]
+__all__ = ["Acknowledgement", "AsyncClient", "BadProof", "Client", "Commitment", "ConnectionEnded", "Displaced", "Event",
+           "Full", "Handler", "LIBRARY_VERSION", "Note", "NotVerified", "Place", "Receipt", "Refused", "SavedState", "State",
+           "StoreError", "Unproved", "check", "open_proof", "verify"]
 
 # What needs asyncio or logging, which take longer to import than all else.
 _LATER = {"AsyncClient": "aio", "Full": "handler", "Handler": "handler"}

@@ -9,13 +9,22 @@ LIBRARY_VERSION = 1
 OK, NOT_ACCEPTED, MORE, MISUSED, MALFORMED, BAD_PROOF = 0, 1, 2, 3, 20, 32
 # The causes of a verification, by their numbers.
 CAUSES = {40: "Short", 41: "BadLength", 42: "BadLink", 43: "BadMac", 44: "WrongCommitment", 46: "BadClose"}
-PAYLOAD_MAX, ENTRY_MAX, REQUEST_MAX = 32696, 32768, 32707
+PAYLOAD_MAX, PLACED_PAYLOAD_MAX, ENTRY_MAX, REQUEST_MAX = 32696, 32688, 32768, 32707
 CLOSING = 0xffffffff
-ACKNOWLEDGEMENT, COMMITMENT, INCLUSION, CONSISTENCY, ENTRY, STATE, REFUSED = 0x81, 0x82, 0x83, 0x84, 0x85, 0x87, 0xff
+ACKNOWLEDGEMENT, COMMITMENT, INCLUSION, CONSISTENCY, ENTRY, STATE = 0x81, 0x82, 0x83, 0x84, 0x85, 0x87
+PLACE, PLACED, REFUSED = 0x88, 0x89, 0xff
+# Where the name of its log begins in a note.
+NOTE_NAME = 18
+# Where the key of a placed append's acknowledgement is in its frame.
+KEY_AT = 55
 
 
 class GivenCommitment(ctypes.Structure):
     _fields_ = [("count", c_uint64), ("root", c_uint8 * 32)]
+
+
+class GivenNote(ctypes.Structure):
+    _fields_ = [("commitment", GivenCommitment), ("name_size", c_size_t)]
 
 
 class Verifier(ctypes.Structure):
@@ -37,9 +46,13 @@ class Reply(ctypes.Structure):
 BYTES = [c_char_p, c_size_t]
 BUFFER = [c_void_p, c_size_t]
 FUNCTIONS = {
+    "read_commitment": (c_uint32, BYTES + [POINTER(GivenCommitment)]),
+    "read_note": (c_uint32, BYTES + [POINTER(GivenNote)]),
     "check_inclusion": (c_uint32, BYTES + [POINTER(GivenCommitment)]),
     "check_consistency": (c_uint32, BYTES + 2 * [POINTER(GivenCommitment)]),
+    "open_inclusion": (c_uint32, BYTES + [POINTER(GivenCommitment), c_char_p, POINTER(GivenEvent)] + BUFFER),
     "verify_first": (None, [c_char_p, POINTER(Verifier)]),
+    "verify_state": (c_uint32, BYTES + [POINTER(Verifier)]),
     "verify_feed": (c_uint32, [POINTER(Verifier)] + BUFFER + [POINTER(GivenEvent)] + BUFFER),
     "verify_end": (c_uint32, [POINTER(Verifier), POINTER(GivenCommitment)]),
     "write_append": (c_size_t, [c_uint32, c_uint32] + BYTES + BUFFER),
@@ -49,6 +62,8 @@ FUNCTIONS = {
     "write_entry": (c_size_t, [c_uint32, c_uint64] + BUFFER),
     "write_close": (c_size_t, [c_uint32] + BUFFER),
     "write_state": (c_size_t, [c_uint32] + BUFFER),
+    "write_place": (c_size_t, [c_uint32, c_uint32] + BUFFER),
+    "write_placed_append": (c_size_t, [c_uint32, c_uint32, c_uint64] + BYTES + BUFFER),
     "read_reply": (c_uint32, BUFFER + [POINTER(Reply)]),
 }
 

@@ -1,11 +1,13 @@
 """A client of a daemon for asyncio."""
 import asyncio
+import time
 from ctypes import addressof, c_char
-from typing import Dict, Optional, Tuple
+from typing import Callable, Dict, List, Optional, Sequence, Tuple, cast
 
 from audit_store import _library as names
 from audit_store.checking import Commitment, check
 from audit_store.client import Acknowledgement, ConnectionEnded, Found, Frames, Refused, State, Unproved
+from audit_store.places import Callers, Displaced, Place, Placing, Receipt
 
 
 class AsyncClient:
@@ -19,7 +21,7 @@ class AsyncClient:
     """
 
     def __init__(self, path: str, timeout: Optional[float] = 30.0, in_flight: int = 256) -> None:
-        self._path, self._timeout = path, timeout
+        self._path, self._timeout, self._in_flight = path, timeout, in_flight
         self._frames = Frames()
         # The calls that wait: the kind of reply, the tag, and the reply itself.
         self._waiting: Dict[int, Tuple[int, "asyncio.Future[Found]"]] = {}
@@ -45,6 +47,50 @@ class AsyncClient:
     async def append(self, payload: bytes, kind: int = 1) -> Acknowledgement:
         """Appends an event, and returns once it is on the disk."""
         return (await self._ask(self._frames.append(kind, payload), names.ACKNOWLEDGEMENT)).acknowledgement()
+
+    async def place(self, kind: int) -> Place:
+        """How many events of a kind the log has, as `Client.place`."""
+        return (await self._ask(self._frames.place(kind), names.PLACE)).place()
+
+    async def append_placed(self, events: Sequence[bytes], kind: int, first: int, patience: float = 60.0,
+                            acknowledged: Optional[Callable[[int, Receipt], object]] = None,
+                            ) -> List[Optional[Receipt]]:
+        """Appends events that their source numbers, each once and in order, as `Client.append_placed`."""
+        placing = Placing(events, kind, first, acknowledged)
+        pause, deadline = 0.01, time.monotonic() + patience
+        while True:
+            before = placing.stored
+            try:
+                fault: Optional[Exception] = await self._place(placing)
+            except Callers as callers:
+                raise cast(BaseException, callers.__cause__) from None
+            except (ConnectionEnded, OSError, asyncio.TimeoutError) as lost:
+                fault = lost
+            if fault is None:
+                return placing.receipts
+            if placing.stored > before:
+                pause, deadline = 0.01, time.monotonic() + patience
+            elif time.monotonic() >= deadline:
+                raise fault
+            await asyncio.sleep(pause)
+            pause = min(2 * pause, 1.0)
+
+    async def _place(self, placing: Placing) -> Optional[Displaced]:
+        """Goes on from what the log has. Nothing is returned if all events are there."""
+        placing.begin((await self.place(placing.kind)).number)
+        while not placing.is_done():
+            window = range(placing.stored, min(placing.stored + self._in_flight, len(placing.events)))
+            frames = [self._frames.placed_append(placing.kind, placing.first + at, placing.events[at]) for at in window]
+            answers = await asyncio.gather(*(self._ask(frame, names.PLACED) for frame in frames),
+                                           return_exceptions=True)
+            for at, answer in zip(window, answers):
+                if isinstance(answer, BaseException):
+                    raise answer
+                if answer.kind == names.PLACED:
+                    placing.has_receipt(at, answer.receipt())
+                elif not placing.has_number(at, answer.index):
+                    return Displaced(placing.kind, answer.index, placing.first + at)
+        return None
 
     async def commitment(self) -> Commitment:
         """The newest commitment."""

@@ -1,11 +1,12 @@
 """Commitments, and proofs that are judged under them."""
-import re
+import struct
 from ctypes import byref
 from typing import NamedTuple, Optional
 
-from audit_store._library import BAD_PROOF, OK, GivenCommitment, library
+from audit_store._library import BAD_PROOF, NOTE_NAME, OK, GivenCommitment, GivenNote, library
 
-_WORD = re.compile(r"([0-9]{1,20}):([0-9a-fA-F]{64})", re.ASCII)
+# A commitment as the library takes it.
+_GIVEN = struct.Struct("=Q32s")
 
 
 class BadProof(ValueError):
@@ -26,22 +27,42 @@ class Commitment(NamedTuple):
     @classmethod
     def parse(cls, word: str) -> "Commitment":
         """Reads COUNT:ROOT. A ValueError says that it is none."""
-        parts = _WORD.fullmatch(word)
-        if parts is None or int(parts[1]) >= 1 << 64:
+        found, spelt = GivenCommitment(), word.encode("utf-8", "replace")
+        if library.read_commitment(spelt, len(spelt), byref(found)) != OK:
             raise ValueError("not a commitment: %r" % (word,))
-        return cls(int(parts[1]), bytes.fromhex(parts[2]))
+        return cls(found.count, bytes(found.root))
 
     def __str__(self) -> str:
         return "%d:%s" % (self.count, self.root.hex())
+
+
+class Note(NamedTuple):
+    """A commitment with the name of its log, as `audit note` writes it: one text alone is that of a note. Who signed it
+    is for others to check.
+
+    >>> text = b"audit-note 1\\nname some.example/log\\ncount 0\\nroot " + 64 * b"0" + b"\\n"
+    >>> Note.parse(text).name, Note.parse(text).commitment.count
+    ('some.example/log', 0)
+    """
+
+    name: str
+    commitment: Commitment
+
+    @classmethod
+    def parse(cls, text: bytes) -> "Note":
+        """Reads the text of a note. A ValueError says that it is none."""
+        found = GivenNote()
+        if library.read_note(text, len(text), byref(found)) != OK:
+            raise ValueError("the text is not that of a note")
+        name = text[NOTE_NAME:NOTE_NAME + found.name_size].decode("ascii")
+        return cls(name, Commitment(found.commitment.count, bytes(found.commitment.root)))
 
 
 def given(commitment: Commitment) -> GivenCommitment:
     """A commitment as the library takes it."""
     if not 0 <= commitment.count < 1 << 64 or len(commitment.root) != 32:
         raise ValueError("not a commitment: %r" % (commitment,))
-    found = GivenCommitment(commitment.count)
-    found.root[:] = commitment.root
-    return found
+    return GivenCommitment.from_buffer_copy(_GIVEN.pack(*commitment))
 
 
 def check(proof: bytes, commitment: Commitment, newer: Optional[Commitment] = None) -> bool:

@@ -9,11 +9,12 @@ import time
 import weakref
 from collections import deque
 from ctypes import addressof, byref
-from typing import Callable, Deque, Iterable, Iterator, List, NamedTuple, Optional, Tuple, Union, cast
+from typing import Any, Callable, Deque, Iterable, Iterator, List, NamedTuple, Optional, Sequence, Tuple, Union, cast
 
 from audit_store import _library as names
 from audit_store._library import MALFORMED, OK, Reply, library
 from audit_store.checking import Commitment, check
+from audit_store.places import Callers, Displaced, Place, Placing, Receipt
 
 # How many requests a client sends before it waits for a reply, at most.
 IN_FLIGHT = 64
@@ -95,6 +96,20 @@ class Frames:
             raise ValueError("an event that the store can't have: kind %d, %d bytes" % (kind, len(payload)))
         return self.written(size)
 
+    def placed_append(self, kind: int, place: int, payload: bytes) -> bytes:
+        size = 0
+        if 0 <= kind < 1 << 32:
+            size = library.write_placed_append(self.next_tag(), kind, place, payload, len(payload), self.frame,
+                                               names.REQUEST_MAX)
+        if not size:
+            raise ValueError("an event that has no place: kind %d, %d bytes" % (kind, len(payload)))
+        return self.written(size)
+
+    def place(self, kind: int) -> bytes:
+        if not 0 <= kind < 1 << 32:
+            raise ValueError("not a kind: %d" % kind)
+        return self.written(library.write_place(self.next_tag(), kind, self.frame, names.REQUEST_MAX))
+
     def commitment(self) -> bytes:
         return self.written(library.write_commitment(self.next_tag(), self.frame, names.REQUEST_MAX))
 
@@ -123,13 +138,15 @@ class Frames:
         return bool(answer == OK)
 
     def judged(self, kind: int, tag: int, whole: bytes) -> "Found":
-        """The reply that was read, which has to be of this kind and to repeat the tag of the request."""
+        """The reply that was read, which has to be of this kind and to repeat the tag of the request. A placed append
+        may also be answered by a place."""
         reply = self.reply
         if reply.kind == names.REFUSED:
             if reply.tag not in (tag, 0):
                 raise ConnectionEnded("the server answered another request")
             raise Refused(reply.code)
-        if reply.kind != kind or reply.tag != tag:
+        is_meant = reply.kind == kind or (kind, reply.kind) == (names.PLACED, names.PLACE)
+        if not is_meant or reply.tag != tag:
             raise ConnectionEnded("the server answered another request")
         return Found(reply, whole)
 
@@ -138,7 +155,7 @@ class Found:
     """The fields of a reply, and its frame."""
 
     def __init__(self, reply: Reply, whole: bytes) -> None:
-        self.index, self.frame = reply.index, whole
+        self.kind, self.index, self.frame = reply.kind, reply.index, whole
         self.commitment = Commitment(reply.count, bytes(reply.root))
         self.state = State(self.commitment, reply.end, reply.sectors, reply.generation, reply.version,
                            reply.closed == 1)
@@ -152,6 +169,12 @@ class Found:
 
     def entry(self) -> bytes:
         return self.frame[7:]
+
+    def place(self) -> Place:
+        return Place(self.index, self.commitment.count)
+
+    def receipt(self) -> Receipt:
+        return Receipt(self.index, self.commitment, self.frame[names.KEY_AT:])
 
 
 class Client:
@@ -213,18 +236,95 @@ class Client:
     def append_and_hear(self, events: Iterable[Union[bytes, Tuple[int, bytes]]], kind: int, in_flight: int,
                         heard: Optional[Callable[[Union[Acknowledgement, Refused]], object]]) -> List[Acknowledgement]:
         """The same, where `heard` is called with the reply to each event, in their order, also with refusals."""
+        frames, reply, done = self._frames, self._frames.reply, cast("List[Acknowledgement]", [])
+
+        def written(event: Union[bytes, Tuple[int, bytes]]) -> bytes:
+            of, payload = event if isinstance(event, tuple) else (kind, event)
+            return frames.append(of, payload)
+
+        def take(_: int) -> Optional[Exception]:
+            if reply.kind != names.ACKNOWLEDGEMENT:
+                return self._refusal(heard)
+            done.append(Acknowledgement(reply.index, Commitment(reply.count, bytes(reply.root))))
+            if heard is not None:
+                heard(done[-1])
+            return None
+
         with self._alone():
-            stream = self._connected()
-            try:
-                done, fault = self._run(stream, iter(events), kind, min(max(1, in_flight), MOST_IN_FLIGHT), heard)
-            except BaseException:
-                self.close()
-                raise
+            fault = self._tried(iter(events), in_flight, written, take)
             if fault is not None:
-                if isinstance(fault, Refused) and fault.code in (16, 20):
-                    self.close()
                 raise fault
             return done
+
+    def place(self, kind: int) -> Place:
+        """How many events of a kind the log has, where the daemon counts them (`--writer KIND:PATH`)."""
+        return self._ask(lambda: self._frames.place(kind), names.PLACE).place()
+
+    def append_placed(self, events: Sequence[bytes], kind: int, first: int, in_flight: int = IN_FLIGHT,
+                      patience: float = 60.0, acknowledged: Optional[Callable[[int, Receipt], object]] = None,
+                      ) -> List[Optional[Receipt]]:
+        """Appends events of a kind that their source numbers, `first` being the number of the first one, and returns
+        once each of them is in the log, once and in order, whatever connections and daemons are lost meanwhile. What
+        isn't known to be there is sent again, at its place, for as long as that is heard of within `patience` seconds.
+
+        A source that was killed goes on with the events from `place(kind).number` on. It never gives a number to another
+        event, and nobody else appends events of its kind: nothing else is asked of it.
+
+        Returns a receipt for each event, or None for one whose acknowledgement was lost: it is in the log, and its key
+        can't be had again. `acknowledged` is called with the number of an event and its receipt as it comes. Raises
+        `Displaced` if the log lacks events that this source numbered, `Refused` if it takes no more, and what ended the
+        last connection once `patience` is over."""
+        placing = Placing(events, kind, first, acknowledged)
+        with self._alone():
+            pause, deadline = 0.01, time.monotonic() + patience
+            while True:
+                before = placing.stored
+                try:
+                    fault: Optional[Exception] = self._place(placing, in_flight)
+                except Callers as callers:
+                    raise cast(BaseException, callers.__cause__) from None
+                except (ConnectionEnded, OSError) as lost:
+                    fault = lost
+                if fault is None:
+                    return placing.receipts
+                if placing.stored > before:
+                    pause, deadline = 0.01, time.monotonic() + patience
+                elif time.monotonic() >= deadline:
+                    raise fault
+                time.sleep(pause)
+                pause = min(2 * pause, 1.0)
+
+    def _place(self, placing: Placing, in_flight: int) -> Optional[Displaced]:
+        """Goes on from what the log has, over one connection. Nothing is returned if all events are there; otherwise
+        where an event was refused for an earlier one that isn't."""
+        frames, reply, first, kind = self._frames, self._frames.reply, placing.first, placing.kind
+        base = addressof(self._buffer)
+        placing.begin(self._asked(frames.place(kind), names.PLACE).place().number)
+        start = asked = placing.stored
+        at = start
+
+        def written(event: bytes) -> bytes:
+            nonlocal asked
+            asked += 1
+            return frames.placed_append(kind, first + asked - 1, event)
+
+        def take(place: int) -> Optional[Exception]:
+            nonlocal at
+            at += 1
+            if reply.kind == names.PLACED:
+                key = ctypes.string_at(base + place + names.KEY_AT, 32)
+                placing.has_receipt(at - 1, Receipt(reply.index, Commitment(reply.count, bytes(reply.root)), key))
+            elif reply.kind != names.PLACE:
+                return self._refusal(None)
+            elif not placing.has_number(at - 1, reply.index):
+                return Displaced(kind, reply.index, first + at - 1)
+            return None
+
+        events = (placing.events[number] for number in range(start, len(placing.events)))
+        fault = self._tried(events, in_flight, written, take)
+        if fault is None or isinstance(fault, Displaced):
+            return fault
+        raise fault
 
     def commitment(self) -> Commitment:
         """The newest commitment."""
@@ -298,18 +398,20 @@ class Client:
     def _ask(self, request: Callable[[], bytes], kind: int) -> Found:
         # The request is written under the lock too, since all share one buffer.
         with self._alone():
-            frame = request()
-            stream, tag = self._connected(), int.from_bytes(frame[3:7], "big")
-            try:
-                self._send(stream, frame)
-                return self._frames.judged(kind, tag, self._next_frame(stream, self._deadline()))
-            except Refused as refused:
-                if refused.code in (16, 20):
-                    self.close()
-                raise
-            except BaseException:
+            return self._asked(request(), kind)
+
+    def _asked(self, frame: bytes, kind: int) -> Found:
+        stream, tag = self._connected(), int.from_bytes(frame[3:7], "big")
+        try:
+            self._send(stream, frame)
+            return self._frames.judged(kind, tag, self._next_frame(stream, self._deadline()))
+        except Refused as refused:
+            if refused.code in (16, 20):
                 self.close()
-                raise
+            raise
+        except BaseException:
+            self.close()
+            raise
 
     def _send(self, stream: socket.socket, data: bytes) -> None:
         """Sends all, for as long as a call may take: the last reply may have left the socket less."""
@@ -349,24 +451,45 @@ class Client:
         self._start += size
         return frame
 
-    def _run(self, stream: socket.socket, events: Iterator[Union[bytes, Tuple[int, bytes]]], kind: int,
-             in_flight: int, heard: Optional[Callable[[Union[Acknowledgement, Refused]], object]],
-             ) -> Tuple[List[Acknowledgement], Optional[Exception]]:
-        """The acknowledgements of events, and the first event that isn't one or wasn't taken."""
+    def _refusal(self, heard: Optional[Callable[[Any], object]]) -> Refused:
+        """The refusal that was read, in place of another reply."""
+        reply = self._frames.reply
+        if reply.kind != names.REFUSED:
+            raise ConnectionEnded("the server answered another request")
+        refused = Refused(reply.code)
+        if heard is not None:
+            heard(refused)
+        return refused
+
+    def _tried(self, events: Iterator[Any], in_flight: int, written: Callable[[Any], bytes],
+               take: Callable[[int], Optional[Exception]]) -> Optional[Exception]:
+        """As `_run`, over the connection that there is or a new one, which is ended if it is over."""
+        stream = self._connected()
+        try:
+            fault = self._run(stream, events, min(max(1, in_flight), MOST_IN_FLIGHT), written, take)
+        except BaseException:
+            self.close()
+            raise
+        if isinstance(fault, Refused) and fault.code in (16, 20):
+            self.close()
+        return fault
+
+    def _run(self, stream: socket.socket, events: Iterator[Any], in_flight: int, written: Callable[[Any], bytes],
+             take: Callable[[int], Optional[Exception]]) -> Optional[Exception]:
+        """Sends the frames of events, and hands each reply, in their order, to `take` with its place in the buffer. The
+        first fault: an event that isn't one, or what `take` returns. No more is sent then, and all is answered."""
         frames, reply, waiting = self._frames, self._frames.reply, cast("Deque[int]", deque())
-        done: List[Acknowledgement] = []
         wrong: Optional[Exception] = None
         reading, base, is_over = frames.read, addressof(self._buffer), False
         while True:
             sent = []
             while not is_over and len(waiting) < in_flight:
-                event = next(events, cast(bytes, _NO_MORE))
+                event = next(events, _NO_MORE)
                 if event is _NO_MORE:
                     is_over = True
                     break
-                of, payload = event if isinstance(event, tuple) else (kind, event)
                 try:
-                    sent.append(frames.append(of, payload))
+                    sent.append(written(event))
                 except ValueError as fault:
                     wrong, is_over = fault, True
                     break
@@ -374,28 +497,22 @@ class Client:
             if sent:
                 self._send(stream, b"".join(sent))
             if not waiting:
-                return done, wrong
+                return wrong
             deadline = self._deadline()
             # One reply, and all others that came with it.
             while not reading(base + self._start, self._end - self._start):
                 self._fill(stream, deadline)
             while waiting:
+                place = self._start
                 self._start += reply.size
-                tag = waiting.popleft()
-                if reply.kind == names.ACKNOWLEDGEMENT and reply.tag == tag:
-                    done.append(Acknowledgement(reply.index, Commitment(reply.count, bytes(reply.root))))
-                    if heard is not None:
-                        heard(done[-1])
-                elif reply.kind == names.REFUSED and reply.tag in (tag, 0):
-                    refused = Refused(reply.code)
-                    wrong, is_over = wrong or refused, True
-                    if heard is not None:
-                        heard(refused)
-                    if reply.code in (16, 20):
-                        # The session is over, and what still waits has no reply.
-                        return done, refused
-                else:
+                if reply.tag != waiting.popleft() and (reply.kind != names.REFUSED or reply.tag):
                     raise ConnectionEnded("the server answered another request")
+                refused = take(place)
+                if refused is not None:
+                    wrong, is_over = wrong or refused, True
+                    if reply.kind == names.REFUSED and reply.code in (16, 20):
+                        # The session is over, and what still waits has no reply.
+                        return refused
                 if not reading(base + self._start, self._end - self._start):
                     break
 

@@ -1,12 +1,12 @@
-"""The events of an export, verified."""
+"""The events of an export, verified, and that of a proof, opened."""
 import ctypes
 import os
-import re
 from ctypes import byref
 from typing import BinaryIO, Callable, Dict, Iterable, Iterator, NamedTuple, Optional, Union
 
-from audit_store._library import CAUSES, CLOSING, MORE, OK, PAYLOAD_MAX, GivenEvent, Verifier, library
-from audit_store.checking import Commitment, given
+from audit_store._library import (
+    BAD_PROOF, CAUSES, CLOSING, MORE, OK, PAYLOAD_MAX, GivenEvent, Verifier, library)
+from audit_store.checking import BadProof, Commitment, given
 
 # How much is read of a file at a time.
 PIECE = 1 << 18
@@ -33,11 +33,27 @@ class NotVerified(Exception):
         super().__init__("entry %d: %d %s" % (index, number, self.name))
 
 
+def open_proof(proof: bytes, commitment: Commitment, key: bytes) -> Optional[Event]:
+    """The event of an inclusion proof, as its entry reads under the key of a receipt, or None if the proof isn't accepted
+    under the commitment: as `audit check --key` has it. `BadProof` if the bytes are no such proof of an entry.
+
+    Nobody vouches for the key. Under another one an entry reads as another text, and for a text of fewer than 16 bytes
+    somebody who seals entries can search for a key under which it reads as another one that he chose."""
+    if len(key) != 32:
+        raise ValueError("a key has 32 bytes")
+    event, payload = GivenEvent(), ctypes.create_string_buffer(PAYLOAD_MAX)
+    answer = library.open_inclusion(proof, len(proof), byref(given(commitment)), bytes(key), byref(event), payload,
+                                    PAYLOAD_MAX)
+    if answer == BAD_PROOF:
+        raise BadProof("not an inclusion proof of an entry")
+    return Event(event.index, event.kind, ctypes.string_at(payload, event.size)) if answer == OK else None
+
+
 class SavedState:
     """Where the verification of a log stands, as `audit verify --save` writes it: the text has the key of the next
     entry, with which every entry from there on can be read.
 
-    Its lines are read and written by this package, and not by the library: that is tested, and not proved.
+    Its text is read by the library, and written by this package, which is tested, and not proved.
     """
 
     def __init__(self, count: int, key: bytes, link: bytes, closed: bool, nodes: Dict[int, bytes]) -> None:
@@ -46,26 +62,13 @@ class SavedState:
     @classmethod
     def parse(cls, text: bytes) -> "SavedState":
         """Reads the text of a state. A ValueError says that it is none: a state has one text alone."""
-        lines = [line.partition(b" ")[2] for line in text.split(b"\n")]
+        verifier = Verifier()
         try:
-            count = int(lines[1])
-            key, link, *_ = (bytes.fromhex(line.decode("ascii")) for line in lines[2:4])
-            layers = [layer for layer in range(25) if count >> layer & 1]
-            nodes = {layer: bytes.fromhex(lines[5 + at].decode("ascii")) for at, layer in enumerate(layers)}
-            found = cls(count, key, link, lines[4] == b"closed", nodes)
-            newest = text[len(found._lines()):].split(b"\n")
-            extra = b"\n".join(newest[:2]) + b"\n" if newest[0].startswith(b"newest ") else b""
-            number = re.fullmatch(rb"(?:newest ([0-9]+)\nroot [0-9a-f]{64}\n)?", extra)
-            is_sound = (0 <= count <= 1 << 24 and {len(part) for part in (key, link, *nodes.values())} == {32}
-                        and (not found.closed or key == bytes(32))
-                        and (count or link == bytes(32) and not found.closed)
-                        and number is not None and (not number[1] or str(int(number[1])).encode() == number[1]
-                                                    and int(number[1]) < 1 << 64))
-        except (ValueError, IndexError):
-            is_sound = False
-        if not is_sound or found._text(extra) != text:
-            raise ValueError("the text is not that of a state")
-        return found
+            if library.verify_state(text, len(text), byref(verifier)) != OK:
+                raise ValueError("the text is not that of a state")
+            return cls._of(verifier)
+        finally:
+            ctypes.memset(byref(verifier), 0, ctypes.sizeof(verifier))
 
     def _lines(self) -> bytes:
         lines = ["audit-state 1", "count %d" % self.count, "key " + self.key.hex(), "link " + self.link.hex(),
@@ -73,15 +76,12 @@ class SavedState:
         lines += ["node " + self.nodes[layer].hex() for layer in sorted(self.nodes)]
         return "".join(line + "\n" for line in lines).encode()
 
-    def _text(self, extra: bytes = b"") -> bytes:
-        # Only here, since it takes long to import.
-        import hashlib
-        lines = self._lines() + extra
-        return lines + b"sha256 " + hashlib.sha256(lines).hexdigest().encode() + b"\n"
-
     def text(self) -> bytes:
         """The text of the state, without the newest commitment that `audit read` keeps beside it."""
-        return self._text()
+        # Only here, since it takes long to import.
+        import hashlib
+        lines = self._lines()
+        return lines + b"sha256 " + hashlib.sha256(lines).hexdigest().encode() + b"\n"
 
     def _begin(self, verifier: Verifier) -> None:
         ctypes.memset(byref(verifier), 0, ctypes.sizeof(verifier))

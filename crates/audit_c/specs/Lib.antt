@@ -4,3 +4,6 @@ pub mod Written
 pub mod Replied
 pub mod Fed
 pub mod Passed
+pub mod Opened
+pub mod Resumed
+pub mod Worded

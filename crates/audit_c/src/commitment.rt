@@ -24,3 +24,14 @@ pub(crate) fn commitment_of(commitment: &GivenCommitment) -> Commitment
         root: commitment.root,
     }
 }
+
+/// The same as C has it.
+pub(crate) fn given_of(commitment: Commitment) -> GivenCommitment
+    ensures { given result ≡ commitment }
+{
+    let root = commitment.root;
+    GivenCommitment {
+        count: commitment.count,
+        root,
+    }
+}

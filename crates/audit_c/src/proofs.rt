@@ -37,7 +37,8 @@ pub extern "C" fn audit_store_check_consistency(
     }
 }
 
-fn proves_entry(view: MemberView<'_>, commitment: &Commitment) -> bool
+/// Whether a proof is of the commitment's count, and accepted.
+pub(crate) fn proves_entry(view: MemberView<'_>, commitment: &Commitment) -> bool
     ensures { IsTrue result ↔ ProvesEntry (member_shown view.entry) commitment.now }
 {
     view.count == commitment.count

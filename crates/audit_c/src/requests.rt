@@ -84,6 +84,36 @@ pub extern "C" fn audit_store_write_state(tag: u32, frame: &mut [u8]) -> usize
     write_view(RequestView::State { tag }, frame)
 }
 
+/// The same of a question for the place of a kind, of 11 bytes: how many of its events the log has.
+#[unsafe(no_mangle)]
+pub extern "C" fn audit_store_write_place(tag: u32, kind: u32, frame: &mut [u8]) -> usize
+    ensures { IsRequestWritten (request.Place tag kind) frame.old frame.new result }
+{
+    write_view(RequestView::Place { tag, kind }, frame)
+}
+
+/// Writes the frame of an append of an event at its place among those of its kind, and returns its length, 19 bytes more
+/// than the payload's. Returns 0 and writes nothing if the kind is the reserved one, the payload is longer than
+/// `MAX_PLACED_PAYLOAD`, or `frame` is too short.
+#[unsafe(no_mangle)]
+pub extern "C" fn audit_store_write_placed_append(
+    tag: u32,
+    kind: u32,
+    place: u64,
+    payload: &[u8],
+    frame: &mut [u8],
+) -> usize
+    ensures { IsRequestWritten (request.PlacedAppend tag kind place payload.now) frame.old frame.new result }
+{
+    let request = RequestView::PlacedAppend {
+        tag,
+        kind,
+        place,
+        payload,
+    };
+    write_view(request, frame)
+}
+
 fn write_view(request: RequestView<'_>, frame: &mut [u8]) -> usize
     ensures { IsRequestWritten (request_shown request.entry) frame.old frame.new result }
 {
