@@ -1,4 +1,4 @@
-use Rattle.std.proofs.Common.{◌≡◌, ◌∙◌, ◌++◌, ℕ, List, sym, ap}
+use Rattle.std.proofs.Common.{◌∙◌, ◌++◌, ℕ, List, sym, ap}
 use Rattle.std.specs.Prelude.{codes}
 use Rattle.std.specs.Fmt.{decimal}
 use Rattle.audit_verify.specs.StateText.{field_line, node_lines}

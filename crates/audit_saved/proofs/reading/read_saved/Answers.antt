@@ -1,4 +1,4 @@
-use Rattle.std.proofs.Common.{◌≡◌, ◌∙◌, ◌++◌, sym, ap, subst}
+use Rattle.std.proofs.Common.{◌∙◌, ◌++◌, sym, ap, subst}
 use Rattle.std.proofs.lemmas.Bool.{iff_false}
 use Rattle.audit_verify.specs.State.{IsFitting}
 use Rattle.audit_verify.specs.StateText.{state_lines}
