@@ -85,6 +85,9 @@ pub(crate) fn explain_argument<F: Files, M: Write>(
         Asked::Rotation(rotation) if is_same(rt, rotation.old, rotation.new) => {
             writeln!(messages, "audit: {}: NEW is OLD", Shown(rotation.new))
         }
+        Asked::Prepared(asked) if is_same(rt, asked.old, asked.next) => {
+            writeln!(messages, "audit: {}: NEW is OLD", Shown(asked.next))
+        }
         _ => Ok(()),
     }
 }

@@ -8,6 +8,7 @@ use crate::places::store_of;
 use audit_cli_client::Request as Remote;
 use audit_cli_daemon::Request as Daemon;
 use audit_cli_host::Notes;
+use audit_cli_rotate::Prepared;
 use audit_cli_store::{Access, Request};
 use audit_text::Shown;
 use std::alloc::Global;
@@ -153,6 +154,7 @@ pub(crate) fn explain_contents<F: Files, M: Write>(
     rt: &F,
     alloc: Global,
     asked: Asked<'_>,
+    said: Option<Said>,
     messages: &mut M,
 ) -> io::Result<()> {
     let (path, wanted) = match asked {
@@ -160,6 +162,12 @@ pub(crate) fn explain_contents<F: Files, M: Write>(
         Asked::Plain(Request::Open(asked)) => (Some(asked.proof), Contents::Proof),
         Asked::Plain(Request::CheckLink(asked)) => (Some(asked.link), Contents::Link),
         Asked::Plain(Request::Verify(asked)) => (Some(asked.export), Contents::Export),
+        Asked::Prepared(
+            Prepared {
+                after: Some(after),
+                ..
+            },
+        ) if said == Some(Said::BadProof) => (Some(after), Contents::Link),
         _ => (store_of(asked), Contents::Store),
     };
     let Some(path) = path else {

@@ -1,11 +1,11 @@
-use crate::forms::{EXPLAIN, EXTENDS, NO_PROGRESS, WRITER, command_line};
+use crate::forms::{EXPLAIN, EXTENDS, NO_PROGRESS, PREPARED, WRITER, command_line};
 use crate::noted::NoteRequest;
 use crate::remote_command::remote_request;
 use audit_cli_append::Request as Lines;
 use audit_cli_client::Request as Remote;
 use audit_cli_daemon::{Request as Daemon, Settings};
 use audit_cli_offline::{CheckForm, ReportForm};
-use audit_cli_rotate::Request as Rotation;
+use audit_cli_rotate::{Prepared, Request as Rotation};
 use audit_cli_serve::Request as Serving;
 use audit_cli_store::{Access, LinkCheck, Opening, Request, ShowForm, Site, Verification};
 use clap::{ArgMatches, Error};
@@ -36,6 +36,8 @@ pub enum Asked<'a> {
     Lines(Lines<'a>),
     /// Closing a log, and beginning a new store with its last commitment.
     Rotation(Rotation<'a>),
+    /// The same with a store that was formatted before, and a link to it.
+    Prepared(Prepared<'a>),
     /// A command that asks a server.
     Remote(Remote<'a>),
     /// A command that serves sessions.
@@ -90,6 +92,7 @@ fn asked_by<'m, 'a: 'm>(name: &str, given: &'m ArgMatches<'a>) -> Asked<'m> {
         "serve" => Asked::Serving(serve_request(given)),
         "loop" => Asked::Serving(loop_request(given)),
         "daemon" => Asked::Daemon(Daemon::Run(settings(given))),
+        "rotate" if given.get_flag(PREPARED) => Asked::Prepared(prepared(given)),
         "rotate" => Asked::Rotation(rotation(given)),
         "stop" => Asked::Daemon(Daemon::Stop {
             socket: word(given, "SOCKET"),
@@ -122,6 +125,15 @@ fn rotation<'a>(given: &ArgMatches<'a>) -> Rotation<'a> {
         new: word(given, "NEW"),
         sectors: word(given, "SECTORS"),
         key_file: word(given, "KEYFILE"),
+    }
+}
+
+fn prepared<'a>(given: &ArgMatches<'a>) -> Prepared<'a> {
+    Prepared {
+        old: word(given, "OLD"),
+        next: word(given, "NEW"),
+        link: word(given, "link"),
+        after: given.get_str("after"),
     }
 }
 

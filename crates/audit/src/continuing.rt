@@ -57,7 +57,7 @@ pub(crate) fn explain_entry<F: Files, M: Write>(
             let state = state_in(rt, alloc, verification.start);
             explain_first(verification, state, said, messages)
         }
-        Some(_) => explain_contents(rt, alloc, asked, messages),
+        Some(_) => explain_contents(rt, alloc, asked, said, messages),
     }
 }
 

@@ -81,7 +81,11 @@ fn print_end<F: Files, M: Write>(
 // Whether the causes of a command's faults are printed in any case: it serves, asks, sends, watches or rotates.
 fn always_explains(asked: Asked<'_>) -> bool {
     match asked {
-        Asked::Rotation(_) | Asked::Remote(_) | Asked::Serving(_) | Asked::Daemon(_) => true,
+        Asked::Rotation(_)
+        | Asked::Prepared(_)
+        | Asked::Remote(_)
+        | Asked::Serving(_)
+        | Asked::Daemon(_) => true,
         Asked::Plain(_) | Asked::Lines(_) | Asked::Note(_) => false,
     }
 }

@@ -41,7 +41,9 @@ pub(crate) fn explain_fault<F: Files, M: Write>(
             Some(wrong) => writeln!(messages, "audit: {wrong}"),
             None => Ok(()),
         },
-        Some(Said::NotAStore | Said::BadProof) => explain_contents(rt, alloc, asked, messages),
+        Some(Said::NotAStore | Said::BadProof) => explain_contents(
+            rt, alloc, asked, said, messages,
+        ),
         Some(Said::BadEntry | Said::BadLink { .. }) => {
             explain_entry(rt, alloc, asked, said, messages)
         }
@@ -61,7 +63,7 @@ fn explain_use<M: Write>(asked: Asked<'_>, notes: &Notes<'_>, messages: &mut M) 
         _ => "another program has it open",
     };
     let store = match asked {
-        Asked::Rotation(_) => notes.in_use(),
+        Asked::Rotation(_) | Asked::Prepared(_) => notes.in_use(),
         _ => store_of(asked),
     };
     match store {

@@ -14,6 +14,9 @@ pub const EXPLAIN: &str = "explain";
 /// An option of `daemon` that may be given more than once.
 pub const WRITER: &str = "writer";
 
+/// An option of `rotate`, which then makes no store.
+pub const PREPARED: &str = "prepared";
+
 /// An option of the commands that open a store to append to it.
 pub const EXTENDS: &str = "extends";
 
@@ -217,7 +220,29 @@ static ROTATE: Form = Form {
             is_required: true,
         },
     ],
-    options: &[],
+    options: &[
+        Choice {
+            name: PREPARED,
+            value: None,
+            help: "NEW is an empty store that 'format' made, and SECTORS and KEYFILE are left out",
+            needs: Some("link"),
+            excludes: Some("SECTORS"),
+        },
+        Choice {
+            name: "link",
+            value: Some("LINK"),
+            help: "The file to be made for the link from OLD to NEW, which 'check --link' reads",
+            needs: Some(PREPARED),
+            excludes: None,
+        },
+        Choice {
+            name: "after",
+            value: Some("LINK0"),
+            help: "The file with the link by which OLD goes on from the log before it",
+            needs: Some(PREPARED),
+            excludes: None,
+        },
+    ],
 };
 
 static CLOSE: Form = Form {
@@ -684,7 +709,7 @@ fn with_command<'a>(
 }
 
 fn subcommand<'a>(alloc: Global, form: &'static Form) -> Result<Command<'a>, AllocError> {
-    let command = with_words(alloc, described(alloc, form), form.words)?;
+    let command = with_words(alloc, described(alloc, form), form)?;
     let command = with_options(alloc, command, form.options)?;
     with_flags(alloc, command)
 }
@@ -701,12 +726,34 @@ fn described<'a>(alloc: Global, form: &'static Form) -> Command<'a> {
 fn with_words<'a>(
     alloc: Global,
     mut command: Command<'a>,
-    words: &'static [Word],
+    form: &'static Form,
 ) -> Result<Command<'a>, AllocError> {
-    for word in words {
-        command = command.arg(word_of(alloc, word))?;
+    for word in form.words {
+        command = with_word(alloc, command, form, word)?;
     }
     Ok(command)
+}
+
+fn with_word<'a>(
+    alloc: Global,
+    command: Command<'a>,
+    form: &'static Form,
+    word: &'static Word,
+) -> Result<Command<'a>, AllocError> {
+    command.arg(word_in(alloc, form, word)?)
+}
+
+// A word of a command. Those about a store that is made are left out if it was prepared.
+fn word_in<'a>(
+    alloc: Global,
+    form: &'static Form,
+    word: &'static Word,
+) -> Result<Arg<'a>, AllocError> {
+    let arg = word_of(alloc, word);
+    if form.name == "rotate" && (word.name == "SECTORS" || word.name == "KEYFILE") {
+        return arg.required(false).required_unless_present(PREPARED);
+    }
+    Ok(arg)
 }
 
 fn word_of<'a>(alloc: Global, word: &'static Word) -> Arg<'a> {

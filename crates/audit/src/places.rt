@@ -11,6 +11,7 @@ pub(crate) fn store_of<'a>(asked: Asked<'a>) -> Option<&'a str> {
         Asked::Plain(request) => store_of_plain(request),
         Asked::Lines(lines) => Some(lines.file),
         Asked::Rotation(rotation) => Some(rotation.old),
+        Asked::Prepared(asked) => Some(asked.old),
         Asked::Serving(Serving::Serve { file, .. } | Serving::Loop { file, .. }) => Some(file),
         Asked::Daemon(Daemon::Run(settings)) => Some(settings.file),
         Asked::Daemon(Daemon::Stop { .. }) | Asked::Remote(_) | Asked::Note(_) => None,

@@ -12,7 +12,7 @@ use audit_cli_daemon::{Request as Daemon, Settings};
 use audit_cli_host::{Dial, Extent, Notes, Screen, Subject};
 use audit_cli_note::write_note;
 use audit_cli_offline::ReportForm;
-use audit_cli_rotate::Request as Rotation;
+use audit_cli_rotate::{Prepared, Request as Rotation};
 use audit_cli_serve::Request as Serving;
 use audit_cli_store::Request;
 use audit_disk::{SystemFile, SystemFiles};
@@ -212,6 +212,7 @@ where
         Asked::Note(request) => note(alloc, request, output, messages),
         Asked::Lines(request) => append(rt, alloc, request, older, input, output, messages),
         Asked::Rotation(request) => rotate(rt, alloc, request, output, messages),
+        Asked::Prepared(request) => rotate_prepared(rt, alloc, request, output, messages),
         Asked::Remote(request) => ask(rt, alloc, request, input, output, messages),
         Asked::Serving(request) => serve(rt, alloc, request, input, output, messages),
         Asked::Daemon(request) => attend(rt, alloc, request, older, explains, output, messages),
@@ -277,6 +278,21 @@ where
 {
     let mut stores = SystemStores::new(rt);
     audit_cli_rotate::run(rt, &mut stores, alloc, request, output, messages)
+}
+
+#[inline(never)]
+fn rotate_prepared<F: SystemFiles, W: Write, M: Write>(
+    rt: &F,
+    alloc: Global,
+    request: Prepared<'_>,
+    output: &mut W,
+    messages: &mut M,
+) -> Status
+where
+    F::File: SystemFile,
+{
+    let mut stores = SystemStores::new(rt);
+    audit_cli_rotate::run_prepared(rt, &mut stores, alloc, request, output, messages)
 }
 
 #[inline(never)]
@@ -361,6 +377,7 @@ fn show_progress(asked: Asked<'_>, notes: &Notes<'_>) {
         Asked::Rotation(rotation) => {
             notes.show_progress(notes.subject_of(rotation.old), Extent::Store)
         }
+        Asked::Prepared(asked) => notes.show_progress(notes.subject_of(asked.old), Extent::Store),
         Asked::Serving(Serving::Serve { file, .. } | Serving::Loop { file, .. })
         | Asked::Daemon(Daemon::Run(Settings { file, .. })) => {
             notes.show_progress(notes.subject_of(file), Extent::Opening)

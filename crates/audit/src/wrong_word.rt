@@ -67,6 +67,7 @@ pub(crate) fn wrong_word<'a>(asked: Asked<'a>) -> Option<Wrong<'a>> {
         )),
         Asked::Lines(lines) => wrong_in_lines(lines),
         Asked::Rotation(rotation) => judge("SECTORS", Some(rotation.sectors), SECTORS),
+        Asked::Prepared(_) => None,
         Asked::Remote(request) => wrong_in_remote(request),
         Asked::Serving(request) => wrong_in_serving(request),
         Asked::Daemon(Daemon::Run(settings)) => wrong_in_settings(settings),
