@@ -1,7 +1,7 @@
 -- What a request to rotate comes to.
 use Rattle.std.specs.Prelude.{OnOk, OnErr, IfOk, IfErr, IsOk, IsErr}
 use Rattle.std.specs.Io.KnownBytes.{Appends, Keeps}
-use Rattle.std.proofs.Common.{◌≡◌, ◌∙◌, ◌⊎◌, ℕ, Option, None, Some, Result, Ok, Err, List, [], ◌∷◌, ◌++◌, append-nil, inl, inr, refl, sym, ap, subst}
+use Rattle.std.proofs.Common.{◌≡◌, ◌∙◌, ◌⊎◌, ℕ, Option, None, Some, Result, Ok, Err, List, [], ◌∷◌, append-nil, inl, inr, refl, sym, subst}
 use Rattle.audit_disk_model.specs.View.{View}
 use Rattle.audit_store_layout.specs.IndexData.{IndexData}
 use Rattle.audit_disk_model.specs.declared.sectors.Sectors as sectors
@@ -23,7 +23,7 @@ use Rattle.audit_cli_base.specs.declared.fault.CommandError.{CommandError}
 use Rattle.audit_cli_base.specs.declared.status.Status.{Status}
 use Rattle.audit_cli_base.specs.declared.status.Status.TheVariants as ends
 use Rattle.audit_cli_calls.specs.StoreCalls.{StoreCall, StoresModel, a_making, an_opening, a_letting_go}
-use Rattle.audit_cli_rotate.specs.Carried.{RotatesAsked, IsRotationDone}
+use Rattle.audit_cli_rotate.specs.Carried.{IsRotationDone}
 use Rattle.audit_cli_rotate.specs.Files.{temporary_name, FindsOn, FindsOnInPart, FindsRotated, SaysFound, IsMaking, IsMakingNone, MakesRotated, IsEnded, StopsMade, RotatesTo, RotatesOpened, IsNotOpened}
 use Rattle.audit_cli_rotate.specs.Lines.{rotated_lines}
 use Rattle.audit_cli_rotate.specs.Rotated.{FindingOutcome, RotationOutcome}

@@ -3,3 +3,4 @@ pub mod Sizes
 pub mod Held
 pub mod OwnKey
 pub mod Carried
+pub mod PreparedStores

@@ -6,3 +6,7 @@ pub mod Lines
 pub mod Rotated
 pub mod Files
 pub mod Carried
+pub mod LinkFile
+pub mod PreparedFaults
+pub mod PreparedStores
+pub mod PreparedCarried

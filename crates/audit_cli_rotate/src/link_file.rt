@@ -1,4 +1,10 @@
 //! The file of a link: it is made whole, or found, and read again in both cases.
+ghost use Rattle.std.specs.Prelude.{◌≡◌, List, IfOk, IfSome, OnOk};
+ghost use Rattle.audit_disk.specs.Folder.{folder_of};
+ghost use Rattle.audit_link.specs.Links.{link_in};
+ghost use Rattle.audit_link.specs.LinkBytes.{SpellsLink};
+ghost use Rattle.audit_cli_rotate.specs.LinkFile.{HasLinkAt, HasBytesAt};
+
 use crate::files::{Names, drop_leftover, drop_second_name, give_name, temporary_name};
 use crate::prepared_error::PreparedError;
 use audit_base::are_equal;
@@ -22,6 +28,7 @@ pub(crate) fn keep_link<F: SystemFiles>(
 ) -> Result<(), PreparedError>
 where
     F::File: SystemFile,
+    ensures { OnOk result (HasBytesAt F.File.facts F.File.remaining (F.synced rt.now) path.now bytes.now) }
 {
     match rt.symlink_metadata(path) {
         Ok(_) => {}
@@ -82,6 +89,7 @@ fn find_link_file<F: SystemFiles>(
 ) -> Result<(), PreparedError>
 where
     F::File: SystemFile,
+    ensures { OnOk result (HasBytesAt F.File.facts F.File.remaining (F.synced rt.now) path.now bytes.now) }
 {
     let found = fs::metadata(rt, path)?;
     if !found.is_file() {
@@ -94,11 +102,23 @@ where
 }
 
 // Judges whether a file has these bytes, and no others.
-fn judge_bytes<R: Read>(alloc: Global, reader: &mut R, bytes: &[u8]) -> Result<(), PreparedError> {
+fn judge_bytes<R: Read>(alloc: Global, reader: &mut R, bytes: &[u8]) -> Result<(), PreparedError>
+    ensures { OnOk result (IfSome (R.remaining reader.old) (λ found. found ≡ bytes.now)) }
+{
     match read_input(alloc, reader) {
-        Ok(found) if are_equal(&found, bytes) => Ok(()),
-        Ok(_) | Err(LinesError::InputTooLong) => Err(PreparedError::OtherLink),
+        Ok(found) => judge_found(&found, bytes),
+        Err(LinesError::InputTooLong) => Err(PreparedError::OtherLink),
         Err(fault) => Err(PreparedError::Command(CommandError::Lines(fault))),
+    }
+}
+
+fn judge_found(found: &[u8], bytes: &[u8]) -> Result<(), PreparedError>
+    ensures { OnOk result (found.now ≡ bytes.now) }
+{
+    if are_equal(found, bytes) {
+        Ok(())
+    } else {
+        Err(PreparedError::OtherLink)
     }
 }
 
@@ -110,13 +130,16 @@ pub(crate) fn link_at<F: SystemFiles>(
 ) -> Result<Link, CommandError>
 where
     F::File: SystemFile,
+    ensures { IfOk result (λ link. HasLinkAt F.File.facts F.File.remaining path.now (link_in link)) }
 {
     let mut file = rt.open_to_read(path)?;
     link_in_file(alloc, &mut file)
 }
 
 // The link in a file, which contains nothing else. An input that is too long is no link.
-fn link_in_file<R: Read>(alloc: Global, reader: &mut R) -> Result<Link, CommandError> {
+fn link_in_file<R: Read>(alloc: Global, reader: &mut R) -> Result<Link, CommandError>
+    ensures { IfOk result (λ link. IfSome (R.remaining reader.old) (λ bytes. SpellsLink bytes (link_in link))) }
+{
     match read_input(alloc, reader) {
         Ok(bytes) => link_of(alloc, &bytes),
         Err(LinesError::InputTooLong) => Err(CommandError::BadProof),
@@ -124,7 +147,9 @@ fn link_in_file<R: Read>(alloc: Global, reader: &mut R) -> Result<Link, CommandE
     }
 }
 
-fn link_of(alloc: Global, bytes: &[u8]) -> Result<Link, CommandError> {
+fn link_of(alloc: Global, bytes: &[u8]) -> Result<Link, CommandError>
+    ensures { IfOk result (λ link. SpellsLink bytes.now (link_in link)) }
+{
     match read_link(alloc, bytes) {
         Ok(link) => Ok(link),
         Err(LinkError::BadLink) => Err(CommandError::BadProof),
@@ -133,7 +158,9 @@ fn link_of(alloc: Global, bytes: &[u8]) -> Result<Link, CommandError> {
 }
 
 // The folder that has the name of what is at a path.
-fn folder_of(path: &str) -> &str {
+fn folder_of(path: &str) -> &str
+    ensures { result.now ≡ folder_of path.now }
+{
     match Path::new(path).parent() {
         Some(folder) if !folder.as_str().is_empty() => folder.as_str(),
         _ => ".",

@@ -1,4 +1,9 @@
 //! The request to rotate a log to a store that was prepared, and how it is carried out.
+ghost use Rattle.std.specs.Prelude.{◌≡◌, List};
+ghost use Rattle.audit_cli_calls.specs.StoreCalls.{StoreCall};
+ghost use Rattle.audit_cli_rotate.specs.PreparedCarried.{prepared_end_status, IsPreparedCarriedOut, IsPreparedDone};
+ghost use Rattle.audit_cli_rotate.specs.PreparedCarried.{OpensNext};
+
 use crate::files::{identity_if_any, is_same_file};
 use crate::joined::join_prepared;
 use crate::prepared_error::PreparedError;
@@ -45,6 +50,15 @@ where
     O: Stores<FileStore<F::File>>,
     W: FlushedOutput,
     M: Write,
+    // The status is that of the result. On success the link to the store that was opened in the next file is in its file,
+    // read again, and its folder was synced; the log of the store that was opened in the old file is closed as the link
+    // says, and the next store, which was empty, has appended the two events. Or the link that was found is accepted under
+    // the commitments of both. The lines of the two were written. After an error no store was opened and nothing was
+    // written; or the stores were only looked at; or the link is in its file, and what the join did until it failed was
+    // done. In each case nothing else was done to a store, and no other was opened.
+    ensures carried { IsPreparedCarriedOut F.File.facts F.File.remaining (F.synced rt.now) O.calls O.at request.entry
+        stores.old stores.new (W.contents output.old) (W.contents output.new) (W.flushed output.new)
+        (W.unflushed output.new) result }
 {
     let done = perform(rt, stores, alloc, request, output);
     let flushed = output.flush_last();
@@ -56,7 +70,9 @@ fn report_prepared<M: Write>(
     done: Result<(), PreparedError>,
     request: Prepared<'_>,
     messages: &mut M,
-) -> Status {
+) -> Status
+    ensures { result ≡ prepared_end_status done }
+{
     match done {
         Ok(()) => Status::Done,
         Err(fault) => fault.report(request, messages),
@@ -76,6 +92,8 @@ where
     F::File: SystemFile,
     O: Stores<FileStore<F::File>>,
     W: Write,
+    ensures { IsPreparedDone F.File.facts F.File.remaining (F.synced rt.now) O.calls O.at request.entry
+        stores.old stores.new (W.contents output.old) (W.contents output.new) result }
 {
     let there = identity_if_any(rt, request.next)?;
     if request.old == request.next || is_same_file(rt, request.old, there) {
@@ -102,6 +120,9 @@ where
     D: Sectors + Drop,
     O: Stores<Store<D>>,
     W: Write,
+    ensures { (between : List (StoreCall (Store D ⟦<D as Sectors>⟧))) × O.calls.DidCalls stores.old stores.new between
+        × OpensNext F.File.facts F.File.remaining (F.synced rt.now) O.calls O.at request.entry stores.old between
+        old.old old.new (W.contents output.old) (W.contents output.new) result }
 {
     let mut next = stores.open(alloc, request.next)?.content;
     let done = join_prepared(rt, alloc, old, &mut next, request, output);

@@ -1,3 +1,6 @@
+ghost use Rattle.std.specs.Prelude.{◌≡◌};
+ghost use Rattle.audit_cli_rotate.specs.PreparedFaults.{prepared_status};
+
 use crate::prepared::Prepared;
 use audit_cli_base::{CommandError, Status, report};
 use audit_join::JoinError;
@@ -28,7 +31,9 @@ pub enum PreparedError {
 
 impl PreparedError {
     /// The status with which the program exits.
-    pub fn status(self) -> Status {
+    pub fn status(self) -> Status
+        ensures { result ≡ prepared_status self }
+    {
         match self {
             PreparedError::Command(fault) => fault.status(),
             PreparedError::OwnKey => Status::Usage,
@@ -42,7 +47,9 @@ impl PreparedError {
 
     /// Prints the error, in two lines unless other commands have it too, and returns the status with which the program
     /// exits.
-    pub(crate) fn report<M: Write>(self, request: Prepared<'_>, messages: &mut M) -> Status {
+    pub(crate) fn report<M: Write>(self, request: Prepared<'_>, messages: &mut M) -> Status
+        ensures { result ≡ prepared_status self }
+    {
         if let PreparedError::Command(fault) = self {
             return report(fault, messages);
         }
