@@ -65,16 +65,17 @@ def commitment_text(count, of_root):
     return b"%d:%s" % (count, of_root.hex().encode())
 
 
-def link_events(old, brought=None):
-    """The events that begin the log after this closed one."""
+def link_events(old, brought=None, first=0):
+    """The events that begin the log after this closed one, whose own events are counted from an index on: from 2 if it
+    goes on itself by a link, which brought these numbers."""
     commitment = commitment_text(len(old.entries), root(old.leaves))
-    return [(LINK_KIND, commitment), (LINK_KIND, counts_text(counted(old.events, brought)))]
+    return [(LINK_KIND, commitment), (LINK_KIND, counts_text(counted(old.events[first:], brought)))]
 
 
-def link_of(old, first_key, brought=None):
+def link_of(old, first_key, brought=None, first=0):
     """The link from a closed log to the one that begins with this key, and that log."""
     assert old.events[-1] == CLOSE
-    events = link_events(old, brought)
+    events = link_events(old, brought, first)
     new = log_of(events, first_key)
     first, second = entry_keys(first_key, events)
     last = old.entries[-1]

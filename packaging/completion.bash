@@ -2,9 +2,10 @@
 _audit() {
     local word=${COMP_WORDS[COMP_CWORD]} before=${COMP_WORDS[COMP_CWORD - 1]} command=${COMP_WORDS[1]}
     local commands="replay format append close rotate show prove check note export verify serve loop daemon stop send ask watch read help"
-    local valued="--mode --long --expect --reserve --sessions --socket-mode --reader --writer --idle --backlog --window --timeout --every --kind --from --save --first --under --receipts --retry --extends"
+    local valued="--mode --long --expect --reserve --sessions --socket-mode --reader --writer --idle --backlog --window --timeout --every --kind --from --save --first --under --receipts --retry --extends --after"
     local options="--explain --no-progress --help" choices= files= place=0 question= index
     [[ $command = verify || $command = read ]] || valued="$valued --text"
+    [[ $command != rotate ]] || valued="$valued --link"
     # Which word of the command this is: options and their values aren't counted.
     for ((index = 2; index < COMP_CWORD; index++)); do
         if [[ " $valued " == *" ${COMP_WORDS[index]} "* ]]; then
@@ -19,6 +20,7 @@ _audit() {
     case $command in
     format) options="$options --mode --in-place --erase" ;;
     append) options="$options --text --follow --long --expect --reserve --extends" ;;
+    rotate) options="$options --prepared --link --after" ;;
     show) options="$options --free --read-only --header" ;;
     prove) options="$options --read-only" ;;
     check) options="$options --print --key --text --json --link" ;;
@@ -39,7 +41,7 @@ _audit() {
         files=1
     elif [[ " $valued " == *" $before "* ]]; then
         case $before in
-        --reader | --save | --first | --under | --receipts | --extends) files=1 ;;
+        --reader | --save | --first | --under | --receipts | --extends | --link | --after) files=1 ;;
         --long) choices="cut refuse" ;;
         --mode | --socket-mode) choices="600 640 660" ;;
         esac

@@ -234,6 +234,17 @@ def rotation_script():
     return numbered(root_after([linked(TWO, ZERO_KEY)], key_of(1)))
 
 
+def prepared_rotation():
+    second, third = key_of(0x1), key_of(0x2)
+    old = log_of([*TWO, CLOSE])
+    begun = link_events(old)
+    ended = log_of([*begun, (1, b"more"), CLOSE], second)
+    closed, joined = root_after(old.events), root_after(begun, second)
+    closed_again, joined_again = root_after(ended.events, second), root_after(link_events(ended, {1: 1, 7: 1}, 2), third)
+    return numbered(root_after(TWO), closed, joined, closed, joined, closed, root_after(ended.events[:3], second),
+                    closed_again, joined_again, closed_again)
+
+
 def appended(tag):
     return Request(wire.APPEND, tag, (7,), b"hi")
 
@@ -314,6 +325,7 @@ FILES = {"cases/%s" % name: make for name, make in {
     "refused_sessions/stdout": lambda: numbered(*repeat(empty_commitment(9), 2)),
     "refused_stores/stdout": lambda: numbered(*repeat(root_after(THREE), 2)),
     "replay_of_a_package_log/stdout": replay_of_packages,
+    "prepared_rotation/stdout": prepared_rotation,
     "replay_of_one_event/stdout": lambda: replayed("replay_of_one_event"),
     "reserve/stdout": reserve,
     "rotation/script": rotation_script,
