@@ -14,7 +14,7 @@ from checks.parts.waiting import SECONDS, wait_for
 from checks.parts.wrong import expect, expect_true
 
 # Seconds between two lines of a source.
-PACE = 0.1
+PACE = 0.25
 # The kinds that the daemons bind: of `send --retry`, of file-feed at the address of the newest machine, and of a
 # file-feed that asks one machine after the other.
 SENT, FED, FED_IN_TURN = 11, 12, 13

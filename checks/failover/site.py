@@ -17,7 +17,7 @@ from checks.parts.waiting import SECONDS, wait_for
 from checks.parts.wrong import expect_true
 
 # Sizes of a store for what the sources send without --long and with it, at their pace in seconds a line.
-SIZES, PACE = [16384, 65536], 0.1
+SIZES, PACE = [16384, 65536], 0.25
 SOURCES = 2
 
 

@@ -4,7 +4,7 @@ on, and come back; then two machines take the image from each other.
 usage: bin/check replicated-ceph EXECUTABLE [--qemu] [KILLS [TAKEOVERS]]
        bin/check replicated-ceph EXECUTABLE --unsafe [TAKEOVERS]
 
-The defaults are 10 kills of an OSD and 100 takeovers, and the store has room for about 200 of both. With --qemu the
+The defaults are 10 kills of an OSD, of which the store has room for about 200, and 100 takeovers. With --qemu the
 image is attached by qemu-storage-daemon, otherwise by nbdkit with rbd-exclusive.py and nbdfuse. It needs Debian's
 ceph-mon, ceph-osd, ceph-common, fuse3, and nbdkit, nbdkit-plugin-python and libnbd-bin, or qemu-system-common and
 qemu-block-extra, and FUSE. --unsafe counts what is lost with librbd's cache, in 100 takeovers by default, and as many
@@ -29,7 +29,7 @@ from checks.parts.files import folder_of_its_own
 from checks.parts.scenes import program_of
 from checks.parts.tools import needs
 from checks.parts.wrong import LeftOut, Usage, told
-from checks.replicated_ceph.common import CLIENTS, FEW, MANY, PATH, SIZES, good, how, say
+from checks.replicated_ceph.common import CLIENTS, FEW, MANY, OF_A_STORE, PATH, SIZES, how, say
 from checks.replicated_ceph.machines import Machine
 from checks.replicated_ceph.scenes import kill_osds, lose_two_osds, read_replicas, refuse_second
 from checks.replicated_ceph.takeovers import take_over
@@ -40,14 +40,12 @@ def begin(cluster):
     cluster.begin()
     cluster.make_image("store", how.sectors * 512)
     say("the cluster is there")
-    with open("key", "w") as key:
-        key.write("%064d\n" % 7)
 
 
 def play(kills, takeovers, cluster):
     machine = Machine("first")
     machine.attach()
-    good("format", "--in-place", machine.file, str(how.sectors), "key")
+    machine.format()
     machine.start()
     say("the store is formatted and served")
     if kills:
@@ -72,10 +70,12 @@ def expect_complete():
 
 
 def numbers_of(words):
-    """KILLS and TAKEOVERS, and the size of a store that holds the events of all."""
+    """KILLS and TAKEOVERS, and the size of a store that holds the events of all kills and of the takeovers that it
+    sees."""
     given = [int(word) for word in words]
     kills, takeovers = given + [10, 100][len(given):]
-    events = CLIENTS * ((kills + 2 + takeovers) * MANY + takeovers * FEW)
+    seen = min(takeovers, OF_A_STORE)
+    events = CLIENTS * ((kills + 2 + seen) * MANY + seen * FEW)
     return kills, takeovers, next(size for size in SIZES if size > events + 64)
 
 

@@ -12,8 +12,9 @@ CLIENTS = 3
 # How many events each client sends while something happens, of how many the first acknowledged ones may bring it about,
 # and how many are sent afterwards.
 MANY, EARLY, FEW = 100, 60, 5
-# The sizes of a store, of which the larger one's replica is the largest object of Ceph.
-SIZES = [16384, 65536]
+# How many takeovers a store sees; and the sizes of a store, of which the larger one's replica is the largest object of
+# Ceph.
+OF_A_STORE, SIZES = 10, [16384, 65536]
 # A hang has ended when a killed connection has been noticed, and all that was acknowledged before it was read.
 MOMENT = 0.3
 # Debian's python3, whose modules nbdkit needs, is the first of this PATH.

@@ -10,7 +10,7 @@ import time
 from checks.parts import program
 from checks.parts.ceph import OSDS, POOL
 from checks.parts.places import tool
-from checks.parts.tools import call
+from checks.parts.tools import succeeds
 from checks.parts.waiting import SECONDS, wait_for
 from checks.parts.wrong import expect_true
 from checks.replicated_ceph.common import CLIENTS, EARLY, IMAGE, PATH, acknowledged, commitment, count, good, how
@@ -48,8 +48,9 @@ class Machine:
             self.run("client", "nbdkit", "--foreground", "--unix", self.nbd, "python", how.plugin, "image=" + IMAGE)
 
     def attach(self):
-        """Attaches the image, whoever has it: that one is fenced first."""
-        call(tool("fence-ceph"), IMAGE)
+        """Attaches the image, whoever has it: that one is fenced first. On a busy machine a command of Ceph's may take
+        too long, and the fence is repeated."""
+        wait_for(lambda: succeeds(tool("fence-ceph"), IMAGE), "the fence")
         self.ask_for_image()
         if not how.qemu:
             # The socket may be there before the lock is, so only nbdfuse's file shows that the image is attached.
@@ -67,6 +68,13 @@ class Machine:
     def said(self):
         with open(self.messages, errors="replace") as messages:
             return messages.read()
+
+    def format(self):
+        """Makes a store of the image, under another key, and nothing is acknowledged yet."""
+        with open("key", "w") as key:
+            key.write(os.urandom(32).hex() + "\n")
+        good("format", "--in-place", "--erase", self.file, str(how.sectors), "key")
+        acknowledged.clear()
 
     def start(self):
         """Starts the daemon, and returns how many events it has."""

@@ -6,7 +6,7 @@ import time
 
 from checks.parts.waiting import SECONDS
 from checks.parts.wrong import Wrong, expect_true
-from checks.replicated_ceph.common import FEW, MANY, MOMENT, acknowledged, audit, commitment, good, say
+from checks.replicated_ceph.common import FEW, MANY, MOMENT, OF_A_STORE, acknowledged, audit, commitment, good, say
 from checks.replicated_ceph.machines import Clients, Machine, check_payloads
 from checks.replicated_ceph.scenes import check_blocklist
 
@@ -75,8 +75,8 @@ class Takeover:
 
 
 def take_over(cluster, machine, takeovers):
-    """Machines take over in turn. Returns the last one, which runs the daemon."""
-    times = []
+    """Machines take over in turn, and each ten have a store. Returns the last machine, which runs the daemon."""
+    times, events = [], 0
     for number in range(takeovers):
         takeover = Takeover(machine, number)
         try:
@@ -84,13 +84,15 @@ def take_over(cluster, machine, takeovers):
         except Wrong as wrong:
             raise Wrong("a machine of which %s hung: %s" % (takeover.what, wrong)) from None
         machine = takeover.second
-        if len(times) % 10 == 0 or len(times) == takeovers:
+        if len(times) % OF_A_STORE == 0 or len(times) == takeovers:
             good("stop", machine.socket)
             check_payloads(machine.file)
-            machine.start()
+            events += len(acknowledged)
             say("%d takeovers, %.1f to %.1f s until the successor served, half within %.1f s: each of %d acknowledged "
-                "events is at its "
-                "index" % (len(times), min(times), max(times), statistics.median(times), len(acknowledged)))
+                "events is at its index" % (len(times), min(times), max(times), statistics.median(times), events))
+            if len(times) < takeovers:
+                machine.format()
+            machine.start()
     if times:
         check_blocklist(cluster)
     return machine

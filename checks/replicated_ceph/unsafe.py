@@ -35,7 +35,6 @@ def missing_events(machine):
 
 def take_over_cached(first, second):
     """The second machine fences the first one, on which clients append. How many acknowledged events are missing."""
-    acknowledged.clear()
     clients = Clients(first, MANY)
     clients.wait()
     second.attach()
@@ -52,7 +51,7 @@ def take_over_cached(first, second):
 def served(machine):
     """A machine that serves a new store."""
     machine.attach()
-    good("format", "--in-place", "--erase", machine.file, str(how.sectors), "key")
+    machine.format()
     machine.start()
     return machine
 
@@ -81,7 +80,6 @@ def compare_caches(takeovers):
 def share_image():
     """Two machines have an image with the feature exclusive-lock, and nobody fences."""
     how.qemu = True
-    acknowledged.clear()
     first, second = Machine("first"), Machine("second")
     served(first)
     second.ask_for_image()
