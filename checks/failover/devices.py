@@ -69,7 +69,7 @@ class Nbd:
 class Ceph:
     """An image of a Ceph cluster."""
     tools = ceph.TOOLS
-    fence = '"%s" rbd/store' % tool("fence-ceph")
+    fence = '"%s" rbd/store >/dev/null' % tool("fence-ceph")
     attach = 'nbdkit --pidfile client.pid --unix "$PWD/nbd" python "%s" image=rbd/store' % tool("rbd-exclusive.py")
 
     def __init__(self):

@@ -1,6 +1,6 @@
 """What machines, networks, clocks and daemons may do."""
 import contextlib
-import http
+import http.client
 import os
 import random
 import signal
