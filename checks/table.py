@@ -33,7 +33,7 @@ CHECKS = entries("checks", [
     ("endure", "a program is killed while it appends: the store has all that was acknowledged", "10 s"),
     ("power", "the power of a disk is cut under the program: all that was acknowledged is there", "30 s"),
     ("feeds", "a daemon fed by a real rsyslogd, a file and a journal that are killed, under its unit's rules", "4 min"),
-    ("network", "hosts over RELP and TLS, and through stunnel with client certificates", "30 s"),
+    ("network", "hosts over RELP and TLS, and through stunnel with client certificates", "45 s"),
     ("siem", "verified events get into SQLite once, each day those that are new", "1 s"),
     ("sealing", "first keys that are sealed to an auditor by age and gpg, and by commands that fail", "5 s"),
     ("chain", "logs that continue each other are verified in order, and broken chains are reported", "5 s"),
