@@ -73,12 +73,20 @@ def loop_device(path, *words):
                 made = subprocess.run(["losetup", "--find", "--show", *words, path], stdout=subprocess.PIPE,
                                       stderr=subprocess.DEVNULL, timeout=SECONDS)
                 device = made.stdout.decode().strip() if made.returncode == 0 else None
+        if device:
+            keep_to_owner(device)
         try:
             yield device
         finally:
             if device:
                 succeeds("losetup", "--detach", device)
                 wait_until(lambda: not succeeds("losetup", device), "a loop device that isn't detached")
+
+
+def keep_to_owner(device):
+    """Takes a device's node back from the group that a udev of this machine may have given it, once that is done."""
+    succeeds("udevadm", "settle", "--timeout=5")
+    os.chmod(device, 0o600)
 
 
 # The line about a disk whose blocks are larger than a sector, with the file and the size of a block.
