@@ -1,5 +1,6 @@
 """Notes, and the anchors that a witness makes of them by tools/anchor: signed by a real ssh-keygen, stamped by a local
 authority of openssl's, killed, changed, and checked by tools/anchor-check; marks, and the times of events.
+500 notes are damaged; runs are killed at each program that they call; folders are hostile, and their files swapped.
 
 usage: bin/check anchors EXECUTABLE [SCENE ..]
 """

@@ -1,4 +1,5 @@
-"""Runs tools/metrics on stores of an executable, and tests the rules of alerts.
+"""Runs tools/metrics on stores of an executable that fill up, fail and are named oddly, and on witnesses, also after
+kills; and tests that the rules raise each alert in time.
 
 usage: bin/check metrics EXECUTABLE [SCENE ..]
 

@@ -1,6 +1,9 @@
 """Rotates a log that is a folder by tools/rotate-log, lists it by audit-log, and lets a witness follow by begin-after.
+Runs are killed at any moment; links and servers are forged.
 
 usage: bin/check rotating EXECUTABLE [--long] [SCENE ..]
+
+With --long 120 runs are killed.
 """
 import os
 import random

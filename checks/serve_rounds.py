@@ -3,7 +3,7 @@
 usage: bin/check serve-rounds EXECUTABLE
 
 Each client appends one event and asks for the commitment: each round continues with the store that the previous one
-left. Then a client sends without end, up to the limit of passes, which takes half a minute.
+left. Then a client sends without end, up to the limit of passes, which takes half a minute. It isn't part of `bin/check`.
 """
 import os
 import socket

@@ -1,6 +1,7 @@
 """Runs `audit daemon` with clients that behave well and clients that don't: how it begins and ends, who may do what,
 that nobody waits for a client that is idle, half done, greedy or gone, and that what a client was told is in the store,
-however the daemon ends.
+however the daemon ends. Replies to placed appends are the model's; sources and `send --receipts` are killed with the
+daemon; and a store that a witness's file doesn't lead to isn't served.
 
 usage: bin/check daemon EXECUTABLE [--long] [SCENE ..]
 

@@ -5,7 +5,8 @@ The logs of auditd, of containers and of pgaudit are rotated as these do it, and
 
 usage: bin/check feeds EXECUTABLE [--long] [SCENE ..]
 
-A scene whose tools aren't there, or that needs root, is left out. With --long more is killed.
+A scene whose tools aren't there, or that needs root, is left out. With --long more is killed, rotated
+logs 100 times.
 """
 from checks.feeds import answered, behind, file, journal, messages, placed, programs, reader, rsyslog, unit
 from checks.parts.scenes import play_all, scenes_in, words_of

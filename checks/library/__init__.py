@@ -1,5 +1,9 @@
 """libauditstore and the Python package over it: verdicts, frames, clients that are killed, handlers, and the examples.
 
+Verdicts and frames are those of proofs, exports, replies and notes of the model, cut and changed, also under valgrind
+and AddressSanitizer. Clients, sources and handlers run in processes that are killed, fork and exit. The library, the
+header and the Python package must show the same names.
+
 usage: bin/check library EXECUTABLE [--long] [SCENE ..]
 
 What is expected comes from the model, from the auditor's programs and from EXECUTABLE, which serves the stores. The

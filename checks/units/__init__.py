@@ -1,5 +1,6 @@
 """Boots systemd on a machine of its own (namespaces over a copy of this one that is thrown away), installs the program
-there, and puts its units into service as docs/operations.md says.
+there, and puts its units into service as docs/operations.md says: starts, signals, options, feeds, forwards, alarms,
+failover.
 
 usage: bin/check units EXECUTABLE [SCENE ..]
 
