@@ -1,4 +1,4 @@
-"""docs/architecture.md has the crates as lists, by floor, in the order of crates.txt. In parentheses are the crates
+"""crates/README.md has the crates as lists, by floor, in the order of crates.txt. In parentheses are the crates
 that each uses directly, without those that these already use; then the title of its doc comment (up to a full stop, a
 comma or a colon).
 
@@ -13,10 +13,10 @@ import re
 import textwrap
 
 from checks.parts.files import read_text, write
-from checks.parts.places import CRATES, DOCS, TOP
+from checks.parts.places import CRATES, TOP
 from checks.parts.wrong import Usage, Wrong
 
-PAGE = os.path.join(DOCS, "architecture.md")
+PAGE = os.path.join(CRATES, "README.md")
 BEGIN = "<!-- Printed by bin/check crates-table. -->\n"
 END = "<!-- The end of what bin/check crates-table prints. -->\n"
 WIDTH = 118
@@ -68,7 +68,7 @@ def table():
 def rewritten(page):
     """The page, with the lists between the markers."""
     if page.count(BEGIN) != 1 or page.count(END) != 1:
-        raise Wrong("docs/architecture.md hasn't each of the two markers once")
+        raise Wrong("crates/README.md hasn't each of the two markers once")
     return page[:page.index(BEGIN)] + BEGIN + table() + page[page.index(END):]
 
 
@@ -86,5 +86,5 @@ def main(words):
     if page != new:
         lines = [line for line in difflib.ndiff(page.splitlines(), new.splitlines()) if line[:1] in "-+"]
         print("\n".join(lines))
-        print("docs/architecture.md has other lists than crates.txt: run bin/check crates-table --write")
+        print("crates/README.md has other lists than crates.txt: run bin/check crates-table --write")
     return 0 if page == new else 1

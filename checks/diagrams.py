@@ -180,7 +180,8 @@ def faults_of_sizes(path):
 
 def pages():
     found = glob.glob(os.path.join(TOP, "*.md")) + glob.glob(os.path.join(TOP, "docs", "*.md"))
-    found += glob.glob(os.path.join(TOP, "crates", "*", "*.md")) + glob.glob(os.path.join(TOP, "model", "*.md"))
+    for place in "crates/*.md", "crates/*/*.md", "model/*.md":
+        found += glob.glob(os.path.join(TOP, place))
     return sorted(os.path.relpath(path, TOP) for path in found)
 
 
