@@ -17,6 +17,10 @@ status is 0 if none failed.
 --tests runs all but the proofs, on the executables that are built already, or on those given, such as that of bin/try.
 --list names the checks, with what each is for and its usual time. NAME runs one of them; `bin/check NAME --help` prints
 its usage. RT_JOBS in the environment sets the number of processors to use.
+
+On four processors of 2.5 GHz it takes 56 minutes (12,650 processor seconds): 3,600 for the program's crates, 2,900 for
+tests and tools, 4,500 for the edits and the first checks of their crates, and the rest to load, build and run. An edit
+costs what proving its function costs, so those of short functions are cheap.
 """
 import os
 import shutil

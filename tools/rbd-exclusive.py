@@ -3,6 +3,13 @@ image's exclusive lock is taken before anything is served, and never handed over
 
 usage: nbdkit python rbd-exclusive.py image=POOL/NAME [conf=FILE] [id=USER]
 
+This makes the image the file FILE; below it the same by qemu, which can't keep the lock to itself:
+  nbdkit --unix SOCKET python rbd-exclusive.py image=rbd/some
+  nbdfuse FILE 'nbd+unix:///?socket=SOCKET'
+
+  qemu-storage-daemon --blockdev driver=rbd,node-name=image,pool=rbd,image=some,cache.direct=on \\
+      --export type=fuse,id=file,node-name=image,writable=on,mountpoint=FILE
+
 It needs Debian's nbdkit-plugin-python, python3-rados and python3-rbd. The Python within nbdkit looks for its modules beside
 the first python3 of the PATH.
 """

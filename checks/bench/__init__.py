@@ -6,6 +6,12 @@ usage: bin/bench [EVENTS [LEAVES [FRAMES [OPENED [HELD [VERIFIED [ASKED [LARGE]]
 
 Without a name it measures what `bin/bench store` does, with these sizes. --list names the measurements, with what each
 is for and how long it takes; `bin/bench NAME --help` prints its usage.
+
+Times are relative to those of the unavoidable hashes, writes, syncs and reads, in interleaved runs, since other work on
+the machine changes both. If those vary, instructions are counted. The minimum of interleaved runs is reported; of
+flushes and replies the tenth percentile, since the fastest of many syncs is an outlier; of the longest events the sum.
+Sectors are written before they are timed, since a first write to a sparse file costs more. Replies and bare proofs use
+different indices, so neither profits from the other's caches.
 """
 from checks import command
 from checks.table import BENCHES
