@@ -1,4 +1,5 @@
-"""Each row of the tables in docs/refusals.md names a case or a test that has the refusal, or the message.
+"""Each row of the tables in docs/refusals.md names a case or a test that has the refusal, or the message, or several,
+each of which has it.
 
 usage: bin/check refusals
 """
@@ -11,8 +12,8 @@ from checks.parts.places import DOCS, TOP
 from checks.parts.wrong import Usage
 from checks.table import files_of
 
-ROW = re.compile(r"\| [0-9]* `([A-Za-z]*)`.*\| `([^`]*)` \|")
-MESSAGE = re.compile(r"\| `([a-z ]*)[^`]*`.*\| `([^`]*)` \|")
+ROW = re.compile(r"\|[0-9]+ `([A-Za-z]*)`.*\|(`[^|]*`)\|")
+MESSAGE = re.compile(r"\|`([a-z ]*)[^`]*`.*\|(`[^|]*`)\|")
 
 
 def files_at(place):
@@ -37,9 +38,16 @@ def constants_of(message):
 def lacks(place, words, is_name):
     """Whether no file at a place has these words, or a name that stands for them."""
     forms = [rb"\b%s\b" % re.escape(words.encode()) if is_name else re.escape(words.encode())]
-    forms += [rb"\b%s\b" % name.encode() for name in constants_of(words)] if place.startswith("bin/check ") else []
+    if place.startswith("bin/check "):
+        names = [re.sub("(?<=[a-z])(?=[A-Z])", "_", words).upper()] if is_name else constants_of(words)
+        forms += [rb"\b%s\b" % name.encode() for name in names]
     form = re.compile(b"|".join(forms))
     return not any(form.search(read(path)) for path in files_at(place))
+
+
+def rows_of(form, lines):
+    """The name of each row of a form, with each place in its last column."""
+    return [(row[1], place) for row in map(form.fullmatch, lines) if row for place in re.findall("`([^`]*)`", row[2])]
 
 
 def main(words):
@@ -48,8 +56,8 @@ def main(words):
     found = []
     with open(os.path.join(DOCS, "refusals.md"), encoding="utf-8") as page:
         lines = page.read().splitlines()
-    rows = [row.groups() for row in map(ROW.fullmatch, lines) if row]
-    messages = [row.groups() for row in map(MESSAGE.fullmatch, lines) if row]
+    rows = rows_of(ROW, lines)
+    messages = rows_of(MESSAGE, lines)
     if len(rows) < 20 or len(messages) < 6:
         found.append("docs/refusals.md has fewer rows than there are refusals")
     found += ["%s doesn't bring about %s" % (place, name) for name, place in rows if lacks(place, name, True)]
