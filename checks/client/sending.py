@@ -31,7 +31,7 @@ UNANSWERED = re.compile(rb"audit: connection ended\n"
 
 
 def cut_line(line):
-    """What stands for a line that is too long, by docs/formats.md."""
+    """What stands for a line that is too long, by docs/audit.1."""
     note = b" [of %d bytes, SHA-256 %s]" % (len(line), hashlib.sha256(line).hexdigest().encode())
     return line[: 32696 - len(note)] + note
 
