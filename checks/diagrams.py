@@ -16,7 +16,7 @@ import re
 
 from checks.parts.places import TOP
 
-DRAWN = ["docs/architecture.md"]
+DRAWN = ["docs/architecture.md", "crates/audit_store_layout/PROMISES.md"]
 LISTED = ["docs/comparison.md", "docs/controls.md"]
 
 
@@ -144,9 +144,9 @@ def is_found(path, word):
 
 
 def faults_of_rows(path):
-    """Each item of a list `- *..*` (a control) or `- Here: ..` (a peer), with its further lines."""
-    first = r"(?:\*\d|\*[A-Z]+[.\d]|\*Article|\*[A-Z][^*]*\.\*|Here: )"
-    items = re.findall(r"^(- %s.*\n(?:  .*\n)*)" % first, read(path), re.M)
+    """Each row of a table (a control), or item `- Here: ..` of a list (a peer) with its further lines."""
+    text = read(path)
+    items = re.findall(r"^(- Here: .*\n(?:  .*\n)*)", text, re.M) + re.findall(r"^\|.*\n", text, re.M)[2:]
     if not items:
         yield path + " has no items"
     for item in items:
