@@ -16,7 +16,8 @@ from checks.parts.places import TOP
 from checks.table import BENCHES, CHECKS
 
 PAGES = ["docs/%s.md" % name for name in (
-    "guarantees", "statement", "definitions", "architecture", "comparison", "controls", "sizing")]
+    "guarantees", "statement", "architecture", "comparison", "controls", "sizing")]
+PAGES += ["crates/README.md"]
 PAGES += sorted(os.path.relpath(path, TOP) for path in glob.glob(os.path.join(TOP, "crates", "*", "PROMISES.md")))
 # What begins a comment, by the folder.
 SOURCES = {

@@ -17,7 +17,7 @@ def entries(package, rows):
 
 CHECKS = entries("checks", [
     ("case", "one folder of cases/: a whole command line, and what it prints", "at once"),
-    ("tour", "the tour prints what docs/tour.md has, and the auditor's programs agree with the program", "10 s"),
+    ("tour", "the tour prints what examples/tour.txt has, and the auditor's programs agree with the program", "10 s"),
     ("auditor", "the auditor's programs answer as the program does, on what a tour left and on damaged copies", "8 s"),
     ("start", "starts with less and less memory, and by a path that is no text", "5 s"),
     ("memory", "verifications and sessions with less and less memory, and a store of a million events", "20 s"),

@@ -1,4 +1,4 @@
-"""Runs the tour with an executable, and says how it differs from docs/tour.md: commands and outputs must be the same,
+"""Runs the tour with an executable, and says how it differs from examples/tour.txt: commands and outputs must be the same,
 in the same order, except for digests. Then the auditor's programs are compared with the executable on the files that
 the tour left.
 
@@ -12,7 +12,7 @@ import subprocess
 from checks import auditor
 from checks.parts import program
 from checks.parts.files import folder_of_its_own, read_text
-from checks.parts.places import DOCS, EXAMPLES
+from checks.parts.places import EXAMPLES
 from checks.parts.scenes import program_of
 from checks.parts.wrong import expect, expect_true
 
@@ -36,10 +36,8 @@ def steps_in(text):
 
 
 def document():
-    """The steps as the page has them."""
-    page = read_text(os.path.join(DOCS, "tour.md"))
-    page = page[page.index("\n## A key"):]
-    return steps_in("\n".join(line[4:] for line in page.splitlines() if line.startswith("    ")))
+    """The steps as the transcript has them."""
+    return steps_in(read_text(os.path.join(EXAMPLES, "tour.txt")))
 
 
 def expect_documented():
@@ -48,7 +46,7 @@ def expect_documented():
     expect(printed.returncode, 0, "the tour's status: .. %s" % " ".join(text.splitlines()[-3:]))
     # Its last line sums up the results.
     differences = [line for line in difflib.ndiff(document(), steps_in(text)[:-1]) if line[:1] in "-+"]
-    expect_true(not differences, "docs/tour.md and the tour differ: %s" % "\n".join(differences[:3]))
+    expect_true(not differences, "examples/tour.txt and the tour differ: %s" % "\n".join(differences[:3]))
 
 
 def main(words):

@@ -1,6 +1,6 @@
 """An independent model of the formats and of the sessions, in plain Python: it computes the values that tests expect.
 
-It is written from docs/formats.md and docs/definitions.md, as recursions over whole lists, and shares no algorithm with the
+It is written from docs/formats.md and crates/README.md, as recursions over whole lists, and shares no algorithm with the
 program. What an auditor's own programs already state (auditor/) is taken from there.
 """
 import os

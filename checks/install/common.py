@@ -41,7 +41,7 @@ def files_below(folder):
 
 def wanted_below(prefix):
     """Each file that is installed, with its mode."""
-    pages = ["README.md", "CHANGELOG.md", "SECURITY.md"]
+    pages = ["README.md", "CHANGELOG.md", "SECURITY.md", "examples/tour.txt"]
     pages += glob.glob("docs/*.md", root_dir=TOP) + glob.glob("docs/*.png", root_dir=TOP)
     found = {"bin/audit": "755", "share/man/man1/audit.1": "644", "share/bash-completion/completions/audit": "644",
              "lib/sysusers.d/audit.conf": "644", "share/audit/auditor/page.verdicts": "644",
