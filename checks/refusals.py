@@ -1,5 +1,5 @@
-"""Each row of the tables in docs/refusals.md names a case or a test that has the refusal, or the message, or several,
-each of which has it.
+"""Each refusal and each message in the tables of docs/refusals.md is brought about by a case or a test, which PLACES
+names here, and all of these have a row.
 
 usage: bin/check refusals
 """
@@ -12,8 +12,61 @@ from checks.parts.places import DOCS, TOP
 from checks.parts.wrong import Usage
 from checks.table import files_of
 
-ROW = re.compile(r"\|[0-9]+ `([A-Za-z]*)`.*\|(`[^|]*`)\|")
-MESSAGE = re.compile(r"\|`([a-z ]*)[^`]*`.*\|(`[^|]*`)\|")
+# Where each number's name, and each message, is brought about.
+STORE_TESTS = "crates/audit_test_store/src/store/"
+PLACES = {
+    "NotAStore": ["cases/refused_stores"],
+    "DamagedHeader": ["cases/refused_stores"],
+    "HeadersDisagree": ["cases/refused_stores"],
+    "DamagedLog": ["cases/refused_stores"],
+    "BatchTooLarge": [STORE_TESTS + "appends.rt"],
+    "Full": ["cases/reserve"],
+    "NoSuchVersion": ["cases/refused_stores"],
+    "Worn": [STORE_TESTS + "appends.rt"],
+    "Broken": [STORE_TESTS + "faults.rt"],
+    "Device": [STORE_TESTS + "faults.rt"],
+    "Memory": ["bin/check memory"],
+    "Closed": ["cases/close"],
+    "BadSize": ["cases/refused_formats"],
+    "ReservedKind": [STORE_TESTS + "closing.rt"],
+    "NotAllowed": ["bin/check client", "bin/check daemon"],
+    "NotCounted": ["bin/check system", "bin/check placed"],
+    "BadProof": ["cases/checked_proofs", "cases/opened_proofs", "cases/checked_links"],
+    "Short": ["cases/verified_exports"],
+    "BadLength": ["cases/verified_exports"],
+    "BadLink": ["cases/verified_exports", "cases/verified_further"],
+    "BadMac": ["cases/verified_exports"],
+    "WrongCommitment": ["cases/verified_exports"],
+    "ReadFault": ["cases/verified_exports"],
+    "BadClose": ["cases/verified_exports"],
+    "bad argument": ["cases/rotation", "cases/verified_further", "cases/refused_sources", "cases/notes"],
+    "file exists": ["cases/rotation"],
+    "file fault": ["cases/refused_stores"],
+    "store in use": ["bin/check system"],
+    "store replaced": ["bin/check daemon", "bin/check system"],
+    "input too long": ["cases/refused_lines"],
+    "count is <n>": ["cases/lines_as_they_come"],
+    "other link": ["bin/check system"],
+    "too many kinds": ["bin/check system"],
+    # No log has 2^64 events of a kind: the contract says when.
+    "too many events of a kind": ["crates/audit_join"],
+    "other log": ["bin/check daemon"],
+    "held <count>:<root>, the store has <count>:<root>": ["bin/check daemon"],
+    "line <n>: ..": ["cases/refused_lines"],
+    "salvaged <count> <root> damaged <count>": ["bin/check system"],
+    "not accepted": ["cases/checked_proofs"],
+    "not accepted: old half": ["cases/checked_links"],
+    "not accepted: new half": ["cases/checked_links"],
+    "shorter": ["bin/check client"],
+    "other root": ["bin/check client"],
+    "state in use": ["bin/check client"],
+    "witness file in use": ["bin/check client"],
+    "bad reply": ["bin/check client"],
+    "connection ended": ["bin/check client"],
+    "no reply in time": ["bin/check client"],
+    "<n> lines from line <m> are not acknowledged": ["bin/check client"],
+    "1 line .. is ..": ["bin/check client"],
+}
 
 
 def files_at(place):
@@ -35,8 +88,10 @@ def constants_of(message):
             yield name
 
 
-def lacks(place, words, is_name):
-    """Whether no file at a place has these words, or a name that stands for them."""
+def lacks(place, words):
+    """Whether no file at a place has a name, or the longest fixed piece of a message, or a constant that stands for it."""
+    is_name = words[0].isupper()
+    words = max(re.split(r"<[a-z]+>|\.\.", words), key=len)
     forms = [rb"\b%s\b" % re.escape(words.encode()) if is_name else re.escape(words.encode())]
     if place.startswith("bin/check "):
         names = [re.sub("(?<=[a-z])(?=[A-Z])", "_", words).upper()] if is_name else constants_of(words)
@@ -45,22 +100,20 @@ def lacks(place, words, is_name):
     return not any(form.search(read(path)) for path in files_at(place))
 
 
-def rows_of(form, lines):
-    """The name of each row of a form, with each place in its last column."""
-    return [(row[1], place) for row in map(form.fullmatch, lines) if row for place in re.findall("`([^`]*)`", row[2])]
+def documented():
+    """The names and messages of the page: those in the first column of its tables, but for the one without a name."""
+    with open(os.path.join(DOCS, "refusals.md"), encoding="utf-8") as page:
+        rows = [line.split("|")[1] for line in page.read().splitlines() if line.startswith("|")]
+    return {name for row in rows for name in re.findall("`([^`]*)`", row)}
 
 
 def main(words):
     if words:
         raise Usage
-    found = []
-    with open(os.path.join(DOCS, "refusals.md"), encoding="utf-8") as page:
-        lines = page.read().splitlines()
-    rows = rows_of(ROW, lines)
-    messages = rows_of(MESSAGE, lines)
-    if len(rows) < 20 or len(messages) < 6:
-        found.append("docs/refusals.md has fewer rows than there are refusals")
-    found += ["%s doesn't bring about %s" % (place, name) for name, place in rows if lacks(place, name, True)]
-    found += ["%s doesn't bring about '%s'" % (place, text) for text, place in messages if lacks(place, text, False)]
+    names = documented()
+    found = ["docs/refusals.md has no row of %s" % name for name in sorted(set(PLACES) - names)]
+    found += ["no case or test of %s is known" % name for name in sorted(names - set(PLACES))]
+    found += ["%s doesn't bring about %s" % (place, name) for name, places in PLACES.items() for place in places
+              if lacks(place, name)]
     print("".join(line + "\n" for line in found), end="")
     return 1 if found else 0

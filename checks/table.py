@@ -51,7 +51,7 @@ CHECKS = entries("checks", [
     ("version", "the program names the logic that `rt version` prints", "at once"),
     ("man-page", "groff formats docs/audit.1 without warnings", "at once"),
     ("statement", "docs/statement.md leads through all that its functions cite", "2 s"),
-    ("refusals", "each row of docs/refusals.md names a case or test that has it", "at once"),
+    ("refusals", "each refusal in docs/refusals.md is brought about by a case or a test", "at once"),
     ("claims", "no document repeats a claim that was found too strong", "1 s"),
     ("words", "no name is defined in the specs of two crates", "at once"),
     ("edits", "each edit of must-fail/ and attacks/ can be applied", "1 s"),
