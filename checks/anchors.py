@@ -277,19 +277,28 @@ def scene_changed(witness):
     witness.expect_right(3)
     drawn = random.Random(3)
     shutil.copytree(witness.folder, "whole")
-
-    def wrong(number, what):
-        status, lines = witness.check()
-        expect(status, 1, "%s: the status" % what)
-        expect_true(any(line.startswith("anchor %d: " % number) for line in lines), "%s: %s" % (what, short(lines)))
-        shutil.rmtree(witness.folder)
-        shutil.copytree("whole", witness.folder, symlinks=True)
-
     for name in "note", "increment":
         for _ in range(4):
             flip(witness.path(2, name), drawn.randrange(1 << 16))
-            wrong(2, "%s changed" % name)
-    # Some bytes of a reply, such as its status as text, aren't signed: then all that is said stays as it was.
+            expect_wrong(witness, 2, "%s changed" % name)
+    change_stamps(witness, drawn)
+    change_signatures(witness, drawn)
+    for name in "note", "note.sig", "note.tsr", "increment":
+        replace_file(witness, name)
+    move_anchors(witness)
+
+
+def expect_wrong(witness, number, what):
+    """An anchor is told to be wrong; then the folder is as it was."""
+    status, lines = witness.check()
+    expect(status, 1, "%s: the status" % what)
+    expect_true(any(line.startswith("anchor %d: " % number) for line in lines), "%s: %s" % (what, short(lines)))
+    shutil.rmtree(witness.folder)
+    shutil.copytree("whole", witness.folder, symlinks=True)
+
+
+def change_stamps(witness, drawn):
+    """Some bytes of a reply, such as its status as text, aren't signed: then all that is said stays as it was."""
     right, refused = witness.check()[1], 0
     for _ in range(12):
         flip(witness.path(2, "note.tsr"), drawn.randrange(1 << 16))
@@ -297,9 +306,12 @@ def scene_changed(witness):
             write(witness.path(2, "note.tsr"), read("whole/00000002/note.tsr"))
         else:
             refused += 1
-            wrong(2, "note.tsr changed")
+            expect_wrong(witness, 2, "note.tsr changed")
     expect_true(refused > 5, "of 12 changed stamps only %d were refused" % refused)
-    # The signature's text has the key and the signature in base64.
+
+
+def change_signatures(witness, drawn):
+    """The signature's text has the key and the signature in base64."""
     for _ in range(4):
         lines = read(witness.path(2, "note.sig")).splitlines()
         at = drawn.randrange(1, len(lines) - 2)
@@ -307,28 +319,39 @@ def scene_changed(witness):
         other = b"A" if lines[at][place:place + 1] != b"A" else b"B"
         lines[at] = lines[at][:place] + other + lines[at][place + 1:]
         write(witness.path(2, "note.sig"), b"\n".join(lines) + b"\n")
-        wrong(2, "note.sig changed")
-    for name in "note", "note.sig", "note.tsr", "increment":
+        expect_wrong(witness, 2, "note.sig changed")
+
+
+def link_to_whole(path):
+    os.symlink(os.path.abspath("whole/00000002/" + os.path.basename(path)), path)
+
+
+def replace_file(witness, name):
+    """A file of an anchor is left out, is that of another one, is long, or is none."""
+    os.unlink(witness.path(2, name))
+    expect_wrong(witness, 2, "no %s" % name)
+    write(witness.path(2, name), read(os.path.join("whole", "00000003", name)))
+    expect_wrong(witness, 2, "%s of another" % name)
+    write(witness.path(2, name), b"x" * (1 << 21))
+    expect_wrong(witness, 2, "a long %s" % name)
+    for make in link_to_whole, os.mkfifo, os.mkdir:
         os.unlink(witness.path(2, name))
-        wrong(2, "no %s" % name)
-        write(witness.path(2, name), read(os.path.join("whole", "00000003", name)))
-        wrong(2, "%s of another" % name)
-        write(witness.path(2, name), b"x" * (1 << 21))
-        wrong(2, "a long %s" % name)
-        for make in (lambda path: os.symlink(os.path.abspath("whole/00000002/" + os.path.basename(path)), path), os.mkfifo, os.mkdir):
-            os.unlink(witness.path(2, name))
-            make(witness.path(2, name))
-            wrong(2, "%s is no file" % name)
+        make(witness.path(2, name))
+        expect_wrong(witness, 2, "%s is no file" % name)
+
+
+def move_anchors(witness):
+    """An anchor is missing, is a link, or has changed places with another one."""
     shutil.rmtree(witness.path(2))
-    wrong(2, "a missing anchor")
+    expect_wrong(witness, 2, "a missing anchor")
     os.rename(witness.path(2), "away")
     os.symlink(os.path.abspath("away"), witness.path(2).rstrip("/"))
-    wrong(2, "a link to an anchor")
+    expect_wrong(witness, 2, "a link to an anchor")
     for one, other in (1, 2), (2, 3), (1, 3):
         os.rename(witness.path(one), "aside")
         os.rename(witness.path(other), witness.path(one))
         os.rename("aside", witness.path(other))
-        wrong(other, "anchors %d and %d swapped" % (one, other))
+        expect_wrong(witness, other, "anchors %d and %d swapped" % (one, other))
 
 
 @scene

@@ -62,26 +62,12 @@ def scene_daemon():
         expect(daemon.ready, b"ready 0 " + b"0" * 64 + b"\n", "its first line")
         watched = [run("watch", "reader.sock", "state")]
         sizes = [(str(window), 100 + 10 * place, 1000 * place) for place, window in enumerate((1, 16, 64, 1024))]
-
-        def send(window, count, first):
-            return run("send", "daemon.sock", "--window", window, data=lines(count, first))
-
-        sent = side_by_side([(send, *size) for size in sizes])
+        sent = side_by_side([(send_lines, *size) for size in sizes])
         watched.append(run("watch", "reader.sock", "state"))
         newest = done("ask", "daemon.sock", "commitment")
         total = sum(count for _, count, _ in sizes)
-        asked = [
-            done("ask", "reader.sock", "entry", "7", "one"),
-            done("ask", "reader.sock", "member", "7", str(total), "m"),
-            done("ask", "reader.sock", "increment", "100", str(total), "i"),
-            done("ask", "reader.sock", "export", "e"),
-        ]
-        # A client of this socket that sends an event or a close is refused.
-        refused = b"audit: 16 NotAllowed\n"
-        expect(run("send", "reader.sock", data=lines(2)),
-               (1, b"", refused + b"audit: 2 lines from line 1 are not acknowledged\n"),
-               "events of a reader")
-        expect(run("ask", "reader.sock", "close"), (1, b"", refused), "a reader's close")
+        asked = asked_by_reader(total)
+        expect_reader_refused()
         watched.append(run("watch", "reader.sock", "state"))
         expect(done("ask", "daemon.sock", "commitment"), newest, "the log after a reader")
         closed = done("ask", "daemon.sock", "close")
@@ -97,6 +83,29 @@ def scene_daemon():
     expect(single_of(asked[0]), len(entries[7]), "the line of an entry")
     expect(read("one"), entries[7], "an entry")
     expect_store_has_answers(total, asked, closed)
+
+
+def send_lines(window, count, first):
+    return run("send", "daemon.sock", "--window", window, data=lines(count, first))
+
+
+def asked_by_reader(total):
+    """What the readers' socket answers."""
+    return [
+        done("ask", "reader.sock", "entry", "7", "one"),
+        done("ask", "reader.sock", "member", "7", str(total), "m"),
+        done("ask", "reader.sock", "increment", "100", str(total), "i"),
+        done("ask", "reader.sock", "export", "e"),
+    ]
+
+
+def expect_reader_refused():
+    """A client of the readers' socket that sends an event or a close is refused."""
+    refused = b"audit: 16 NotAllowed\n"
+    expect(run("send", "reader.sock", data=lines(2)),
+           (1, b"", refused + b"audit: 2 lines from line 1 are not acknowledged\n"),
+           "events of a reader")
+    expect(run("ask", "reader.sock", "close"), (1, b"", refused), "a reader's close")
 
 
 def expect_store_has_answers(total, asked, closed):

@@ -88,35 +88,21 @@ def scene_fleet():
     names = ["east", "north", "west"]
     with open("list", "w") as file:
         file.write("".join("%s %s.sock\n" % (name, name) for name in names))
-
-    def look():
-        found = subprocess.run([tool("fleet"), program.PATH, "list", "states"], capture_output=True,
-                               timeout=program.SECONDS)
-        rows = [row.split(None, 3) for row in found.stdout.decode().splitlines()]
-        expect(rows[0], ["store", "events", "age", "found"], "the head of the table")
-        return found.returncode, [(row[0], row[1], row[3]) for row in rows[1:]], found.stderr
-
-    def serving():
-        stack = contextlib.ExitStack()
-        for name in names:
-            stack.enter_context(Serving(name, name + ".sock"))
-        return stack
-
     make_stores(names)
-    with serving():
-        expect(look(), (0, [("east", "0", "began"), ("north", "1", "began"), ("west", "2", "began")], b""),
+    with serving(names):
+        expect(look_at_all(), (0, [("east", "0", "began"), ("north", "1", "began"), ("west", "2", "began")], b""),
                "the first look")
         done("send", "north.sock", data=lines(4))
-        expect(look(), (0, [("east", "0", "same"), ("north", "5", "grew"), ("west", "2", "same")], b""),
+        expect(look_at_all(), (0, [("east", "0", "same"), ("north", "5", "grew"), ("west", "2", "same")], b""),
                "the second look")
     names.pop()
-    with serving():
-        expect(look(), (3, [("east", "0", "same"), ("north", "5", "same"), ("west", "2", "file fault")], b""),
+    with serving(names):
+        expect(look_at_all(), (3, [("east", "0", "same"), ("north", "5", "same"), ("west", "2", "file fault")], b""),
                "a daemon that is away")
     names.append("west")
     os.rename("north.old", "north")
-    with serving():
-        status, rows, said = look()
+    with serving(names):
+        status, rows, said = look_at_all()
         expect((status, rows), (1, [("east", "0", "same"), ("north", "5", "shorter"), ("west", "2", "same")]),
                "a log rolled back")
         expect(re.fullmatch(b"audit: north.sock: shorter: states/north.state holds 5:[0-9a-f]{64}, the server gave "
@@ -124,6 +110,23 @@ def scene_fleet():
                             b"audit: kept in states/north.state.alarm\n", said) is not None, True,
                "what is said of it: %r" % said)
     expect_pushed()
+
+
+def look_at_all():
+    """A look of `fleet` at the stores of the list: its status, its rows without the ages, and what it says."""
+    found = subprocess.run([tool("fleet"), program.PATH, "list", "states"], capture_output=True,
+                           timeout=program.SECONDS)
+    rows = [row.split(None, 3) for row in found.stdout.decode().splitlines()]
+    expect(rows[0], ["store", "events", "age", "found"], "the head of the table")
+    return found.returncode, [(row[0], row[1], row[3]) for row in rows[1:]], found.stderr
+
+
+def serving(names):
+    """Servers of these stores."""
+    stack = contextlib.ExitStack()
+    for name in names:
+        stack.enter_context(Serving(name, name + ".sock"))
+    return stack
 
 
 def expect_pushed():

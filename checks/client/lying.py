@@ -193,30 +193,29 @@ def scene_endless():
         expect(run("ask", "own.sock", "export", "out"), NOT_ACCEPTED, "an endless export")
     expect(len(sent) <= 64, True, "%d entries that were asked for" % len(sent))
     expect(os.listdir("."), [], "what is left")
-    log = Log(200)
-    most = []
-
-    def counting(stream):
-        """Answers only when no more is asked for: so many entries are asked for ahead."""
-        waiting = []
-        while True:
-            stream.settimeout(0.1)
-            try:
-                waiting.append(read_request(stream))
-                continue
-            except socket.timeout:
-                stream.settimeout(None)
-            most.append(len(waiting))
-            for kind, tag, rest in waiting:
-                if kind == 2:
-                    stream.sendall(commitment_reply(tag, *log.commitment()))
-                elif kind == 4:
-                    older, newer = struct.unpack(">QQ", rest)
-                    stream.sendall(increment_reply(tag, increment(log.texts, older, newer)))
-                else:
-                    stream.sendall(entry_reply(tag, log.texts[struct.unpack(">Q", rest)[0]]))
-            waiting = []
-
-    with Server("own.sock", counting):
+    log, most = Log(200), []
+    with Server("own.sock", lambda stream: answer_late(stream, log, most)):
         done("ask", "own.sock", "export", "out")
     expect((read("out"), max(most) <= 8), (b"".join(log.texts), True), "%d entries asked for ahead" % max(most))
+
+
+def answer_late(stream, log, most):
+    """Answers only when no more is asked for: so many entries are asked for ahead."""
+    waiting = []
+    while True:
+        stream.settimeout(0.1)
+        try:
+            waiting.append(read_request(stream))
+            continue
+        except socket.timeout:
+            stream.settimeout(None)
+        most.append(len(waiting))
+        for kind, tag, rest in waiting:
+            if kind == 2:
+                stream.sendall(commitment_reply(tag, *log.commitment()))
+            elif kind == 4:
+                older, newer = struct.unpack(">QQ", rest)
+                stream.sendall(increment_reply(tag, increment(log.texts, older, newer)))
+            else:
+                stream.sendall(entry_reply(tag, log.texts[struct.unpack(">Q", rest)[0]]))
+        waiting = []

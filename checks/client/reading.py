@@ -31,6 +31,9 @@ def state_lines(path):
     return dict(line.split(b" ") for line in read(path).splitlines() if not line.startswith(b"node"))
 
 
+READ = "read", "daemon.sock", "state"
+
+
 @scene
 def scene_reading_on():
     """A log is read on as `verify` verifies it: all of it with the first key, then what is new. A look with nothing new
@@ -39,40 +42,49 @@ def scene_reading_on():
     texts, forms = exported(30)
     last = forms[()].splitlines(True)[-1]
     with Daemon("store"):
-        words = "read", "daemon.sock", "state"
-        expect(whole(*words)[0], 3, "a state that isn't there")
-        expect(done(*words, "--first", "key"), forms[()], "all events")
+        expect(whole(*READ)[0], 3, "a state that isn't there")
+        expect(done(*READ, "--first", "key"), forms[()], "all events")
         expect(os.stat("state").st_mode & 0o7777, 0o600, "the mode of the state")
         expect(state_lines("state")[b"newest"], b"30", "the newest commitment")
         kept = read("state")
-        expect(done(*words), last, "nothing new")
+        expect(done(*READ), last, "nothing new")
         expect((read("state"), os.path.exists("state.lock")), (kept, False), "the state after nothing new")
         done("send", "daemon.sock", data=lines(40, 30))
         done("ask", "daemon.sock", "export", "all")
         newest = done("ask", "daemon.sock", "commitment").split()
         word = (newest[1] + b":" + newest[2]).decode()
         write("none", b"")
-        for form in forms:
-            write("state", kept)
-            said = b"audit: verified 70 open\n" if form else b""
-            for more in (), ("--kind", "1,4"):
-                wanted = done_with(said, "verify", "all", "key", word, *form, "--from", "30", *more)
-                write("state", kept)
-                expect(done_with(said, *words, *form, *more), wanted, "what is new, %r" % (form + more,))
+        expect_new_read(forms, kept, word)
         expect_keys_kept(word)
-        open("made before", "w").close()
-        done("verify", "all", "key", word, "--save", "made before")
-        done("verify", "all", "key", word, "--save", "saved")
-        expect(done("verify", "none", "saved", word, "--save", "saved"), b"verified 70 open\n",
-               "a state that replaces itself")
-        saved = read("saved").splitlines(True)
-        marked = saved[:-1] + [b"newest 70\n", b"root %s\n" % newest[2]]
-        sum = hashlib.sha256(b"".join(marked)).hexdigest().encode()
-        expect(read("state"), b"".join(marked) + b"sha256 %s\n" % sum, "the state after all")
-        expect(done("read", "daemon.sock", "saved"), b"verified 70 open\n", "the state of a verification")
+        expect_state_saved(word, newest)
         done("watch", "daemon.sock", "witness")
-        expect(done(*words, "--under", "witness"), b"verified 70 open\n", "under a witness")
+        expect(done(*READ, "--under", "witness"), b"verified 70 open\n", "under a witness")
     expect_one_question(newest)
+
+
+def expect_new_read(forms, kept, word):
+    """What is new is read in each form as `verify` prints it."""
+    for form in forms:
+        write("state", kept)
+        said = b"audit: verified 70 open\n" if form else b""
+        for more in (), ("--kind", "1,4"):
+            wanted = done_with(said, "verify", "all", "key", word, *form, "--from", "30", *more)
+            write("state", kept)
+            expect(done_with(said, *READ, *form, *more), wanted, "what is new, %r" % (form + more,))
+
+
+def expect_state_saved(word, newest):
+    """The state is that of `verify --save`, with the newest commitment, and each goes on from the other's."""
+    open("made before", "w").close()
+    done("verify", "all", "key", word, "--save", "made before")
+    done("verify", "all", "key", word, "--save", "saved")
+    expect(done("verify", "none", "saved", word, "--save", "saved"), b"verified 70 open\n",
+           "a state that replaces itself")
+    saved = read("saved").splitlines(True)
+    marked = saved[:-1] + [b"newest 70\n", b"root %s\n" % newest[2]]
+    sum = hashlib.sha256(b"".join(marked)).hexdigest().encode()
+    expect(read("state"), b"".join(marked) + b"sha256 %s\n" % sum, "the state after all")
+    expect(done("read", "daemon.sock", "saved"), b"verified 70 open\n", "the state of a verification")
 
 
 def expect_one_question(newest):

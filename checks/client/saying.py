@@ -63,41 +63,22 @@ def scene_screen():
            "what it prints on a terminal")
 
 
+SILENT = "all 16 places are taken, or the server is stopped, busy or slower than --timeout"
+
+
 @scene
 def scene_causes():
     """Below what a client says of its failure a line says what it may be, without a terminal too."""
     log = Log(5)
-
-    def expect_said(found, status, *messages):
-        said = "".join("audit: %s\n" % message for message in messages).encode()
-        expect((found[0], found[2]), (status, said), repr(messages))
-
-    silent = "all 16 places are taken, or the server is stopped, busy or slower than --timeout"
-    with Server("own.sock", scripted()):
-        for words in (["ask", "own.sock", "commitment"], ["watch", "own.sock", "state"], ["ask", "own.sock", "close"]):
-            expect_said(whole(*words, "--timeout", "1"), 3, "no reply in time", "own.sock: " + silent)
-        expect_said(whole("send", "own.sock", "--timeout", "1", data=lines(1)), 3, "no reply in time",
-                    "1 line from line 1 is not acknowledged", "own.sock: " + silent)
-        expect_said(whole("send", "own.sock", "--timeout", "1", data=lines(2)), 3, "no reply in time",
-                    "2 lines from line 1 are not acknowledged", "own.sock: " + silent)
+    expect_silence_told()
     with Server("own.sock", cut()):
         expect_said(whole("ask", "own.sock", "commitment"), 3, "connection ended",
                     "own.sock: the server closed the connection")
     # A witness that went on ends for another reason, of which that is no cause.
     with Server("own.sock", honest(log)):
         done("watch", "own.sock", "later")
-    expect_later_end_told(silent)
-    # The 17th client of a daemon.
-    store(64)
-    with contextlib.ExitStack() as held:
-        daemon = held.enter_context(Daemon("store"))
-        for _ in range(16):
-            client = held.enter_context(socket.socket(socket.AF_UNIX))
-            client.connect("daemon.sock")
-            client.sendall(frame(struct.pack(">BI", 2, 9)))
-            receive(client, 47)
-        expect_said(whole("ask", "daemon.sock", "commitment", "--timeout", "1"), 3, "no reply in time",
-                    "daemon.sock: " + silent)
+    expect_later_end_told(SILENT)
+    expect_full_daemon_told()
     refused = expect_numbers_named(expect_said)
     with Server("own.sock", honest(log)):
         done("watch", "own.sock", "state")
@@ -108,6 +89,36 @@ def scene_causes():
     with Server("own.sock", cut(commitment_reply(NEWEST, *log.commitment()), refusal(ASKED, 8))):
         expect_said(whole("ask", "own.sock", "member", "9", "3", "out"), 1, refused, "INDEX 9 is too large for COUNT 3")
     expect_wrong_words_named(log, expect_said)
+
+
+def expect_said(found, status, *messages):
+    said = "".join("audit: %s\n" % message for message in messages).encode()
+    expect((found[0], found[2]), (status, said), repr(messages))
+
+
+def expect_silence_told():
+    """What is said of a server that answers nothing."""
+    with Server("own.sock", scripted()):
+        for words in (["ask", "own.sock", "commitment"], ["watch", "own.sock", "state"], ["ask", "own.sock", "close"]):
+            expect_said(whole(*words, "--timeout", "1"), 3, "no reply in time", "own.sock: " + SILENT)
+        expect_said(whole("send", "own.sock", "--timeout", "1", data=lines(1)), 3, "no reply in time",
+                    "1 line from line 1 is not acknowledged", "own.sock: " + SILENT)
+        expect_said(whole("send", "own.sock", "--timeout", "1", data=lines(2)), 3, "no reply in time",
+                    "2 lines from line 1 are not acknowledged", "own.sock: " + SILENT)
+
+
+def expect_full_daemon_told():
+    """The 17th client of a daemon."""
+    store(64)
+    with contextlib.ExitStack() as held:
+        held.enter_context(Daemon("store"))
+        for _ in range(16):
+            client = held.enter_context(socket.socket(socket.AF_UNIX))
+            client.connect("daemon.sock")
+            client.sendall(frame(struct.pack(">BI", 2, 9)))
+            receive(client, 47)
+        expect_said(whole("ask", "daemon.sock", "commitment", "--timeout", "1"), 3, "no reply in time",
+                    "daemon.sock: " + SILENT)
 
 
 def expect_later_end_told(silent):
