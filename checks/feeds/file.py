@@ -61,44 +61,59 @@ def scene_file():
     folder = os.getcwd()
     daemon, log = FedDaemon(folder), RotatedLog(os.path.join(folder, "some.log"))
     wrapper, answers = kept_answers(folder)
-
-    def start():
-        return subprocess.Popen([tool("file-feed"), daemon.socket, "position", log.path, "7"],
-                                env=dict(os.environ, AUDIT=wrapper), start_new_session=True, stderr=subprocess.DEVNULL)
-
     log.write(5)
-    feed = start()
+    feed = FileFeed(daemon, log, wrapper)
     try:
         wait_for(lambda: daemon.count() >= 5, "the first line")
         for turn in range(100 if program.LONG else 6):
-            log.write(random.randrange(100))
-            time.sleep(random.uniform(0.0, 0.5))
-            kill_group(feed)
-            if turn % 3 == 1:
-                daemon.kill()
-            log.write(random.randrange(30))
-            if turn % 2 == 0:
-                log.rotate(("renamed", "copied", "packed")[turn // 2 % 3])
-            log.write(random.randrange(30))
-            if turn % 3 == 1:
-                daemon.start()
-            feed = start()
+            feed_killed(turn, feed, daemon, log)
         log.file.write(b"long " * 10000 + b"\n")
         log.write(1)
 
         def has_last():
             # A feed that met a killed daemon has ended, as its unit starts it again.
-            nonlocal feed
-            if feed.poll() is not None:
-                feed = start()
+            if feed.process.poll() is not None:
+                feed.start()
             return log.lines[-1] in daemon.payloads(folder)
         wait_for(has_last, "the last line")
     finally:
-        kill_group(feed)
+        feed.kill()
     expect_file_stored(folder, log, daemon)
     daemon.stop()
     expect_bad_places_refused(log, daemon)
     expect_acknowledged_kept(daemon.store, answers, folder)
+
+
+class FileFeed:
+    """tools/file-feed of a log, which is started again and again."""
+
+    def __init__(self, daemon, log, wrapper):
+        self.words = [tool("file-feed"), daemon.socket, "position", log.path, "7"]
+        self.environment = dict(os.environ, AUDIT=wrapper)
+        self.start()
+
+    def start(self):
+        self.process = subprocess.Popen(self.words, env=self.environment, start_new_session=True,
+                                        stderr=subprocess.DEVNULL)
+
+    def kill(self):
+        kill_group(self.process)
+
+
+def feed_killed(turn, feed, daemon, log):
+    """The feed is killed while lines come, in some turns the daemon too, and the file is rotated meanwhile."""
+    log.write(random.randrange(100))
+    time.sleep(random.uniform(0.0, 0.5))
+    feed.kill()
+    if turn % 3 == 1:
+        daemon.kill()
+    log.write(random.randrange(30))
+    if turn % 2 == 0:
+        log.rotate(("renamed", "copied", "packed")[turn // 2 % 3])
+    log.write(random.randrange(30))
+    if turn % 3 == 1:
+        daemon.start()
+    feed.start()
 
 
 def expect_bad_places_refused(log, daemon):

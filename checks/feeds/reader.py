@@ -73,18 +73,10 @@ def scene_reader_into_rsyslog():
         open(path, "w").close()
     config = reader_config(folder, events, taken)
     reader, rsyslog = Reader(daemon, events), rsyslogd_of(folder, config)
-    # Text with everything that JSON escapes, bytes that aren't UTF-8, and the longest of both.
-    payloads = ['"\\\t\x1b\u2028\u202e%s' % SMILE, "", "\x01" * 32696, b"\xff\x00", b"\xfe" * 32696]
     sent = []
     try:
         for turn in range(20 if program.LONG else 6):
-            fresh = payloads + ["turn %d line %d" % (turn, number) for number in range(20)]
-            data = [text if isinstance(text, bytes) else text.encode() for text in fresh]
-            lines = [b"event 7 %s\n" % (line.hex().encode() or b"-") for line in data]
-            status, _, err = whole("send", daemon.socket, data=b"".join(lines))
-            expect_true(status == 0, "send: %r" % err)
-            sent += [{"kind": 7, "hex": text.hex()} if isinstance(text, bytes) else {"kind": 7, "text": text}
-                     for text in fresh]
+            sent += send_hard_texts(daemon, turn)
             time.sleep(random.uniform(0.2, 1.0))
             if turn % 3 == 0:
                 reader.kill()
@@ -104,6 +96,18 @@ def scene_reader_into_rsyslog():
         reader.kill()
     expect_events_taken(taken, sent)
     daemon.stop()
+
+
+def send_hard_texts(daemon, turn):
+    """Sends text with everything that JSON escapes, bytes that aren't UTF-8, the longest of both, and lines; returns
+    what is to come of them."""
+    fresh = ['"\\\t\x1b\u2028\u202e%s' % SMILE, "", "\x01" * 32696, b"\xff\x00", b"\xfe" * 32696]
+    fresh += ["turn %d line %d" % (turn, number) for number in range(20)]
+    data = [text if isinstance(text, bytes) else text.encode() for text in fresh]
+    lines = [b"event 7 %s\n" % (line.hex().encode() or b"-") for line in data]
+    status, _, err = whole("send", daemon.socket, data=b"".join(lines))
+    expect_true(status == 0, "send: %r" % err)
+    return [{"kind": 7, "hex": text.hex()} if isinstance(text, bytes) else {"kind": 7, "text": text} for text in fresh]
 
 
 def expect_events_taken(taken, sent):

@@ -31,43 +31,10 @@ def exported(daemon):
 @scene
 def scene_client():
     """What a client appends is what the program exports, and what it is answered is what the program says."""
-    from audit_store import Client, Refused, StoreError, check, verify
+    from audit_store import Client, StoreError
     with FedDaemon(os.getcwd()) as daemon, Client(daemon.socket) as log:
-        first = log.append(b"first", 7)
-        expect((first.index, str(log.commitment())), (0, daemon.commitment()), "the first event")
-        done = log.append_all([b"a", (9, b""), b"b" * 32696] + [b"%d" % number for number in range(200)], 3)
-        expect([one.index for one in done], list(range(1, 204)), "the indices of events in order")
-        newest = log.commitment()
-        expect(str(newest), daemon.commitment(), "the newest commitment")
-        state = log.state()
-        expect((state.commitment, state.sectors, state.version, state.closed), (newest, 32768, 2, False), "the state")
-        export, commitment = exported(daemon)
-        wanted = [(7, b"first"), (3, b"a"), (9, b""), (3, b"b" * 32696)] + [(3, b"%d" % at) for at in range(200)]
-        expect([(event.kind, event.payload) for event in verify(export, FIRST_KEY, commitment)], wanted, "the events")
-        expect(log.entry(0), export[:77], "an entry")
-        for index in (0, 3, 203):
-            expect(check(log.prove(index), newest), True, "a proof that was checked")
-        expect(check(log.extends(first.commitment), first.commitment, newest), True, "an increment that was checked")
-        for call in (lambda: log.entry(204), lambda: log.prove(204)):
-            try:
-                call()
-            except Refused as refused:
-                expect((refused.code, refused.name), (8, "NoSuchVersion"), "a refusal")
-            else:
-                raise Wrong("an entry that isn't there is answered")
-        for event in (b"x" * 32697, (0xffffffff, b"")):
-            try:
-                log.append_all([b"before", event, b"after"])
-            except ValueError:
-                pass
-            else:
-                raise Wrong("an event that no log can have is appended")
-        expect(log.commitment().count, 206, "the events before those")
-        try:
-            log.close_log()
-        except Refused as refused:
-            expect(refused.name, "NotAllowed", "a close that isn't allowed")
-        expect(log.commitment().count, 206, "a connection that is made again after a refusal that ends it")
+        expect_client_answered(daemon, log)
+        expect_client_refused(log)
         program.done("stop", daemon.socket)
         try:
             log.append(b"gone")
@@ -75,6 +42,51 @@ def scene_client():
             pass
         else:
             raise Wrong("an append is acknowledged by nobody")
+
+
+def expect_client_answered(daemon, log):
+    """Acknowledgements, the state, events, entries and proofs of 204 events."""
+    from audit_store import check, verify
+    first = log.append(b"first", 7)
+    expect((first.index, str(log.commitment())), (0, daemon.commitment()), "the first event")
+    done = log.append_all([b"a", (9, b""), b"b" * 32696] + [b"%d" % number for number in range(200)], 3)
+    expect([one.index for one in done], list(range(1, 204)), "the indices of events in order")
+    newest = log.commitment()
+    expect(str(newest), daemon.commitment(), "the newest commitment")
+    state = log.state()
+    expect((state.commitment, state.sectors, state.version, state.closed), (newest, 32768, 2, False), "the state")
+    export, commitment = exported(daemon)
+    wanted = [(7, b"first"), (3, b"a"), (9, b""), (3, b"b" * 32696)] + [(3, b"%d" % at) for at in range(200)]
+    expect([(event.kind, event.payload) for event in verify(export, FIRST_KEY, commitment)], wanted, "the events")
+    expect(log.entry(0), export[:77], "an entry")
+    for index in (0, 3, 203):
+        expect(check(log.prove(index), newest), True, "a proof that was checked")
+    expect(check(log.extends(first.commitment), first.commitment, newest), True, "an increment that was checked")
+
+
+def expect_client_refused(log):
+    """What isn't there, what no log can have, and what isn't allowed; the client goes on after each."""
+    from audit_store import Refused
+    for call in (lambda: log.entry(204), lambda: log.prove(204)):
+        try:
+            call()
+        except Refused as refused:
+            expect((refused.code, refused.name), (8, "NoSuchVersion"), "a refusal")
+        else:
+            raise Wrong("an entry that isn't there is answered")
+    for event in (b"x" * 32697, (0xffffffff, b"")):
+        try:
+            log.append_all([b"before", event, b"after"])
+        except ValueError:
+            pass
+        else:
+            raise Wrong("an event that no log can have is appended")
+    expect(log.commitment().count, 206, "the events before those")
+    try:
+        log.close_log()
+    except Refused as refused:
+        expect(refused.name, "NotAllowed", "a close that isn't allowed")
+    expect(log.commitment().count, 206, "a connection that is made again after a refusal that ends it")
 
 
 @scene
@@ -218,10 +230,8 @@ def liar(replies):
 @scene
 def scene_liars():
     """A server that answers wrongly is found out: other tags and kinds, noise, wrong proofs, half a frame, silence."""
-    from audit_store import Client, Commitment, ConnectionEnded, Unproved
+    from audit_store import Client, ConnectionEnded
     root = bytes(range(32))
-    log = log_of([(1, b"%d" % number) for number in range(4)])
-    claimed = Commitment(4, root)
     commitment = frames.commitment_reply(1, 4, root)
     for replies, fault in (
             ([frames.commitment_reply(2, 4, root)], ConnectionEnded),
@@ -234,7 +244,15 @@ def scene_liars():
             except fault:
                 continue
             raise Wrong("a client takes %r for its reply" % (replies,))
-    hashes = [bytes(32)] * 2
+    expect_wrong_proofs_found(root)
+    expect_silence_ends()
+
+
+def expect_wrong_proofs_found(root):
+    """Proofs whose hashes aren't those of the log."""
+    from audit_store import Client, Commitment, Unproved
+    log = log_of([(1, b"%d" % number) for number in range(4)])
+    claimed, hashes = Commitment(4, root), [bytes(32)] * 2
     with liar([frames.member_reply(1, hashes, log.entries[0])]) as path, Client(path) as client:
         try:
             client.prove(0, claimed)
@@ -249,6 +267,11 @@ def scene_liars():
             pass
         else:
             raise Wrong("a wrong increment is taken")
+
+
+def expect_silence_ends():
+    """A client gives up after its timeout."""
+    from audit_store import Client
     server = socket.socket(socket.AF_UNIX, socket.SOCK_STREAM)
     server.bind("silent.sock")
     server.listen()
@@ -300,38 +323,21 @@ def scene_wrong_calls():
         expect([one.index for one in done], list(range(before, before + 5000)), "5,000 events at once")
 
 
+EMPTY_COMMITMENT = b"\0\x2d\x82%s" + bytes(40)
+
+
 @scene
 def scene_async_liars():
     """A reply of another kind ends its call at once, and a connection that was given up is heard no more."""
     from audit_store import AsyncClient, ConnectionEnded
-    commitment = b"\0\x2d\x82%s" + bytes(40)
-
-    async def of_another_kind(reader, writer):
-        writer.write(commitment % (await reader.readexactly(10))[3:7])
-        await reader.read()
-        writer.close()
-
-    async def late(reader, writer):
-        turns.append(writer)
-        if len(turns) == 1:
-            # Neither read nor answered in time: the client's socket stays full.
-            await asyncio.sleep(1)
-            writer.write(commitment % b"\0\0\0\1")
-        else:
-            tag = (await reader.readexactly(7))[3:7]
-            await asyncio.sleep(1.5)
-            writer.write(commitment % tag)
-        with contextlib.suppress(OSError):
-            await reader.read()
-        writer.close()
 
     async def asked():
-        async with await asyncio.start_unix_server(of_another_kind, "kinds.sock"):
+        async with await asyncio.start_unix_server(answer_of_another_kind, "kinds.sock"):
             async with AsyncClient("kinds.sock", timeout=None) as log:
                 with contextlib.suppress(ConnectionEnded):
                     await asyncio.wait_for(log.append(b"x" * 20), 20)
                     raise Wrong("a commitment is taken for an acknowledgement")
-        async with await asyncio.start_unix_server(late, "late.sock", limit=1024):
+        async with await asyncio.start_unix_server(late_answers(), "late.sock", limit=1024):
             log = AsyncClient("late.sock", timeout=0.5)
             found = await asyncio.gather(*(log.append(b"x" * 30000) for _ in range(30)), return_exceptions=True)
             expect_true(all(isinstance(one, (TimeoutError, ConnectionEnded)) for one in found), "appends in vain")
@@ -339,8 +345,33 @@ def scene_async_liars():
             expect((await log.commitment()).count, 0, "the reply over the next connection")
             await log.close()
 
-    turns = []
     asyncio.run(asked())
+
+
+async def answer_of_another_kind(reader, writer):
+    writer.write(EMPTY_COMMITMENT % (await reader.readexactly(10))[3:7])
+    await reader.read()
+    writer.close()
+
+
+def late_answers():
+    """A server whose first connection is neither read nor answered in time: the client's socket stays full."""
+    turns = []
+
+    async def late(reader, writer):
+        turns.append(writer)
+        if len(turns) == 1:
+            await asyncio.sleep(1)
+            writer.write(EMPTY_COMMITMENT % b"\0\0\0\1")
+        else:
+            tag = (await reader.readexactly(7))[3:7]
+            await asyncio.sleep(1.5)
+            writer.write(EMPTY_COMMITMENT % tag)
+        with contextlib.suppress(OSError):
+            await reader.read()
+        writer.close()
+
+    return late
 
 
 def least(call, runs=10):

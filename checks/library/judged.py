@@ -406,39 +406,36 @@ def reply_in(bytes_):
     body = bytes_[2:size]
     if len(body) < 5:
         return "malformed"
-    kind, tag, fields = body[0], int.from_bytes(body[1:5], "big"), body[5:]
-    found = {"size": size, "kind": kind, "tag": tag}
+    kind, tag = body[0], int.from_bytes(body[1:5], "big")
+    found = fields_of_reply(kind, body[5:])
+    return "malformed" if found is None else {"size": size, "kind": kind, "tag": tag, **found}
 
-    def numbers(start, *names):
-        found.update((name, int.from_bytes(fields[start + 8 * at:start + 8 * at + 8], "big"))
-                     for at, name in enumerate(names))
 
-    if kind == 0x81 and len(fields) == 48:
-        numbers(0, "index", "count")
-        found["root"] = fields[16:48]
-    elif kind == 0x82 and len(fields) == 40:
-        numbers(0, "count")
-        found["root"] = fields[8:40]
-    elif kind == 0x83 and fields and fields[0] <= 24 and 0 <= len(fields) - 1 - 32 * fields[0] <= 32768:
-        found["hashes"] = fields[0]
-    elif kind == 0x84 and fields and fields[0] <= 25 and len(fields) == 1 + 32 * fields[0]:
-        found["hashes"] = fields[0]
-    elif kind == 0x85 and len(fields) <= 32768:
-        pass
-    elif kind == 0x87 and len(fields) == 67 and fields[66] <= 1:
-        numbers(0, "count")
-        numbers(40, "end", "sectors", "generation")
-        found.update(root=fields[8:40], version=int.from_bytes(fields[64:66], "big"), closed=fields[66])
-    elif kind == 0x88 and len(fields) == 16:
-        numbers(0, "index", "count")
-    elif kind == 0x89 and len(fields) == 80:
-        numbers(0, "index", "count")
-        found["root"] = fields[16:48]
-    elif kind == 0xff and len(fields) == 1 and fields[0] in (4, 7, 8, 9, 11, 13, 16, 18, 20):
-        found["code"] = fields[0]
-    else:
-        return "malformed"
-    return found
+def numbers_in(fields, start, *names):
+    """Numbers of eight bytes in a row."""
+    return {name: int.from_bytes(fields[start + 8 * at:start + 8 * at + 8], "big") for at, name in enumerate(names)}
+
+
+def fields_of_reply(kind, fields):
+    """The fields of a reply of this kind, or None if they aren't those of one."""
+    if kind == 0x81 and len(fields) == 48 or kind == 0x89 and len(fields) == 80:
+        return {**numbers_in(fields, 0, "index", "count"), "root": fields[16:48]}
+    if kind == 0x82 and len(fields) == 40:
+        return {**numbers_in(fields, 0, "count"), "root": fields[8:40]}
+    if kind == 0x83 and fields and fields[0] <= 24 and 0 <= len(fields) - 1 - 32 * fields[0] <= 32768:
+        return {"hashes": fields[0]}
+    if kind == 0x84 and fields and fields[0] <= 25 and len(fields) == 1 + 32 * fields[0]:
+        return {"hashes": fields[0]}
+    if kind == 0x85 and len(fields) <= 32768:
+        return {}
+    if kind == 0x87 and len(fields) == 67 and fields[66] <= 1:
+        return {**numbers_in(fields, 0, "count"), **numbers_in(fields, 40, "end", "sectors", "generation"),
+                "root": fields[8:40], "version": int.from_bytes(fields[64:66], "big"), "closed": fields[66]}
+    if kind == 0x88 and len(fields) == 16:
+        return numbers_in(fields, 0, "index", "count")
+    if kind == 0xff and len(fields) == 1 and fields[0] in (4, 7, 8, 9, 11, 13, 16, 18, 20):
+        return {"code": fields[0]}
+    return None
 
 
 def reply_by_library(bytes_):

@@ -39,7 +39,7 @@ def expect_whole(daemon, payloads, receipts):
 @scene
 def scene_source():
     """A source's events get receipts, whose keys open their proofs; what has no place is refused."""
-    from audit_store import Client, Commitment, Displaced, Place, Refused, open_proof
+    from audit_store import Client, Commitment, Place, open_proof
     daemon, path = fed()
     with daemon, Client(path) as source, Client(daemon.socket) as other:
         expect(source.place(KIND), Place(0, 0), "the place in an empty log")
@@ -51,34 +51,52 @@ def scene_source():
         receipts += source.append_placed(payloads[3:], KIND, 3)
         expect(source.place(KIND), Place(303, 304), "the place after them")
         expect_whole(daemon, payloads, receipts)
-        for number in 0, 1, 2, 302:
-            receipt = receipts[number]
-            proof = source.prove(receipt.index, receipt.commitment)
-            event = open_proof(proof, receipt.commitment, receipt.key)
-            expect((event.index, event.kind, event.payload), (receipt.index, KIND, payloads[number]), "an opened event")
-            expect(open_proof(proof, receipt.commitment._replace(root=bytes(32)), receipt.key), None, "another root")
+        expect_receipts_open(source, receipts, payloads)
         again = source.append_placed(payloads + [b"one more"], KIND, 0)
         expect(again[:303], [None] * 303, "the receipts of events that are there already")
         expect(again[303].index, 304, "the receipt of the next one")
-        expect(source.append_placed([], KIND, 304), [], "no event")
-        expect_raised(Displaced, lambda: source.append_placed([b"a"], KIND, 305), "an event that comes too early")
-        expect_raised(ValueError, lambda: source.append_placed([b"x" * 32689], KIND, 304), "a payload of 32,689 bytes")
-        expect_raised(ValueError, lambda: source.append_placed([b"x"], KIND, -1), "a place below 0")
-        expect_raised(ValueError, lambda: source.place(1 << 32), "a kind of 33 bits")
-
-        def full(number, receipt):
-            raise OSError(28, "the caller's")
-
-        expect_raised(OSError, lambda: source.append_placed([b"kept"], KIND, 304, acknowledged=full), "a caller's fault")
-        expect(source.place(KIND), Place(305, 306), "the place after that")
-        for call, code in ((lambda: other.place(8), 18), (lambda: source.append_placed([b"a"], 8, 0), 18)):
-            try:
-                call()
-            except Refused as refused:
-                expect(refused.code, code, "the refusal of a kind that isn't counted")
-            else:
-                raise Wrong("a kind that isn't counted has a place")
+        expect_misplaced_refused(source)
+        expect_uncounted_refused(source, other)
         expect_raised(ValueError, lambda: open_proof(b"", Commitment(0, bytes(32)), bytes(31)), "a key of 31 bytes")
+
+
+def expect_receipts_open(source, receipts, payloads):
+    """The key of a receipt opens the proof of its event, under its commitment alone."""
+    from audit_store import open_proof
+    for number in 0, 1, 2, 302:
+        receipt = receipts[number]
+        proof = source.prove(receipt.index, receipt.commitment)
+        event = open_proof(proof, receipt.commitment, receipt.key)
+        expect((event.index, event.kind, event.payload), (receipt.index, KIND, payloads[number]), "an opened event")
+        expect(open_proof(proof, receipt.commitment._replace(root=bytes(32)), receipt.key), None, "another root")
+
+
+def expect_misplaced_refused(source):
+    """Events that come too early, are too long or have no place, and a caller that fails."""
+    from audit_store import Displaced, Place
+    expect(source.append_placed([], KIND, 304), [], "no event")
+    expect_raised(Displaced, lambda: source.append_placed([b"a"], KIND, 305), "an event that comes too early")
+    expect_raised(ValueError, lambda: source.append_placed([b"x" * 32689], KIND, 304), "a payload of 32,689 bytes")
+    expect_raised(ValueError, lambda: source.append_placed([b"x"], KIND, -1), "a place below 0")
+    expect_raised(ValueError, lambda: source.place(1 << 32), "a kind of 33 bits")
+
+    def full(number, receipt):
+        raise OSError(28, "the caller's")
+
+    expect_raised(OSError, lambda: source.append_placed([b"kept"], KIND, 304, acknowledged=full), "a caller's fault")
+    expect(source.place(KIND), Place(305, 306), "the place after that")
+
+
+def expect_uncounted_refused(source, other):
+    """A kind that the daemon doesn't count has no places."""
+    from audit_store import Refused
+    for call, code in ((lambda: other.place(8), 18), (lambda: source.append_placed([b"a"], 8, 0), 18)):
+        try:
+            call()
+        except Refused as refused:
+            expect(refused.code, code, "the refusal of a kind that isn't counted")
+        else:
+            raise Wrong("a kind that isn't counted has a place")
 
 
 @scene

@@ -141,48 +141,49 @@ def replaced_files_give_no_rights(room):
 @scene
 def cursors_are_files_of_their_own(room):
     """`journal-feed` keeps its place in a file, and in no store, device or locked file."""
-    feed = tool("journal-feed")
     store = room.store("store", payloads_of("cursor", 3))
     os.mkdir(room.path("bin"))
     for name, text in [("journalctl", "echo '{\"__CURSOR\": \"here\", \"MESSAGE\": \"a\"}'; sleep 5"),
                        ("sender", "read line; echo ack 0 1; sleep 1")]:
         write(room.path("bin/" + name), ("#!/bin/sh\n" + text + "\n").encode())
         os.chmod(room.path("bin/" + name), 0o755)
-    environment = dict(os.environ, PATH=room.path("bin") + ":" + os.environ["PATH"], AUDIT=room.path("bin/sender"))
-
-    def fed(cursor):
-        done = subprocess.run([sys.executable, feed, "socket", cursor], cwd=room.folder, env=environment,
-                              stdin=subprocess.DEVNULL,
-                              stdout=subprocess.DEVNULL, stderr=subprocess.PIPE, timeout=SECONDS)
-        return done.returncode, done.stderr
-
-    def expect_refused(cursor, why):
-        before = os.stat(cursor)
-        status, said = fed(cursor)
-        expect_true((os.stat(cursor).st_ino, os.stat(cursor).st_mode) == (before.st_ino, before.st_mode),
-                    "journal-feed replaces %s" % cursor)
-        expect_true(status == 1 and why in said, "journal-feed with %s: %s" % (cursor, short((status, said))))
-
     before = read(store)
     os.symlink("store", room.path("link"))
     os.mkfifo(room.path("pipe"))
     for cursor in [store, room.path("link")]:
-        expect_refused(cursor, b"is a store")
+        expect_cursor_refused(room, cursor, b"is a store")
     expect_true(read(store) == before, "journal-feed changes a store")
-    expect_refused(room.path("pipe"), b"is no regular file")
+    expect_cursor_refused(room, room.path("pipe"), b"is no regular file")
     if os.geteuid() == 0:
         os.mknod(room.path("null"), 0o666 | stat.S_IFCHR, os.makedev(1, 3))
-        expect_refused(room.path("null"), b"is no regular file")
+        expect_cursor_refused(room, room.path("null"), b"is no regular file")
     write(room.path("locked"), b"old\n")
     with open(room.path("locked"), "rb") as locked:
         fcntl.flock(locked, fcntl.LOCK_EX)
-        expect_refused(room.path("locked"), b"is locked")
+        expect_cursor_refused(room, room.path("locked"), b"is locked")
     # Another file beside it isn't overwritten either.
     shutil.copyfile(store, room.path("cursor.tmp"))
     with Server(room.path("socket"), scripted(refusal(1, NOT_COUNTED))):
-        fed(room.path("cursor"))
+        journal_fed(room, room.path("cursor"))
     expect(read(room.path("cursor")), b"here\n", "the place that journal-feed keeps")
     expect_true(read(room.path("cursor.tmp")) == before, "journal-feed overwrites a store beside its CURSOR")
+
+
+def journal_fed(room, cursor):
+    """journal-feed with this CURSOR, over a journalctl and a program of the room: its status, and what it says."""
+    environment = dict(os.environ, PATH=room.path("bin") + ":" + os.environ["PATH"], AUDIT=room.path("bin/sender"))
+    done = subprocess.run([sys.executable, tool("journal-feed"), "socket", cursor], cwd=room.folder, env=environment,
+                          stdin=subprocess.DEVNULL,
+                          stdout=subprocess.DEVNULL, stderr=subprocess.PIPE, timeout=SECONDS)
+    return done.returncode, done.stderr
+
+
+def expect_cursor_refused(room, cursor, why):
+    before = os.stat(cursor)
+    status, said = journal_fed(room, cursor)
+    expect_true((os.stat(cursor).st_ino, os.stat(cursor).st_mode) == (before.st_ino, before.st_mode),
+                "journal-feed replaces %s" % cursor)
+    expect_true(status == 1 and why in said, "journal-feed with %s: %s" % (cursor, short((status, said))))
 
 
 @scene

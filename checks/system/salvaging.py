@@ -43,26 +43,7 @@ def damaged_stores_are_salvaged(room):
                later + bytes(SECTOR), bytes(300 * SECTOR), later[:2 * SECTOR]]
     end = active_header(later).end
     add_flipped_bits(room, later, draw, damaged, end)
-    answers = set()
-    for number, data in enumerate(damaged):
-        store = room.path("damaged")
-        write(store, data)
-        write(out, b"old")
-        entries = opened(data)
-        what = "salvage of copy %d" % number
-        found = room.run("export", "--salvage", store, out)
-        if entries is not None:
-            wanted = (0, b"exported %d %d\n" % (len(entries), len(b"".join(entries))), b"")
-        else:
-            entries = disk.salvaged(cut(data))
-            wanted = (1, b"salvaged %d %s damaged %d\n" % (len(entries), logs.root(entries).hex().encode(),
-                                                           len(entries)), b"")
-        answers.add((wanted[0], len(entries)))
-        expect(found, wanted, what)
-        expect_true(read(out) == b"".join(entries), "%s: other entries" % what)
-        expect_true(read(store) == data, "%s changes the store" % what)
-        # Opening agrees on whether the store is damaged.
-        expect(room.run("show", "--read-only", store)[0] == 0, wanted[0] == 0, "show --read-only of copy %d" % number)
+    answers = {expect_salvaged(room, number, data, out) for number, data in enumerate(damaged)}
     expect_true(len(answers) > 5 and len({status for status, _ in answers}) == 2,
                 "the damage that was done is too much alike")
     write(room.path("damaged"), damaged[2])
@@ -70,6 +51,28 @@ def damaged_stores_are_salvaged(room):
            (1, b"".join(disk.salvaged(cut(damaged[2])))), "salvage to -")
     expect(room.run("export", "--salvage", room.path("none"), out), FILE_FAULT, "salvage of no file")
     expect_odd_sizes_salvaged(room, out, damaged)
+
+
+def expect_salvaged(room, number, data, out):
+    """A store of these bytes is salvaged as the model does it, and isn't changed; the status, and how many entries."""
+    store = room.path("damaged")
+    write(store, data)
+    write(out, b"old")
+    entries = opened(data)
+    what = "salvage of copy %d" % number
+    found = room.run("export", "--salvage", store, out)
+    if entries is not None:
+        wanted = (0, b"exported %d %d\n" % (len(entries), len(b"".join(entries))), b"")
+    else:
+        entries = disk.salvaged(cut(data))
+        wanted = (1, b"salvaged %d %s damaged %d\n" % (len(entries), logs.root(entries).hex().encode(),
+                                                       len(entries)), b"")
+    expect(found, wanted, what)
+    expect_true(read(out) == b"".join(entries), "%s: other entries" % what)
+    expect_true(read(store) == data, "%s changes the store" % what)
+    # Opening agrees on whether the store is damaged.
+    expect(room.run("show", "--read-only", store)[0] == 0, wanted[0] == 0, "show --read-only of copy %d" % number)
+    return wanted[0], len(entries)
 
 
 def add_flipped_bits(room, later, draw, damaged, end):

@@ -474,28 +474,34 @@ class Client:
             self.close()
         return fault
 
+    def _taken_up(self, events: Iterator[Any], room: int, written: Callable[[Any], bytes],
+                  waiting: "Deque[int]") -> Tuple[List[bytes], Optional[Exception], bool]:
+        """The frames of at most `room` next events, whose tags then wait; the fault of one that isn't an event; and
+        whether no more follow."""
+        frames: List[bytes] = []
+        while len(frames) < room:
+            event = next(events, _NO_MORE)
+            if event is _NO_MORE:
+                return frames, None, True
+            try:
+                frames.append(written(event))
+            except ValueError as fault:
+                return frames, fault, True
+            waiting.append(self._frames.tag)
+        return frames, None, False
+
     def _run(self, stream: socket.socket, events: Iterator[Any], in_flight: int, written: Callable[[Any], bytes],
              take: Callable[[int], Optional[Exception]]) -> Optional[Exception]:
         """Sends the frames of events, and hands each reply, in their order, to `take` with its place in the buffer. The
         first fault: an event that isn't one, or what `take` returns. No more is sent then, and all is answered."""
-        frames, reply, waiting = self._frames, self._frames.reply, cast("Deque[int]", deque())
+        reply, waiting = self._frames.reply, cast("Deque[int]", deque())
         wrong: Optional[Exception] = None
-        reading, base, is_over = frames.read, addressof(self._buffer), False
+        reading, base, is_over = self._frames.read, addressof(self._buffer), False
         while True:
-            sent = []
-            while not is_over and len(waiting) < in_flight:
-                event = next(events, _NO_MORE)
-                if event is _NO_MORE:
-                    is_over = True
-                    break
-                try:
-                    sent.append(written(event))
-                except ValueError as fault:
-                    wrong, is_over = fault, True
-                    break
-                waiting.append(frames.tag)
-            if sent:
-                self._send(stream, b"".join(sent))
+            if not is_over:
+                sent, wrong, is_over = self._taken_up(events, in_flight - len(waiting), written, waiting)
+                if sent:
+                    self._send(stream, b"".join(sent))
             if not waiting:
                 return wrong
             deadline = self._deadline()
