@@ -8,9 +8,9 @@ no code with the page, and are recorded in auditor/page.verdicts, which an indep
 exports, 60 proofs and 30 tails are judged; with --long 700, 700 and 200, of which over 600 are refused, and all also in
 Firefox, if it is there. --million also verifies an export of a million events (200 MB in a temporary folder), and
 prints its figures. --keep writes the cases and the page's verdicts to a folder, and --shots the pictures of docs. TEST
-chooses tests by name: hostile payloads, wrong inputs, changed fields, searches, the proof of an event, entries under the
-keys of receipts, stops, prints (no key in a PDF's text, all events there), reports that are opened again, connections,
-keyboard, contrast, small windows.
+chooses tests by name: hostile payloads, wrong inputs, changed fields, searches, the proof of an event, entries under
+the keys of receipts, stops, prints (no key in a PDF's text, all events there), reports that are opened again,
+connections, keyboard, contrast, small windows.
 
 --policy writes the hashes of the page's script and style into its policy. Run it after each edit of the page.
 

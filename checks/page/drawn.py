@@ -95,55 +95,72 @@ def export_case(number):
     entries = entries_of(FIRST_KEY, events)
     export, key, claimed = b"".join(entries), FIRST_KEY, commitment_of(entries)
     at = draw.below(len(entries)) if entries else 0
-    start = sum(len(entry) for entry in entries[:at])
     damage = draw.below(24)
-    if damage <= 5:
-        export = flipped(draw, export)
-    elif damage == 6:
-        export = export[:draw.below(len(export) + 1)]
-    elif damage == 7:
-        export += draw.bytes(draw.one([1, 7, 8, 71, 72, 73]))
-    elif damage == 8:
-        export = b"".join(entries[:at] + entries[at + 1:])
-    elif damage == 9 and len(entries) > 1:
-        entries[at], entries[at - 1] = entries[at - 1], entries[at]
-        export = b"".join(entries)
-    elif damage == 10:
-        export = b"".join(entries[:at] + entries[at:at + 1] + entries[at:])
-    elif damage == 11:
-        length = draw.one([0, 1, 4024, 4025, 32696, 32697, 1 << 31, (1 << 32) - 1])
-        export = export[:start + 4] + length.to_bytes(4, "big") + export[start + 8:]
-    elif damage == 12:
+    if damage == 12:
         key = flipped(draw, key)
-    elif damage == 13:
-        count, root = history.commitment(claimed)
-        claimed = word_of(draw.one([max(count, 1) - 1, count + 1, count + (1 << 32), (1 << 64) - 1]), root)
-    elif damage == 14:
-        count, root = history.commitment(claimed)
-        claimed = word_of(count, flipped(draw, root))
-    elif damage == 15 and entries:
-        export = b"".join(resealed(entries, at,
-                                   flipped(draw, entries[at][8:-64]).join([entries[at][:8], entries[at][-64:]])))
-    elif damage == 16:
+    elif damage in (13, 14):
+        claimed = other_commitment(draw, claimed, damage)
+    elif damage <= 11 or damage == 15:
+        export = damaged_export(draw, damage, entries, at)
+    elif damage <= 20:
+        export, claimed = sealed_otherwise(draw, damage, events, at)
+    return export, key, claimed
+
+
+def other_commitment(draw, claimed, damage):
+    """Of another count, or of another root."""
+    count, root = history.commitment(claimed)
+    if damage == 13:
+        return word_of(draw.one([max(count, 1) - 1, count + 1, count + (1 << 32), (1 << 64) - 1]), root)
+    return word_of(count, flipped(draw, root))
+
+
+def damaged_export(draw, damage, entries, at):
+    """The bytes of an export after they were sealed: changed, cut, or with other entries."""
+    export = b"".join(entries)
+    if damage <= 5:
+        return flipped(draw, export)
+    if damage == 6:
+        return export[:draw.below(len(export) + 1)]
+    if damage == 7:
+        return export + draw.bytes(draw.one([1, 7, 8, 71, 72, 73]))
+    if damage == 8:
+        return b"".join(entries[:at] + entries[at + 1:])
+    if damage == 9 and len(entries) > 1:
+        entries[at], entries[at - 1] = entries[at - 1], entries[at]
+        return b"".join(entries)
+    if damage == 10:
+        return b"".join(entries[:at] + entries[at:at + 1] + entries[at:])
+    if damage == 11:
+        start = sum(len(entry) for entry in entries[:at])
+        length = draw.one([0, 1, 4024, 4025, 32696, 32697, 1 << 31, (1 << 32) - 1])
+        return export[:start + 4] + length.to_bytes(4, "big") + export[start + 8:]
+    if damage == 15 and entries:
+        return b"".join(resealed(entries, at,
+                                 flipped(draw, entries[at][8:-64]).join([entries[at][:8], entries[at][-64:]])))
+    return export
+
+
+def sealed_otherwise(draw, damage, events, at):
+    """An export of other events, with its own commitment."""
+    if damage == 16:
         # A closing entry in the middle, one with a payload, or entries after one.
         events.insert(at, (CLOSING, draw.one([b"", b"", b"x"])))
-        entries = entries_of(FIRST_KEY, events)
-        export, claimed = b"".join(entries), commitment_of(entries)
     elif damage == 17:
         events.append((CLOSING, draw.one([b"x", b"more"])))
-        entries = entries_of(FIRST_KEY, events)
-        export, claimed = b"".join(entries), commitment_of(entries)
     elif damage == 18:
-        entries = entries_of(FIRST_KEY, events + [(CLOSING, b"")])
-        export, claimed = b"".join(entries) + draw.bytes(draw.one([1, 8, 72])), commitment_of(entries)
-    elif damage == 19:
-        # The tail is cut off, and the commitment is that of the rest.
-        export, claimed = b"".join(entries[:at]), commitment_of(entries[:at])
+        events = events + [(CLOSING, b"")]
     elif damage == 20:
         # Correctly sealed, with a payload at the limit of a version.
-        entries = entries_of(FIRST_KEY, events[:at] + [(3, draw.bytes(draw.one(LONG_LENGTHS)))])
-        export, claimed = b"".join(entries), commitment_of(entries)
-    return export, key, claimed
+        events = events[:at] + [(3, draw.bytes(draw.one(LONG_LENGTHS)))]
+    entries = entries_of(FIRST_KEY, events)
+    if damage == 19:
+        # The tail is cut off, and the commitment is that of the rest.
+        entries = entries[:at]
+    export = b"".join(entries)
+    if damage == 18:
+        export += draw.bytes(draw.one([1, 8, 72]))
+    return export, commitment_of(entries)
 
 
 def member_proof(leaves, index, entry):
@@ -177,18 +194,38 @@ def steep_proof(draw):
 def proof_case(number):
     """A proof, usually damaged, and its commitments."""
     draw = Draw("proof", number)
-    if draw.below(25) == 0:
-        parts, commitments = steep_proof(draw)
-    else:
-        texts = [payload_of(draw, 72 + draw.one([0, 1, 50])) for _ in range(1 + draw.below(40))]
-        leaves = [history.leaf_hash(text) for text in texts]
-        roots = [word_of(count, history.root(leaves[:count])) for count in range(len(leaves) + 1)]
-        older, count = draw.below(len(leaves)) + 1, len(leaves)
-        if draw.below(2):
-            parts, commitments = member_proof(leaves, older - 1, texts[older - 1]), [roots[count]]
-        else:
-            parts, commitments = increment_proof(leaves, older), [roots[older], roots[count]]
-    damage, hashes = draw.below(22), parts[3]
+    parts, commitments = steep_proof(draw) if draw.below(25) == 0 else drawn_proof(draw)
+    damage = draw.below(22)
+    if damage <= 7:
+        damage_hashes(draw, damage, parts)
+    elif damage <= 9 or damage in (14, 16):
+        damage_head(draw, damage, parts)
+    elif damage <= 15:
+        commitments = damaged_commitments(draw, damage, commitments)
+    data = proof_bytes(*parts)
+    if damage == 17:
+        data = data[:draw.below(len(data))]
+    elif damage == 18:
+        data += draw.bytes(draw.one([1, 32, 40000]))
+    elif damage == 19:
+        data = flipped(draw, data[:18]) + data[18:]
+    return data, commitments
+
+
+def drawn_proof(draw):
+    """The parts of a proof in a small log, and its commitments."""
+    texts = [payload_of(draw, 72 + draw.one([0, 1, 50])) for _ in range(1 + draw.below(40))]
+    leaves = [history.leaf_hash(text) for text in texts]
+    roots = [word_of(count, history.root(leaves[:count])) for count in range(len(leaves) + 1)]
+    older, count = draw.below(len(leaves)) + 1, len(leaves)
+    if draw.below(2):
+        return member_proof(leaves, older - 1, texts[older - 1]), [roots[count]]
+    return increment_proof(leaves, older), [roots[older], roots[count]]
+
+
+def damage_hashes(draw, damage, parts):
+    """A hash or the entry is changed, or hashes are more, fewer or in another order."""
+    hashes = parts[3]
     if damage <= 3 and hashes:
         at = draw.below(len(hashes))
         hashes[at] = flipped(draw, hashes[at])
@@ -201,11 +238,23 @@ def proof_case(number):
     elif damage == 7 and len(hashes) > 1:
         at = draw.below(len(hashes) - 1)
         hashes[at], hashes[at + 1] = hashes[at + 1], hashes[at]
-    elif damage == 8:
+
+
+def damage_head(draw, damage, parts):
+    """Another index, count or kind, or parts at their limits."""
+    if damage == 8:
         parts[1] = draw.one([0, parts[1] + 1, max(parts[1], 1) - 1, parts[2], parts[2] + 1, 1 << 24, (1 << 64) - 1])
     elif damage == 9:
         parts[2] = draw.one([0, parts[2] + 1, max(parts[2], 1) - 1, parts[1], 1 << 24, (1 << 24) + 1, (1 << 64) - 1])
-    elif damage == 10:
+    elif damage == 14:
+        parts[0] = draw.one([0, 1, 2, 3, 255])
+    elif damage == 16:
+        parts[3], parts[4] = [bytes(32)] * draw.one([0, 23, 24, 25, 26]), bytes(draw.one([0, 1, 32768, 32769]))
+
+
+def damaged_commitments(draw, damage, commitments):
+    """Others, in another order, or too few or too many."""
+    if damage == 10:
         commitments[0] = commitments[-1] if len(commitments) == 2 else word_of(draw.below(50), draw.bytes(32))
     elif damage == 11:
         commitments.reverse()
@@ -216,20 +265,9 @@ def proof_case(number):
     elif damage == 13:
         count, root = history.commitment(commitments[-1])
         commitments[-1] = word_of(draw.one([count + 1, max(count, 1) - 1, (1 << 64) - 1]), root)
-    elif damage == 14:
-        parts[0] = draw.one([0, 1, 2, 3, 255])
     elif damage == 15:
         commitments = draw.one([commitments[:1], commitments * 2])[:2]
-    elif damage == 16:
-        parts[3], parts[4] = [bytes(32)] * draw.one([0, 23, 24, 25, 26]), bytes(draw.one([0, 1, 32768, 32769]))
-    data = proof_bytes(*parts)
-    if damage == 17:
-        data = data[:draw.below(len(data))]
-    elif damage == 18:
-        data += draw.bytes(draw.one([1, 32, 40000]))
-    elif damage == 19:
-        data = flipped(draw, data[:18]) + data[18:]
-    return data, commitments
+    return commitments
 
 
 def state_after(entries, count):

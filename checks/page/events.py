@@ -68,48 +68,61 @@ WRONG_RANGES = [("kinds", "x"), ("kinds", "4294967296"), ("kinds", "7 8"), ("kin
 def test_searches(browser):
     """Searches as typed, kinds, ranges, clearing, and going to a number."""
     page, _ = prepared(browser, FOUND)
-
-    def search(text, kinds, numbers):
-        page.run("seen('filter-text').value = %s, seen('filter-kinds').value = %s, seen('filter-numbers').value = %s, "
-                 "seen('filter-form').requestSubmit(), rest()" % (
-            json.dumps(text), json.dumps(kinds), json.dumps(numbers)))
-        page.run("rest()")
-        return [int(row[0]) for row in page.run("cells()")]
     for text, kinds, numbers, wanted in SEARCHES:
-        expect(search(text, kinds, numbers), wanted, "the search %s %s %s" % (ascii(text), kinds, numbers))
+        expect(search(page, text, kinds, numbers), wanted, "the search %s %s %s" % (ascii(text), kinds, numbers))
     for field, word in WRONG_RANGES:
-        search("", "", "")
-        page.run("seen('filter-%s').value = %s, seen('filter-form').requestSubmit()" % (field, json.dumps(word)))
-        found = page.run("[document.activeElement.id, seen('filter-%s').getAttribute('aria-invalid'), "
-                         "seen('filter-%s-error').textContent, seen('stop').disabled]" % (field, field))
-        expect((found[0], found[1], bool(found[2]), found[3]), ("filter-" + field, "true", True, True),
-               "%s of the form %s" % (field, word))
-        page.run("seen('filter-%s').value = '', seen('filter-%s').dispatchEvent(new Event('input', {bubbles: true}))"
-                 % (field, field))
-        expect(page.run("seen('filter-%s-error').textContent" % field), "",
-               "the trouble with %s after a change" % field)
-    expect(search("one", "1", "0-5"), [0], "a search to be cleared")
+        expect_range_refused(page, field, word)
+    expect(search(page, "one", "1", "0-5"), [0], "a search to be cleared")
     page.run("seen('unfilter').click(), rest()")
     expect(page.run("[cells().length, seen('filter-text').value, seen('filter-kinds').value, "
                     "seen('filter-numbers').value, seen('unfilter').disabled]"), [10, "", "", "", True], "after Clear")
+    expect_jumps(browser)
+    return "%d searches" % len(SEARCHES)
 
+
+def search(page, text, kinds, numbers):
+    """The numbers of the events that are found."""
+    page.run("seen('filter-text').value = %s, seen('filter-kinds').value = %s, seen('filter-numbers').value = %s, "
+             "seen('filter-form').requestSubmit(), rest()" % (
+                 json.dumps(text), json.dumps(kinds), json.dumps(numbers)))
+    page.run("rest()")
+    return [int(row[0]) for row in page.run("cells()")]
+
+
+def expect_range_refused(page, field, word):
+    """A field of another form is told, and what is told goes with a change of it."""
+    search(page, "", "", "")
+    page.run("seen('filter-%s').value = %s, seen('filter-form').requestSubmit()" % (field, json.dumps(word)))
+    found = page.run("[document.activeElement.id, seen('filter-%s').getAttribute('aria-invalid'), "
+                     "seen('filter-%s-error').textContent, seen('stop').disabled]" % (field, field))
+    expect((found[0], found[1], bool(found[2]), found[3]), ("filter-" + field, "true", True, True),
+           "%s of the form %s" % (field, word))
+    page.run("seen('filter-%s').value = '', seen('filter-%s').dispatchEvent(new Event('input', {bubbles: true}))"
+             % (field, field))
+    expect(page.run("seen('filter-%s-error').textContent" % field), "",
+           "the trouble with %s after a change" % field)
+
+
+def go(page, number):
+    """Goes to the event of a number: the first one on its page, the one that is marked, the focus, and the trouble."""
+    page.run("seen('jump').value = '%s', seen('jump-form').requestSubmit(), rest()" % number)
+    page.run("rest()")
+    return page.run("[cells()[0][0], document.querySelector('tr.found')?.cells[0].textContent, "
+                    "document.activeElement.textContent, seen('jump-error').textContent]")
+
+
+def expect_jumps(browser):
+    """Numbers of 333 events, and of those of one kind."""
     events = [(number % 3, b"event %d" % number) for number in range(333)]
     page, _ = prepared(browser, events)
-
-    def go(number):
-        page.run("seen('jump').value = '%s', seen('jump-form').requestSubmit(), rest()" % number)
-        page.run("rest()")
-        return page.run("[cells()[0][0], document.querySelector('tr.found')?.cells[0].textContent, "
-                        "document.activeElement.textContent, seen('jump-error').textContent]")
     for number, first in [(0, 0), (49, 0), (50, 50), (217, 200), (332, 300)]:
-        expect(go(number), [str(first), str(number), str(number), ""], "going to %d" % number)
-    expect(go(333)[3], "There is none of this number, or of a higher one.", "going too far")
-    expect(go("x")[3], "A number of an event, from 0.", "going to x")
+        expect(go(page, number), [str(first), str(number), str(number), ""], "going to %d" % number)
+    expect(go(page, 333)[3], "There is none of this number, or of a higher one.", "going too far")
+    expect(go(page, "x")[3], "A number of an event, from 0.", "going to x")
     page.run("seen('filter-kinds').value = '2', seen('filter-form').requestSubmit(), rest()")
-    expect(go(300), ["302", "302", "302", "Event 300 isn't among them: the next one is 302."],
+    expect(go(page, 300), ["302", "302", "302", "Event 300 isn't among them: the next one is 302."],
            "going to what wasn't found")
-    expect(go(332), ["302", "332", "332", ""], "going to the last one found")
-    return "%d searches" % len(SEARCHES)
+    expect(go(page, 332), ["302", "332", "332", ""], "going to the last one found")
 
 
 def test_events(browser, room):

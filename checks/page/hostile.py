@@ -94,24 +94,38 @@ def test_refused(browser, room):
         said = page.call("verified", base64_of(data), FIRST_KEY.hex(), claimed)
         expect_true(said["verdict"].startswith("entry %d: " % number) and line in (None, said["verdict"]),
                     "a refusal: " + said["verdict"])
-        expect((said["rows"], said["uncommitted"], said["style"]),
-               ([row_of(at, *events[at]) for at in range(number)], True, "bad"), "the entries before a fault")
-        expect_true("under no commitment" in page.run("seen('uncommitted').textContent"), "the mark's words")
-        page.run("document.querySelector('#rows button').click(), rest()")
-        expect(page.run("[seen('event-proof').disabled, seen('event-picture').checkVisibility()]"), [True, False],
-               "the proof of an entry under no commitment")
-        lines = saved_lines(browser, page, room)
-        expect((lines[0]["verdict"], lines[0]["under_commitment"]), (said["verdict"], False),
-               "the first line of a refused export")
-        expect([line["text"].encode() for line in lines[1:]], [payload for _, payload in events[:number]],
-               "the lines of a refused export")
-        again = opened_report(browser, page, room)
-        expect_true("under no commitment" in again.run("document.body.innerText")
-                    and len(again.run("reported()")) == number, "a report of a refused export")
+        expect_uncommitted(browser, page, room, said, events[:number])
     said = page.call("verified", base64_of(b"".join(entries)), FIRST_KEY.hex(), commitment_of(entries))
     expect(said["uncommitted"], False, "the mark after a verdict that is good")
+    expect_verdict_alone_reported(browser, page, room, entries)
+    page.run("seen('commitment').value = '%s'" % word_of(0, bytes(32)))
+    expect(page.call("pressed", "export")["verdict"], "entry 0: 45 ReadFault", "a file that is gone, as an empty log")
+    page.run("seen('key').value = ''")
+    page.call("pressed", "export")
+    expect(page.run("seen('export-report').checkVisibility()"), False, "a report of nothing")
+    return "5 refused exports"
 
-    # An export that is refused at its first entry, or can't be read, has a report of the verdict alone.
+
+def expect_uncommitted(browser, page, room, said, events):
+    """These events are shown, saved and reported as under no commitment."""
+    expect((said["rows"], said["uncommitted"], said["style"]),
+           ([row_of(at, *event) for at, event in enumerate(events)], True, "bad"), "the entries before a fault")
+    expect_true("under no commitment" in page.run("seen('uncommitted').textContent"), "the mark's words")
+    page.run("document.querySelector('#rows button').click(), rest()")
+    expect(page.run("[seen('event-proof').disabled, seen('event-picture').checkVisibility()]"), [True, False],
+           "the proof of an entry under no commitment")
+    lines = saved_lines(browser, page, room)
+    expect((lines[0]["verdict"], lines[0]["under_commitment"]), (said["verdict"], False),
+           "the first line of a refused export")
+    expect([line["text"].encode() for line in lines[1:]], [payload for _, payload in events],
+           "the lines of a refused export")
+    again = opened_report(browser, page, room)
+    expect_true("under no commitment" in again.run("document.body.innerText")
+                and len(again.run("reported()")) == len(events), "a report of a refused export")
+
+
+def expect_verdict_alone_reported(browser, page, room, entries):
+    """An export that is refused at its first entry, or can't be read, has a report of the verdict alone."""
     gone = os.path.join(room, "events.export")
     for what, verdict in [("damage", "entry 0: 42 BadLink"), ("a file that is gone", "entry 0: 45 ReadFault")]:
         write(gone, b"".join(entries[1:]))
@@ -125,12 +139,6 @@ def test_refused(browser, room):
         again = opened_report(browser, page, room)
         expect_true(said["headline"] in again.run("document.body.innerText")
                     and again.run("document.querySelectorAll('table').length") == 0, "a report after " + what)
-    page.run("seen('commitment').value = '%s'" % word_of(0, bytes(32)))
-    expect(page.call("pressed", "export")["verdict"], "entry 0: 45 ReadFault", "a file that is gone, as an empty log")
-    page.run("seen('key').value = ''")
-    page.call("pressed", "export")
-    expect(page.run("seen('export-report').checkVisibility()"), False, "a report of nothing")
-    return "5 refused exports"
 
 
 ATTEMPTS = r"""

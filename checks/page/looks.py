@@ -49,40 +49,54 @@ def test_looks(browser):
                         "active)').matches]"), [scheme == "dark", forced == "active"], "the scheme")
         for name, step in steps:
             step()
-            found = page.run(CONTRASTS)
-            expect_true(len(found) > 8, "too few texts in " + name)
-            for ratio, what in found:
-                expect_true(ratio >= CONTRAST,
-                            "contrast of %.2f in %s, %s, forced %s: %s" % (ratio, name, scheme, forced, short(what)))
-                least = min(least, ratio)
+            least = min(least, contrast_of(page, "%s, %s, forced %s" % (name, scheme, forced)))
             if forced == "active":
-                styles = page.run("[true, false].map(chosen => { const style = "
-                                  "getComputedStyle(document.querySelector(`[aria-selected=${chosen}]`)); return "
-                                  "[style.borderTopWidth, style.textDecorationLine]; })")
-                expect_true(styles[0] != styles[1], "the tab that is selected in forced colours")
-            if forced == "active" and name == "proof":
-                dashes = page.run("['given', 'made'].map(style => getComputedStyle(document.querySelector(`#picture "
-                                  ".${style} rect`)).strokeDasharray)")
-                expect_true(dashes[0] != dashes[1], "what is given in forced colours")
+                expect_forced_colours(page, name)
     page.ask("Emulation.setEmulatedMedia", features=[])
     # A phone, and a window of 1280 by 800 pixels at 200 %.
     for width, height in (320, 640), (640, 400):
         page.resize(width, height)
         for name, step in steps:
             step()
-            where = "%s in %d by %d pixels" % (name, width, height)
-            expect_true(page.run("document.documentElement.scrollWidth") <= width, where + " is wider than the window")
-            panel = {"proof": "proof", "failed": "proof", "receipt": "proof", "two": "two"}.get(name, "export")
-            top, bottom = page.run("(({top, bottom}) => [top, bottom])(seen('%s-verdict').getBoundingClientRect())"
-                                   % panel)
-            if name not in ("event", "wrong"):
-                expect_true(0 <= top and bottom <= height, "the verdict isn't in view: " + where)
-            if name in ("verify", "refused"):
-                cell = page.run("(({width}) => width)(seen('rows').rows[1].cells[3].getBoundingClientRect())")
-                expect_true(cell >= width * 0.7, "a payload has %d pixels: %s" % (cell, where))
-                expect_true(page.run("parseFloat(getComputedStyle(seen('rows').rows[1].cells[3]).fontSize)") >= 12,
-                            "small payloads: " + where)
+            expect_fits(page, name, width, height)
     return "contrast at least %.1f" % least
+
+
+def contrast_of(page, where):
+    """The least contrast of the texts that are seen, each of which is enough."""
+    found = page.run(CONTRASTS)
+    expect_true(len(found) > 8, "too few texts in " + where)
+    for ratio, what in found:
+        expect_true(ratio >= CONTRAST, "contrast of %.2f in %s: %s" % (ratio, where, short(what)))
+    return min(ratio for ratio, _ in found)
+
+
+def expect_forced_colours(page, name):
+    """What colours say elsewhere is said by lines."""
+    styles = page.run("[true, false].map(chosen => { const style = "
+                      "getComputedStyle(document.querySelector(`[aria-selected=${chosen}]`)); return "
+                      "[style.borderTopWidth, style.textDecorationLine]; })")
+    expect_true(styles[0] != styles[1], "the tab that is selected in forced colours")
+    if name == "proof":
+        dashes = page.run("['given', 'made'].map(style => getComputedStyle(document.querySelector(`#picture "
+                          ".${style} rect`)).strokeDasharray)")
+        expect_true(dashes[0] != dashes[1], "what is given in forced colours")
+
+
+def expect_fits(page, name, width, height):
+    """A panel fits into a window of this size, with its verdict in view and payloads that can be read."""
+    where = "%s in %d by %d pixels" % (name, width, height)
+    expect_true(page.run("document.documentElement.scrollWidth") <= width, where + " is wider than the window")
+    panel = {"proof": "proof", "failed": "proof", "receipt": "proof", "two": "two"}.get(name, "export")
+    top, bottom = page.run("(({top, bottom}) => [top, bottom])(seen('%s-verdict').getBoundingClientRect())"
+                           % panel)
+    if name not in ("event", "wrong"):
+        expect_true(0 <= top and bottom <= height, "the verdict isn't in view: " + where)
+    if name in ("verify", "refused"):
+        cell = page.run("(({width}) => width)(seen('rows').rows[1].cells[3].getBoundingClientRect())")
+        expect_true(cell >= width * 0.7, "a payload has %d pixels: %s" % (cell, where))
+        expect_true(page.run("parseFloat(getComputedStyle(seen('rows').rows[1].cells[3]).fontSize)") >= 12,
+                    "small payloads: " + where)
 
 
 def test_without_scripts(browser):
@@ -112,22 +126,8 @@ def test_keys(browser):
         if page.run(active) == "tab-export":
             break
     expect(page.run(active), "tab-export", "the first place that Tab reaches")
-    for key, tab in [("ArrowRight", "proof"), ("ArrowRight", "two"), ("ArrowRight", "export"), ("ArrowLeft", "two"),
-                     ("Home", "export"), ("End", "two"), ("Home", "export")]:
-        page.press(key)
-        expect(page.run(active), "tab-" + tab, "the tab after " + key)
-        expect(page.run("[...document.querySelectorAll('[role=tabpanel]')].filter(panel => "
-                        "panel.checkVisibility()).map(panel => panel.id).join()"), tab + "-panel",
-               "the panel after " + key)
-        expect(page.run("[...document.querySelectorAll('[aria-selected=true]')].map(tab => tab.id).join()"),
-               "tab-" + tab, "the selected tab")
-    order = []
-    for _ in range(4):
-        page.press("Tab")
-        order.append(page.run("document.activeElement.id || document.activeElement.textContent"))
-        expect_true(page.run("getComputedStyle(document.activeElement).outlineStyle") == "solid",
-                    "focus can't be seen on " + order[-1])
-    expect(order, ["export-file", "key", "commitment", "verify"], "the order of Tab")
+    expect_tabs_by_arrows(page, active)
+    expect_order_of_tab(page)
     page.run("seen('commitment').focus()")
     page.press("Enter")
     page.wait("lineOfPanel('export') === 'bad argument'")
@@ -140,19 +140,47 @@ def test_keys(browser):
         if name == "event":
             page.run("seen('filter-kinds').value = '1', seen('filter-form').requestSubmit(), rest()")
             page.run("rest()")
-        # Tab reaches each control that can act, in the order of the page.
-        wanted = page.run("(window.stops = [...document.querySelectorAll('button, input, "
-                          "[tabindex=\"0\"]')].filter(node => node.checkVisibility() && !node.disabled && "
-                          "(node.tabIndex === 0 || node.role !== 'tab'))).length")
-        page.run("stops[0].focus()")
-        reached = [0]
-        for _ in range(wanted - 1):
-            page.press("Tab")
-            reached.append(page.run("stops.indexOf(document.activeElement)"))
-        expect(reached, list(range(wanted)), "where Tab leads in " + name)
+        expect_all_reached(page, name)
 
     expect_searched_by_keys(page, steps, active)
     return "%d named controls" % names
+
+
+def expect_tabs_by_arrows(page, active):
+    """Arrows, Home and End lead from tab to tab, each with its panel."""
+    for key, tab in [("ArrowRight", "proof"), ("ArrowRight", "two"), ("ArrowRight", "export"), ("ArrowLeft", "two"),
+                     ("Home", "export"), ("End", "two"), ("Home", "export")]:
+        page.press(key)
+        expect(page.run(active), "tab-" + tab, "the tab after " + key)
+        expect(page.run("[...document.querySelectorAll('[role=tabpanel]')].filter(panel => "
+                        "panel.checkVisibility()).map(panel => panel.id).join()"), tab + "-panel",
+               "the panel after " + key)
+        expect(page.run("[...document.querySelectorAll('[aria-selected=true]')].map(tab => tab.id).join()"),
+               "tab-" + tab, "the selected tab")
+
+
+def expect_order_of_tab(page):
+    """Tab leads from field to field, and the focus can be seen."""
+    order = []
+    for _ in range(4):
+        page.press("Tab")
+        order.append(page.run("document.activeElement.id || document.activeElement.textContent"))
+        expect_true(page.run("getComputedStyle(document.activeElement).outlineStyle") == "solid",
+                    "focus can't be seen on " + order[-1])
+    expect(order, ["export-file", "key", "commitment", "verify"], "the order of Tab")
+
+
+def expect_all_reached(page, name):
+    """Tab reaches each control that can act, in the order of the page."""
+    wanted = page.run("(window.stops = [...document.querySelectorAll('button, input, "
+                      "[tabindex=\"0\"]')].filter(node => node.checkVisibility() && !node.disabled && "
+                      "(node.tabIndex === 0 || node.role !== 'tab'))).length")
+    page.run("stops[0].focus()")
+    reached = [0]
+    for _ in range(wanted - 1):
+        page.press("Tab")
+        reached.append(page.run("stops.indexOf(document.activeElement)"))
+    expect(reached, list(range(wanted)), "where Tab leads in " + name)
 
 
 def expect_searched_by_keys(page, steps, active):

@@ -69,37 +69,14 @@ def test_reports(browser, room):
     inputs = page.run("saidBy('export')")["inputs"]
     said = ["Genuine and complete: 333 events; the log is open", "verified 333 open"] + list(inputs.values())
 
-    def expect_in(text, wanted, what):
-        for words in wanted:
-            expect_true(bare(words) in bare(text), "%s isn't in %s" % (short(words), what))
-        expect_true(FIRST_KEY.hex()[:16] not in bare(text).lower(), "the key is in " + what)
-
     def lines_of(numbers):
         return [events[at][1].decode() for at in numbers]
-    for focus in ("key", "commitment"):
-        page.run("seen('%s').focus()" % focus)
-        expect(page.run("getComputedStyle(seen('key')).webkitTextSecurity"), "disc",
-               "the key on the screen, with the focus on " + focus)
-        text = "".join(printed(page))
-        expect_in(text, said + lines_of(range(50)) + ["These are 50 of 333 events"],
-                  "a print of a part, with the focus on " + focus)
-        expect_true(bare("event 50 of a report") not in bare(text), "a print of a part has all")
+
+    expect_part_printed(page, said + lines_of(range(50)))
     page.run("seen('print').click(), rest()")
     page.wait("prints === 1")
     for scheme in ("light", "dark"):
-        page.scheme(scheme)
-        pages = printed(page)
-        expect_in("".join(pages), said + lines_of(range(333)), "a print of all")
-        expect_true("These are" not in "".join(pages), "a print of all says that it isn't")
-        for number, text in enumerate(pages):
-            expect_true(bare("%d / %d" % (number + 1, len(pages))) in bare(text),
-                        "page %d of a print has no number" % (number + 1))
-        page.ask("Emulation.setEmulatedMedia", media="print",
-                 features=[{"name": "prefers-color-scheme", "value": scheme}])
-        expect(page.run("[getComputedStyle(document.body).backgroundColor, seen('export-form').checkVisibility(), "
-                        "seen('print').checkVisibility()]"),
-               ["rgb(255, 255, 255)", False, False], "a print in " + scheme)
-        page.ask("Emulation.setEmulatedMedia", media="")
+        expect_all_printed(page, scheme, said + lines_of(range(333)))
     page.scheme("light")
     expect(page.run("seen('first').disabled"), False, "back to pages after a print")
     page.run("seen('first').click(), rest()")
@@ -117,6 +94,41 @@ def test_reports(browser, room):
 
     expect_panels_printed(browser, room, expect_in)
     return "prints and reports"
+
+
+def expect_in(text, wanted, what):
+    """A text has these words, and not the key."""
+    for words in wanted:
+        expect_true(bare(words) in bare(text), "%s isn't in %s" % (short(words), what))
+    expect_true(FIRST_KEY.hex()[:16] not in bare(text).lower(), "the key is in " + what)
+
+
+def expect_part_printed(page, wanted):
+    """What is printed before all events are shown says so, and the key can't be read on the screen either."""
+    for focus in ("key", "commitment"):
+        page.run("seen('%s').focus()" % focus)
+        expect(page.run("getComputedStyle(seen('key')).webkitTextSecurity"), "disc",
+               "the key on the screen, with the focus on " + focus)
+        text = "".join(printed(page))
+        expect_in(text, wanted + ["These are 50 of 333 events"], "a print of a part, with the focus on " + focus)
+        expect_true(bare("event 50 of a report") not in bare(text), "a print of a part has all")
+
+
+def expect_all_printed(page, scheme, wanted):
+    """A print of all events, with numbers of pages, on white."""
+    page.scheme(scheme)
+    pages = printed(page)
+    expect_in("".join(pages), wanted, "a print of all")
+    expect_true("These are" not in "".join(pages), "a print of all says that it isn't")
+    for number, text in enumerate(pages):
+        expect_true(bare("%d / %d" % (number + 1, len(pages))) in bare(text),
+                    "page %d of a print has no number" % (number + 1))
+    page.ask("Emulation.setEmulatedMedia", media="print",
+             features=[{"name": "prefers-color-scheme", "value": scheme}])
+    expect(page.run("[getComputedStyle(document.body).backgroundColor, seen('export-form').checkVisibility(), "
+                    "seen('print').checkVisibility()]"),
+           ["rgb(255, 255, 255)", False, False], "a print in " + scheme)
+    page.ask("Emulation.setEmulatedMedia", media="")
 
 
 def expect_report_whole(browser, room, events, page, inputs, said, expect_in, lines_of):
@@ -190,6 +202,22 @@ INPUT_NAMES = {"file": "File", "size": "Bytes", "sha256": "SHA-256", "begun": "R
                "checked": "Checked"}
 
 
+# What is disabled while something is under way, and a start that is stopped once it goes on.
+STOPPED = """
+window.disabled = () => [...document.querySelectorAll('#events :is(button, input), #export-report button')]
+    .every(control => control.disabled) && !seen('stop').disabled;
+window.stopped = async start => {
+  seen('progress').value = 0;
+  start();
+  const isDisabled = disabled();
+  await until(() => seen('progress').value > 0 || seen('stop').disabled, 'progress');
+  const isOver = seen('stop').disabled;
+  seen('stop').click();
+  await rest();
+  return [isDisabled, isOver];
+}"""
+
+
 def test_stops(browser, room, number=60000):
     """Stop ends a search and leaves the rest, ends a verification without a verdict; what is being done is said, with
     the time that is left."""
@@ -204,17 +232,7 @@ def test_stops(browser, room, number=60000):
              "{childList: true})")
     page.run("new MutationObserver(() => steps.push([seen('progress-text').textContent, seen('verify').disabled, "
              "seen('stop').disabled])).observe(seen('progress-text'), {childList: true})")
-    page.run("""window.disabled = () => [...document.querySelectorAll('#events :is(button, input), #export-report button')].every(control => control.disabled) && !seen('stop').disabled;
-             window.stopped = async start => {
-               seen('progress').value = 0;
-               start();
-               const isDisabled = disabled();
-               await until(() => seen('progress').value > 0 || seen('stop').disabled, 'progress');
-               const isOver = seen('stop').disabled;
-               seen('stop').click();
-               await rest();
-               return [isDisabled, isOver];
-             }""")
+    page.run(STOPPED)
     expect(page.run("stopped(() => seen('export-form').requestSubmit())"), [True, False],
            "a verification that is to be stopped")
     expect(page.run("[seen('export-note').textContent, seen('export-verdict').textContent, seen('stop').disabled, "
@@ -222,6 +240,18 @@ def test_stops(browser, room, number=60000):
            ["Stopped: there is no verdict.", "", True, False], "a verification that is stopped")
     said = page.call("pressed", "export")
     expect(said["verdict"], "verified %d open" % number, "a verification after one that was stopped")
+    expect_progress_said(page)
+    expect_searches_stopped(page)
+    page.run("seen('unfilter').click(), rest()")
+    page.run("rest()")
+    expect(page.run("[seen('print').disabled, seen('print-hint').checkVisibility()]"), [True, True],
+           "printing too many events")
+    os.remove(path)
+    return "4 stops"
+
+
+def expect_progress_said(page):
+    """What is being done was said, with the time that is left, and not each step was announced."""
     words = page.run("[steps.map(([words]) => words).find(words => words.includes('left')) || '', heard.find(words => "
                      "words.includes('left')) || '']")
     for word in words:
@@ -230,14 +260,6 @@ def test_stops(browser, room, number=60000):
     expect_true(page.run("steps.every(([, verify, stop]) => verify && !stop)"), "what is disabled while it verifies")
     expect_true(page.run("seen('announced').matches('[role=status]') && heard.length < steps.length"),
                 "each step is announced")
-
-    expect_searches_stopped(page)
-    page.run("seen('unfilter').click(), rest()")
-    page.run("rest()")
-    expect(page.run("[seen('print').disabled, seen('print-hint').checkVisibility()]"), [True, True],
-           "printing too many events")
-    os.remove(path)
-    return "4 stops"
 
 
 def expect_searches_stopped(page):

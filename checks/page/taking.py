@@ -28,14 +28,38 @@ def test_taking(browser, room):
     page = Page(browser, PAGE)
 
     def drop(panel, *files):
-        made = ", ".join("fileOf('%s', '%s')" % (base64_of(data if isinstance(data, bytes) else data.encode()), name)
-                         for name, data in files)
-        for field in ("key", "commitment", "older", "newer", "receipt", "one", "other"):
-            page.run("seen('%s').value = ''" % field)
-        return page.run("seen('tab-%s').click(), dropOn('%s', %s)" % (panel, panel, made))
+        return dropped(page, panel, files)
 
-    def open_panel():
-        return page.run("document.querySelector('[aria-selected=true]').id.slice(4)")
+    expect_witness_taken(entries, roots, key, export, witness, page, drop)
+    expect_words_taken(roots, key, export, witness, page, drop)
+    expect_true("is taken as the export" in drop("export", ("STATE", witness + "5:" + "x" * 64)),
+                "a witness's file with another line")
+    drop("export", ("events.export", export))
+
+    # Text that is dragged from another window.
+    dragged_text(page, roots[5] + "\n")
+    page.wait("seen('export-note').textContent === 'The text is taken as the commitment.'")
+    dragged_text(page, key)
+    page.wait("seen('export-note').textContent === 'The text is taken as the first key.'")
+    expect(page.call("pressed", "export")["verdict"], "verified 5 open", "what was dropped as text")
+
+    expect_others_taken(room, entries, roots, key, export, increment, member, page, drop)
+
+    expect_order_told(roots, increment, page, drop)
+    return "what people have"
+
+
+def dropped(page, panel, files):
+    """What is said after files, names and what they have, were dropped on a panel, whose fields are empty."""
+    made = ", ".join("fileOf('%s', '%s')" % (base64_of(data if isinstance(data, bytes) else data.encode()), name)
+                     for name, data in files)
+    for field in ("key", "commitment", "older", "newer", "receipt", "one", "other"):
+        page.run("seen('%s').value = ''" % field)
+    return page.run("seen('tab-%s').click(), dropOn('%s', %s)" % (panel, panel, made))
+
+
+def expect_witness_taken(entries, roots, key, export, witness, page, drop):
+    """Of a witness's file the line that fits is used; what is said if there is none, or two."""
     said = drop("export", ("STATE", witness), ("first.key", key + "\n"), ("events.export", export))
     expect(said, "STATE is taken as the commitment. It has 5: the one that fits is used. first.key is taken as the "
                  "first key. events.export is taken as the export.", "a witness's file")
@@ -54,22 +78,6 @@ def test_taking(browser, room):
     meaning = page.call("pressed", "export")["meaning"]
     expect_true("Two of these commitments count 5, and have different roots." in meaning,
                 "a witness's file that contradicts itself")
-    expect_words_taken(roots, key, export, witness, page, drop)
-    expect_true("is taken as the export" in drop("export", ("STATE", witness + "5:" + "x" * 64)),
-                "a witness's file with another line")
-    drop("export", ("events.export", export))
-
-    # Text that is dragged from another window.
-    dragged_text(page, roots[5] + "\n")
-    page.wait("seen('export-note').textContent === 'The text is taken as the commitment.'")
-    dragged_text(page, key)
-    page.wait("seen('export-note').textContent === 'The text is taken as the first key.'")
-    expect(page.call("pressed", "export")["verdict"], "verified 5 open", "what was dropped as text")
-
-    expect_others_taken(room, entries, roots, key, export, increment, member, page, drop, open_panel)
-
-    expect_order_told(roots, increment, page, drop)
-    return "what people have"
 
 
 def expect_words_taken(roots, key, export, witness, page, drop):
@@ -109,27 +117,51 @@ def expect_notes_taken(roots, key, export, page, drop):
         expect_true("as the commitment" not in said, "a text that is nearly a note: " + said)
 
 
-def expect_others_taken(room, entries, roots, key, export, increment, member, page, drop, open_panel):
+def open_panel(page):
+    return page.run("document.querySelector('[aria-selected=true]').id.slice(4)")
+
+
+def expect_others_taken(room, entries, roots, key, export, increment, member, page, drop):
     """What belongs to another panel is taken there, or is told."""
-    # In another's place.
     store = b"AUDITST1" + bytes(1016)
     for name, data in [("events.store", store), ("second.store", bytes(512) + store[:512])]:
         said = drop("export", (name, data))
         expect_true(said.startswith(name + " is a store, not an export. Whoever runs the log makes one: audit export "
                                            "%s OUT." % name), "a store is told: " + said)
-        expect(open_panel(), "export", "the panel after a store")
+        expect(open_panel(page), "export", "the panel after a store")
+    expect_proofs_taken(roots, export, increment, member, page, drop)
+    expect_keys_told(entries, roots, key, page, drop)
+    for panel, name, data, home, field in [("export", "a.proof", member, "proof", "proof-file"),
+                                           ("proof", "events.export", export, "export", "export-file"),
+                                           ("export", "first.key", key.encode(), "export", "key")]:
+        page.run("seen('tab-%s').click(), seen('key').value = ''" % panel)
+        path = os.path.join(room, name)
+        write(path, data)
+        page.set_file("#%s-file" % panel, path)
+        page.wait("seen('%s-note').textContent.startsWith('%s is taken as the')" % (home, name))
+        expect((open_panel(page), page.run("Boolean(seen('%s').value)" % field)), (home, True),
+               "%s, chosen in another's place" % name)
+        os.remove(path)
+
+
+def expect_proofs_taken(roots, export, increment, member, page, drop):
+    """Proofs and exports in each other's place."""
     expect(drop("export", ("a.proof", member), ("commitment", roots[5])),
            "a.proof is taken as the proof. commitment is taken as the commitment.", "a proof in the export's place")
-    expect((open_panel(), page.call("pressed", "proof")["verdict"]), ("proof", "accepted"),
+    expect((open_panel(page), page.call("pressed", "proof")["verdict"]), ("proof", "accepted"),
            "a proof in the export's place")
     expect(drop("two", ("a.proof", increment), ("older", roots[2]), ("newer", roots[5])),
            "a.proof is taken as the proof. older is taken as the commitment. newer is taken as the commitment.",
            "a proof beside two commitments")
-    expect((open_panel(), page.call("pressed", "proof")["verdict"]), ("proof", "accepted"),
+    expect((open_panel(page), page.call("pressed", "proof")["verdict"]), ("proof", "accepted"),
            "a proof beside two commitments")
     expect(drop("proof", ("events.export", export)), "events.export is taken as the export.",
            "an export in the proof's place")
-    expect(open_panel(), "export", "the panel after an export in the proof's place")
+    expect(open_panel(page), "export", "the panel after an export in the proof's place")
+
+
+def expect_keys_told(entries, roots, key, page, drop):
+    """Keys, receipts and states where they aren't needed."""
     expect(drop("two", ("first.key", key)), "first.key is a key: it isn't needed here, and isn't shown.",
            "a key where none is needed")
     said = drop("proof", ("a.key", key + "\n"), ("older", roots[5]))
@@ -145,17 +177,6 @@ def expect_others_taken(room, entries, roots, key, export, increment, member, pa
            "day.state is a state: it isn't needed here, and isn't shown.", "a state where none is needed")
     expect_true("isn't of use here: two commitments are compared" in drop("two", ("notes.txt", "hello")),
                 "another file where commitments are compared")
-    for panel, name, data, home, field in [("export", "a.proof", member, "proof", "proof-file"),
-                                           ("proof", "events.export", export, "export", "export-file"),
-                                           ("export", "first.key", key.encode(), "export", "key")]:
-        page.run("seen('tab-%s').click(), seen('key').value = ''" % panel)
-        path = os.path.join(room, name)
-        write(path, data)
-        page.set_file("#%s-file" % panel, path)
-        page.wait("seen('%s-note').textContent.startsWith('%s is taken as the')" % (home, name))
-        expect((open_panel(), page.run("Boolean(seen('%s').value)" % field)), (home, True),
-               "%s, chosen in another's place" % name)
-        os.remove(path)
 
 
 def expect_order_told(roots, increment, page, drop):
@@ -189,6 +210,20 @@ def dragged_text(page, text):
         page.ask("Input.dispatchDragEvent", type=kind, x=100, y=300, data=data)
 
 
+class Told:
+    """Counts the verdicts that were as they should be."""
+
+    def __init__(self):
+        self.count = 0
+
+    def __call__(self, found, verdict, *words):
+        self.count += 1
+        expect(found["verdict"], verdict, "words %d (%s)" % (self.count, verdict))
+        for word in words:
+            expect_true(word in found["headline"] + ". " + found["meaning"],
+                        "%s has no '%s': %s" % (verdict, word, short(found)))
+
+
 def test_words(browser, room):
     """Wrong inputs of every kind, and their messages."""
     entries = entries_of(FIRST_KEY, [(1, b"one"), (2, b"two"), (3, b"three")])
@@ -198,34 +233,37 @@ def test_words(browser, room):
     member = proof_bytes(*member_proof(leaves, 1, entries[1]))
     increment = proof_bytes(*increment_proof(leaves, 2))
     other = word_of(3, bytes(32))
-    closed_entries = entries_of(FIRST_KEY, [(1, b"one"), (CLOSING, b"")])
-    closed = b"".join(closed_entries)
-    count = 0
+    tell, first = Told(), Page(browser, PAGE)
+    tell(first.call("pressed", "export"), "bad argument", "Nothing was checked", "Choose or drop an export.",
+         "Type or drop the first key", "Type or drop a commitment")
+    closed = entries_of(FIRST_KEY, [(1, b"one"), (CLOSING, b"")])
+    expect_export_verdicts(entries, roots, key, export, other, closed, b"".join(closed), tell,
+                           lambda data, key, claimed: first.call("verified", base64_of(data), key, claimed))
+    folder = expect_files_read_anew(room, roots, key, export, tell, lambda panel: first.call("pressed", panel), first)
+    tell(first.call("pressed", "export"), "bad argument", "Choose or drop an export.")
 
-    def tell(found, verdict, *words):
-        nonlocal count
-        count += 1
-        expect(found["verdict"], verdict, "words %d (%s)" % (count, verdict))
-        for word in words:
-            expect_true(word in found["headline"] + ". " + found["meaning"],
-                        "%s has no '%s': %s" % (verdict, word, short(found)))
+    page = Page(browser, PAGE)
 
     def asked(panel):
         return page.call("pressed", panel)
 
-    page = Page(browser, PAGE)
-    tell(asked("export"), "bad argument", "Nothing was checked", "Choose or drop an export.",
-         "Type or drop the first key", "Type or drop a commitment")
+    expect_drops_recognised(roots, key, export, tell, asked, page)
+    page.run("seen('tab-proof').click()")
+    tell(asked("proof"), "bad argument", "Choose or drop a proof.", "Type or drop a commitment")
+    expect_proof_verdicts(roots, member, increment, other, tell,
+                          lambda data, older, newer="": page.call("checked", base64_of(data), older, newer))
+    dragged(page, folder, "seen('proof-note').textContent.includes('a folder')")
+    page.run("seen('newer').value = '', seen('older').value = '%s'" % roots[3])
+    tell(asked("proof"), "bad argument", "Choose or drop a proof.")
+    expect_gone_told(room, member, tell, asked, page)
+    expect_comparisons(roots, other, tell, asked, page)
+    expect_keys_hidden(entries, roots, key, tell, asked, page)
+    expect_faults_by_field(roots, key, asked, page)
+    return "%d wrong inputs" % tell.count
 
-    def verify(data, key, claimed):
-        return page.call("verified", base64_of(data), key, claimed)
-    expect_export_verdicts(entries, roots, key, export, other, closed_entries, closed, tell, verify)
 
-    folder = expect_files_read_anew(room, roots, key, export, tell, asked, page)
-    tell(asked("export"), "bad argument", "Choose or drop an export.")
-
-    # Dropped files are recognised, together and alone; others are refused.
-    page = Page(browser, PAGE)
+def expect_drops_recognised(roots, key, export, tell, asked, page):
+    """Dropped files are recognised, together and alone; others are refused."""
     drop = "dropOn('export', new File(['%s\\n'], 'first.key'), new File(['%s\\n'], 'commitment'), fileOf('%s', 'events.export'))" % (
         key, roots[3], base64_of(export))
     expect(page.run(drop), "first.key is taken as the first key. commitment is taken as the commitment. events.export "
@@ -234,22 +272,6 @@ def test_words(browser, room):
     drop = "dropOn('export', new File(['%s'], 'short.key'))" % key[:-1]
     expect_true("A key is 64 hex digits; here are 63" in page.run(drop), "a short key is told")
     expect(page.run("dropOn('export')"), "Drop files or text.", "a drop of none")
-    page.run("seen('tab-proof').click()")
-    tell(asked("proof"), "bad argument", "Choose or drop a proof.", "Type or drop a commitment")
-
-    def check(data, older, newer=""):
-        return page.call("checked", base64_of(data), older, newer)
-    expect_proof_verdicts(roots, member, increment, other, tell, check)
-    dragged(page, folder, "seen('proof-note').textContent.includes('a folder')")
-    page.run("seen('newer').value = '', seen('older').value = '%s'" % roots[3])
-    tell(asked("proof"), "bad argument", "Choose or drop a proof.")
-    expect_gone_told(room, member, tell, asked, page)
-
-    expect_comparisons(roots, other, tell, asked, page)
-    expect_keys_hidden(entries, roots, key, tell, asked, page)
-
-    expect_faults_by_field(roots, key, asked, page)
-    return "%d wrong inputs" % count
 
 
 def expect_export_verdicts(entries, roots, key, export, other, closed_entries, closed, tell, verify):

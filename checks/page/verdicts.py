@@ -104,46 +104,23 @@ def test_firefox(exports, proofs, tails):
     return "Firefox: " + ", ".join(done)
 
 
+STATED = [(1, b"one"), (7, b"two"), (2, b"three"), (7, b"four"), (CLOSING, b"")]
+
+
 def test_states(browser, numbers, kept):
     """A tail is verified from a state, which is typed in or dropped; from another one, or a damaged one, it isn't."""
-    events = [(1, b"one"), (7, b"two"), (2, b"three"), (7, b"four"), (CLOSING, b"")]
-    entries = entries_of(FIRST_KEY, events)
+    entries = entries_of(FIRST_KEY, STATED)
     leaves = [history.leaf_hash(entry) for entry in entries]
     roots = [word_of(count, history.root(leaves[:count])) for count in range(6)]
-    first = read_export.FIRST._replace(key=FIRST_KEY)
     states = [state_after(entries, cut) for cut in range(6)]
     page = opened(browser)
 
     def verify(begun, state, claimed=roots[5]):
         return page.call("verified", base64_of(b"".join(entries[begun:])), " ".join(state.split()), claimed)
 
-    def tell(found, verdict, word):
-        expect(found["verdict"], verdict, "a state")
-        expect_true(word in found["headline"] + found["meaning"], "%s has no '%s': %s" % (verdict, word, short(found)))
     for cut, state in enumerate(states):
-        found = verify(cut, state)
-        expect(found["verdict"], "verified 5 closed", "the entries after %d" % cut)
-        expect(found["rows"], [row_of(at, *events[at]) for at in range(cut, 5)], "rows after %d" % cut)
-        expect(found["inputs"]["Read with"],
-               "a state after %d entr%s, which isn't shown" % (cut, "y" if cut == 1 else "ies"), "what was read with")
-        if 0 < cut < 5:
-            expect(page.run("seen('shown').textContent"),
-                   "Events %d to 4 of the %d after the state, numbered from 0" % (cut, 5 - cut),
-                   "the caption after a state")
-    tell(verify(3, states[3]), "verified 5 closed",
-         "Genuine and complete after the first 3: 2 events; the log is closed")
-    read_on = read_export.read_on(b"".join(entries[:3]), first,
-                                  (3, history.root(leaves[:3])))[1].text((4, history.root(leaves[:4]))).decode()
-    tell(verify(3, read_on), "verified 5 closed", "after the first 3")
-    tell(verify(3, states[2]), "entry 2: 42 BadLink", "doesn't begin after the state")
-    tell(verify(3, FIRST_KEY.hex()), "entry 0: 42 BadLink", "needs their state")
-    tell(verify(0, states[3]), "entry 3: 42 BadLink", "doesn't begin after the state")
-    tell(verify(4, states[5]), "entry 5: 46 BadClose", "bytes follow")
-    tell(verify(3, states[3], roots[2]), "bad argument", "the commitment is older")
-    tell(verify(3, states[3], roots[4]), "entry 5: 44 WrongCommitment", "The commitment counts 4")
-    for wrong in (states[3].replace("open", "closed"), states[3].replace("count 3", "count 5"), states[3][:-9],
-                  states[3] + "x", states[3].upper().replace("AUDIT-STATE", "audit-state")):
-        tell(verify(3, wrong), "bad argument", "The state was changed or cut off.")
+        expect_read_on(page, verify(cut, state), cut)
+    expect_states_judged(entries, leaves, roots, states, verify)
     drop = "dropOn('export', new File([%s], 'day.state'), new File(['%s\\n'], 'commitment'), fileOf('%s', 'tail.export'))" % (
         json.dumps(states[3]), roots[5], base64_of(b"".join(entries[3:])))
     expect(page.run(drop), "day.state is taken as the state. commitment is taken as the commitment. tail.export is "
@@ -151,6 +128,42 @@ def test_states(browser, numbers, kept):
     expect(page.call("pressed", "export")["verdict"], "verified 5 closed", "what was dropped")
     expect_tails_judged(numbers, kept, page)
     return "states and %d tails" % len(numbers)
+
+
+def expect_read_on(page, found, cut):
+    """The events after a state, with their numbers in the log."""
+    expect(found["verdict"], "verified 5 closed", "the entries after %d" % cut)
+    expect(found["rows"], [row_of(at, *STATED[at]) for at in range(cut, 5)], "rows after %d" % cut)
+    expect(found["inputs"]["Read with"],
+           "a state after %d entr%s, which isn't shown" % (cut, "y" if cut == 1 else "ies"), "what was read with")
+    if 0 < cut < 5:
+        expect(page.run("seen('shown').textContent"),
+               "Events %d to 4 of the %d after the state, numbered from 0" % (cut, 5 - cut),
+               "the caption after a state")
+
+
+def tell_state(found, verdict, word):
+    expect(found["verdict"], verdict, "a state")
+    expect_true(word in found["headline"] + found["meaning"], "%s has no '%s': %s" % (verdict, word, short(found)))
+
+
+def expect_states_judged(entries, leaves, roots, states, verify):
+    """What is said with states of other counts, of `read`, changed and cut off."""
+    first = read_export.FIRST._replace(key=FIRST_KEY)
+    tell_state(verify(3, states[3]), "verified 5 closed",
+               "Genuine and complete after the first 3: 2 events; the log is closed")
+    read_on = read_export.read_on(b"".join(entries[:3]), first,
+                                  (3, history.root(leaves[:3])))[1].text((4, history.root(leaves[:4]))).decode()
+    tell_state(verify(3, read_on), "verified 5 closed", "after the first 3")
+    tell_state(verify(3, states[2]), "entry 2: 42 BadLink", "doesn't begin after the state")
+    tell_state(verify(3, FIRST_KEY.hex()), "entry 0: 42 BadLink", "needs their state")
+    tell_state(verify(0, states[3]), "entry 3: 42 BadLink", "doesn't begin after the state")
+    tell_state(verify(4, states[5]), "entry 5: 46 BadClose", "bytes follow")
+    tell_state(verify(3, states[3], roots[2]), "bad argument", "the commitment is older")
+    tell_state(verify(3, states[3], roots[4]), "entry 5: 44 WrongCommitment", "The commitment counts 4")
+    for wrong in (states[3].replace("open", "closed"), states[3].replace("count 3", "count 5"), states[3][:-9],
+                  states[3] + "x", states[3].upper().replace("AUDIT-STATE", "audit-state")):
+        tell_state(verify(3, wrong), "bad argument", "The state was changed or cut off.")
 
 
 def expect_tails_judged(numbers, kept, page):
