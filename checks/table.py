@@ -58,7 +58,7 @@ CHECKS = entries("checks", [
     ("names", "each name between backticks in the documents about the code is in the code", "2 s"),
     ("diagrams", "what the documents draw, list and link to exists", "1 s"),
     ("rooms", "the README of each crate names its files, and nothing that isn't there", "1 s"),
-    ("lengths", "the pages have at most 20,000 words", "at once"),
+    ("lengths", "the pages have at most 20,000 words, each function in Python at most 40 lines", "2 s"),
     ("crates-table", "crates/README.md has the crates as crates.txt does", "at once"),
     ("commits", "the messages of new commits have the form that CONTRIBUTING.md asks for", "at once"),
 ])

@@ -162,9 +162,9 @@ def checks_of_rest(program):
         ["version", program], ["install", program], ["refusals"], ["claims"], ["words"], ["edits"], ["names"],
         ["commits"], ["crates-table"], ["man-page"], ["endure", "20", endure], ["endure", "20", endure + ".by-rattle"],
         ["statement"], ["model"], ["placed"], ["rooms"], ["diagrams"], ["lengths"], ["feeds", program],
-        ["network", program], ["power", program], ["bench", "fleet", program, "8"], ["siem", program], ["chain", program],
-        ["rotating", program], ["sealing", program], ["anchors", program], ["metrics", program], ["library", program],
-        ["units", program], ["page"],
+        ["network", program], ["power", program], ["bench", "fleet", program, "8"], ["siem", program],
+        ["chain", program], ["rotating", program], ["sealing", program], ["anchors", program], ["metrics", program],
+        ["library", program], ["units", program], ["page"],
     ]
 
 
