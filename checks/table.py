@@ -71,6 +71,7 @@ BENCHES = entries("checks.bench", [
     ("sources", "what `send` and `file-feed` send with places, and `send` without", "2 min"),
     ("follow", "lines of a log piped to `append --follow`, and verified", "2 min"),
     ("read", "`read` of a million events, and of what is new after them", "5 min"),
+    ("library", "proofs, exports and appends by libauditstore and the Python package", "1 min"),
     ("network", "hosts over TLS, and clients that are more than a daemon's places", "2 min"),
     ("replicas", "a store on Ceph and on an NBD quorum beside one in a file: rates, attaching, openings", "5 min"),
     ("fleet", "200 stores on one machine: daemons, looks, metrics, rotations", "3 min"),

@@ -8,8 +8,8 @@ usage: bin/check library EXECUTABLE [--long] [SCENE ..]
 
 What is expected comes from the model, from the auditor's programs and from EXECUTABLE, which serves the stores. The
 library is linked from the archive that `rt lib` leaves in crates/audit_c; AUDIT_STORE_LIBRARY in the environment names
-one that is built already. With --long there are 20,000 mutations and 200 kills, and figures are printed. A compiler of
-C or Go, or valgrind, that isn't there is left out with a line.
+one that is built already. With --long there are 20,000 mutations and 200 kills. A compiler of C or Go, or
+valgrind, that isn't there is left out with a line.
 """
 from checks.library import asked, built, examples, handled, judged, placed, watched
 from checks.library.common import use_library

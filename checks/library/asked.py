@@ -3,7 +3,6 @@ import asyncio
 import contextlib
 import os
 import socket
-import subprocess
 import sys
 import threading
 import time
@@ -14,7 +13,7 @@ from checks.parts.files import write
 from checks.parts.places import KEY
 from checks.parts.scenes import scene
 from checks.parts.wrong import Wrong, expect, expect_true
-from model.chain import ZERO_KEY, log_of
+from model.chain import log_of
 
 FIRST_KEY = bytes.fromhex(open(KEY).read().strip())
 
@@ -372,80 +371,3 @@ def late_answers():
         writer.close()
 
     return late
-
-
-def least(call, runs=10):
-    """The least time of several runs."""
-    times = []
-    for _ in range(runs):
-        begun = time.perf_counter()
-        call()
-        times.append(time.perf_counter() - begun)
-    return min(times)
-
-
-@scene
-def scene_figures():
-    """With --long: how long calls take, the least of several runs. Appends go to a server that acknowledges at once."""
-    from audit_store import Client, Commitment, check
-    from history import root
-    from model import tree
-    if not program.LONG:
-        return
-    log = log_of([(1, b"an event of some bytes %d" % number) for number in range(1000)], ZERO_KEY)
-    for count in (200, 1000):
-        part = log_of(log.events[:count], ZERO_KEY)
-        hashes = tree.membership(part.leaves, 7)
-        proof = tree.membership_proof(7, count, hashes, part.entries[7])
-        commitment = Commitment(count, root(part.leaves))
-        took = least(lambda: [check(proof, commitment) for _ in range(2000)]) / 2000
-        print("a proof of %d hashes: %.1f us" % (len(hashes), took * 1e6))
-    with_it = least(lambda: subprocess.run([sys.executable, "-c", "import audit_store"], check=True))
-    print("import: %.0f ms" % ((with_it - least(lambda: subprocess.run([sys.executable, "-c", "pass"], check=True))) * 1e3))
-    child = os.fork()
-    if child == 0:
-        acknowledge_all("fast.sock")
-    while not os.path.exists("fast.sock.ready"):
-        time.sleep(0.01)
-    with Client("fast.sock") as client:
-        events = [b"an event of some bytes %d" % number for number in range(100000)]
-        begun = time.perf_counter()
-        client.append_all(events)
-        print("appends with 64 in flight: %d a second" % (len(events) / (time.perf_counter() - begun)))
-        begun = time.perf_counter()
-        receipts = client.append_placed(events, 7, 0)
-        print("placed appends with 64 in flight: %d a second" % (len(events) / (time.perf_counter() - begun)))
-        expect_true(all(receipts), "an event has no receipt")
-    os.kill(child, 9)
-    os.waitpid(child, 0)
-
-
-def acknowledge_all(path):
-    """Acknowledges every append, by as little work as it takes."""
-    server = socket.socket(socket.AF_UNIX, socket.SOCK_STREAM)
-    server.bind(path)
-    server.listen()
-    write(path + ".ready", b"")
-    stream, _ = server.accept()
-    held, index = b"", 0
-    while True:
-        piece = stream.recv(1 << 18)
-        if not piece:
-            os._exit(0)
-        held += piece
-        at, replies = 0, []
-        while len(held) - at >= 2:
-            size = 2 + int.from_bytes(held[at:at + 2], "big")
-            if len(held) - at < size:
-                break
-            kind, tag = held[at + 2], held[at + 3:at + 7]
-            if kind == 8:
-                replies.append(b"\0\x15\x88" + tag + bytes(16))
-            else:
-                head = b"\0\x35\x81" if kind == 1 else b"\0\x55\x89"
-                replies.append(head + tag + index.to_bytes(8, "big") + (index + 1).to_bytes(8, "big")
-                               + bytes(32 if kind == 1 else 64))
-                index += 1
-            at += size
-        held = held[at:]
-        stream.sendall(b"".join(replies))

@@ -348,7 +348,7 @@ def scene_damaged_structs():
             verifier.count, verifier.fault, verifier.closed = ROLLS.randrange(4), 0, ROLLS.randrange(3)
             ctypes.memset(ctypes.byref(verifier.nodes), 0, ctypes.sizeof(verifier.nodes))
         library.verify_feed(verifier, noise, len(noise), event, payload, names.PAYLOAD_MAX)
-        library.verify_end(verifier, names.GivenCommitment())
+        library.verify_end(verifier, bytes(names.GivenCommitment()))
 
 
 # ---- Frames

@@ -44,17 +44,19 @@ class Reply(ctypes.Structure):
 
 # The result and the parameters of each function.
 BYTES = [c_char_p, c_size_t]
+# A commitment that a function reads, in its struct's bytes: they cross in half the time that a struct takes.
+READ_COMMITMENT = c_char_p
 BUFFER = [c_void_p, c_size_t]
 FUNCTIONS = {
     "read_commitment": (c_uint32, BYTES + [POINTER(GivenCommitment)]),
     "read_note": (c_uint32, BYTES + [POINTER(GivenNote)]),
-    "check_inclusion": (c_uint32, BYTES + [POINTER(GivenCommitment)]),
-    "check_consistency": (c_uint32, BYTES + 2 * [POINTER(GivenCommitment)]),
-    "open_inclusion": (c_uint32, BYTES + [POINTER(GivenCommitment), c_char_p, POINTER(GivenEvent)] + BUFFER),
+    "check_inclusion": (c_uint32, BYTES + [READ_COMMITMENT]),
+    "check_consistency": (c_uint32, BYTES + 2 * [READ_COMMITMENT]),
+    "open_inclusion": (c_uint32, BYTES + [READ_COMMITMENT, c_char_p, POINTER(GivenEvent)] + BUFFER),
     "verify_first": (None, [c_char_p, POINTER(Verifier)]),
     "verify_state": (c_uint32, BYTES + [POINTER(Verifier)]),
     "verify_feed": (c_uint32, [POINTER(Verifier)] + BUFFER + [POINTER(GivenEvent)] + BUFFER),
-    "verify_end": (c_uint32, [POINTER(Verifier), POINTER(GivenCommitment)]),
+    "verify_end": (c_uint32, [POINTER(Verifier), READ_COMMITMENT]),
     "write_append": (c_size_t, [c_uint32, c_uint32] + BYTES + BUFFER),
     "write_commitment": (c_size_t, [c_uint32] + BUFFER),
     "write_inclusion": (c_size_t, [c_uint32, c_uint64, c_uint64] + BUFFER),

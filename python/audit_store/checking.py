@@ -5,7 +5,7 @@ from typing import NamedTuple, Optional
 
 from audit_store._library import BAD_PROOF, NOTE_NAME, OK, GivenCommitment, GivenNote, library
 
-# A commitment as the library takes it.
+# A commitment as the library reads it: the bytes of its struct.
 _GIVEN = struct.Struct("=Q32s")
 
 
@@ -58,11 +58,11 @@ class Note(NamedTuple):
         return cls(name, Commitment(found.commitment.count, bytes(found.commitment.root)))
 
 
-def given(commitment: Commitment) -> GivenCommitment:
-    """A commitment as the library takes it."""
+def given(commitment: Commitment) -> bytes:
+    """A commitment as the library reads it."""
     if not 0 <= commitment.count < 1 << 64 or len(commitment.root) != 32:
         raise ValueError("not a commitment: %r" % (commitment,))
-    return GivenCommitment.from_buffer_copy(_GIVEN.pack(*commitment))
+    return _GIVEN.pack(*commitment)
 
 
 def check(proof: bytes, commitment: Commitment, newer: Optional[Commitment] = None) -> bool:
@@ -75,11 +75,11 @@ def check(proof: bytes, commitment: Commitment, newer: Optional[Commitment] = No
     audit_store.checking.BadProof: not an inclusion proof
     """
     if newer is None:
-        answer = library.check_inclusion(proof, len(proof), byref(given(commitment)))
+        answer = library.check_inclusion(proof, len(proof), given(commitment))
         if answer == BAD_PROOF:
             raise BadProof("not an inclusion proof")
     else:
-        answer = library.check_consistency(proof, len(proof), byref(given(commitment)), byref(given(newer)))
+        answer = library.check_consistency(proof, len(proof), given(commitment), given(newer))
         if answer == BAD_PROOF:
             raise BadProof("not a consistency proof")
     return bool(answer == OK)

@@ -42,7 +42,7 @@ def open_proof(proof: bytes, commitment: Commitment, key: bytes) -> Optional[Eve
     if len(key) != 32:
         raise ValueError("a key has 32 bytes")
     event, payload = GivenEvent(), ctypes.create_string_buffer(PAYLOAD_MAX)
-    answer = library.open_inclusion(proof, len(proof), byref(given(commitment)), bytes(key), byref(event), payload,
+    answer = library.open_inclusion(proof, len(proof), given(commitment), bytes(key), byref(event), payload,
                                     PAYLOAD_MAX)
     if answer == BAD_PROOF:
         raise BadProof("not an inclusion proof of an entry")
@@ -175,7 +175,7 @@ def _events(pieces: Iterable[bytes], start: Start, commitment: Commitment, wante
                 rest -= event.taken
                 if wanted:
                     yield Event(event.index, event.kind, ctypes.string_at(payload, event.size))
-        answer = library.verify_end(state, byref(claimed))
+        answer = library.verify_end(state, claimed)
         if answer != OK:
             raise NotVerified(verifier.count, answer)
         if save is not None:
