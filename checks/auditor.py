@@ -1,4 +1,5 @@
-"""Compares auditor/check_proof.py and read_export.py with the program, on what a tour left and on damaged copies of it.
+"""Compares auditor/check_proof.py and read_export.py with the program, on what a tour left and on damaged copies of it;
+and tries what auditor/disclosure.py discloses of it.
 
 usage: bin/check auditor EXECUTABLE FOLDER
 
@@ -13,6 +14,7 @@ import os
 import re
 
 import check_proof
+import disclosure
 import history
 import read_export
 
@@ -196,6 +198,88 @@ def compare_closed_exports(comparison, entries):
             comparison.verify(export[:len(export) - size], "first.key", word)
 
 
+def answered(*words):
+    """What disclosure.py answers: status, output and messages."""
+    output, messages = io.StringIO(), io.StringIO()
+    with contextlib.redirect_stdout(output), contextlib.redirect_stderr(messages):
+        status = disclosure.main(list(words))
+    return status, output.getvalue(), messages.getvalue()
+
+
+def sealed_line(line):
+    """What is shown of an event that isn't disclosed, by its line of `audit verify`."""
+    _, index, kind, digits = line.split()
+    return "sealed %s %s %d" % (index, kind, len(digits) // 2 if digits != "-" else 0)
+
+
+def try_disclosures(comparison, entries, newer):
+    """Chosen events read as the program verified them, and of the others kind and length are shown."""
+    def expect(what, found, wanted):
+        comparison.asked += 1
+        if found != wanted:
+            comparison.differ += 1
+            print("%s: %r, and not %r" % (what, found, wanted))
+
+    for left in "chosen", "later":
+        with contextlib.suppress(FileNotFoundError):
+            os.remove(left)
+    lines = done("verify", "events.export", "first.key", newer).decode().splitlines()
+    events, count = lines[:-1], len(entries)
+    kinds = [line.split()[2] for line in events]
+    of_first_kind = {at for at in range(count) if kinds[at] == kinds[0]}
+    for option, word, chosen in (("--events", "3,10-12", {3, 10, 11, 12}), ("--events", "99", set()),
+                                 ("--events", "0-%d" % count, set(range(count))), ("--kind", kinds[0], of_first_kind)):
+        made = answered("--make", "events.export", "first.key", newer, "chosen", option, word)
+        expect("--make %s" % word, made, (0, "disclosed %d %d\n" % (len(chosen), count), ""))
+        expect("the mode", os.stat("chosen").st_mode & 0o777, 0o600)
+        wanted = [line if at in chosen else sealed_line(line) for at, line in enumerate(events)]
+        wanted.append(lines[-1].replace("verified", "matched"))
+        expect(word, answered("events.export", "chosen", newer), (0, "".join(line + "\n" for line in wanted), ""))
+        expect("another file", answered("--make", "events.export", "first.key", newer, "chosen", option, word),
+               (1, "", "disclosure: file exists\n"))
+        os.remove("chosen")
+    try_damaged_disclosures(expect, entries, newer)
+
+
+def try_damaged_disclosures(expect, entries, newer):
+    """Damage to an export is found without a key, also where a MAC is hit: the commitment is to it."""
+    expect("a key's name", answered("--make", "events.export", "first.key", newer, "chosen", "--events", "1")[0], 0)
+    data, text = b"".join(entries), read("chosen")
+    for damaged in [*turned(data, 97), data[:-1], b"".join(entries[:-1]), b"".join(entries[1:]), data + entries[0]]:
+        write("damaged", damaged)
+        status, shown, _ = answered("damaged", "chosen", newer)
+        expect("a damaged export", (status, shown), (1, ""))
+        made = answered("--make", "damaged", "first.key", newer, "none", "--events", "1")
+        expect("what is made of it", made[:2], (1, ""))
+        expect("what is left", os.path.exists("none"), False)
+    for other in (text[:-1], text + b"\n", text.replace(b"key 1", b"key 01"), text + text, text.upper(), b"\xff",
+                  b"count 0\n" + text, text.replace(b"\n", b"\r\n")):
+        write("other", other)
+        shown = answered("events.export", "other", newer)
+        expect("the disclosure %r" % other, shown, (2, "", "disclosure: bad argument\n"))
+    for words in (("--kind", ""), ("--kind", "4294967296"), ("--events", "2-1"), ("--events", "1,"), ("--event", "1")):
+        expect(" ".join(words), answered("--make", "events.export", "first.key", newer, "none", *words)[0], 2)
+    expect("a missing export", answered("missing", "chosen", newer), (3, "", "disclosure: file fault\n"))
+    try_disclosed_tail(expect, entries, newer)
+
+
+def try_disclosed_tail(expect, entries, newer):
+    """What follows a state is matched with its count, link and frontier."""
+    half = len(entries) // 2
+    write("front", b"".join(entries[:half]))
+    write("tail", b"".join(entries[half:]))
+    at_half = word_of(half, history.root([history.leaf_hash(entry) for entry in entries[:half]]))
+    done("verify", "front", "first.key", at_half, "--save", "half.state")
+    lines = done("verify", "tail", "half.state", newer).decode().splitlines()
+    made = answered("--make", "tail", "half.state", newer, "later", "--events", "%d-" % half + str(half + 1))
+    expect("a tail's disclosure", made, (0, "disclosed 2 %d\n" % len(entries), ""))
+    wanted = lines[:2] + [sealed_line(line) for line in lines[2:-1]] + [lines[-1].replace("verified", "matched")]
+    expect("a tail", answered("tail", "later", newer), (0, "".join(line + "\n" for line in wanted), ""))
+    expect("a tail without its state", answered("tail", "chosen", newer)[0], 1)
+    key = read_export.read_start("half.state").key.hex().encode()
+    expect("whether the state's key is in it", key in read("later"), False)
+
+
 def compare_words(comparison, newer):
     for word in ["", "24", ":", newer + "0", newer[:-1], "x" + newer, " " + newer, "1" * 21 + newer[2:], newer.upper(),
                  "18446744073709551616" + newer[2:], "0" + newer]:
@@ -218,6 +302,7 @@ def compare_all(comparison):
     compare_exports(comparison, entries, newer)
     compare_closed_exports(comparison, entries)
     compare_words(comparison, newer)
+    try_disclosures(comparison, entries, newer)
 
 
 def compare_folder(folder):

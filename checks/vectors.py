@@ -10,14 +10,17 @@ import contextlib
 import json
 import os
 import re
+import subprocess
+import sys
 
+import disclosure
 from check_proof import contents, event_under, is_accepted, read_proof
 from checks.parts.clients import Client
 from checks.parts.daemons import Daemon
 from checks.parts.files import folder_of_its_own, read, read_text, write
 from checks.parts.frames import append_frame, place_frame, placed_frame, request
 from checks.parts.logs import word_of
-from checks.parts.places import DOCS
+from checks.parts.places import AUDITOR, DOCS
 from checks.parts.program import done, done_with, whole
 from checks.parts.scenes import program_of
 from checks.parts.wrong import Wrong
@@ -60,6 +63,9 @@ class Vectors:
         noted = re.search("\n## Notes\n(.*?)\n## ", text, re.S)[1]
         self.note, = ("".join(line[4:] for line in block.splitlines(True)).encode()
                       for block in re.findall(r"(?:^    .*\n)+", noted, re.M))
+        disclosed = re.search("\n## Disclosures\n(.*?)\n## ", text, re.S)[1]
+        self.chosen, self.later, self.shown = ("".join(line[4:] for line in block.splitlines(True))
+                                               for block in re.findall(r"(?:^    .*\n)+", disclosed + "\n", re.M))
         self.json, self.numbered = ("".join(line[4:] for line in block.splitlines(True))
                                     for block in re.findall(r"(?:^    .*\n)+", printed + "\n", re.M))
         blocks = re.findall(r"(?:^    .*\n)+", section, re.M)
@@ -219,6 +225,7 @@ def differences(vectors):
     yield from differences_of_lines(vectors)
     yield from differences_of_receipts(receipts(vectors.receipts))
     yield from differences_of_link(vectors.link)
+    yield from differences_of_disclosures(vectors)
     yield from differences_of_program(vectors, inclusion, consistency, log)
 
 
@@ -305,6 +312,23 @@ def differences_of_receipts(found):
             warning = UNBOUND if len(payload) < 16 else b""
             if done_with(warning, "check", "proof", word, "--key", key.hex(), *form) != printed:
                 yield "the program reads another event under the receipt %d" % index
+
+
+def differences_of_disclosures(vectors):
+    """The document's disclosures are those of the model's keys, and auditor/disclosure.py shows what the document has."""
+    log = log_of([(KIND, payload) for payload in PAYLOADS])
+    keys = entry_keys(ZERO_KEY, log.events)
+    two = read_on(b"".join(log.entries[:2]), FIRST._replace(key=ZERO_KEY), (2, root(log.leaves[:2])))[1]
+    if (vectors.chosen, vectors.later) != (disclosure.text_of({1: keys[1]}), disclosure.text_of({2: keys[2]}, two)):
+        yield "the disclosures"
+    for text, entries, lines in ((vectors.chosen, log.entries[:3], vectors.shown),
+                                 (vectors.later, log.entries[2:3], "event 2 1 62\nmatched 3 open\n")):
+        write("chosen", text.encode())
+        write("export", b"".join(entries))
+        words = "export", "chosen", word_of(3, root(log.leaves[:3]))
+        done = subprocess.run([sys.executable, os.path.join(AUDITOR, "disclosure.py"), *words], capture_output=True)
+        if (done.returncode, done.stdout.decode(), done.stderr) != (0, lines, b""):
+            yield "what is shown of the disclosure %r" % text
 
 
 def differences_of_note(text, log):
