@@ -22,7 +22,8 @@ import shutil
 import tempfile
 import time
 
-from checks.page import changes, events, files, hostile, links, looks, million, receipts, reports, taking, verdicts
+from checks.page import (
+    changes, disclosed, events, files, hostile, links, looks, million, receipts, reports, taking, verdicts)
 from checks.page.browsers import Browser
 from checks.parts.wrong import LeftOut, Usage, told
 
@@ -59,6 +60,7 @@ def tests_of(browser, room, options):
         "refused": lambda: hostile.test_refused(browser, room),
         "connections": lambda: hostile.test_connections(browser, room),
         "receipts": lambda: receipts.test_receipts(browser, room),
+        "disclosed": lambda: disclosed.test_disclosed(browser, room),
         "reports": lambda: reports.test_reports(browser, room), "stops": lambda: reports.test_stops(browser, room),
         "taking": lambda: taking.test_taking(browser, room), "words": lambda: taking.test_words(browser, room),
         "changes": lambda: changes.test_changes(browser, room), "picture": lambda: changes.test_picture(browser),

@@ -168,10 +168,10 @@ def expect_keys_told(entries, roots, key, page, drop):
     expect((said, page.run("[seen('receipt').value, seen('older').value]")),
            ("a.key is taken as the key of a receipt. If it is a log's first key, empty that field: it opens nothing "
             "here. older is taken as the commitment.", [key, roots[5]]), "a key in the proof's place")
-    for panel in ("export", "proof", "two"):
+    for panel in ("proof", "two"):
         for lines in ("log %s\nkey 1 %s\n" % (roots[0], key), "key 1 %s" % key):
             said = drop(panel, ("receipts", lines))
-            expect(said, "receipts has the keys of receipts: type the 64 hex digits after \"key\" and the entry's "
+            expect(said, "receipts has the keys of events: type the 64 hex digits after \"key\" and the entry's "
                          "number.", "a file of receipts")
     expect(drop("two", ("day.state", state_after(entries, 2))),
            "day.state is a state: it isn't needed here, and isn't shown.", "a state where none is needed")
