@@ -30,3 +30,9 @@ module _ {F : Type 0} (facts : F → FileFacts) (remaining : F → Option (List 
     pub file : F
     pub opened : (facts file).opened_to_read path
     pub key_is : IfSome (remaining file) (λ text. key_of_file text ≡ Some key)
+
+  -- a file that was opened at this path, to read, has none
+  pub record HasNoKeyAt (path : List ℕ) : Type 0 where
+    pub file : F
+    pub opened : (facts file).opened_to_read path
+    pub none : IfSome (remaining file) (λ text. key_of_file text ≡ None)

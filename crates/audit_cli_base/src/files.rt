@@ -148,6 +148,7 @@ pub fn open_device_to_read<F: SystemFiles>(
 ) -> Result<Opened<FileDevice<F::File>>, CommandError>
 where
     F::File: SystemFile,
+    ensures cause { IfErr result IsNoWordFault }
     ensures at { IfOk result (λ opened. IsReadDeviceAt F.File.facts F.File.positioned file.now
         (file_disk_view opened.content)) }
 {
@@ -163,6 +164,7 @@ pub fn open_device_to_salvage<F: SystemFiles>(
 ) -> Result<Opened<FileDevice<F::File>>, CommandError>
 where
     F::File: SystemFile,
+    ensures cause { IfErr result IsNoWordFault }
     ensures at { IfOk result (λ opened. IsReadDeviceAt F.File.facts F.File.positioned file.now
         (file_disk_view opened.content)) }
 {
@@ -179,6 +181,7 @@ fn whole_sectors_of<F: SystemFile + Drop>(
     file: F,
 ) -> Result<Opened<FileDevice<F>>, CommandError>
     requires { IsUncalled (F.positioned file) }
+    ensures cause { IfErr result IsNoWordFault }
     ensures at { (path : List ℕ) → (F.facts file).opened_to_read path
         → IfOk result (λ opened. IsReadDeviceAt F.facts F.positioned path (file_disk_view opened.content)) }
 {
@@ -204,6 +207,7 @@ pub fn store_to_read<S: SectorSource>(
     alloc: Global,
     source: &mut S,
 ) -> Result<Store<ReadOnly<'_, S>>, CommandError>
+    ensures cause { IfErr result IsNoWordFault }
     ensures on { IfOk result (IsStoreOn (at_rest (S.source source.old))) }
 {
     match Store::open_read_only(alloc, source) {
@@ -223,6 +227,7 @@ pub fn make_device<F: SystemFiles>(
 ) -> Result<FileDevice<F::File>, CommandError>
 where
     F::File: SystemFile,
+    ensures cause { IfErr result IsNoWordFault }
     ensures made { IfOk result (λ disk. IsMadeDevice F.File.facts F.File.positioned file.now mode sectors
         (file_disk_view disk)) }
     ensures size { IfOk result (λ disk. (file_disk_view disk).size ≡ sectors) }
@@ -245,6 +250,7 @@ pub fn device_in_place<F: SystemFiles>(
 ) -> Result<FileDevice<F::File>, CommandError>
 where
     F::File: SystemFile,
+    ensures cause { IfErr result IsNoWordFault }
     ensures at { IfOk result (λ disk. IsDeviceAt F.File.facts F.File.positioned file.now (file_disk_view disk)) }
     ensures size { IfOk result (λ disk. sectors ≤ (file_disk_view disk).size) }
     ensures blank { erase ≡ false → IfOk result (λ disk. (file_disk_view disk).honest
@@ -262,6 +268,7 @@ fn free_device<D: Sectors + Drop>(
     sectors: u64,
     erase: bool,
 ) -> Result<D, CommandError>
+    ensures cause { IfErr used IsNoWordFault → IfErr result IsNoWordFault }
     ensures blank { erase ≡ false → (D.view disk).honest → IfOk result (λ _. IsBlankUpTo (D.view disk) FRONT) }
     ensures used { used ≡ Ok true → result ≡ Err CommandError.InUse }
     ensures reads { IfOk result (λ free. OnlyReads (D.view disk) (D.view free)) }

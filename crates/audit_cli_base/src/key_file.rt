@@ -1,7 +1,7 @@
 //! Key files.
-ghost use Rattle.std.specs.Prelude.{◌≡◌, Some, None, IfOk, IfErr, IfSome};
+ghost use Rattle.std.specs.Prelude.{◌≡◌, Some, None, Err, IfOk, IfErr, IfSome};
 ghost use Rattle.audit_text.specs.Reading.{TakesAtMost};
-ghost use Rattle.audit_cli_base.specs.KeyFile.{key_of_file, without_line_feed, IsKeyAt, IsKeyFault};
+ghost use Rattle.audit_cli_base.specs.KeyFile.{key_of_file, without_line_feed, HasNoKeyAt, IsKeyAt, IsKeyFault};
 
 use crate::fault::CommandError;
 use audit_chain::{KEY_LEN, Key};
@@ -48,7 +48,8 @@ pub fn read_key<R: Read>(alloc: Global, reader: &mut R) -> Result<Key, CommandEr
 pub fn key_at<F: SystemFiles>(rt: &F, alloc: Global, path: &str) -> Result<Key, CommandError>
 where
     F::File: SystemFile,
-    ensures { IfOk result (IsKeyAt F.File.facts F.File.remaining path.now) }
+    ensures key { IfOk result (IsKeyAt F.File.facts F.File.remaining path.now) }
+    ensures bad { result ≡ Err CommandError.BadArgument → HasNoKeyAt F.File.facts F.File.remaining path.now }
 {
     let mut file = rt.open_to_read(path)?;
     read_key(alloc, &mut file)

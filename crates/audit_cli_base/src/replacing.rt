@@ -1,4 +1,7 @@
 //! What an output may replace.
+ghost use Rattle.std.specs.Prelude.{IfErr};
+ghost use Rattle.audit_cli_base.specs.Faults.{IsNoWordFault};
+
 use crate::fault::CommandError;
 use audit_disk::SECTOR_SIZE;
 use audit_log::Header;
@@ -8,7 +11,9 @@ use std::io::{self, ErrorKind, Read};
 /// Judges what is at the path of an output, which a file is about to replace. A regular file that begins with a store's
 /// header in one of its first two sectors, a device, a pipe, a socket or a folder is `FileExists`. What can't be read is
 /// `File`, since it may be a store. Nothing at the path is fine, and so is a link, which alone would be replaced.
-pub(crate) fn judge_replaced<R: Files>(rt: &R, path: &str) -> Result<(), CommandError> {
+pub(crate) fn judge_replaced<R: Files>(rt: &R, path: &str) -> Result<(), CommandError>
+    ensures { IfErr result IsNoWordFault }
+{
     match rt.symlink_metadata(path) {
         Ok(found) if found.is_symlink() => return Ok(()),
         Ok(found) if found.is_file() => {}

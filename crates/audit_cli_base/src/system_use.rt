@@ -1,4 +1,7 @@
 //! What the system uses a file or a block device for, as far as it lists that.
+ghost use Rattle.std.specs.Prelude.{IfErr};
+ghost use Rattle.audit_cli_base.specs.Faults.{IsNoWordFault};
+
 use crate::fault::CommandError;
 use audit_disk::{
     DeviceNumber, FileFault, FileIdentity, SystemFile, SystemFiles, backing_file, whole_disk,
@@ -53,6 +56,7 @@ pub(crate) fn is_used_by_system<F: SystemFiles>(
 ) -> Result<bool, CommandError>
 where
     F::File: SystemFile,
+    ensures { IfErr result IsNoWordFault }
 {
     match identity {
         FileIdentity::Block { number } => {
@@ -66,6 +70,7 @@ where
 fn is_device_used<F: SystemFiles>(rt: &F, alloc: Global, place: Place) -> Result<bool, CommandError>
 where
     F::File: SystemFile,
+    ensures { IfErr result IsNoWordFault }
 {
     Ok(
         is_mounted(rt, alloc, place)?
@@ -77,6 +82,7 @@ where
 fn is_mounted<F: SystemFiles>(rt: &F, alloc: Global, place: Place) -> Result<bool, CommandError>
 where
     F::File: SystemFile,
+    ensures { IfErr result IsNoWordFault }
 {
     let Some(mounts) = rt.text_if_any(alloc, MOUNTS)? else {
         return Err(CommandError::File);
@@ -98,6 +104,7 @@ fn is_mount_of<F: SystemFiles>(
 ) -> Result<bool, CommandError>
 where
     F::File: SystemFile,
+    ensures { IfErr result IsNoWordFault }
 {
     let (own, source) = line.split_once(" - ").unwrap_or((line, ""));
     if let Some(device) = own.split_whitespace().nth(2).and_then(DeviceNumber::named) {
@@ -120,6 +127,7 @@ fn leads_to<F: SystemFiles>(
 ) -> Result<bool, CommandError>
 where
     F::File: SystemFile,
+    ensures { IfErr result IsNoWordFault }
 {
     match identity_at(rt, path) {
         Some(FileIdentity::Block { number }) => {
@@ -138,6 +146,7 @@ fn identity_at<F: Files>(rt: &F, path: &str) -> Option<FileIdentity> {
 fn is_device_swap<F: SystemFiles>(rt: &F, alloc: Global, place: Place) -> Result<bool, CommandError>
 where
     F::File: SystemFile,
+    ensures { IfErr result IsNoWordFault }
 {
     let swaps = rt.text_if_any(alloc, SWAPS)?;
     for line in swaps.iter().flat_map(|text| text.lines()) {
@@ -200,6 +209,7 @@ fn is_file_used<F: SystemFiles>(
 ) -> Result<bool, CommandError>
 where
     F::File: SystemFile,
+    ensures { IfErr result IsNoWordFault }
 {
     let swaps = rt.text_if_any(alloc, SWAPS)?;
     for line in swaps.iter().flat_map(|text| text.lines()) {
@@ -219,6 +229,7 @@ fn is_loop_used<F: SystemFiles>(
 ) -> Result<bool, CommandError>
 where
     F::File: SystemFile,
+    ensures { IfErr result IsNoWordFault }
 {
     for name in names_in(rt, alloc, DEVICES)?.split('\0') {
         let device = match DeviceNumber::named(name) {
@@ -242,6 +253,7 @@ fn is_over<F: SystemFiles>(
 ) -> Result<bool, CommandError>
 where
     F::File: SystemFile,
+    ensures { IfErr result IsNoWordFault }
 {
     match backing_file(rt, alloc, device)? {
         Some(path) => Ok(identity_at(rt, path.as_str()) == Some(identity)),

@@ -3,7 +3,7 @@ ghost use Rattle.std.specs.Prelude.{◌≡◌, ◌++◌, codes, OnOk, OnErr, IfE
 ghost use Rattle.std.specs.Fmt.{decimal};
 ghost use Rattle.std.specs.Io.KnownBytes.{Appends};
 ghost use Rattle.audit_text.specs.Writing.{WritesInPart};
-ghost use Rattle.audit_cli_base.specs.Faults.{IsUnwritten};
+ghost use Rattle.audit_cli_base.specs.Faults.{IsNoWordFault, IsUnwritten};
 
 use crate::fault::CommandError;
 use audit_text::{push_number, write_whole};
@@ -22,6 +22,7 @@ pub fn write_number<W: Write>(
     ensures part { OnErr result (WritesInPart (W.contents writer.old) (W.contents writer.new)
         (word.now ++ decimal number ++ codes "\n")) }
     ensures fault { IfErr result (IsUnwritten (W.contents writer.old) (W.contents writer.new)) }
+    ensures words { IfErr result IsNoWordFault }
 {
     let mut line = Vec::new(alloc);
     push_number(&mut line, word, number)?;
@@ -53,6 +54,7 @@ pub fn write_exported<W: Write>(
     ensures part { OnErr result (WritesInPart (W.contents writer.old) (W.contents writer.new)
         (codes "exported " ++ decimal count ++ codes " " ++ decimal size ++ codes "\n")) }
     ensures fault { IfErr result (IsUnwritten (W.contents writer.old) (W.contents writer.new)) }
+    ensures words { IfErr result IsNoWordFault }
 {
     let mut line = Vec::new(alloc);
     put_exported(&mut line, count, size)?;

@@ -6,3 +6,4 @@ pub mod SalvagedEntries
 pub mod AnsweredFiles
 pub mod OpenedProofs
 pub mod LinkFiles
+pub mod BadArguments

@@ -1,8 +1,10 @@
 -- The result of checking the proof in a file against one commitment or two.
+use denote.Ref.{Bor}
 use Rattle.std.specs.Prelude.{◌≡◌, ◌≢◌, ◌⊎◌, Bool, true, false, Option, Some, None, Result, Ok, Err, ℕ}
-use Rattle.std.specs.Prelude.{List, [], ◌++◌, codes}
+use Rattle.std.specs.Prelude.{List, [], ◌++◌, codes, IfSome}
 use Rattle.std.specs.Io.KnownBytes.{Appends, Keeps}
 use Rattle.sha2.specs.Sha256.{sha256}
+use Rattle.audit_disk.specs.FileFacts.{FileFacts}
 use Rattle.audit_text.specs.Writing.{WritesInPart}
 use Rattle.audit_text.specs.declared.fault.LinesError.TheVariants as lines
 use Rattle.audit_proof.specs.declared.commitment.Commitment.{Commitment}
@@ -13,6 +15,7 @@ use Rattle.audit_cli_offline.specs.declared.check_form.CheckForm.TheVariants.{Ju
 use Rattle.audit_cli_offline.specs.Judgment.{SpellsProof}
 use Rattle.audit_cli_offline.specs.ProofLines.{member_line, increment_line}
 use Rattle.audit_store.specs.declared.store_error.StoreError.TheVariants as store
+use Rattle.audit_cli_base.specs.Arguments.{IsCommitmentAsked}
 use Rattle.audit_cli_base.specs.declared.fault.CommandError.{CommandError}
 use Rattle.audit_cli_base.specs.declared.fault.CommandError.TheVariants.{BadArgument}
 use Rattle.audit_cli_base.specs.declared.fault.CommandError.TheVariants.{Lines, Refused}
@@ -117,3 +120,12 @@ abbrev pub IsFailure : CommandError → Type 0
 IsFailure (Lines cause) = (cause ≡ lines.Read) ⊎ ((cause ≡ lines.Write) ⊎ (cause ≡ lines.Memory))
 IsFailure (Refused error) = error ≡ store.Memory
 IsFailure _ = ⊥
+
+module _ {F : Type 0} (facts : F → FileFacts) (remaining : F → Option (List ℕ)) where
+  -- a file that was opened at this path, to read, has a proof of the other kind than the words for commitments ask for
+  pub record HasOtherKindAt (path : List ℕ) (word : Option (Bor (List ℕ))) : Type 0 where
+    pub file : F
+    pub opened : (facts file).opened_to_read path
+    pub newer : Option Commitment
+    pub newer_is : IsCommitmentAsked word newer
+    pub other : IfSome (remaining file) (λ bytes. IsOfOtherKind bytes newer)

@@ -22,7 +22,10 @@ use Rattle.audit_cli_store.specs.declared.request.Site.{Site}
 use Rattle.audit_cli_store.specs.declared.request.Site.TheVariants.{NewFile, InPlace}
 use Rattle.audit_cli_store.specs.declared.request.Request.{Request}
 use Rattle.audit_cli_store.specs.declared.request.Request.TheVariants.{Replay, Format, Check, CheckLink, Open}
-use Rattle.audit_cli_store.specs.declared.request.Request.TheVariants.{Export, Prove}
+use Rattle.audit_cli_store.specs.declared.request.Request.TheVariants.{Export, Prove, Verify}
+use Rattle.audit_cli_base.specs.KeyFile.{HasNoKeyAt}
+use Rattle.audit_cli_store.specs.Checks.{HasOtherKindAt}
+use Rattle.audit_cli_store.specs.Verifications.{IsWrongVerification}
 
 -- ---- words
 
@@ -40,6 +43,20 @@ IsWordFault (Export file out access from) fault = number_asked from 0 ≡ Err fa
 IsWordFault (Prove file kind first second out access) fault =
     (proof_asked kind.now first.now second.now ≡ None) × (fault ≡ BadArgument)
 IsWordFault _ fault = ⊥
+
+module _ {F : Type 0} (facts : F → FileFacts) (remaining : F → Option (List ℕ)) where
+  -- What makes an argument a bad one: a word, or what is in a file that a word names, a key, a start or a proof.
+  abbrev pub HasBadArgument : Request → Type 0
+  HasBadArgument (Format file site sectors key_file) =
+      IsFormatFault site sectors.now BadArgument ⊎ HasNoKeyAt facts remaining key_file.now
+  HasBadArgument (Check proof older newer form) =
+      AreNoCommitments older.now newer ⊎ HasOtherKindAt facts remaining proof.now newer
+  HasBadArgument (Open asked) = HasWrongWords asked ⊎ HasOtherKindAt facts remaining asked.proof.now None
+  HasBadArgument (CheckLink asked) = LacksCommitment asked
+  HasBadArgument (Export file out access from) = number_asked from 0 ≡ Err BadArgument
+  HasBadArgument (Verify asked) = IsWrongVerification facts remaining asked
+  HasBadArgument (Prove file kind first second out access) = proof_asked kind.now first.now second.now ≡ None
+  HasBadArgument _ = ⊥
 
 -- ---- a replay
 
@@ -71,6 +88,7 @@ module _ {F : Type 0} (facts : F → FileFacts) (positioned : F → PositionedVi
     pub done : Result Unit CommandError
     pub written : Option (List ℕ)
     pub words : RefusesWords (IsWordFault request) before written done
+    pub only : done ≡ Err BadArgument → HasBadArgument facts remaining request
     pub replayed : IsReplayOf request input before written done
     pub on_file : IsDoneOnFile facts positioned h remaining request before written done
     pub flushed : Keeps written after

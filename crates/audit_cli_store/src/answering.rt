@@ -1,5 +1,5 @@
 //! Commands that only answer about the store in a file.
-ghost use Rattle.std.specs.Prelude.{◌≡◌, ℕ, Option, List, Ok, Err, IsErr, IfOk, OnOk, length};
+ghost use Rattle.std.specs.Prelude.{◌≡◌, ℕ, Option, List, Ok, Err, IsErr, IfOk, IfErr, OnOk, length};
 ghost use Rattle.std.specs.Io.KnownBytes.{Appends};
 ghost use Rattle.audit_chain.specs.Event.{EventData};
 ghost use Rattle.audit_disk.specs.SectorSource.{source_of};
@@ -13,6 +13,7 @@ ghost use Rattle.audit_cli_store.specs.OnFiles.{ProvesOn, IsProofAt, ProvesAt};
 ghost use Rattle.audit_cli_store.specs.Exports.{PutsEntries};
 ghost use Rattle.audit_cli_store.specs.Proofs.{AsksOutside, proof_of_log};
 ghost use Rattle.audit_cli_store.specs.declared.answering.StoreQuestion.TheVariants.{Entries};
+ghost use Rattle.audit_cli_base.specs.Faults.{IsNoWordFault};
 
 use crate::exporting::{judge_first, write_entries};
 use crate::proving::proof_bytes;
@@ -63,6 +64,7 @@ where
     ensures exported { OnOk result ((first : ℕ) × (number_asked from.entry 0 ≡ Ok first)
         × AnswersAt F.File.facts F.File.positioned ⟦<FileDevice<F::File> as Sectors>⟧ access file.now
         (Entries out.entry first) (W.contents output.old) (W.contents output.new)) }
+    ensures only { result ≡ Err CommandError.BadArgument → number_asked from.entry 0 ≡ Err CommandError.BadArgument }
 {
     let first = number_asked(from, 0)?;
     let question = StoreQuestion::Entries { out, first };
@@ -81,8 +83,9 @@ pub fn answer_file<F: SystemFiles, W: Write>(
 ) -> Result<(), CommandError>
 where
     F::File: SystemFile,
-    ensures { OnOk result (AnswersAt F.File.facts F.File.positioned ⟦<FileDevice<F::File> as Sectors>⟧
+    ensures answered { OnOk result (AnswersAt F.File.facts F.File.positioned ⟦<FileDevice<F::File> as Sectors>⟧
         access file.now question.entry (W.contents output.old) (W.contents output.new)) }
+    ensures words { IfErr result IsNoWordFault }
 {
     match access {
         Access::Repair => {
@@ -110,8 +113,9 @@ fn answer_device<F: Files, D: Sectors + Drop, W: Write>(
     question: StoreQuestion<'_>,
     output: &mut W,
 ) -> Result<(), CommandError>
-    ensures { OnOk result (AnswersOn question.entry (at_rest (source_of (D.view opened.content)))
+    ensures answered { OnOk result (AnswersOn question.entry (at_rest (source_of (D.view opened.content)))
         (W.contents output.old) (W.contents output.new)) }
+    ensures words { IfErr result IsNoWordFault }
 {
     let identity = opened.identity;
     let mut source = Reading::new(opened.content);
@@ -154,8 +158,9 @@ fn answer_opened<F: Files, D: Sectors + Drop, W: Write>(
     question: StoreQuestion<'_>,
     output: &mut W,
 ) -> Result<(), CommandError>
-    ensures { OnOk result (AnswersAbout question.entry opened.content
+    ensures answered { OnOk result (AnswersAbout question.entry opened.content
         (W.contents output.old) (W.contents output.new)) }
+    ensures words { IfErr result IsNoWordFault }
 {
     let identity = opened.identity;
     answer(rt, alloc, &mut opened.content, identity, question, output)
@@ -169,8 +174,9 @@ fn answer<F: Files, D: Sectors, W: Write>(
     question: StoreQuestion<'_>,
     output: &mut W,
 ) -> Result<(), CommandError>
-    ensures { OnOk result (AnswersAbout question.entry store.old
+    ensures answered { OnOk result (AnswersAbout question.entry store.old
         (W.contents output.old) (W.contents output.new)) }
+    ensures words { IfErr result IsNoWordFault }
 {
     match question {
         StoreQuestion::State { form } => show(alloc, store, form, output),
@@ -190,7 +196,8 @@ fn answer_damaged<F: Files, D: Sectors, W: Write>(
     question: StoreQuestion<'_>,
     output: &mut W,
 ) -> Result<(), CommandError>
-    ensures { IsErr result }
+    ensures fails { IsErr result }
+    ensures words { IfErr result IsNoWordFault }
 {
     match question {
         StoreQuestion::State { .. } => Err(CommandError::Refused(damage)),
@@ -221,9 +228,10 @@ fn export_store<F: Files, D: Sectors, W: Write>(
     out: &str,
     output: &mut W,
 ) -> Result<(), CommandError>
-    ensures { OnOk result ((origin : Origin) (events : List EventData) → Holds store.old origin events
+    ensures exported { OnOk result ((origin : Origin) (events : List EventData) → Holds store.old origin events
         → Appends (W.contents output.old) (W.contents output.new)
         (exported_text out.now first origin.first_key events)) }
+    ensures words { IfErr result IsNoWordFault }
 {
     let count = store.commitment().count;
     judge_first(first, count)?;
@@ -244,7 +252,8 @@ fn salvage_device<F: Files, D: Sectors, W: Write>(
     out: &str,
     output: &mut W,
 ) -> Result<(), CommandError>
-    ensures { IsErr result }
+    ensures fails { IsErr result }
+    ensures words { IfErr result IsNoWordFault }
 {
     let mut salvage = Salvage { alloc, disk };
     let salvaged = put(rt, alloc, &mut salvage, identity, out, output)?;
@@ -263,7 +272,8 @@ trait Contents {
     ghost puts: { Self → Option (List ℕ) → Option (List ℕ) → Self.Extent → Type 0 };
 
     fn write_to<W: Write>(&mut self, output: &mut W) -> Result<Self::Extent, CommandError>
-        ensures { IfOk result (puts self.old (W.contents output.old) (W.contents output.new)) };
+        ensures puts { IfOk result (puts self.old (W.contents output.old) (W.contents output.new)) }
+        ensures words { IfErr result IsNoWordFault };
 }
 
 // The entries of a store from an index on; their size in bytes.
@@ -321,8 +331,9 @@ fn put<F: Files, C: Contents, W: Write>(
     out: &str,
     output: &mut W,
 ) -> Result<C::Extent, CommandError>
-    ensures { IfOk result (IsPutTo (C.puts contents.old) (selects_output out.now)
+    ensures put { IfOk result (IsPutTo (C.puts contents.old) (selects_output out.now)
         (W.contents output.old) (W.contents output.new)) }
+    ensures words { IfErr result IsNoWordFault }
 {
     if is_standard_output(out) {
         return contents.write_to(output);
@@ -345,8 +356,9 @@ fn write_buffered<C: Contents, W: Write>(
     contents: &mut C,
     file: &mut W,
 ) -> Result<C::Extent, CommandError>
-    ensures { IfOk result (λ extent. (empty : Option (List ℕ)) × (full : Option (List ℕ))
+    ensures written { IfOk result (λ extent. (empty : Option (List ℕ)) × (full : Option (List ℕ))
         × C.puts contents.old empty full extent) }
+    ensures words { IfErr result IsNoWordFault }
 {
     let Ok(mut buffered) = BufWriter::with_capacity(alloc, FILE_ROOM, file) else {
         return Err(CommandError::Refused(StoreError::Memory));
@@ -369,8 +381,9 @@ pub fn prove_file<F: SystemFiles, W: Write>(
 ) -> Result<(), CommandError>
 where
     F::File: SystemFile,
-    ensures { OnOk result (ProvesAt F.File.facts F.File.positioned ⟦<FileDevice<F::File> as Sectors>⟧
+    ensures proved { OnOk result (ProvesAt F.File.facts F.File.positioned ⟦<FileDevice<F::File> as Sectors>⟧
         access file.now asked out.now (W.contents output.old) (W.contents output.new)) }
+    ensures words { IfErr result IsNoWordFault }
 {
     let (proof, identity) = proof_about(rt, alloc, file, access, asked)?;
     put(rt, alloc, &mut proof.as_slice(), identity, out, output)?;
@@ -390,8 +403,9 @@ fn proof_about<F: SystemFiles>(
 ) -> Result<(Vec<u8>, FileIdentity), CommandError>
 where
     F::File: SystemFile,
-    ensures { IfOk result (λ made. IsProofAt F.File.facts F.File.positioned ⟦<FileDevice<F::File> as Sectors>⟧
+    ensures made { IfOk result (λ made. IsProofAt F.File.facts F.File.positioned ⟦<FileDevice<F::File> as Sectors>⟧
         access file.now asked made.0.items) }
+    ensures words { IfErr result IsNoWordFault }
 {
     match access {
         Access::Repair => { proof_of_opened(alloc, open_store(rt, alloc, file)?, asked) }
@@ -407,9 +421,10 @@ fn proof_of_opened<D: Sectors + Drop>(
     mut opened: Opened<Store<D>>,
     asked: ProofRequest,
 ) -> Result<(Vec<u8>, FileIdentity), CommandError>
-    ensures { (origin : Origin) (events : List EventData) → Holds opened.content origin events
+    ensures made { (origin : Origin) (events : List EventData) → Holds opened.content origin events
         → (AsksOutside asked (length events) → ⊥)
         → IfOk result (λ made. made.0.items ≡ proof_of_log origin.first_key events asked) }
+    ensures words { IfErr result IsNoWordFault }
 {
     let identity = opened.identity;
     proof_in(alloc, &mut opened.content, identity, asked)
@@ -421,9 +436,10 @@ fn proof_in<D: Sectors>(
     identity: FileIdentity,
     asked: ProofRequest,
 ) -> Result<(Vec<u8>, FileIdentity), CommandError>
-    ensures { (origin : Origin) (events : List EventData) → Holds store.old origin events
+    ensures made { (origin : Origin) (events : List EventData) → Holds store.old origin events
         → (AsksOutside asked (length events) → ⊥)
         → IfOk result (λ made. made.0.items ≡ proof_of_log origin.first_key events asked) }
+    ensures words { IfErr result IsNoWordFault }
 {
     Ok((proof_bytes(alloc, store, asked)?, identity))
 }
@@ -434,7 +450,8 @@ fn proof_on<D: Sectors + Drop>(
     opened: Opened<D>,
     asked: ProofRequest,
 ) -> Result<(Vec<u8>, FileIdentity), CommandError>
-    ensures { IfOk result (λ made. ProvesOn asked (at_rest (source_of (D.view opened.content))) made.0.items) }
+    ensures made { IfOk result (λ made. ProvesOn asked (at_rest (source_of (D.view opened.content))) made.0.items) }
+    ensures words { IfErr result IsNoWordFault }
 {
     let identity = opened.identity;
     let mut source = Reading::new(opened.content);

@@ -5,8 +5,10 @@ ghost use Rattle.audit_text.specs.Writing.{WritesInPart};
 ghost use Rattle.audit_verify.specs.StateText.{state_text};
 ghost use Rattle.audit_cli_offline.specs.ReportLines.{end_message};
 ghost use Rattle.audit_cli_base.specs.Arguments.{AreNoCommitments, RefusesWords};
-ghost use Rattle.audit_cli_base.specs.Faults.{IsUnwritten};
+ghost use Rattle.audit_cli_base.specs.Faults.{IsNoWordFault, IsUnwritten};
 ghost use Rattle.audit_cli_store.specs.Verifications.{AreKindsAsked, IsKindsFault, IsPrintingAsked, IsPrintingFault};
+ghost use Rattle.audit_cli_store.specs.Verifications.{HasNoStartAt, IsRightVerification, IsStartAt, IsWrongVerification};
+ghost use Rattle.audit_cli_store.specs.Checks.{HasOtherKindAt};
 
 use crate::checking::check_proof;
 use audit_cli_base::{
@@ -17,7 +19,7 @@ use audit_cli_offline::{
     CheckForm, Printing, ReportForm, VerifiedEnd, kinds_in_word, verify_export,
     verify_in_two_passes, write_end_message,
 };
-use audit_disk::FileIdentity;
+use audit_disk::{FileIdentity, SystemFile, SystemFiles};
 use audit_proof::Commitment;
 use audit_text::write_whole;
 use audit_verify::{State, state_text};
@@ -48,7 +50,7 @@ pub struct Verification<'a> {
 }
 
 /// Checks the proof in a file. The commitments are checked before the file is opened.
-pub fn check_file<F: Files, W: Write>(
+pub fn check_file<F: SystemFiles, W: Write>(
     rt: &F,
     alloc: Global,
     proof: &str,
@@ -57,29 +59,33 @@ pub fn check_file<F: Files, W: Write>(
     form: CheckForm,
     output: &mut W,
 ) -> Result<(), CommandError>
-    ensures { RefusesWords (λ fault. AreNoCommitments older.now newer.entry × (fault ≡ CommandError.BadArgument))
+where
+    F::File: SystemFile,
+    ensures words { RefusesWords (λ fault. AreNoCommitments older.now newer.entry × (fault ≡ CommandError.BadArgument))
         (W.contents output.old) (W.contents output.new) result }
+    ensures only { result ≡ Err CommandError.BadArgument → AreNoCommitments older.now newer.entry
+        ⊎ HasOtherKindAt F.File.facts F.File.remaining proof.now newer.entry }
 {
     let (older, newer) = commitments_asked(older, newer)?;
-    check_proof(
-        alloc,
-        &mut fs::open(rt, proof)?,
-        &older,
-        newer,
-        form,
-        output,
-    )
+    let mut proof = rt.open_to_read(proof)?;
+    check_proof(alloc, &mut proof, &older, newer, form, output)
 }
 
 /// Verifies the export in a file, and writes its events. The output is flushed, and then the message with the number of
 /// entries is written, if the form has one. After that the state is saved, if a file for it is given.
-pub fn verify_and_report<F: Files, W: Write, M: Write>(
+pub fn verify_and_report<F: SystemFiles, W: Write, M: Write>(
     rt: &F,
     alloc: Global,
     asked: Verification<'_>,
     output: &mut W,
     messages: &mut M,
-) -> Result<(), CommandError> {
+) -> Result<(), CommandError>
+where
+    F::File: SystemFile,
+    ensures only { result ≡ Err CommandError.BadArgument
+        → IsWrongVerification F.File.facts F.File.remaining asked.entry }
+    ensures right { OnOk result (IsRightVerification F.File.facts F.File.remaining asked.entry) }
+{
     let next = verify_file(rt, alloc, asked, output)?;
     let end = VerifiedEnd {
         count: next.count(),
@@ -93,12 +99,18 @@ pub fn verify_and_report<F: Files, W: Write, M: Write>(
 }
 
 // Verifies the export in a file. The arguments are checked before the export is opened. Returns the state after it.
-fn verify_file<F: Files, W: Write>(
+fn verify_file<F: SystemFiles, W: Write>(
     rt: &F,
     alloc: Global,
     asked: Verification<'_>,
     output: &mut W,
-) -> Result<State, CommandError> {
+) -> Result<State, CommandError>
+where
+    F::File: SystemFile,
+    ensures only { result ≡ Err CommandError.BadArgument
+        → IsWrongVerification F.File.facts F.File.remaining asked.entry }
+    ensures right { OnOk result (IsRightVerification F.File.facts F.File.remaining asked.entry) }
+{
     let start = start_in(rt, alloc, asked.start)?;
     let commitment = commitment_asked(asked.commitment)?;
     judge_start(&start, &commitment)?;
@@ -116,13 +128,20 @@ fn verify_file<F: Files, W: Write>(
 }
 
 // The state in a file, or the one before the first entry if the file has a first key.
-fn start_in<F: Files>(rt: &F, alloc: Global, file: &str) -> Result<State, CommandError> {
-    let mut file = fs::open(rt, file)?;
+fn start_in<F: SystemFiles>(rt: &F, alloc: Global, path: &str) -> Result<State, CommandError>
+where
+    F::File: SystemFile,
+    ensures start { IfOk result (IsStartAt F.File.facts F.File.remaining path.now) }
+    ensures bad { result ≡ Err CommandError.BadArgument → HasNoStartAt F.File.facts F.File.remaining path.now }
+{
+    let mut file = rt.open_to_read(path)?;
     read_start(alloc, &mut file)
 }
 
 // A state replaces a state or nothing: what else is there may be a key, without which nobody can read a log.
-fn judge_saved<F: Files>(rt: &F, asked: Verification<'_>) -> Result<(), CommandError> {
+fn judge_saved<F: Files>(rt: &F, asked: Verification<'_>) -> Result<(), CommandError>
+    ensures words { IfErr result IsNoWordFault }
+{
     let Some(out) = asked.save else {
         return Ok(());
     };
@@ -132,7 +151,9 @@ fn judge_saved<F: Files>(rt: &F, asked: Verification<'_>) -> Result<(), CommandE
     }
 }
 
-fn judge_replaced<R: Read>(file: &mut R) -> Result<(), CommandError> {
+fn judge_replaced<R: Read>(file: &mut R) -> Result<(), CommandError>
+    ensures words { IfErr result IsNoWordFault }
+{
     let mut word = [0; STATE_WORD.len()];
     match file.read_exact(&mut word) {
         Ok(()) if word == STATE_WORD => Ok(()),
@@ -181,7 +202,9 @@ fn verify_further<F: Files, W: Write>(
     commitment: &Commitment,
     printing: &Printing,
     output: &mut W,
-) -> Result<State, CommandError> {
+) -> Result<State, CommandError>
+    ensures words { IfErr result IsNoWordFault }
+{
     let mut first = fs::open(rt, export)?;
     if !first.metadata()?.is_file() {
         return Ok(verify_export(alloc, &mut first, start, commitment, printing, output)?);
@@ -210,6 +233,7 @@ fn end_report<M: Write>(
         × Keeps (M.contents messages.old) (M.contents messages.new) }
     ensures message { OnOk result (Appends (M.contents messages.old) (M.contents messages.new)
         (end_message form end)) }
+    ensures words { IfErr result IsNoWordFault }
 {
     flushed?;
     Ok(write_end_message(alloc, form, end, messages)?)
@@ -222,7 +246,9 @@ fn save_state<F: Files>(
     state: &State,
     export: &str,
     out: &str,
-) -> Result<(), CommandError> {
+) -> Result<(), CommandError>
+    ensures words { IfErr result IsNoWordFault }
+{
     let identity = FileIdentity::of(&fs::metadata(rt, export)?);
     let mut made = OutputFile::create_private(rt, alloc, identity, out)?;
     match write_state(alloc, state, &mut made) {
@@ -244,6 +270,7 @@ pub fn write_state<W: Write>(
     ensures part { OnErr result (WritesInPart (W.contents writer.old) (W.contents writer.new)
         (state_text state.now)) }
     ensures fault { IfErr result (IsUnwritten (W.contents writer.old) (W.contents writer.new)) }
+    ensures words { IfErr result IsNoWordFault }
 {
     let text = state_text(alloc, state)?;
     write_whole(writer, &text)?;

@@ -1,8 +1,9 @@
 //! Showing what the headers of a store say, also while another program has it open.
-ghost use Rattle.std.specs.Prelude.{OnOk, IfOk};
+ghost use Rattle.std.specs.Prelude.{OnOk, IfOk, IfErr};
 ghost use Rattle.audit_disk.specs.FileDisk.{file_disk_view};
 ghost use Rattle.audit_disk.specs.Positioned.{ShowsFront};
 ghost use Rattle.audit_cli_store.specs.Headers.{IsHeaderOn, TellsHeader, ShowsHeader};
+ghost use Rattle.audit_cli_base.specs.Faults.{IsNoWordFault};
 
 use crate::show_form::ShowForm;
 use crate::showing::{ShownState, show_state};
@@ -32,8 +33,9 @@ pub fn show_header<F: SystemFiles, W: Write>(
 ) -> Result<(), CommandError>
 where
     F::File: SystemFile,
-    ensures { OnOk result (ShowsHeader F.File.facts F.File.positioned ⟦<FileDevice<F::File> as Sectors>⟧
+    ensures shown { OnOk result (ShowsHeader F.File.facts F.File.positioned ⟦<FileDevice<F::File> as Sectors>⟧
         file.now form (W.contents output.old) (W.contents output.new)) }
+    ensures words { IfErr result IsNoWordFault }
 {
     let header = settled_header(rt, alloc, file)?;
     show_state(alloc, ShownState::of_header(&header), form, output)
@@ -43,7 +45,8 @@ where
 fn settled_header<F: SystemFiles>(rt: &F, alloc: Global, file: &str) -> Result<Header, CommandError>
 where
     F::File: SystemFile,
-    ensures { IfOk result (TellsHeader F.File.facts F.File.positioned ⟦<FileDevice<F::File> as Sectors>⟧ file.now) }
+    ensures told { IfOk result (TellsHeader F.File.facts F.File.positioned ⟦<FileDevice<F::File> as Sectors>⟧ file.now) }
+    ensures words { IfErr result IsNoWordFault }
 {
     for _ in 1..LOOKS {
         match header_now(rt, alloc, file) {
@@ -59,7 +62,8 @@ where
 fn header_now<F: SystemFiles>(rt: &F, alloc: Global, file: &str) -> Result<Header, CommandError>
 where
     F::File: SystemFile,
-    ensures { IfOk result (TellsHeader F.File.facts F.File.positioned ⟦<FileDevice<F::File> as Sectors>⟧ file.now) }
+    ensures told { IfOk result (TellsHeader F.File.facts F.File.positioned ⟦<FileDevice<F::File> as Sectors>⟧ file.now) }
+    ensures words { IfErr result IsNoWordFault }
 {
     let found = rt.look(file)?;
     rt.judge(&found, false)?;
@@ -75,7 +79,8 @@ where
 
 // What those of a device say.
 fn header_on<D: Sectors + Drop>(disk: D) -> Result<Header, CommandError>
-    ensures { IfOk result (IsHeaderOn (D.view disk)) }
+    ensures told { IfOk result (IsHeaderOn (D.view disk)) }
+    ensures words { IfErr result IsNoWordFault }
 {
     let mut disk = disk;
     match read_header(&mut disk) {

@@ -1,11 +1,12 @@
 //! Checking links in files against the commitments of two logs.
-ghost use Rattle.std.specs.Prelude.{◌≡◌, Some, Err, IfOk, IfErr, IfSome, OnOk};
+ghost use Rattle.std.specs.Prelude.{◌≡◌, Some, Err, IfOk, IfErr, IfSome, OnOk, OnErr};
 ghost use Rattle.audit_cli_offline.specs.CommitmentWord.{commitment_in_word};
 ghost use Rattle.audit_cli_base.specs.Arguments.{RefusesWords};
 ghost use Rattle.audit_link.specs.Links.{link_in};
 ghost use Rattle.audit_link.specs.LinkBytes.{SpellsLink};
 ghost use Rattle.audit_cli_store.specs.LinkChecks.{LacksCommitment, IsUnreadFile, IsLinkChecked, ChecksLinkAt};
 ghost use Rattle.audit_cli_store.specs.LinkChecks.{WritesLinkLine, IsSecond};
+ghost use Rattle.audit_cli_base.specs.Faults.{IsNoWordFault};
 
 use audit_cli_base::{CommandError, commitment_asked};
 use audit_disk::{SystemFile, SystemFiles};
@@ -45,8 +46,9 @@ pub fn judge_link<R: Read, W: Write>(
     new: &Commitment,
     writer: &mut W,
 ) -> Result<(), CommandError>
-    ensures { IfSome (R.remaining reader.old) (λ bytes. IsLinkChecked result bytes old.now new.now
+    ensures judged { IfSome (R.remaining reader.old) (λ bytes. IsLinkChecked result bytes old.now new.now
         (W.contents writer.old) (W.contents writer.new)) }
+    ensures words { IfErr result IsNoWordFault }
 {
     let link = link_in_file(alloc, reader)?;
     let judgment = check_link(alloc, &link, old, new)?;
@@ -55,7 +57,8 @@ pub fn judge_link<R: Read, W: Write>(
 
 // Writes the line of a judgment.
 fn write_judged<W: Write>(judgment: LinkJudgment, writer: &mut W) -> Result<(), CommandError>
-    ensures { WritesLinkLine judgment result (W.contents writer.old) (W.contents writer.new) }
+    ensures judged { WritesLinkLine judgment result (W.contents writer.old) (W.contents writer.new) }
+    ensures words { IfErr result IsNoWordFault }
 {
     match judgment {
         LinkJudgment::Accepted => Ok(write_whole(writer, b"accepted\n")?),
@@ -74,6 +77,7 @@ fn write_judged<W: Write>(judgment: LinkJudgment, writer: &mut W) -> Result<(), 
 fn link_in_file<R: Read>(alloc: Global, reader: &mut R) -> Result<Link, CommandError>
     ensures spelled { IfOk result (λ link. IfSome (R.remaining reader.old) (λ bytes. SpellsLink bytes (link_in link))) }
     ensures unread { IfErr result (λ fault. IfSome (R.remaining reader.old) (λ bytes. IsUnreadFile fault bytes)) }
+    ensures words { IfErr result IsNoWordFault }
 {
     match read_input(alloc, reader) {
         Ok(bytes) => link_of(alloc, &bytes),
@@ -85,6 +89,7 @@ fn link_in_file<R: Read>(alloc: Global, reader: &mut R) -> Result<Link, CommandE
 fn link_of(alloc: Global, bytes: &[u8]) -> Result<Link, CommandError>
     ensures spelled { IfOk result (λ link. SpellsLink bytes.now (link_in link)) }
     ensures unread { IfErr result (λ fault. IsUnreadFile fault bytes.now) }
+    ensures words { IfErr result IsNoWordFault }
 {
     match read_link(alloc, bytes) {
         Ok(link) => Ok(link),
@@ -106,6 +111,7 @@ where
         (W.contents output.new)) }
     ensures words { RefusesWords (λ fault. LacksCommitment asked.entry × (fault ≡ CommandError.BadArgument))
         (W.contents output.old) (W.contents output.new) result }
+    ensures only { result ≡ Err CommandError.BadArgument → LacksCommitment asked.entry }
 {
     let (old, new) = words_asked(asked)?;
     let mut link = rt.open_to_read(asked.link)?;
@@ -117,6 +123,7 @@ fn words_asked(asked: LinkCheck<'_>) -> Result<(Commitment, Commitment), Command
     ensures wrong { LacksCommitment asked.entry → result ≡ Err CommandError.BadArgument }
     ensures old { IfOk result (λ found. commitment_in_word asked.entry.old.now ≡ Some found.0) }
     ensures new { IfOk result (λ found. IsSecond asked.entry.new found.1) }
+    ensures fault { OnErr result (LacksCommitment asked.entry) }
 {
     let Some(new) = asked.new else {
         return Err(CommandError::BadArgument);

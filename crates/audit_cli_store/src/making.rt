@@ -1,12 +1,14 @@
 //! Making stores in files and on block devices.
-ghost use Rattle.std.specs.Prelude.{◌≡◌, ◌++◌, codes, Err, OnOk};
+ghost use Rattle.std.specs.Prelude.{◌≡◌, ◌⊎◌, ◌++◌, codes, Err, IfErr, OnOk};
 ghost use Rattle.std.specs.Fmt.{decimal};
 ghost use Rattle.std.specs.Io.KnownBytes.{Appends};
 ghost use Rattle.audit_store.specs.Store.{IsFormatted};
 ghost use Rattle.audit_store.specs.declared.store.Store.{Store};
+ghost use Rattle.audit_cli_base.specs.KeyFile.{HasNoKeyAt};
 ghost use Rattle.audit_cli_base.specs.Arguments.{IsNewFileFault, RefusesWords, sectors_asked};
 ghost use Rattle.audit_cli_store.specs.OnFiles.{FormatsSite, FormatsNewFile, FormatsInPlace};
 ghost use Rattle.audit_cli_store.specs.Requests.{IsFormatFault};
+ghost use Rattle.audit_cli_base.specs.Faults.{IsNoWordFault};
 
 use crate::formatting::format_device;
 use crate::request::Site;
@@ -36,6 +38,9 @@ where
         (W.contents output.new) result }
     ensures formatted { OnOk result (FormatsSite F.File.facts F.File.positioned ⟦<FileDevice<F::File> as Sectors>⟧
         F.File.remaining file.now site.entry sectors.now key_file.now (W.contents output.old) (W.contents output.new)) }
+    ensures only { result ≡ Err CommandError.BadArgument
+        → IsFormatFault site.entry sectors.now CommandError.BadArgument
+        ⊎ HasNoKeyAt F.File.facts F.File.remaining key_file.now }
 {
     match site {
         Site::NewFile { mode } => { format_file(rt, alloc, file, mode, sectors, key_file, output) }
@@ -63,6 +68,9 @@ where
     ensures formatted { OnOk result (FormatsNewFile F.File.facts F.File.positioned
         ⟦<FileDevice<F::File> as Sectors>⟧ F.File.remaining file.now mode.entry sectors.now key_file.now
         (W.contents output.old) (W.contents output.new)) }
+    ensures only { result ≡ Err CommandError.BadArgument
+        → IsNewFileFault mode.entry sectors.now CommandError.BadArgument
+        ⊎ HasNoKeyAt F.File.facts F.File.remaining key_file.now }
 {
     let (mode, sectors) = new_file_asked(mode, sectors)?;
     let first_key = key_at(rt, alloc, key_file)?;
@@ -88,6 +96,8 @@ where
     ensures formatted { OnOk result (FormatsInPlace F.File.facts F.File.positioned
         ⟦<FileDevice<F::File> as Sectors>⟧ F.File.remaining file.now erase sectors.now key_file.now
         (W.contents output.old) (W.contents output.new)) }
+    ensures only { result ≡ Err CommandError.BadArgument → (sectors_asked sectors.now ≡ Err CommandError.BadArgument)
+        ⊎ HasNoKeyAt F.File.facts F.File.remaining key_file.now }
 {
     let sectors = sectors_asked(sectors)?;
     let first_key = key_at(rt, alloc, key_file)?;
@@ -104,9 +114,10 @@ fn format_or_remove<F: Files, D: Sectors + Drop, W: Write>(
     first_key: Key,
     output: &mut W,
 ) -> Result<(), CommandError>
-    ensures { OnOk result ((store : Store D ⟦<D as Sectors>⟧) × IsFormatted (D.view disk) first_key store
+    ensures formatted { OnOk result ((store : Store D ⟦<D as Sectors>⟧) × IsFormatted (D.view disk) first_key store
         × Appends (W.contents output.old) (W.contents output.new)
         (codes "formatted " ++ decimal (D.view disk).size ++ codes "\n")) }
+    ensures words { IfErr result IsNoWordFault }
 {
     match format_device(alloc, disk, first_key, output) {
         Ok(formatted) => formatted.line,

@@ -1,11 +1,12 @@
 //! Opening the entries of proofs with the keys of their keystreams.
-ghost use Rattle.std.specs.Prelude.{◌≡◌, ◌⊎◌, ◌<◌, ◌≤◌, Some, None, Err, IsErr, IfOk, IfErr, IfSome, OnOk, MatchResult, codes};
+ghost use Rattle.std.specs.Prelude.{◌≡◌, ◌⊎◌, ◌<◌, ◌≤◌, Some, None, Err, IsErr, IfOk, IfErr, IfSome, OnOk, OnErr, MatchResult, codes};
 ghost use Rattle.std.specs.Io.KnownBytes.{Appends, Keeps};
 ghost use Rattle.audit_cli_offline.specs.CommitmentWord.{commitment_in_word};
 ghost use Rattle.audit_cli_base.specs.Arguments.{RefusesWords};
-ghost use Rattle.audit_cli_store.specs.Checks.{IsNotAccepted, IsOfOtherKind, IsNoProof, IsFailure};
+ghost use Rattle.audit_cli_store.specs.Checks.{HasOtherKindAt, IsNotAccepted, IsOfOtherKind, IsNoProof, IsFailure};
 ghost use Rattle.audit_cli_store.specs.OpenedProofs.{key_in_word, HasWrongWords, OpensProofAt};
 ghost use Rattle.audit_cli_store.specs.OpenedProofs.{IsAcceptedEntry, IsAcceptedOther, IsProofOpened, WritesEvent};
+ghost use Rattle.audit_cli_base.specs.Faults.{IsNoWordFault};
 
 use crate::checking::{Judged, judged_in};
 use audit_chain::KEY_LEN;
@@ -117,6 +118,8 @@ where
         (W.contents output.new)) }
     ensures words { RefusesWords (λ fault. HasWrongWords asked.entry × (fault ≡ CommandError.BadArgument))
         (W.contents output.old) (W.contents output.new) result }
+    ensures only { result ≡ Err CommandError.BadArgument → HasWrongWords asked.entry
+        ⊎ HasOtherKindAt F.File.facts F.File.remaining asked.entry.proof.now None }
 {
     let (commitment, key) = words_asked(asked)?;
     let mut proof = rt.open_to_read(asked.proof)?;
@@ -129,6 +132,7 @@ fn words_asked(asked: Opening<'_>) -> Result<(Commitment, [u8; KEY_LEN]), Comman
     ensures wrong { HasWrongWords asked.entry → result ≡ Err CommandError.BadArgument }
     ensures commitment { IfOk result (λ found. commitment_in_word asked.entry.commitment.now ≡ Some found.0) }
     ensures key { IfOk result (λ found. key_in_word asked.entry.key.now ≡ Some found.1) }
+    ensures fault { OnErr result (HasWrongWords asked.entry) }
 {
     if asked.newer.is_some() {
         return Err(CommandError::BadArgument);
@@ -158,6 +162,7 @@ fn end_opening<M: Write>(
     ensures short { 0 < size → size < BOUND_TEXT → OnOk result (Appends (M.contents messages.old) (M.contents messages.new)
         (codes "audit: a key is not bound to a text of fewer than 16 bytes: another key can show another text\n")) }
     ensures bound { (size ≡ 0) ⊎ (BOUND_TEXT ≤ size) → Keeps (M.contents messages.old) (M.contents messages.new) }
+    ensures words { IfErr result IsNoWordFault }
 {
     flushed?;
     if size == 0 || size >= BOUND_TEXT {

@@ -12,6 +12,7 @@ ghost use Rattle.audit_cli_store.specs.Proofs.{IsDeviceOrMemory};
 ghost use Rattle.audit_cli_store.specs.Salvaged.{CountsRefusal};
 ghost use Rattle.audit_disk_model.specs.Calls.{HasRisen};
 ghost use Rattle.audit_base.specs.declared.limits.TheConstants.{MAX_ENTRY, MAX_MEMBER_HASHES, MAX_INCREMENT_HASHES};
+ghost use Rattle.audit_cli_base.specs.Faults.{IsNoWordFault};
 
 use audit_cli_base::{CommandError, ProofRequest};
 use audit_disk_model::Sectors;
@@ -37,6 +38,7 @@ pub fn proof_bytes<D: Sectors>(
         → Holds store.new origin events }
     ensures cause { CountsRefusal (device store.old).failures (device store.new).failures result }
     ensures reads { OnlyRead store.old store.new }
+    ensures words { IfErr result IsNoWordFault }
 {
     match asked {
         ProofRequest::Member { index, count } => {

@@ -1,7 +1,8 @@
 //! The program's requests, and how they are carried out.
+ghost use Rattle.std.specs.Prelude.{◌≡◌, Err};
 ghost use Rattle.audit_cli_base.specs.Arguments.{RefusesWords};
 ghost use Rattle.audit_cli_store.specs.OnFiles.{IsDoneOnFile};
-ghost use Rattle.audit_cli_store.specs.Requests.{IsWordFault, IsReplayOf, IsCarriedOut};
+ghost use Rattle.audit_cli_store.specs.Requests.{HasBadArgument, IsWordFault, IsReplayOf, IsCarriedOut};
 
 use crate::answering::{StoreQuestion, answer_file, export_file, prove_file};
 use crate::auditing::{Verification, check_file, verify_and_report};
@@ -158,6 +159,8 @@ fn perform<F: SystemFiles, R: Read, W: Write, M: Write>(
 where
     F::File: SystemFile,
     ensures words { RefusesWords (IsWordFault request.entry) (W.contents output.old) (W.contents output.new) result }
+    ensures only { result ≡ Err CommandError.BadArgument
+        → HasBadArgument F.File.facts F.File.remaining request.entry }
     ensures replayed { IsReplayOf request.entry (R.remaining input.old) (W.contents output.old)
         (W.contents output.new) result }
     ensures done { IsDoneOnFile F.File.facts F.File.positioned ⟦<FileDevice<F::File> as Sectors>⟧ F.File.remaining

@@ -4,7 +4,7 @@ ghost use Rattle.std.specs.Io.KnownBytes.{Appends};
 ghost use Rattle.audit_log.specs.declared.header.Header.{Header};
 ghost use Rattle.audit_text.specs.Writing.{WritesInPart};
 ghost use Rattle.audit_store.specs.Store.{active_header};
-ghost use Rattle.audit_cli_base.specs.Faults.{IsUnwritten};
+ghost use Rattle.audit_cli_base.specs.Faults.{IsNoWordFault, IsUnwritten};
 ghost use Rattle.audit_cli_store.specs.Shown.{shown_lines, free_line, printed_state, IsStateOf};
 
 use crate::show_form::ShowForm;
@@ -76,6 +76,7 @@ pub fn show<D: Sectors, W: Write>(
     ensures part { OnErr result (WritesInPart (W.contents writer.old) (W.contents writer.new)
         (printed_state form (active_header store.now))) }
     ensures fault { IfErr result (IsUnwritten (W.contents writer.old) (W.contents writer.new)) }
+    ensures words { IfErr result IsNoWordFault }
 {
     show_state(alloc, ShownState::of_store(store), form, writer)
 }
@@ -92,6 +93,7 @@ pub(crate) fn show_state<W: Write>(
     ensures part { (header : Header) → IsStateOf header state
         → OnErr result (WritesInPart (W.contents writer.old) (W.contents writer.new) (printed_state form header)) }
     ensures fault { IfErr result (IsUnwritten (W.contents writer.old) (W.contents writer.new)) }
+    ensures words { IfErr result IsNoWordFault }
 {
     let mut lines = Vec::new(alloc);
     put_lines(&mut lines, state, form)?;

@@ -5,7 +5,7 @@ use Rattle.audit_cli_base.specs.OpenedStore.{IsStoreOn}
 use Rattle.audit_cli_store.proofs.AnsweredFiles.{proves_on}
 use Rattle.audit_cli_store.proofs.answering.proof_on.Goals as goal
 
-pub returns-in-Ok : goal.returns-in-Ok
-returns-in-Ok g c =
+pub returns-in-Ok-clause-made : goal.returns-in-Ok-clause-made
+returns-in-Ok-clause-made g c =
     let on = subst (λ (disk : g.row.D.Denot). IsStoreOn (at_rest (source_of (g.D.Sectors.view disk))) c.in-Ok.content) c.new-source.ensures c.in-Ok.ensures.on in
-    proves_on (at_rest (source_of (g.D.Sectors.view c.args.opened.content))) c.args.asked c.in-Ok.content (λ made. made.0.items) c.proof_of_opened.result on c.proof_of_opened.ensures
+    proves_on (at_rest (source_of (g.D.Sectors.view c.args.opened.content))) c.args.asked c.in-Ok.content (λ made. made.0.items) c.proof_of_opened.result on c.proof_of_opened.ensures.made

@@ -1,5 +1,6 @@
-use Rattle.std.proofs.Common.{Ok, subst, sym, rules}
+use Rattle.std.proofs.Common.{◌∙◌, Ok, subst, sym, rules}
 use Rattle.audit_cli_store.proofs.AnsweredFiles.{done_show, done_show_header, done_format, done_export, done_prove}
+use Rattle.audit_cli_store.proofs.BadArguments.{never_bad}
 use Rattle.std.proofs.lemmas.Result.{err_from_is_err_and}
 use Rattle.audit_cli_store.specs.Requests.{IsWordFault, IsReplayed, IsReplayOf}
 use Rattle.audit_cli_store.proofs.request.perform.Goals as goal
@@ -22,7 +23,7 @@ pub returns-in-Verify-clause-words : goal.returns-in-Verify-clause-words
 returns-in-Verify-clause-words g c = λ fault asked. absurd (subst (λ request. IsWordFault request fault) c.in-Verify.is asked)
 
 pub returns-in-Check-clause-words : goal.returns-in-Check-clause-words
-returns-in-Check-clause-words g c = λ fault asked. c.check_file.ensures fault (subst (λ request. IsWordFault request fault) c.in-Check.is asked)
+returns-in-Check-clause-words g c = λ fault asked. c.check_file.ensures.words fault (subst (λ request. IsWordFault request fault) c.in-Check.is asked)
 
 pub returns-in-CheckLink-clause-words : goal.returns-in-CheckLink-clause-words
 returns-in-CheckLink-clause-words g c = λ fault asked. c.check_link_file.ensures.words fault (subst (λ request. IsWordFault request fault) c.in-CheckLink.is asked)
@@ -93,13 +94,13 @@ returns-in_ok-replay-in-Replay-clause-replayed g c =
 -- What is done with the file of a store.
 
 pub returns-in-Close-clause-done : goal.returns-in-Close-clause-done
-returns-in-Close-clause-done g c = rw c.in-Close.is c.close_file.ensures
+returns-in-Close-clause-done g c = rw c.in-Close.is c.close_file.ensures.closed
 
 pub returns-in-Show-clause-done : goal.returns-in-Show-clause-done
-returns-in-Show-clause-done g c = rw c.in-Show.is (done_show g.F.File.SystemFile.facts g.F.File.PositionedFile.positioned _ g.F.File.Read.remaining c.in-Show.file c.in-Show.access c.in-Show.form (g.W.Write.contents c.args.output.now) (g.W.Write.contents c.answer_file.new.output) c.answer_file.result c.answer_file.ensures)
+returns-in-Show-clause-done g c = rw c.in-Show.is (done_show g.F.File.SystemFile.facts g.F.File.PositionedFile.positioned _ g.F.File.Read.remaining c.in-Show.file c.in-Show.access c.in-Show.form (g.W.Write.contents c.args.output.now) (g.W.Write.contents c.answer_file.new.output) c.answer_file.result c.answer_file.ensures.answered)
 
 pub returns-in-ShowHeader-clause-done : goal.returns-in-ShowHeader-clause-done
-returns-in-ShowHeader-clause-done g c = rw c.in-ShowHeader.is (done_show_header g.F.File.SystemFile.facts g.F.File.PositionedFile.positioned _ g.F.File.Read.remaining c.in-ShowHeader.file c.in-ShowHeader.form (g.W.Write.contents c.args.output.now) (g.W.Write.contents c.show_header.new.output) c.show_header.result c.show_header.ensures)
+returns-in-ShowHeader-clause-done g c = rw c.in-ShowHeader.is (done_show_header g.F.File.SystemFile.facts g.F.File.PositionedFile.positioned _ g.F.File.Read.remaining c.in-ShowHeader.file c.in-ShowHeader.form (g.W.Write.contents c.args.output.now) (g.W.Write.contents c.show_header.new.output) c.show_header.result c.show_header.ensures.shown)
 
 pub returns-in-CheckLink-clause-done : goal.returns-in-CheckLink-clause-done
 returns-in-CheckLink-clause-done g c = rw c.in-CheckLink.is c.check_link_file.ensures.checked
@@ -114,7 +115,7 @@ pub returns-in-Export-clause-done : goal.returns-in-Export-clause-done
 returns-in-Export-clause-done g c = rw c.in-Export.is (done_export g.F.File.SystemFile.facts g.F.File.PositionedFile.positioned _ g.F.File.Read.remaining c.in-Export.file c.in-Export.out c.in-Export.access c.in-Export.from (g.W.Write.contents c.args.output.now) (g.W.Write.contents c.export_file.new.output) c.export_file.result c.export_file.ensures.exported)
 
 pub returns-in-Some-clause-done : goal.returns-in-Some-clause-done
-returns-in-Some-clause-done g c = rw c.in-Prove.is (done_prove g.F.File.SystemFile.facts g.F.File.PositionedFile.positioned _ g.F.File.Read.remaining c.in-Prove.file c.in-Prove.kind c.in-Prove.first c.in-Prove.second c.in-Prove.out c.in-Prove.access c.in-Some.asked (g.W.Write.contents c.args.output.now) (g.W.Write.contents c.prove_file.new.output) c.prove_file.result (search rules) c.prove_file.ensures)
+returns-in-Some-clause-done g c = rw c.in-Prove.is (done_prove g.F.File.SystemFile.facts g.F.File.PositionedFile.positioned _ g.F.File.Read.remaining c.in-Prove.file c.in-Prove.kind c.in-Prove.first c.in-Prove.second c.in-Prove.out c.in-Prove.access c.in-Some.asked (g.W.Write.contents c.args.output.now) (g.W.Write.contents c.prove_file.new.output) c.prove_file.result (search rules) c.prove_file.ensures.proved)
 
 pub returns-in-None-clause-done : goal.returns-in-None-clause-done
 returns-in-None-clause-done g c = rw c.in-Prove.is tt
@@ -130,3 +131,38 @@ returns-in_err-replay-in-Replay-clause-done g c = rw c.in-Replay.is tt
 
 pub returns-in_ok-replay-in-Replay-clause-done : goal.returns-in_ok-replay-in-Replay-clause-done
 returns-in_ok-replay-in-Replay-clause-done g c = rw c.in-Replay.is tt
+
+-- Which arguments are bad.
+
+pub returns-in-Close-clause-only : goal.returns-in-Close-clause-only
+returns-in-Close-clause-only g c = λ bad. absurd (never_bad c.close_file.result bad c.close_file.ensures.words)
+
+pub returns-in-Show-clause-only : goal.returns-in-Show-clause-only
+returns-in-Show-clause-only g c = λ bad. absurd (never_bad c.answer_file.result bad c.answer_file.ensures.words)
+
+pub returns-in-ShowHeader-clause-only : goal.returns-in-ShowHeader-clause-only
+returns-in-ShowHeader-clause-only g c = λ bad. absurd (never_bad c.show_header.result bad c.show_header.ensures.words)
+
+pub returns-in-Check-clause-only : goal.returns-in-Check-clause-only
+returns-in-Check-clause-only g c = rw c.in-Check.is c.check_file.ensures.only
+
+pub returns-in-CheckLink-clause-only : goal.returns-in-CheckLink-clause-only
+returns-in-CheckLink-clause-only g c = rw c.in-CheckLink.is c.check_link_file.ensures.only
+
+pub returns-in-Open-clause-only : goal.returns-in-Open-clause-only
+returns-in-Open-clause-only g c = rw c.in-Open.is c.open_file.ensures.only
+
+pub returns-in-Export-clause-only : goal.returns-in-Export-clause-only
+returns-in-Export-clause-only g c = rw c.in-Export.is c.export_file.ensures.only
+
+pub returns-in-Verify-clause-only : goal.returns-in-Verify-clause-only
+returns-in-Verify-clause-only g c = rw c.in-Verify.is c.verify_and_report.ensures.only
+
+pub returns-in-Format-clause-only : goal.returns-in-Format-clause-only
+returns-in-Format-clause-only g c = rw c.in-Format.is c.format_site.ensures.only
+
+pub returns-in-Some-clause-only : goal.returns-in-Some-clause-only
+returns-in-Some-clause-only g c = λ bad. absurd (never_bad c.prove_file.result bad c.prove_file.ensures.words)
+
+pub returns-in-None-clause-only : goal.returns-in-None-clause-only
+returns-in-None-clause-only g c = rw c.in-Prove.is (λ bad. sym c.proof_request.ensures ∙ c.in-None.is)

@@ -17,6 +17,7 @@ returns g c = record {
   done = c.perform-done.result;
   written = g.W.Write.contents c.perform-done.new.output;
   words = c.perform-done.ensures.words;
+  only = c.perform-done.ensures.only;
   replayed = c.perform-done.ensures.replayed;
   on_file = c.perform-done.ensures.done;
   flushed = c.flush.ensures.bytes;
