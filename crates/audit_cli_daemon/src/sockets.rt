@@ -1,4 +1,4 @@
-ghost use Rattle.std.specs.Prelude.{◌≡◌, ◌++◌, [], ◌∷◌, ℕ, List, map, IfOk, OnOk};
+ghost use Rattle.std.specs.Prelude.{◌≡◌, ◌++◌, [], ◌∷◌, ℕ, List, map, IfOk, OnOk, OnErr};
 ghost use Rattle.audit_serve_door.specs.Entrances.{rights_of, mode_of, descriptor_of};
 ghost use Rattle.audit_serve_sockets.specs.Bound.{ListensAt};
 ghost use Rattle.audit_cli_daemon.specs.Rights.{modes_at, source_rights};
@@ -11,7 +11,6 @@ use audit_serve_door::{ClientEntrance, Entrance, StopOrders};
 use audit_serve_passes::Rights;
 use audit_serve_sockets::{SocketFile, SocketLock, SocketName, SystemSockets};
 use std::alloc::{AllocError, Global};
-use std::fs::Files;
 use std::io::{self, ErrorKind};
 use std::os::unix::net::UnixListener;
 
@@ -74,7 +73,9 @@ impl<'a, F: SystemFile> Made<'a, F> {
 impl<'a, F: SystemFile> MadeSocket<'a, F> {
     // Removes the file, and then its lock, as far as they are still this program's. The first error is returned, after
     // both were tried.
-    fn remove<R: Files<File = F>>(self, rt: &R) -> io::Result<()> {
+    fn remove<R: SystemSockets<File = F>>(self, rt: &R) -> io::Result<()>
+        ensures failed { OnErr result (R.call_failed rt.now) }
+    {
         let removed = self.name.remove(rt, self.path);
         removed.and(self.lock.remove(rt))
     }
@@ -189,9 +190,10 @@ impl<'a> Sockets<'a> {
 
     /// Removes the sockets' files that were made, and their locks, as far as they are still this program's. The first
     /// error is returned, after all were tried.
-    pub fn remove<R: Files>(&self, rt: &R, made: Made<'a, R::File>) -> io::Result<()>
+    pub fn remove<R: SystemSockets>(&self, rt: &R, made: Made<'a, R::File>) -> io::Result<()>
     where
         R::File: SystemFile,
+        ensures failed { OnErr result (R.call_failed rt.now) }
     {
         let mut removed = match made.stop {
             Some(name) => name.remove(rt, self.stop.as_str()),

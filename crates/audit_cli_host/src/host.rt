@@ -2,7 +2,7 @@ use crate::dial::Dial;
 use crate::noted_file::NotedFile;
 use crate::notes::Notes;
 use audit_disk::{FileIdentity, SystemFile, SystemFiles};
-use audit_serve_sockets::SystemSockets;
+use audit_serve_sockets::{SystemSockets, TEXT_LEN};
 use mio::net::UnixStream as Dialed;
 use std::alloc::{Allocator, Global};
 use std::fs::{Files, Metadata, OpenFile, OpenOptions, Permissions, TryLockError};
@@ -191,6 +191,10 @@ where
         self.noted(path, self.rt.permit(path, mode))
     }
 
+    fn lock_path(&self, alloc: Global, socket: &str) -> io::Result<String> {
+        self.rt.lock_path(alloc, socket)
+    }
+
     fn open_lock(&self, path: &str, is_new: bool) -> io::Result<Self::File> {
         self.opened(path, self.rt.open_lock(path, is_new))
     }
@@ -218,6 +222,26 @@ where
 
     fn remove_at(&self, path: &str) -> io::Result<()> {
         self.noted(path, self.rt.remove_at(path))
+    }
+
+    fn accept_at(&self, listener: &UnixListener) -> io::Result<UnixStream> {
+        self.rt.accept_at(listener)
+    }
+
+    fn connect_to(&self, path: &str) -> io::Result<UnixStream> {
+        self.noted(path, self.rt.connect_to(path))
+    }
+
+    fn random_text(&self) -> io::Result<[u8; TEXT_LEN]> {
+        self.noted("/dev/urandom", self.rt.random_text())
+    }
+
+    fn send_text(&self, stream: &mut UnixStream, text: &[u8; TEXT_LEN]) -> io::Result<()> {
+        self.rt.send_text(stream, text)
+    }
+
+    fn hears_text(&self, stream: &mut UnixStream, text: &[u8; TEXT_LEN]) -> io::Result<bool> {
+        self.rt.hears_text(stream, text)
     }
 }
 

@@ -2,9 +2,9 @@
 use base.Fml.{GName}
 use denote.Ref.{Bor}
 use Rattle.std.specs.List.{flat_map}
-use Rattle.std.specs.Prelude.{IfErr, OnOk, IsOk, IfSome}
+use Rattle.std.specs.Prelude.{IfErr, OnOk, OnErr, IsOk, IsErr, IfSome}
 use Rattle.std.specs.Io.KnownBytes.{Appends, Keeps}
-use Rattle.std.proofs.Common.{◌≡◌, ◌⊎◌, ◌∙◌, inl, inr, ℕ, Bool, true, false, Option, Some, None, Result, Ok, Err, List, [], ◌∷◌, ◌++◌, length, append-nil, refl, sym, subst}
+use Rattle.std.proofs.Common.{◌≡◌, ◌⊎◌, ◌∙◌, inl, inr, ℕ, Bool, true, false, Option, Some, None, Result, Ok, Err, List, [], ◌∷◌, ◌++◌, length, append-nil, ap, refl, sym, subst}
 use Rattle.audit_disk_model.specs.declared.sectors.Sectors as sectors
 use Rattle.audit_store.specs.declared.store.Store.{Store}
 use Rattle.audit_serve_passes.specs.Streams.{CallModel}
@@ -20,9 +20,9 @@ use Rattle.audit_cli_serve.specs.Arguments.{rounds_asked, sessions_wanted}
 use Rattle.audit_cli_base.specs.declared.fault.CommandError.{CommandError}
 use Rattle.audit_cli_calls.specs.StoreCalls.{StoresModel, an_opening, a_letting_go}
 use Rattle.audit_server_model.specs.Serving.{StoreKeepsOn}
-use Rattle.audit_cli_serve.specs.Carried.{IsServingDone, IsUnopened, KeepsOpened, KeepsSome, LoopsAt, LoopsOpened, ServesAt, ServesWithLines, IsStoppedWith, ServesOpened, StopsOpened}
+use Rattle.audit_cli_serve.specs.Carried.{IsServingDone, IsUnopened, IsLoopStopped, KeepsOpened, LoopsAt, LoopsOpened, LoopStopsOpened, ServesAt, ServesWithLines, IsStoppedWith, ServesOpened, StopsOpened}
 use Rattle.audit_cli_serve.specs.Rounds.{round_lines, AreCutOff}
-use Rattle.audit_cli_serve.specs.Served.{LoopsOver, ServesRounds, StopsRounds}
+use Rattle.audit_cli_serve.specs.Served.{LoopsOver, ServesRounds, StopsLoop, StopsRounds}
 use Rattle.audit_cli_serve.specs.declared.fault.ServingError.{ServingError}
 use Rattle.audit_cli_serve.specs.declared.fault.ServingError.TheVariants.{Command}
 use Rattle.audit_cli_serve.specs.declared.request.Request.{Request}
@@ -73,7 +73,37 @@ pub nothing : (known : Option (List ℕ)) → Appends known known []
 nothing None = tt
 nothing (Some bytes) = sym (append-nil bytes)
 
+-- once the socket's file was removed: a file fault needs a call that failed
+pub failed_after : (Failed : Type 0) (replaced : Bool) (served watched : Ending) → (served ≡ Err (Command File) → Failed) → (replaced ≡ true → watched ≡ Err (Command Replaced)) → (replaced ≡ false → watched ≡ served) → watched ≡ Err (Command File) → Failed
+failed_after Failed true served watched failed is not file = absurd (cc (is refl))
+failed_after Failed false served watched failed is not file = failed (sym (not refl) ∙ file)
+
+-- one that couldn't be removed is the fault of a call
+pub removed_by : {A E : Type 0} (Failed : Type 0) (removed : Result A E) → OnErr removed Failed → IsErr removed → Failed
+removed_by Failed (Ok done) failed is = absurd (cc is)
+removed_by Failed (Err error) failed is = failed
+
 module _ {D : Type 0} {g : sectors.Ghosts D} where
+  -- why a loop ended with an error, once it was looked whether the store was in its place and the socket's file was removed
+  pub loop_stopped_after : (Failed Connects : Type 0) (replaced : Bool) (opened left : Store D g) (served watched result : Ending) → IfErr served (StopsLoop opened left) → (replaced ≡ true → watched ≡ Err (Command Replaced)) → (replaced ≡ false → watched ≡ served)
+      → IfErr result (λ fault. (watched ≡ Err fault) ⊎ (fault ≡ Command File)) → (result ≡ Err (Command File) → Failed ⊎ Connects) → IfErr result (IsLoopStopped Failed Connects opened left)
+  loop_stopped_after Failed Connects replaced opened left served watched (Ok done) stops is not ends failed = tt
+  loop_stopped_after Failed Connects replaced opened left served watched (Err fault) stops is not ends failed =
+      record { why = by ends; cause = λ file. failed (ap Err file) }
+    where
+      watched_by : (replaced : Bool) → IsWatched replaced served watched → watched ≡ Err fault → (fault ≡ Command Replaced) ⊎ StopsLoop opened left fault
+      watched_by true gone same = inl (cc (sym same ∙ gone))
+      watched_by false stays same = inr (subst (λ (ending : Ending). IfErr ending (StopsLoop opened left)) (sym stays ∙ same) stops)
+
+      by : (watched ≡ Err fault) ⊎ (fault ≡ Command File) → (fault ≡ Command Replaced) ⊎ StopsLoop opened left fault
+      by (inl same) = watched_by replaced (is_watched replaced served watched is not) same
+      by (inr file) = inr (inr (inl file))
+
+  -- it didn't begin: there was no socket, or memory was refused
+  pub loop_not_begun : (Failed Connects : Type 0) (opened : Store D g) (result : Ending) → IfErr result (StopsLoop opened opened) → (result ≡ Err (Command File) → Failed) → IfErr result (IsLoopStopped Failed Connects opened opened)
+  loop_not_begun Failed Connects opened (Ok done) stops failed = tt
+  loop_not_begun Failed Connects opened (Err fault) stops failed = record { why = inr stops; cause = λ file. inl (failed (ap Err file)) }
+
   pub loops_at : (input before after : Option (List ℕ)) (opened left : Store D g) (done : Ending) → OnOk done ((lines : List (List ℕ)) × LoopsOver opened left before after (IsWholeLoop lines) × IfSome input (SpellsInput lines)) → OnOk done (LoopsAt input before after opened left)
   loops_at input before after opened left (Err fault) looped = tt
   loops_at input before after opened left (Ok done) (lines, looped, spelled) = record { lines = lines; looped = looped; spelled = spelled }
@@ -104,15 +134,15 @@ module _ {D : Type 0} {g : sectors.Ghosts D} where
   pub keeps_opened : {O : Type 0} (stores : StoresModel O (Store D g)) (At : List ℕ → Store D g → Type 0) (path : List ℕ) (first mid last : O) (opened left : Store D g) → At path opened → stores.DidCalls first mid (an_opening path (Ok opened) ∷ []) → stores.DidCalls mid last (a_letting_go left ∷ []) → StoreKeepsOn opened left → KeepsOpened g stores At path first last opened left
   keeps_opened stores At path first mid last opened left at opens goes kept = record { at = at; calls = stores.more_called first mid last (an_opening path (Ok opened) ∷ []) (a_letting_go left ∷ []) opens goes; kept = kept }
 
-  pub loops_opened : {O L : Type 0} (stores : StoresModel O (Store D g)) (At : List ℕ → Store D g → Type 0) (Bound : List ℕ → ℕ → L → Type 0) (path socket : List ℕ) (mode : ℕ) (first last : O) (one other : GName) (input was old new end : Option (List ℕ)) (opened left : Store D g) (done : Ending) → KeepsOpened g stores At path first last opened left → was ≡ after_reference one old → (one ≡ other → end ≡ new)
-      → OnOk done (LoopsAt input was (after_reference other new) opened left) → OnOk done ((bound : L) × Bound socket mode bound) → OnOk done (LoopsOpened g stores At Bound path socket mode first last input old end)
-  loops_opened stores At Bound path socket mode first last one other input was old new end opened left (Err fault) kept is same looped bound = tt
-  loops_opened stores At Bound path socket mode first last one other input was old new end opened left (Ok done) kept is same looped bound =
-      record { opened = opened; left = left; kept = kept; bound = bound.0; listens = bound.1; looped = loops_plain one other input was old new end opened left is same looped }
+  pub loops_opened : {O L : Type 0} (stores : StoresModel O (Store D g)) (At : List ℕ → Store D g → Type 0) (Bound : List ℕ → ℕ → L → Type 0) (Connects : List ℕ → Type 0) (path socket : List ℕ) (mode : ℕ) (first last : O) (one other : GName) (input was old new end : Option (List ℕ)) (opened left : Store D g) (done : Ending) → KeepsOpened g stores At path first last opened left → was ≡ after_reference one old → (one ≡ other → end ≡ new)
+      → OnOk done (LoopsAt input was (after_reference other new) opened left) → OnOk done ((bound : L) × Bound socket mode bound) → OnOk done (Connects socket) → OnOk done (LoopsOpened g stores At Bound Connects path socket mode first last input old end)
+  loops_opened stores At Bound Connects path socket mode first last one other input was old new end opened left (Err fault) kept is same looped bound connects = tt
+  loops_opened stores At Bound Connects path socket mode first last one other input was old new end opened left (Ok done) kept is same looped bound connects =
+      record { opened = opened; left = left; kept = kept; bound = bound.0; listens = bound.1; connects = connects; looped = loops_plain one other input was old new end opened left is same looped }
 
-  pub loops_stopped : {O : Type 0} (stores : StoresModel O (Store D g)) (At : List ℕ → Store D g → Type 0) (path : List ℕ) (first last : O) (before after : Option (List ℕ)) (opened left : Store D g) (done : Ending) → KeepsOpened g stores At path first last opened left → IfErr done (λ fault. IsUnopened stores path first last before after fault ⊎ KeepsSome g stores At path first last)
-  loops_stopped stores At path first last before after opened left (Ok done) kept = tt
-  loops_stopped stores At path first last before after opened left (Err fault) kept = inr (opened, (left, kept))
+  pub loops_stopped : {O : Type 0} (stores : StoresModel O (Store D g)) (At : List ℕ → Store D g → Type 0) (Failed : Type 0) (Connects : List ℕ → Type 0) (path socket : List ℕ) (first last : O) (before after : Option (List ℕ)) (opened left : Store D g) (done : Ending) → KeepsOpened g stores At path first last opened left → IfErr done (IsLoopStopped Failed (Connects socket) opened left) → IfErr done (λ fault. IsUnopened stores path first last before after fault ⊎ LoopStopsOpened g stores At Failed Connects path socket first last fault)
+  loops_stopped stores At Failed Connects path socket first last before after opened left (Ok done) kept stopped = tt
+  loops_stopped stores At Failed Connects path socket first last before after opened left (Err fault) kept stopped = inr (record { opened = opened; left = left; kept = kept; stopped = stopped })
 
 module _ {D : Type 0} {g : sectors.Ghosts D} {T L : Type 0} (M : CallModel T) (N : ListenerModel L T) where
   -- all rounds
@@ -178,24 +208,31 @@ module _ {D : Type 0} {g : sectors.Ghosts D} {T L : Type 0} (M : CallModel T) (N
     stops_opened (Ok done) stopped = tt
     stops_opened (Err fault) (text, appends, why) = inr (record { opened = opened; left = left; kept = kept; stopped = (text, plain one other was old new end text is same appends, why) })
 
-module _ {D : Type 0} (g : sectors.Ghosts D) {O : Type 0} (stores : StoresModel O (Store D g)) (At : List ℕ → Store D g → Type 0) {T L : Type 0} (M : CallModel T) (N : ListenerModel L T) (Bound : List ℕ → ℕ → L → Type 0) (was now : O) where
+module _ {D : Type 0} (g : sectors.Ghosts D) {O : Type 0} (stores : StoresModel O (Store D g)) (At : List ℕ → Store D g → Type 0) {T L : Type 0} (M : CallModel T) (N : ListenerModel L T) (Bound : List ℕ → ℕ → L → Type 0) (Failed : Type 0) (Connects : List ℕ → Type 0) (was now : O) where
   pub loop_performed : (input before after : Option (List ℕ)) (request : Request) (file socket : Bor (List ℕ)) (socket_mode : Option (Bor (List ℕ))) (mode : ℕ) (done : Ending) → request ≡ Loop file socket socket_mode → (socket_mode ≡ None → mode ≡ OWNER_ONLY) → IfSome socket_mode (λ word. IsMode word.now mode)
-      → OnOk done (LoopsOpened g stores At Bound file.now socket.now mode was now input before after) → IfErr done (λ fault. IsUnopened stores file.now was now before after fault ⊎ KeepsSome g stores At file.now was now) → IsServingDone g stores At M N Bound request was now input before after done
-  loop_performed input before after request file socket socket_mode mode done is owner mode_is looped stopped = subst (λ (one : Request). IsServingDone g stores At M N Bound one was now input before after done) (sym is) (by done looped stopped)
+      → OnOk done (LoopsOpened g stores At Bound Connects file.now socket.now mode was now input before after) → IfErr done (λ fault. IsUnopened stores file.now was now before after fault ⊎ LoopStopsOpened g stores At Failed Connects file.now socket.now was now fault) → IsServingDone g stores At M N Bound Failed Connects request was now input before after done
+  loop_performed input before after request file socket socket_mode mode done is owner mode_is looped stopped = subst (λ (one : Request). IsServingDone g stores At M N Bound Failed Connects one was now input before after done) (sym is) (by done looped stopped)
     where
-      by : (done : Ending) → OnOk done (LoopsOpened g stores At Bound file.now socket.now mode was now input before after) → IfErr done (λ fault. IsUnopened stores file.now was now before after fault ⊎ KeepsSome g stores At file.now was now) → IsServingDone g stores At M N Bound (Loop file socket socket_mode) was now input before after done
+      by : (done : Ending) → OnOk done (LoopsOpened g stores At Bound Connects file.now socket.now mode was now input before after) → IfErr done (λ fault. IsUnopened stores file.now was now before after fault ⊎ LoopStopsOpened g stores At Failed Connects file.now socket.now was now fault) → IsServingDone g stores At M N Bound Failed Connects (Loop file socket socket_mode) was now input before after done
       by (Ok done) looped stopped = record { mode = mode; owner = owner; mode_is = mode_is; looped = looped }
       by (Err fault) looped stopped = stopped
 
   pub performed : (input before after : Option (List ℕ)) (file socket rounds : Bor (List ℕ)) (sessions socket_mode : Option (Bor (List ℕ))) (count each mode : ℕ) (done : Ending) → rounds_asked rounds.now ≡ Ok count → sessions_wanted sessions ≡ Ok each → (socket_mode ≡ None → mode ≡ OWNER_ONLY) → IfSome socket_mode (λ word. IsMode word.now mode)
-      → OnOk done (ServesOpened g stores At M N Bound file.now socket.now mode each count was now before after) → IfErr done (λ fault. IsUnopened stores file.now was now before after fault ⊎ StopsOpened g stores At M N Bound file.now socket.now mode each was now before after fault) → IsServingDone g stores At M N Bound (Serve file socket rounds sessions socket_mode) was now input before after done
-  performed input before after file socket rounds sessions socket_mode count each mode (Ok done) asked wanted owner mode_is served stopped = record { count = count; rounds_are = asked; each = each; sessions_are = wanted; mode = mode; owner = owner; mode_is = mode_is; served = served }
-  performed input before after file socket rounds sessions socket_mode count each mode (Err fault) asked wanted owner mode_is served (inl unopened) = inl unopened
-  performed input before after file socket rounds sessions socket_mode count each mode (Err fault) asked wanted owner mode_is served (inr stopped) = inr (each, wanted, (mode, stopped))
+      → OnOk done (ServesOpened g stores At M N Bound file.now socket.now mode each count was now before after) → IfErr done (λ fault. IsUnopened stores file.now was now before after fault ⊎ StopsOpened g stores At M N Bound file.now socket.now mode each was now before after fault) → (done ≡ Err (Command File) → IsUnopened stores file.now was now before after (Command File) ⊎ Failed) → IsServingDone g stores At M N Bound Failed Connects (Serve file socket rounds sessions socket_mode) was now input before after done
+  performed input before after file socket rounds sessions socket_mode count each mode (Ok done) asked wanted owner mode_is served stopped failed = record { count = count; rounds_are = asked; each = each; sessions_are = wanted; mode = mode; owner = owner; mode_is = mode_is; served = served }
+  performed input before after file socket rounds sessions socket_mode count each mode (Err (Command File)) asked wanted owner mode_is served stopped failed = by stopped (failed refl)
+    where
+      by : IsUnopened stores file.now was now before after (Command File) ⊎ StopsOpened g stores At M N Bound file.now socket.now mode each was now before after (Command File) → IsUnopened stores file.now was now before after (Command File) ⊎ Failed
+          → IsServingDone g stores At M N Bound Failed Connects (Serve file socket rounds sessions socket_mode) was now input before after (Err (Command File))
+      by stops (inl unopened) = inl unopened
+      by (inl unopened) (inr why) = inl unopened
+      by (inr stops) (inr why) = inr ((λ file_fault. why), (each, wanted, (mode, stops)))
+  performed input before after file socket rounds sessions socket_mode count each mode (Err fault) asked wanted owner mode_is served (inl unopened) failed = inl unopened
+  performed input before after file socket rounds sessions socket_mode count each mode (Err fault) asked wanted owner mode_is served (inr stopped) failed = inr ((λ file_fault. absurd (cc file_fault)), (each, wanted, (mode, stopped)))
 
 -- an error before a store was opened
-pub unopened : {D : Type 0} (g : sectors.Ghosts D) {O : Type 0} (stores : StoresModel O (Store D g)) (At : List ℕ → Store D g → Type 0) {T L : Type 0} (M : CallModel T) (N : ListenerModel L T) (Bound : List ℕ → ℕ → L → Type 0) (was : O) (request : Request) (cause : CommandError) (done : Ending) (input before : Option (List ℕ)) → done ≡ Err (Command cause) → IsServingDone g stores At M N Bound request was was input before before done
-unopened g stores At M N Bound was request cause done input before is = subst (λ (ending : Ending). IsServingDone g stores At M N Bound request was was input before before ending) (sym is) (inl (cause, refl, (inl (stores.nothing_called was), kept_bytes before)))
+pub unopened : {D : Type 0} (g : sectors.Ghosts D) {O : Type 0} (stores : StoresModel O (Store D g)) (At : List ℕ → Store D g → Type 0) {T L : Type 0} (M : CallModel T) (N : ListenerModel L T) (Bound : List ℕ → ℕ → L → Type 0) (Failed : Type 0) (Connects : List ℕ → Type 0) (was : O) (request : Request) (cause : CommandError) (done : Ending) (input before : Option (List ℕ)) → done ≡ Err (Command cause) → IsServingDone g stores At M N Bound Failed Connects request was was input before before done
+unopened g stores At M N Bound Failed Connects was request cause done input before is = subst (λ (ending : Ending). IsServingDone g stores At M N Bound Failed Connects request was was input before before ending) (sym is) (inl (cause, refl, (inl (stores.nothing_called was), kept_bytes before)))
 
 -- the opening failed
 pub opening_failed : {O S : Type 0} (stores : StoresModel O S) (path : List ℕ) (was now : O) (cause : CommandError) (done : Ending) (before : Option (List ℕ)) → done ≡ Err (Command cause) → stores.DidCalls was now (an_opening path (Err cause) ∷ []) → IfErr done (λ fault. IsUnopened stores path was now before before fault)

@@ -1,5 +1,5 @@
 -- Serving a store by a new core.
-use Rattle.std.proofs.Common.{◌≡◌, ◌⊎◌, ◌∙◌, inl, inr, ℕ, ◌≤◌, ◌+◌, Option, Some, Result, Ok, Err, OnErr, List, [], ◌∷◌, ◌++◌, length, map, refl, sym, ap, subst, arith}
+use Rattle.std.proofs.Common.{◌≡◌, ◌⊎◌, ◌∙◌, inl, inr, ℕ, ◌≤◌, ◌+◌, ◌^◌, Option, Some, Result, Ok, Err, OnErr, List, [], ◌∷◌, ◌++◌, length, map, refl, sym, ap, subst, arith}
 use Rattle.std.proofs.lemmas.List.{append-nil, map-append, length-append, length-map}
 use Rattle.std.specs.List.{AllByRecursion}
 use Rattle.std.specs.Prelude.{OnOk}
@@ -21,8 +21,8 @@ use Rattle.audit_serve_passes.specs.declared.duplex_stream.DuplexStream.{DuplexS
 use Rattle.audit_serve_passes.specs.declared.serve_end.ServeFault.{ServeFault}
 use Rattle.audit_serve_passes.specs.declared.serve_end.ServeFault.TheVariants as serving
 use Rattle.audit_serve_passes.specs.Transition.{Transition, EndsAs, Reached, IsServed, IsCut, AnySteps}
-use Rattle.audit_serve_sockets.specs.Listening.{ListenerModel, accepted_by}
-use Rattle.audit_serve_sockets.specs.Looping.{BringsLines, LoopTransition, LoopReached}
+use Rattle.audit_serve_sockets.specs.Listening.{ListenerModel}
+use Rattle.audit_serve_sockets.specs.Looping.{AreLinePasses, BringsLines, CutsFrameOff, LoopTransition, LoopReached}
 use Rattle.audit_serve_sockets.specs.declared.loop_fault.LoopError.{LoopError}
 use Rattle.audit_serve_sockets.specs.declared.loop_fault.LoopError.TheVariants as looping
 use Rattle.audit_text.specs.declared.fault.LinesError.{LinesError}
@@ -32,7 +32,7 @@ use Rattle.audit_cli_serve.specs.declared.fault.ServingError.{ServingError}
 use Rattle.audit_cli_serve.specs.declared.fault.ServingError.TheVariants.{Command, BadFrameLine}
 use Rattle.audit_cli_serve.specs.Faults.{of_serving, of_loop}
 use Rattle.audit_server.specs.NewCore.{IsNewCore}
-use Rattle.audit_cli_serve.specs.Served.{plain_terms, LoopsOver, ServesRound, ServesRounds, LoopReachesOver, ReachesByRound, IsOpen, AreAccepted, AreLetGo, IsNotBegun, IsLineLost, HasRefused, StopsRound, StopsLoop}
+use Rattle.audit_cli_serve.specs.Served.{plain_terms, CutsFrameOver, LoopsOver, ServesRound, ServesRounds, LoopReachesOver, ReachesByRound, IsOpen, AreAccepted, AreLetGo, IsLineLost, HasRefused, StopsRound, StopsLoop}
 
 -- no other fault is reported as a line that spells no bytes
 pub bad_of_loop : (fault : LoopError StoreError) (number : ℕ) → of_loop fault ≡ BadFrameLine number → fault ≡ looping.BadLine number
@@ -40,6 +40,24 @@ bad_of_loop looping.Connection number is = absurd (cc is)
 bad_of_loop (looping.Lines fault) number is = absurd (cc is)
 bad_of_loop (looping.BadLine line) number is = cc is
 bad_of_loop (looping.Core error) number is = absurd (cc is)
+
+-- nor as a file fault, or one of lines
+pub file_of_loop : (fault : LoopError StoreError) → of_loop fault ≡ Command File → fault ≡ looping.Connection
+file_of_loop looping.Connection is = refl
+file_of_loop (looping.Lines fault) is = absurd (cc is)
+file_of_loop (looping.BadLine line) is = absurd (cc is)
+file_of_loop (looping.Core error) is = absurd (cc is)
+
+pub lines_of_loop : (fault : LoopError StoreError) (cause : LinesError) → of_loop fault ≡ Command (Lines cause) → fault ≡ looping.Lines cause
+lines_of_loop looping.Connection cause is = absurd (cc is)
+lines_of_loop (looping.Lines fault) cause is = cc is
+lines_of_loop (looping.BadLine line) cause is = absurd (cc is)
+lines_of_loop (looping.Core error) cause is = absurd (cc is)
+
+-- a refused step is no file fault
+pub serving_no_file : (fault : ServeFault StoreError) → of_serving fault ≡ Command File → ⊥
+serving_no_file (serving.Core error) is = cc is
+serving_no_file serving.ReadFault is = cc is
 
 -- what holds of a result that is Ok, and of one that isn't
 pub on_ok : {A F P : Type 0} (outcome : Result A F) (value : A) → outcome ≡ Ok value → P → OnOk outcome P
@@ -73,6 +91,19 @@ module _ {D : Type 0} {g : sectors.Ghosts D} where
   loop_reached old new core last made left run = record { core = core; made = made; last = last; left = left; run = run }
 
   -- ---- why it stopped
+
+  -- output wasn't whole frames
+  pub cut_over : {A B : Type 0} (old new : Store D g) (core last : Core D g) → IsNewCore plain_terms old core → new ≡ store_of (committer_of last) → A ⊎ (B ⊎ CutsFrameOff core_model core last) → A ⊎ (B ⊎ CutsFrameOver old new)
+  cut_over old new core last made left (inl one) = inl one
+  cut_over old new core last made left (inr (inl other)) = inr (inl other)
+  cut_over old new core last made left (inr (inr cut)) = inr (inr (record { core = core; made = made; last = last; left = left; cut = cut }))
+
+  -- there were as many lines as are counted
+  pub unread_over : {A : Type 0} {before after : Option (List ℕ)} (old new : Store D g) (core last : Core D g) → IsNewCore plain_terms old core → new ≡ store_of (committer_of last)
+      → A ⊎ ((lines : List (List ℕ)) × (2 ^ 64 ≤ length lines + 2) × LoopTransition core_model core last before after (AreLinePasses lines))
+      → A ⊎ ((lines : List (List ℕ)) × (2 ^ 64 ≤ length lines + 2) × LoopsOver old new before after (AreLinePasses lines))
+  unread_over old new core last made left (inl failed) = inl failed
+  unread_over old new core last made left (inr (lines, many, run)) = inr (lines, many, looped old new core last made left run)
 
   -- memory was refused, and the store is unchanged
   pub no_memory_for : (old new : Store D g) (fault : ServingError) → fault ≡ Command (Refused Memory) → new ≡ old → HasRefused old new fault
@@ -164,6 +195,12 @@ module _ {D : Type 0} {g : sectors.Ghosts D} {T L : Type 0} (M : CallModel T) (N
     accepted = accepted;
     run = run;
   }
+
+  -- a round writes nothing
+  pub round_no_write : (sessions : ℕ) (old new : Store D g) (before after : L) (fault : ServingError) → StopsRound M N sessions old new before after fault → fault ≡ Command (Lines lines.Write) → ⊥
+  round_no_write sessions old new before after fault (inl (error, refused, why)) is = cc (sym refused ∙ is)
+  round_no_write sessions old new before after fault (inr (inl (file, same))) is = cc (sym file ∙ is)
+  round_no_write sessions old new before after fault (inr (inr (many, cut))) is = cc (sym many ∙ is)
 
   -- not every session has a stream
   pub streams_refused : (sessions : ℕ) (store : Store D g) (before after : L) (fault : ServingError) → (fault ≡ Command (Refused Memory)) ⊎ (fault ≡ Command File) → StopsRound M N sessions store store before after fault

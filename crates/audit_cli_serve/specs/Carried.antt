@@ -1,6 +1,6 @@
 -- The effect of carrying out a request.
 use denote.Ref.{Bor}
-use Rattle.std.specs.Prelude.{◌≡◌, ◌⊎◌, ℕ, Option, Some, None, Result, Ok, Err, List, [], length, IfSome}
+use Rattle.std.specs.Prelude.{◌≡◌, ◌⊎◌, ℕ, Option, None, Result, Ok, Err, List, [], length, IfSome}
 use Rattle.std.specs.Io.KnownBytes.{Keeps, Appends}
 use Rattle.audit_disk_model.specs.declared.sectors.Sectors as sectors
 use Rattle.audit_disk.specs.declared.files.TheConstants.{OWNER_ONLY}
@@ -20,7 +20,7 @@ use Rattle.audit_cli_base.specs.declared.fault.CommandError.TheVariants.{File, R
 use Rattle.audit_cli_serve.specs.Arguments.{rounds_asked, sessions_wanted}
 use Rattle.audit_cli_serve.specs.Faults.{serving_status}
 use Rattle.audit_cli_serve.specs.Rounds.{round_lines, AreCutOff}
-use Rattle.audit_cli_serve.specs.Served.{ServesRounds, StopsRounds, LoopsOver}
+use Rattle.audit_cli_serve.specs.Served.{ServesRounds, StopsRounds, LoopsOver, StopsLoop}
 use Rattle.audit_cli_serve.specs.Words.{IsServingFault}
 use Rattle.audit_cli_serve.specs.declared.fault.ServingError.{ServingError}
 use Rattle.audit_cli_serve.specs.declared.fault.ServingError.TheVariants.{Command}
@@ -43,6 +43,12 @@ module _ {D : Type 0} {g : sectors.Ghosts D} where
     pub lines : List (List ℕ)
     pub looped : LoopsOver opened left before after (IsWholeLoop lines)
     pub spelled : IfSome input (SpellsInput lines)
+
+  -- Why a loop over a store ended with an error: the store wasn't in its place at the end, or the session stopped. A
+  -- file fault needs a call that failed, or a connection that was made, as `Failed` and `Connects` say.
+  pub record IsLoopStopped (Failed Connects : Type 0) (opened left : Store D g) (fault : ServingError) : Type 0 where
+    pub why : (fault ≡ Command Replaced) ⊎ StopsLoop opened left fault
+    pub cause : fault ≡ Command File → Failed ⊎ Connects
 
 -- `Bound` says where a socket was bound.
 module _ {D : Type 0} {g : sectors.Ghosts D} {T L : Type 0} (M : CallModel T) (N : ListenerModel L T)
@@ -101,12 +107,19 @@ module _ {D : Type 0} (g : sectors.Ghosts D) {O : Type 0} (stores : StoresModel 
     pub calls : OpensAndLetsGo stores path was now opened left
     pub kept : StoreKeepsOn opened left
 
-  abbrev pub KeepsSome : List ℕ → O → O → Type 0
-  KeepsSome path was now = (opened : Store D g) × ((left : Store D g) × KeepsOpened path was now opened left)
+  -- the same, and a loop over it ended with an error
+  pub record LoopStopsOpened (Failed : Type 0) (Connects : List ℕ → Type 0) (path socket : List ℕ) (was now : O)
+      (fault : ServingError) : Type 0 where
+    pub opened : Store D g
+    pub left : Store D g
+    pub kept : KeepsOpened path was now opened left
+    pub stopped : IsLoopStopped Failed (Connects socket) opened left fault
 
+-- `Connects` says to which path a connection was made.
 module _ {D : Type 0} (g : sectors.Ghosts D) {O : Type 0} (stores : StoresModel O (Store D g))
-    (At : List ℕ → Store D g → Type 0) {L : Type 0} (Bound : List ℕ → ℕ → L → Type 0) where
-  -- a whole session was served over it, and such a socket was bound
+    (At : List ℕ → Store D g → Type 0) {L : Type 0} (Bound : List ℕ → ℕ → L → Type 0)
+    (Connects : List ℕ → Type 0) where
+  -- a whole session was served over it, such a socket was bound, and a connection was made to its path
   pub record LoopsOpened (path socket : List ℕ) (mode : ℕ) (was now : O) (input before after : Option (List ℕ))
       : Type 0 where
     pub opened : Store D g
@@ -114,6 +127,7 @@ module _ {D : Type 0} (g : sectors.Ghosts D) {O : Type 0} (stores : StoresModel 
     pub kept : KeepsOpened g stores At path was now opened left
     pub bound : L
     pub listens : Bound socket mode bound
+    pub connects : Connects socket
     pub looped : LoopsAt input before after opened left
 
   -- the same with the permissions that were asked for
@@ -158,20 +172,25 @@ module _ {D : Type 0} (g : sectors.Ghosts D) {O : Type 0} (stores : StoresModel 
     pub kept : KeepsOpened g stores At path was now opened left
     pub stopped : IsStoppedWith M N (Bound socket mode) sessions opened left before after fault
 
+-- `Failed` says that a call failed.
+module _ {D : Type 0} (g : sectors.Ghosts D) {O : Type 0} (stores : StoresModel O (Store D g))
+    (At : List ℕ → Store D g → Type 0) {T L : Type 0} (M : CallModel T) (N : ListenerModel L T)
+    (Bound : List ℕ → ℕ → L → Type 0) (Failed : Type 0) (Connects : List ℕ → Type 0) where
   -- A store was opened in the file that was named, and let go with its events. As many sessions as asked for were served
-  -- in each round over it, on a socket at the path that was asked for, up to this error.
+  -- in each round over it, on a socket at the path that was asked for, up to this error. A file fault needs a call that
+  -- failed.
   abbrev pub StopsAsked : Request → O → O → Option (List ℕ) → Option (List ℕ) → ServingError → Type 0
   StopsAsked (Serve file socket rounds sessions mode) was now before after fault =
-      (each : ℕ) × (sessions_wanted sessions ≡ Ok each)
-      × ((bits : ℕ) × StopsOpened file.now socket.now bits each was now before after fault)
+      (fault ≡ Command File → Failed) × ((each : ℕ) × (sessions_wanted sessions ≡ Ok each)
+      × ((bits : ℕ) × StopsOpened g stores At M N Bound file.now socket.now bits each was now before after fault))
   StopsAsked (Loop file socket mode) was now before after fault =
-      KeepsSome g stores At file.now was now
+      LoopStopsOpened g stores At Failed Connects file.now socket.now was now fault
 
   abbrev pub IsServedAsAsked : Request → O → O → Option (List ℕ) → Option (List ℕ) → Option (List ℕ) → Type 0
   IsServedAsAsked (Serve file socket rounds sessions mode) was now input before after =
-      ServesRoundsAsked file.now socket.now rounds.now sessions mode was now before after
+      ServesRoundsAsked g stores At M N Bound file.now socket.now rounds.now sessions mode was now before after
   IsServedAsAsked (Loop file socket mode) was now input before after =
-      LoopsAsked g stores At Bound file.now socket.now mode was now input before after
+      LoopsAsked g stores At Bound Connects file.now socket.now mode was now input before after
 
   -- A request was carried out with this result. On success what it asks for was served and written; otherwise no store
   -- was opened and nothing was written, or that one was which was named, and it was let go with its events.

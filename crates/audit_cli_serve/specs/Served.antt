@@ -18,7 +18,7 @@ use Rattle.audit_server.specs.NewCore.{CoreTerms, IsNewCore}
 use Rattle.audit_text.specs.declared.fault.LinesError.{LinesError}
 use Rattle.audit_text.specs.declared.fault.LinesError.TheVariants.{Write, Memory}
 use Rattle.audit_serve_sockets.specs.Listening.{ListenerModel}
-use Rattle.audit_serve_sockets.specs.Looping.{BringsLines, LoopTransition, LoopReached}
+use Rattle.audit_serve_sockets.specs.Looping.{BringsLines, CutsFrameOff, LoopTransition, LoopReached}
 use Rattle.audit_cli_base.specs.declared.fault.CommandError.TheVariants.{File, Lines, Refused}
 use Rattle.audit_cli_serve.specs.Rounds.{round_lines, AreCutOff}
 use Rattle.audit_cli_serve.specs.declared.fault.ServingError.{ServingError}
@@ -49,6 +49,14 @@ module _ {D : Type 0} {g : sectors.Ghosts D} where
     pub last : Core D g
     pub left : new ≡ store_of (committer_of last)
     pub run : LoopReached core_model core last (BringsLines known)
+
+  -- output of a core over the store wasn't whole frames
+  pub record CutsFrameOver (old new : Store D g) : Type 0 where
+    pub core : Core D g
+    pub made : IsNewCore plain_terms old core
+    pub last : Core D g
+    pub left : new ≡ store_of (committer_of last)
+    pub cut : CutsFrameOff core_model core last
 
   -- the refusal: the core refused a step, or memory for a core was refused
   abbrev pub HasRefused : Store D g → Store D g → ServingError → Type 0

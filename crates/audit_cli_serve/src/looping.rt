@@ -1,18 +1,21 @@
 //! A session over lines, served by a core over a store.
-ghost use Rattle.std.specs.Prelude.{◌≡◌, ◌⊎◌, ◌+◌, List, ℕ, length, IfSome, IfErr, OnOk, Err};
+ghost use Rattle.std.specs.Prelude.{◌≡◌, ◌⊎◌, ◌≤◌, ◌+◌, ◌^◌, List, ℕ, length, IfSome, IfErr, OnOk, Err};
+ghost use Rattle.audit_text.specs.declared.fault.LinesError.TheVariants.{Write as NotWritten, Read as NotRead};
 ghost use Rattle.audit_server_model.specs.Serving.{StoreKeepsOn};
 ghost use Rattle.audit_serve_sockets.specs.Input.{SpellsInput, SpellsUpToBad};
+ghost use Rattle.audit_serve_sockets.specs.Carrying.{LosesSome, client_end, server_end};
 ghost use Rattle.audit_serve_sockets.specs.Looping.{AreLinePasses, IsWholeLoop};
-ghost use Rattle.audit_cli_serve.specs.declared.fault.ServingError.TheVariants.{BadFrameLine};
-ghost use Rattle.audit_cli_serve.specs.Served.{LoopsOver, LoopReachesOver, StopsLoop};
+ghost use Rattle.audit_cli_base.specs.declared.fault.CommandError.TheVariants.{File, Lines};
+ghost use Rattle.audit_cli_serve.specs.declared.fault.ServingError.TheVariants.{BadFrameLine, Command};
+ghost use Rattle.audit_cli_serve.specs.Served.{CutsFrameOver, LoopsOver, LoopReachesOver, StopsLoop};
 
 use crate::fault::{ServingError, fault_of_loop, no_memory};
 use audit_disk_model::Sectors;
-use audit_serve_sockets::{Link, run_lines};
+use audit_serve_sockets::{Link, TriedRead, TriedWrite, run_lines};
 use audit_server::Core;
 use audit_store::Store;
 use std::alloc::Global;
-use std::io::{BufRead, Read, Write};
+use std::io::BufRead;
 
 /// Serves a session whose bytes are given as lines of hex digits, through a connection, by a core over the store. Each
 /// frame of the replies is written as a line. The store is returned as the session left it.
@@ -25,10 +28,10 @@ pub fn loop_over<D, A, B, R, W>(
 ) -> (Store<D>, Result<(), ServingError>)
 where
     D: Sectors + Drop,
-    A: Read + Write + Drop,
-    B: Read + Write + Drop,
-    R: BufRead,
-    W: Write,
+    A: TriedRead + TriedWrite + Drop,
+    B: TriedRead + TriedWrite + Drop,
+    R: BufRead + TriedRead,
+    W: TriedWrite,
     // A crash at any moment keeps the events that the store held, and so does the returned store.
     ensures kept { StoreKeepsOn store result.0 }
     // If a core was made, it did steps that feed a prefix of what the first lines spell.
@@ -45,6 +48,17 @@ where
         × IfSome (R.remaining reader.old) (SpellsUpToBad lines) }
     // The error states why serving stopped, and what a refusal states about the store holds.
     ensures fault { IfErr result.1 (StopsLoop store result.0) }
+    // `File` needs a call that failed at an end of the link, bytes that were read there and weren't sent, or output of
+    // the core that isn't whole frames. `Read` needs a call of the reader that failed, or as many lines as are counted;
+    // `Write` a call of the writer that failed.
+    ensures lost { result.1 ≡ Err (Command File)
+        → LosesSome A.unwritten B.unread B.gave (client_end link.new) (server_end link.new)
+        ⊎ (LosesSome B.unwritten A.unread A.gave (server_end link.new) (client_end link.new)
+        ⊎ CutsFrameOver store result.0) }
+    ensures unread { result.1 ≡ Err (Command (Lines NotRead)) → R.unread reader.new
+        ⊎ ((lines : List (List ℕ)) × (2 ^ 64 ≤ length lines + 2)
+        × LoopsOver store result.0 (W.contents writer.old) (W.contents writer.new) (AreLinePasses lines)) }
+    ensures unwritten { result.1 ≡ Err (Command (Lines NotWritten)) → W.unwritten writer.new }
 {
     let mut core = match Core::new(alloc, store) {
         Ok(core) => core,

@@ -1,17 +1,20 @@
 //! The requests to serve sessions, and how they are carried out.
-ghost use Rattle.std.specs.Prelude.{◌≡◌, ◌⊎◌, ◌≤◌, List, [], ℕ, length, IsOk, true, false, Ok, Err, IfOk, IfErr, OnOk};
+ghost use Rattle.std.specs.Prelude.{◌≡◌, ◌⊎◌, ◌≤◌, List, [], ℕ, length, IsOk, IsErr, true, false, Ok, Err};
+ghost use Rattle.std.specs.Prelude.{IfOk, IfErr, OnOk, OnErr};
 ghost use Rattle.std.specs.Io.KnownBytes.{Keeps, Appends};
 ghost use Rattle.audit_base.specs.declared.limits.TheConstants.{SESSIONS};
 ghost use Rattle.audit_cli_base.specs.Arguments.{RefusesWords};
 ghost use Rattle.audit_cli_base.specs.declared.fault.CommandError.TheVariants.{File, Replaced};
-ghost use Rattle.audit_serve_sockets.specs.Bound.{IsBound};
+ghost use Rattle.audit_serve_sockets.specs.Bound.{CallFailed, IsBound};
 ghost use Rattle.audit_serve_sockets.specs.declared.socket_file.SocketFile.{SocketFile};
 ghost use Rattle.audit_cli_serve.specs.Arguments.{rounds_asked, sessions_wanted};
 ghost use Rattle.audit_server_model.specs.Serving.{StoreKeepsOn};
 ghost use Rattle.audit_cli_base.specs.Watched.{watched_bytes};
 ghost use Rattle.audit_cli_serve.specs.Carried.{ServesAt, ServesOpened, IsStoppedWith, StopsOpened, LoopsAt};
-ghost use Rattle.audit_cli_serve.specs.Carried.{LoopsOpened, IsUnopened, KeepsSome, IsServingDone, IsServingCarriedOut};
+ghost use Rattle.audit_cli_serve.specs.Carried.{LoopsOpened, LoopStopsOpened, IsLoopStopped, IsUnopened};
+ghost use Rattle.audit_cli_serve.specs.Carried.{IsServingDone, IsServingCarriedOut};
 ghost use Rattle.audit_cli_serve.specs.Rounds.{round_lines};
+ghost use Rattle.audit_cli_serve.specs.Served.{StopsLoop};
 ghost use Rattle.audit_cli_serve.specs.Faults.{IsNoWordError};
 ghost use Rattle.audit_cli_serve.specs.declared.fault.ServingError.TheVariants.{Command};
 ghost use Rattle.audit_cli_serve.specs.Words.{IsWrongNumber, HasWrongWord, IsServingFault};
@@ -32,14 +35,9 @@ use audit_serve_sockets::{Link, Listener, SocketFile, SocketLock, SystemSockets}
 use audit_store::Store;
 use audit_text::LinesError;
 use std::alloc::Global;
-use std::fs::{self, Files};
 use std::io::{self, BufRead, BufReader, Read, Write};
-use std::net::Net;
 use std::os::unix::net::UnixStream;
-use std::time::{Clock, Duration};
-
-// The length in bytes of the random text by which the program recognises its own connection.
-const TEXT_LEN: usize = 32;
+use std::time::Clock;
 
 // How many connections of other clients are closed before the program gives up.
 const STRANGERS: usize = 64;
@@ -103,6 +101,7 @@ where
     // done to a store.
     ensures carried { IsServingCarriedOut ⟦<FileDevice<F::File> as Sectors>⟧ O.calls (O.at stores.old)
         ⟦<UnixStream as Duplex>⟧.calls ⟦<SocketFile as Listener<UnixStream>>⟧.model (IsBound (F.sockets rt.now))
+        (CallFailed (F.call_failed rt.now) F.File.facts) (F.sockets rt.now).connects
         request.entry stores.old stores.new (R.remaining input.old) (W.contents output.old) (W.contents output.new)
         (W.flushed output.new) (W.unflushed output.new) result }
 {
@@ -136,6 +135,7 @@ where
     ensures unopened { HasWrongWord request.entry → O.calls.DidCalls stores.old stores.new [] }
     ensures served { IsServingDone ⟦<FileDevice<F::File> as Sectors>⟧ O.calls (O.at stores.old)
         ⟦<UnixStream as Duplex>⟧.calls ⟦<SocketFile as Listener<UnixStream>>⟧.model (IsBound (F.sockets rt.now))
+        (CallFailed (F.call_failed rt.now) F.File.facts) (F.sockets rt.now).connects
         request.entry stores.old stores.new (R.remaining input.old) (W.contents output.old) (W.contents output.new)
         result }
 {
@@ -207,6 +207,9 @@ where
         ⟦<UnixStream as Duplex>⟧.calls ⟦<SocketFile as Listener<UnixStream>>⟧.model (IsBound (F.sockets rt.now))
         file.now socket.now mode sessions stores.old stores.new (W.contents output.old) (W.contents output.new)
         fault) }
+    ensures failed { result ≡ Err (Command File) → IsUnopened O.calls
+        file.now stores.old stores.new (W.contents output.old) (W.contents output.new) (Command File)
+        ⊎ CallFailed (F.call_failed rt.now) F.File.facts }
 {
     let Opened { content, identity } = stores.open(alloc, file)?;
     let watch = StoreWatch::new(rt, file, identity, content.sectors());
@@ -249,6 +252,7 @@ where
     ensures stopped { IfErr result.1 (IsStoppedWith ⟦<UnixStream as Duplex>⟧.calls
         ⟦<SocketFile as Listener<UnixStream>>⟧.model (IsBound (F.sockets rt.now) socket.now mode) sessions store
         result.0 (watched_bytes W.contents output.old) (watched_bytes W.contents output.new)) }
+    ensures failed { result.1 ≡ Err (Command File) → CallFailed (F.call_failed rt.now) F.File.facts }
 {
     match SocketFile::bind(rt, alloc, socket, mode) {
         Ok((bound, lock)) => serve_bound(
@@ -283,9 +287,10 @@ where
     ensures stopped { IfErr result.1 (IsStoppedWith ⟦<UnixStream as Duplex>⟧.calls
         ⟦<SocketFile as Listener<UnixStream>>⟧.model (IsBound (F.sockets rt.now) socket.now mode) sessions store
         result.0 (watched_bytes W.contents output.old) (watched_bytes W.contents output.new)) }
+    ensures failed { result.1 ≡ Err (Command File) → CallFailed (F.call_failed rt.now) F.File.facts }
 {
     let mut bound = bound;
-    let (store, served) = serve_rounds(alloc, store, &mut bound, rounds, sessions, output);
+    let (store, served) = serve_rounds(rt, alloc, store, &mut bound, rounds, sessions, output);
     let served = unless_replaced(served, output.is_replaced());
     let ended = after_removing(served, bound.remove(rt, socket, lock));
     (store, ended)
@@ -311,6 +316,7 @@ fn after_removing(
     ensures words { IfErr served IsNoWordError → IfErr result IsNoWordError }
     ensures done { OnOk result (IsOk served) }
     ensures stopped { IfErr result (λ fault. (served ≡ Err fault) ⊎ (fault ≡ Command File)) }
+    ensures removed { result ≡ Err (Command File) → (served ≡ Err (Command File)) ⊎ IsErr removed }
 {
     served?;
     Ok(removed?)
@@ -334,11 +340,13 @@ where
     W: Write,
     ensures words { IfErr result IsNoWordError }
     ensures looped { OnOk result (LoopsOpened ⟦<FileDevice<F::File> as Sectors>⟧ O.calls (O.at stores.old)
-        (IsBound (F.sockets rt.now)) file.now socket.now mode stores.old stores.new
+        (IsBound (F.sockets rt.now)) (F.sockets rt.now).connects file.now socket.now mode stores.old stores.new
         (R.remaining input.old) (W.contents output.old) (W.contents output.new)) }
     ensures stopped { IfErr result (λ fault. IsUnopened O.calls
         file.now stores.old stores.new (W.contents output.old) (W.contents output.new) fault
-        ⊎ KeepsSome ⟦<FileDevice<F::File> as Sectors>⟧ O.calls (O.at stores.old) file.now stores.old stores.new) }
+        ⊎ LoopStopsOpened ⟦<FileDevice<F::File> as Sectors>⟧ O.calls (O.at stores.old)
+        (CallFailed (F.call_failed rt.now) F.File.facts) (F.sockets rt.now).connects file.now socket.now
+        stores.old stores.new fault) }
 {
     let Opened { content, identity } = stores.open(alloc, file)?;
     let watch = StoreWatch::new(rt, file, identity, content.sectors());
@@ -366,6 +374,9 @@ where
     ensures looped { OnOk result.1 (LoopsAt (R.remaining input.old) (watched_bytes W.contents output.old)
         (watched_bytes W.contents output.new) store result.0) }
     ensures bound { OnOk result.1 ((bound : SocketFile) × IsBound (F.sockets rt.now) socket.now mode bound) }
+    ensures connected { OnOk result.1 ((F.sockets rt.now).connects socket.now) }
+    ensures stopped { IfErr result.1 (IsLoopStopped (CallFailed (F.call_failed rt.now) F.File.facts)
+        ((F.sockets rt.now).connects socket.now) store result.0) }
 {
     // The input's buffer is allocated before the socket's file is made, so that the file is removed whatever is
     // refused later.
@@ -382,7 +393,7 @@ where
     (store, ended)
 }
 
-fn loop_bound<F: Files + Net, D: Sectors + Drop, R: BufRead, W: Write>(
+fn loop_bound<F: SystemSockets, D: Sectors + Drop, R: BufRead, W: Write>(
     rt: &F,
     alloc: Global,
     store: Store<D>,
@@ -395,6 +406,10 @@ fn loop_bound<F: Files + Net, D: Sectors + Drop, R: BufRead, W: Write>(
     ensures kept { StoreKeepsOn store result.0 }
     ensures looped { OnOk result.1 (LoopsAt (R.remaining reader.old) (W.contents output.old) (W.contents output.new)
         store result.0) }
+    ensures connected { OnOk result.1 ((F.sockets rt.now).connects socket.now) }
+    ensures stopped { IfErr result.1 (StopsLoop store result.0) }
+    ensures failed { result.1 ≡ Err (Command File)
+        → F.call_failed rt.now ⊎ (F.sockets rt.now).connects socket.now }
 {
     match connect(rt, bound, socket) {
         Ok(mut link) => loop_over(alloc, store, &mut link, reader, output),
@@ -404,36 +419,24 @@ fn loop_bound<F: Files + Net, D: Sectors + Drop, R: BufRead, W: Write>(
 
 // Makes both ends of a connection through the socket. Another client may connect first, so the client's end sends a
 // random text, and the server's end is the connection on which it arrives.
-fn connect<F: Files + Net>(
+fn connect<F: SystemSockets>(
     rt: &F,
     bound: &SocketFile,
     socket: &str,
 ) -> Result<Link<UnixStream, UnixStream>, ServingError>
-    ensures words { IfErr result IsNoWordError }
+    ensures connects { OnOk result ((F.sockets rt.now).connects socket.now) }
+    // That none of the connections is the other end is a failure, too.
+    ensures failed { OnErr result (F.call_failed rt.now) }
+    ensures fault { IfErr result (λ fault. fault ≡ Command File) }
 {
-    let mut client = UnixStream::connect(rt, socket)?;
-    let text = random_text(rt)?;
-    client.write_all(&text)?;
+    let mut client = rt.connect_to(socket)?;
+    let text = rt.random_text()?;
+    rt.send_text(&mut client, &text)?;
     for _ in 0..STRANGERS {
-        let mut server = bound.accept()?;
-        if is_other_end(&mut server, &text)? {
+        let mut server = bound.accept(rt)?;
+        if rt.hears_text(&mut server, &text)? {
             return Ok(Link::new(client, server));
         }
     }
     Err(ServingError::Command(CommandError::File))
-}
-
-fn random_text<F: Files>(rt: &F) -> io::Result<[u8; TEXT_LEN]> {
-    let mut text = [0; TEXT_LEN];
-    fs::open(rt, "/dev/urandom")?.read_exact(&mut text)?;
-    Ok(text)
-}
-
-// Returns whether this text arrives on a stream within a second.
-fn is_other_end(stream: &mut UnixStream, text: &[u8; TEXT_LEN]) -> io::Result<bool> {
-    let mut arrived = [0; TEXT_LEN];
-    stream.set_read_timeout(Some(Duration::from_secs(1)))?;
-    let read = stream.read_exact(&mut arrived);
-    stream.set_read_timeout(None)?;
-    Ok(read.is_ok() && arrived == *text)
 }

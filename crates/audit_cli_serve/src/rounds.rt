@@ -1,11 +1,12 @@
 //! Rounds of serving, each by a new core over the same store.
-ghost use Rattle.std.specs.Prelude.{◌≡◌, ◌⊎◌, ◌≤◌, List, ℕ, length, IfOk, IfErr, OnOk, OnErr};
+ghost use Rattle.std.specs.Prelude.{◌≡◌, ◌⊎◌, ◌≤◌, List, ℕ, length, Err, IfOk, IfErr, OnOk, OnErr};
+ghost use Rattle.audit_text.specs.declared.fault.LinesError.TheVariants.{Write as NotWritten};
 ghost use Rattle.std.specs.Io.KnownBytes.{Appends};
 ghost use Rattle.audit_base.specs.declared.limits.TheConstants.{SESSIONS};
 ghost use Rattle.audit_server_model.specs.Serving.{StoreKeepsOn};
 ghost use Rattle.audit_cli_serve.specs.Rounds.{round_lines};
 ghost use Rattle.audit_store.specs.declared.store_error.StoreError.TheVariants.{Memory};
-ghost use Rattle.audit_cli_base.specs.declared.fault.CommandError.TheVariants.{File, Refused};
+ghost use Rattle.audit_cli_base.specs.declared.fault.CommandError.TheVariants.{File, Lines, Refused};
 ghost use Rattle.audit_cli_serve.specs.declared.fault.ServingError.TheVariants.{Command};
 ghost use Rattle.audit_cli_serve.specs.Served.{ServesRound, ServesRounds, ReachesByRound, ReachesByRounds, StopsRound};
 ghost use Rattle.audit_cli_serve.specs.Served.{StopsRounds, AreAccepted, AreLetGo, IsNotBegun};
@@ -13,11 +14,10 @@ ghost use Rattle.audit_cli_serve.specs.Served.{StopsRounds, AreAccepted, AreLetG
 use crate::fault::{ServingError, fault_of_serving, no_memory};
 use audit_disk_model::Sectors;
 use audit_serve_passes::{Duplex, DuplexStream, serve};
-use audit_serve_sockets::{Listener, write_round};
+use audit_serve_sockets::{Listener, SystemSockets, TriedWrite, write_round};
 use audit_server::Core;
 use audit_store::Store;
 use std::alloc::Global;
-use std::io::Write;
 
 /// Serves the requested number of rounds. Each round accepts the requested number of connections, and a new core over
 /// the store serves them until the last one has ended. After each round a line is written with its number, counted
@@ -25,7 +25,8 @@ use std::io::Write;
 ///
 /// Every connection that is accepted is one of a round, and is served in it, unless the round can't begin. The store is
 /// returned as the rounds left it. A fault in a round ends serving, and that round has no line.
-pub fn serve_rounds<D, T, L, W>(
+pub fn serve_rounds<F, D, T, L, W>(
+    rt: &F,
     alloc: Global,
     store: Store<D>,
     socket: &mut L,
@@ -34,10 +35,11 @@ pub fn serve_rounds<D, T, L, W>(
     writer: &mut W,
 ) -> (Store<D>, Result<(), ServingError>)
 where
+    F: SystemSockets,
     D: Sectors + Drop,
     T: Duplex + Drop,
     L: Listener<T>,
-    W: Write,
+    W: TriedWrite,
     requires { sessions ≤ SESSIONS }
     // Whatever happens, a stop at any moment keeps the events that the store held, and so does the returned store.
     ensures kept { StoreKeepsOn store result.0 }
@@ -54,10 +56,13 @@ where
     ensures fault { IfErr result.1 (λ fault. (text : List ℕ)
         × Appends (W.contents writer.old) (W.contents writer.new) text
         × StopsRounds T.calls L.model sessions store result.0 socket.old socket.new text fault) }
+    // `File` needs a call of the system that failed, and `Write` a call of the writer.
+    ensures unaccepted { result.1 ≡ Err (Command File) → F.call_failed rt.now }
+    ensures unwritten { result.1 ≡ Err (Command (Lines NotWritten)) → W.unwritten writer.new }
 {
     let mut store = store;
     for round in 0..rounds {
-        let (kept, served) = serve_round(alloc, store, socket, sessions);
+        let (kept, served) = serve_round(rt, alloc, store, socket, sessions);
         store = kept;
         let turns = match served {
             Ok(turns) => turns,
@@ -72,7 +77,8 @@ where
 
 // Waits for the requested number of connections, in order of arrival. Memory for all of them is reserved first, so
 // that refused memory isn't reported as a fault of the socket.
-fn accept_streams<T: Duplex + Drop, L: Listener<T>>(
+fn accept_streams<F: SystemSockets, T: Duplex + Drop, L: Listener<T>>(
+    rt: &F,
     alloc: Global,
     socket: &mut L,
     count: usize,
@@ -80,18 +86,20 @@ fn accept_streams<T: Duplex + Drop, L: Listener<T>>(
     ensures accepted { IfOk result (λ streams. AreAccepted L.model count socket.old socket.new streams.items) }
     ensures gone { OnErr result (AreLetGo L.model count socket.old socket.new) }
     ensures fault { IfErr result (λ fault. (fault ≡ Command (Refused Memory)) ⊎ (fault ≡ Command File)) }
+    ensures unaccepted { result ≡ Err (Command File) → F.call_failed rt.now }
 {
     let Ok(mut streams) = Vec::with_capacity(alloc, count) else {
         return Err(no_memory());
     };
     for _ in 0..count {
-        streams.push_reserved(DuplexStream::new(socket.next_connection()?));
+        streams.push_reserved(DuplexStream::new(socket.next_connection(rt)?));
     }
     Ok(streams)
 }
 
 // Serves one round. Returns the store and the number of passes.
-fn serve_round<D: Sectors + Drop, T: Duplex + Drop, L: Listener<T>>(
+fn serve_round<F: SystemSockets, D: Sectors + Drop, T: Duplex + Drop, L: Listener<T>>(
+    rt: &F,
     alloc: Global,
     store: Store<D>,
     socket: &mut L,
@@ -104,8 +112,9 @@ fn serve_round<D: Sectors + Drop, T: Duplex + Drop, L: Listener<T>>(
     ensures reached { IsNotBegun T.calls L.model sessions store result.0 socket.old socket.new
         ⊎ ReachesByRound T.calls L.model sessions store result.0 socket.old socket.new }
     ensures fault { IfErr result.1 (StopsRound T.calls L.model sessions store result.0 socket.old socket.new) }
+    ensures unaccepted { result.1 ≡ Err (Command File) → F.call_failed rt.now }
 {
-    let mut streams = match accept_streams(alloc, socket, sessions) {
+    let mut streams = match accept_streams(rt, alloc, socket, sessions) {
         Ok(streams) => streams,
         Err(refusal) => return (store, Err(refusal)),
     };

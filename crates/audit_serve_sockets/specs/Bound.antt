@@ -1,9 +1,6 @@
 -- At which path a socket listens, and with which permissions its file was made.
 use Rattle.std.specs.Prelude.{◌≡◌, ◌⊎◌, ℕ, ℤ, List}
-use Rattle.std.specs.IoError.{error_kind}
 use Rattle.std.specs.Net.Unix.{unix_listener_raw_fd}
-use Rattle.std.specs.declared.io.Error.{Error}
-use Rattle.std.specs.declared.io.ErrorKind.TheVariants.{OutOfMemory}
 use Rattle.audit_disk.specs.FileFacts.{FileFacts}
 use Rattle.audit_disk.specs.declared.files.TheConstants.{OWNER_ONLY}
 use Rattle.audit_serve_sockets.specs.declared.socket_file.SocketFile.{SocketFile}
@@ -16,10 +13,16 @@ pub record SocketFacts : Type 1 where
   pub listens : List ℕ → ℤ → Type 0
   -- the file at this path was given these permission bits
   pub permits : List ℕ → ℕ → Type 0
+  -- a connection was made to the socket at this path
+  pub connects : List ℕ → Type 0
 
 -- a system of which each call establishes its fact
 abbrev pub sockets_of_calls : SocketFacts
-sockets_of_calls = record { listens = λ path descriptor. Unit {0}; permits = λ path mode. Unit {0} }
+sockets_of_calls = record {
+  listens = λ path descriptor. Unit {0};
+  permits = λ path mode. Unit {0};
+  connects = λ path. Unit {0};
+}
 
 -- The socket of this descriptor listens at this path. Its file has these permission bits: those with which it was made,
 -- or it was given them.
@@ -42,8 +45,6 @@ mode_of_socket socket = mode_of_name socket.name
 abbrev pub IsBound : SocketFacts → List ℕ → ℕ → SocketFile → Type 0
 IsBound facts path mode socket = ListensAt facts path mode (descriptor_of_socket socket)
 
--- Why a socket wasn't made: a call of the system or of a file failed, or memory was refused. `Failed` says that a call of
--- the system did.
-abbrev pub IsSocketFault : {F : Type 0} → Type 0 → (F → FileFacts) → Error → Type 0
-IsSocketFault {F = F} Failed facts error =
-    Failed ⊎ (((file : F) × (facts file).failed) ⊎ (error_kind error ≡ OutOfMemory))
+-- A call failed: one of the system, as `Failed` says, or one of a file.
+abbrev pub CallFailed : {F : Type 0} → Type 0 → (F → FileFacts) → Type 0
+CallFailed {F = F} Failed facts = Failed ⊎ ((file : F) × (facts file).failed)

@@ -21,7 +21,7 @@ mod tried;
 
 pub use frame_line::bytes_of_line;
 pub use input_line::next_line;
-pub use limits::MAX_DIGITS;
+pub use limits::{MAX_DIGITS, TEXT_LEN};
 pub use link::Link;
 pub use listener::Listener;
 pub use loop_fault::LoopError;

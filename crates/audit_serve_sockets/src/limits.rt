@@ -1,4 +1,7 @@
-//! The limits of lines.
+//! The limits of lines, and the length of a text that is sent to oneself.
 
 /// The most hex digits that a line of bytes may have.
 pub const MAX_DIGITS: usize = 65_536;
+
+/// The length in bytes of the random text by which a program recognises its own connection.
+pub const TEXT_LEN: usize = 32;

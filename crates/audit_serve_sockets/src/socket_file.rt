@@ -1,14 +1,13 @@
-ghost use Rattle.std.specs.Prelude.{◌≡◌, ◌⊎◌, IfOk, IfErr, OnErr};
+ghost use Rattle.std.specs.Prelude.{◌≡◌, ◌⊎◌, IfOk, OnErr};
 ghost use Rattle.std.specs.Net.Unix.{unix_listener_raw_fd};
 ghost use Rattle.audit_disk.specs.declared.files.TheConstants.{OWNER_ONLY};
-ghost use Rattle.audit_serve_sockets.specs.Bound.{IsBound, IsSocketFault, descriptor_of_socket, mode_of_name};
+ghost use Rattle.audit_serve_sockets.specs.Bound.{CallFailed, IsBound, descriptor_of_socket, mode_of_name};
 ghost use Rattle.audit_serve_sockets.specs.Bound.{mode_of_socket};
 
 use crate::socket_lock::{SocketLock, Taking, remove_own};
 use crate::system_sockets::SystemSockets;
 use audit_disk::{FileIdentity, OWNER_ONLY, SystemFile};
 use std::alloc::Global;
-use std::fs::Files;
 use std::io::{self, ErrorKind};
 use std::os::unix::fs::{FileTypeExt, MetadataExt};
 use std::os::unix::net::{UnixListener, UnixStream};
@@ -28,7 +27,7 @@ pub struct SocketName {
 }
 
 impl SocketName {
-    ghost use Rattle.std.specs.Prelude.{◌≡◌};
+    ghost use Rattle.std.specs.Prelude.{◌≡◌, OnErr};
     ghost use Rattle.audit_serve_sockets.specs.Bound.{mode_of_name};
 
     /// The permission bits that the socket's file was given.
@@ -39,15 +38,17 @@ impl SocketName {
     }
 
     /// Removes the socket's file, if its path still names it. Another file there is kept.
-    pub fn remove<R: Files>(self, rt: &R, path: &str) -> io::Result<()> {
+    pub fn remove<R: SystemSockets>(self, rt: &R, path: &str) -> io::Result<()>
+        ensures failed { OnErr result (R.call_failed rt.now) }
+    {
         remove_own(rt, path, self.identity)
     }
 }
 
 impl SocketFile {
-    ghost use Rattle.std.specs.Prelude.{◌≡◌, IfOk, IfErr, OnErr};
+    ghost use Rattle.std.specs.Prelude.{◌≡◌, IfOk, OnErr};
     ghost use Rattle.std.specs.Net.Unix.{unix_listener_raw_fd};
-    ghost use Rattle.audit_serve_sockets.specs.Bound.{IsBound, IsSocketFault, descriptor_of_socket, mode_of_name};
+    ghost use Rattle.audit_serve_sockets.specs.Bound.{CallFailed, IsBound, descriptor_of_socket, mode_of_name};
     ghost use Rattle.audit_serve_sockets.specs.Bound.{mode_of_socket};
 
     /// Makes the socket's file, and takes the lock beside it (`SOCKET.lock`) until its end. Only its owner has access
@@ -64,8 +65,8 @@ impl SocketFile {
         ensures mode { IfOk result (λ bound. mode_of_socket bound.0 ≡ mode) }
         // It listens at this path, and its file has this mode.
         ensures listens { IfOk result (λ bound. IsBound (R.sockets rt.now) path.now mode bound.0) }
-        // An error needs a call that failed, or memory that was refused.
-        ensures fault { IfErr result (IsSocketFault (R.call_failed rt.now) R.File.facts) }
+        // An error needs a call that failed.
+        ensures fault { OnErr result (CallFailed (R.call_failed rt.now) R.File.facts) }
     {
         match SocketLock::<R::File>::take(rt, alloc, path)? {
             Taking::Taken(mut lock) => match bind_under(rt, alloc, path, mode, lock.was_left()) {
@@ -104,9 +105,10 @@ impl SocketFile {
     }
 
     /// Waits for the next connection.
-    pub fn accept(&self) -> io::Result<UnixStream> {
-        let (stream, _) = self.listener.accept()?;
-        Ok(stream)
+    pub fn accept<R: SystemSockets>(&self, rt: &R) -> io::Result<UnixStream>
+        ensures failed { OnErr result (R.call_failed rt.now) }
+    {
+        rt.accept_at(&self.listener)
     }
 
     /// The listening socket, and its file, which is left to the caller to remove.
@@ -119,9 +121,15 @@ impl SocketFile {
 
     /// Removes the socket's file and its lock, as far as they are still this program's. The first error is returned,
     /// after both were tried.
-    pub fn remove<R: Files>(self, rt: &R, path: &str, lock: SocketLock<R::File>) -> io::Result<()>
+    pub fn remove<R: SystemSockets>(
+        self,
+        rt: &R,
+        path: &str,
+        lock: SocketLock<R::File>,
+    ) -> io::Result<()>
     where
         R::File: SystemFile,
+        ensures failed { OnErr result (R.call_failed rt.now) }
     {
         let removed = self.name.remove(rt, path);
         removed.and(lock.remove(rt))
@@ -160,7 +168,7 @@ where
     R::File: SystemFile,
     ensures mode { IfOk result (λ bound. mode_of_socket bound.0 ≡ mode) }
     ensures listens { IfOk result (λ bound. IsBound (R.sockets rt.now) path.now mode bound.0) }
-    ensures fault { IfErr result (IsSocketFault (R.call_failed rt.now) R.File.facts) }
+    ensures fault { OnErr result (CallFailed (R.call_failed rt.now) R.File.facts) }
 {
     let bound = bind_new(rt, alloc, path, mode)?;
     match take_anew(rt, alloc, path) {
@@ -178,7 +186,7 @@ where
 fn take_anew<R: SystemSockets>(rt: &R, alloc: Global, path: &str) -> io::Result<SocketLock<R::File>>
 where
     R::File: SystemFile,
-    ensures { IfErr result (IsSocketFault (R.call_failed rt.now) R.File.facts) }
+    ensures { OnErr result (CallFailed (R.call_failed rt.now) R.File.facts) }
 {
     SocketLock::<R::File>::displace(rt, alloc, path)?;
     match SocketLock::<R::File>::take(rt, alloc, path)? {

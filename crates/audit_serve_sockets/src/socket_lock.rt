@@ -1,15 +1,11 @@
-ghost use Rattle.std.specs.Prelude.{◌≡◌, ◌⊎◌, Ok, IfOk, IfErr, OnErr};
-ghost use Rattle.std.specs.IoError.{error_kind};
-ghost use Rattle.audit_serve_sockets.specs.Bound.{IsSocketFault};
+ghost use Rattle.std.specs.Prelude.{◌≡◌, ◌⊎◌, Ok, OnErr};
+ghost use Rattle.audit_serve_sockets.specs.Bound.{CallFailed};
 
 use crate::system_sockets::SystemSockets;
 use audit_disk::{FileIdentity, SystemFile};
 use std::alloc::Global;
-use std::fs::{self, Files, TryLockError};
+use std::fs::TryLockError;
 use std::io::{self, ErrorKind};
-
-// What follows a socket's path in the path of its lock.
-const LOCK_SUFFIX: &str = ".lock";
 
 // How often a lock is tried whose file is removed at the same time.
 const TRIES: usize = 16;
@@ -45,8 +41,8 @@ struct Opened<F> {
 }
 
 impl<F: SystemFile> SocketLock<F> {
-    ghost use Rattle.std.specs.Prelude.{◌≡◌, ◌⊎◌, Ok, IfOk, IfErr};
-    ghost use Rattle.audit_serve_sockets.specs.Bound.{IsSocketFault};
+    ghost use Rattle.std.specs.Prelude.{◌≡◌, ◌⊎◌, Ok, OnErr};
+    ghost use Rattle.audit_serve_sockets.specs.Bound.{CallFailed};
 
     /// Takes the lock of the socket at this path, without waiting. Its file is made if there is none. A file that isn't
     /// this user's own is an error.
@@ -57,10 +53,10 @@ impl<F: SystemFile> SocketLock<F> {
     ) -> io::Result<Taking<R::File>>
     where
         R::File: SystemFile,
-        ensures fault { IfErr result (IsSocketFault (R.call_failed rt.now) R.File.facts) }
+        ensures fault { OnErr result (CallFailed (R.call_failed rt.now) R.File.facts) }
         ensures held { result ≡ Ok Taking.Held → ((file : R.File) × (R.File.facts file).failed) }
     {
-        let path = lock_path(alloc, socket)?;
+        let path = rt.lock_path(alloc, socket)?;
         for _ in 0..TRIES {
             let Opened { file, existed } = open_lock(rt, path.as_str())?;
             match file.try_lock() {
@@ -87,9 +83,9 @@ impl<F: SystemFile> SocketLock<F> {
     pub(crate) fn displace<R: SystemSockets>(rt: &R, alloc: Global, socket: &str) -> io::Result<()>
     where
         R::File: SystemFile,
-        ensures { IfErr result (IsSocketFault (R.call_failed rt.now) R.File.facts) }
+        ensures { OnErr result (CallFailed (R.call_failed rt.now) R.File.facts) }
     {
-        rt.remove_at(lock_path(alloc, socket)?.as_str())
+        rt.remove_at(rt.lock_path(alloc, socket)?.as_str())
     }
 
     /// Whether a program that was killed left the lock.
@@ -103,18 +99,14 @@ impl<F: SystemFile> SocketLock<F> {
     }
 
     /// Removes the lock's file, unless it shows that the socket beside it is abandoned, and unlocks it.
-    pub fn remove<R: Files>(self, rt: &R) -> io::Result<()> {
+    pub fn remove<R: SystemSockets>(self, rt: &R) -> io::Result<()>
+        ensures failed { OnErr result (R.call_failed rt.now) }
+    {
         if self.guards_one {
             return Ok(());
         }
         remove_own(rt, self.path.as_str(), self.identity)
     }
-}
-
-fn lock_path(alloc: Global, socket: &str) -> io::Result<String>
-    ensures { IfErr result (λ error. error_kind error ≡ ErrorKind.OutOfMemory) }
-{
-    Ok(format!(in alloc; "{socket}{LOCK_SUFFIX}")?)
 }
 
 fn open_lock<R: SystemSockets>(rt: &R, path: &str) -> io::Result<Opened<R::File>>
@@ -153,17 +145,23 @@ fn is_at<R: SystemSockets>(rt: &R, path: &str, identity: FileIdentity) -> io::Re
 }
 
 // Whether a path names the file with this identity.
-fn names<R: Files>(rt: &R, path: &str, identity: FileIdentity) -> bool {
-    match fs::symlink_metadata(rt, path) {
+fn names<R: SystemSockets>(rt: &R, path: &str, identity: FileIdentity) -> bool {
+    match rt.see(path) {
         Ok(found) => FileIdentity::of(&found) == identity,
         Err(_) => false,
     }
 }
 
 /// Removes a file if its path still names it. Another file there is kept.
-pub(crate) fn remove_own<R: Files>(rt: &R, path: &str, identity: FileIdentity) -> io::Result<()> {
+pub(crate) fn remove_own<R: SystemSockets>(
+    rt: &R,
+    path: &str,
+    identity: FileIdentity,
+) -> io::Result<()>
+    ensures failed { OnErr result (R.call_failed rt.now) }
+{
     if names(rt, path, identity) {
-        fs::remove_file(rt, path)
+        rt.remove_at(path)
     } else {
         Ok(())
     }

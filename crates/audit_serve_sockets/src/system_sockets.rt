@@ -1,20 +1,25 @@
 //! What makes the listening sockets of the operating system.
-ghost use Rattle.std.specs.Prelude.{IfOk, OnOk, OnErr};
+ghost use Rattle.std.specs.Prelude.{◌≡◌, false, Ok, IfOk, OnOk, OnErr};
 ghost use Rattle.std.specs.Net.Unix.{unix_listener_raw_fd};
 ghost use Rattle.audit_serve_sockets.specs.Bound.{SocketFacts, sockets_of_calls};
 
+use crate::limits::TEXT_LEN;
 use crate::owner_only::OwnerOnly;
 use audit_disk::{FileIdentity, OWNER_ONLY};
 use std::alloc::Global;
 use std::fs::{self, File, Files, Metadata, OpenFile, OpenOptions, Permissions};
-use std::io::{self, ErrorKind};
+use std::io::{self, ErrorKind, Read, Write};
 use std::net::Net;
 use std::os::unix::fs::{MetadataExt, OpenOptionsExt, PermissionsExt};
-use std::os::unix::net::UnixListener;
+use std::os::unix::net::{UnixListener, UnixStream};
 use std::rt::HostRuntime;
+use std::time::Duration;
 
-/// The calls that make listening sockets and the locks beside them. Contracts know of a socket, by its descriptor, what
-/// the call promises that made it, and nothing else; and that a call failed from that call alone.
+// What follows a socket's path in the path of its lock.
+const LOCK_SUFFIX: &str = ".lock";
+
+/// The calls that make listening sockets, the locks beside them, and connections. Contracts know of a socket, by its
+/// descriptor, what the call promises that made it, and nothing else; and that a call failed from that call alone.
 pub trait SystemSockets: Files + Net {
     /// What calls established.
     ghost sockets: { Self → SocketFacts };
@@ -33,6 +38,10 @@ pub trait SystemSockets: Files + Net {
     fn permit(&self, path: &str, mode: u32) -> io::Result<()>
         ensures permits { OnOk result ((sockets self.now).permits path.now mode) }
         ensures failed { OnErr result (call_failed self.now) };
+
+    /// The path of the lock of the socket at a path. It fails if memory is refused.
+    fn lock_path(&self, alloc: Global, socket: &str) -> io::Result<String>
+        ensures { OnErr result (call_failed self.now) };
 
     /// Opens the file of a lock, for reading and writing: a new one, for its owner alone, where nothing is; or the one
     /// that is there.
@@ -62,6 +71,28 @@ pub trait SystemSockets: Files + Net {
     /// Removes the file at a path.
     fn remove_at(&self, path: &str) -> io::Result<()>
         ensures { OnErr result (call_failed self.now) };
+
+    /// Waits for the next connection at a listening socket, and accepts it.
+    fn accept_at(&self, listener: &UnixListener) -> io::Result<UnixStream>
+        ensures { OnErr result (call_failed self.now) };
+
+    /// Connects to the socket at a path.
+    fn connect_to(&self, path: &str) -> io::Result<UnixStream>
+        ensures connects { OnOk result ((sockets self.now).connects path.now) }
+        ensures failed { OnErr result (call_failed self.now) };
+
+    /// A random text.
+    fn random_text(&self) -> io::Result<[u8; TEXT_LEN]>
+        ensures { OnErr result (call_failed self.now) };
+
+    /// Sends a text on a connection.
+    fn send_text(&self, stream: &mut UnixStream, text: &[u8; TEXT_LEN]) -> io::Result<()>
+        ensures { OnErr result (call_failed self.now) };
+
+    /// Whether this text arrives on a connection within a second. That it doesn't is a failure, too.
+    fn hears_text(&self, stream: &mut UnixStream, text: &[u8; TEXT_LEN]) -> io::Result<bool>
+        ensures failed { OnErr result (call_failed self.now) }
+        ensures other { result ≡ Ok false → call_failed self.now };
 }
 
 impl SystemSockets for HostRuntime {
@@ -75,6 +106,10 @@ impl SystemSockets for HostRuntime {
 
     fn permit(&self, path: &str, mode: u32) -> io::Result<()> {
         fs::set_permissions(self, path, Permissions::from_mode(mode))
+    }
+
+    fn lock_path(&self, alloc: Global, socket: &str) -> io::Result<String> {
+        Ok(format!(in alloc; "{socket}{LOCK_SUFFIX}")?)
     }
 
     fn open_lock(&self, path: &str, is_new: bool) -> io::Result<File> {
@@ -105,6 +140,33 @@ impl SystemSockets for HostRuntime {
 
     fn remove_at(&self, path: &str) -> io::Result<()> {
         fs::remove_file(self, path)
+    }
+
+    fn accept_at(&self, listener: &UnixListener) -> io::Result<UnixStream> {
+        let (stream, _) = listener.accept()?;
+        Ok(stream)
+    }
+
+    fn connect_to(&self, path: &str) -> io::Result<UnixStream> {
+        UnixStream::connect(self, path)
+    }
+
+    fn random_text(&self) -> io::Result<[u8; TEXT_LEN]> {
+        let mut text = [0; TEXT_LEN];
+        fs::open(self, "/dev/urandom")?.read_exact(&mut text)?;
+        Ok(text)
+    }
+
+    fn send_text(&self, stream: &mut UnixStream, text: &[u8; TEXT_LEN]) -> io::Result<()> {
+        stream.write_all(text)
+    }
+
+    fn hears_text(&self, stream: &mut UnixStream, text: &[u8; TEXT_LEN]) -> io::Result<bool> {
+        let mut arrived = [0; TEXT_LEN];
+        stream.set_read_timeout(Some(Duration::from_secs(1)))?;
+        let read = stream.read_exact(&mut arrived);
+        stream.set_read_timeout(None)?;
+        Ok(read.is_ok() && arrived == *text)
     }
 }
 

@@ -2,7 +2,7 @@ use Rattle.std.proofs.Common.{rules}
 use Rattle.audit_serve_passes.specs.Pairs.{unknown_calls}
 use Rattle.audit_serve_sockets.specs.Bound.{IsBound}
 use Rattle.audit_serve_sockets.specs.Listening.{unknown_connections}
-use Rattle.audit_cli_serve.proofs.Carried.{keeps_opened, serves_opened, stops_opened, opening_failed}
+use Rattle.audit_cli_serve.proofs.Carried.{keeps_opened, serves_opened, stops_opened}
 use Rattle.audit_cli_serve.proofs.request.serve_file.Goals as goal
 
 pub returns-clause-served : goal.returns-clause-served

@@ -1,9 +1,11 @@
-use Rattle.std.proofs.Common.{◌∙◌, inr, Result, ℕ, sym, subst, rules}
+use Rattle.std.proofs.Common.{◌≡◌, ◌∙◌, inr, Result, ℕ, sym, subst, rules}
+use Rattle.audit_cli_base.specs.declared.fault.CommandError.TheVariants.{File}
+use Rattle.audit_cli_serve.specs.declared.fault.ServingError.TheVariants.{Command}
 use Rattle.std.specs.Prelude.{IfOk, IfErr}
 use Rattle.audit_cli_serve.specs.declared.fault.ServingError.{ServingError}
 use Rattle.audit_server.specs.NewCore.{IsNewCore}
 use Rattle.audit_cli_serve.specs.Served.{plain_terms, ServesRound, StopsRound, AreAccepted}
-use Rattle.audit_cli_serve.proofs.Served.{kept_as, kept_by, round_served, round_reached, round_stopped}
+use Rattle.audit_cli_serve.proofs.Served.{kept_as, kept_by, round_served, round_reached, round_stopped, serving_no_file}
 use Rattle.audit_cli_serve.proofs.rounds.serve_round.Goals.{in-None, in-Some}
 use Rattle.audit_cli_serve.proofs.rounds.serve_round.Goals as goal
 
@@ -43,3 +45,11 @@ returns-clause-fault g c =
 -- no core was made, and the store is handed back unchanged
 pub returns-in-Err-new-clause-kept : goal.returns-in-Err-new-clause-kept
 returns-in-Err-new-clause-kept g c = kept_as c.args.store c.in-Err-new.failed.store c.in-Err-new.ensures.store
+
+-- a core that refuses a step is no file fault
+pub returns-clause-unaccepted : goal.returns-clause-unaccepted
+returns-clause-unaccepted g c = λ is.
+    elim c.match-end.branch [
+      | in-None w ↦ let no = sym w.served-is ∙ is in absurd (cc no)
+      | in-Some w ↦ let fault_is : w.fault_of_serving.result ≡ Command File = cc (sym w.served-is ∙ is) in absurd (serving_no_file w.in-Some.fault (sym w.fault_of_serving.ensures ∙ fault_is))
+    ]

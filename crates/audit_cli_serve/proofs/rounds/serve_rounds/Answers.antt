@@ -1,12 +1,16 @@
-use Rattle.std.proofs.Common.{inl, inr, refl, [], ◌∷◌, ◌++◌, ◌+◌, Result, ℕ, arith, length-append, subst}
+use Rattle.std.proofs.Common.{◌≡◌, ◌∙◌, Err, ap, sym, inl, inr, refl, [], ◌∷◌, ◌++◌, ◌+◌, Result, ℕ, arith, length-append, subst}
 use Rattle.std.specs.Prelude.{IfOk, IfErr}
 use Rattle.std.proofs.KnownBytes.{Appends-nil}
 use Rattle.audit_server_model.proofs.Serving.{kept_none, kept_then}
+use Rattle.audit_text.specs.declared.fault.LinesError.{LinesError}
+use Rattle.audit_text.specs.declared.fault.LinesError.TheVariants.{Memory, Write}
+use Rattle.audit_cli_base.specs.declared.fault.CommandError.TheVariants.{File, Lines}
 use Rattle.audit_cli_serve.specs.declared.fault.ServingError.{ServingError}
+use Rattle.audit_cli_serve.specs.declared.fault.ServingError.TheVariants.{Command}
 use Rattle.audit_cli_serve.specs.Served.{ServesRound, StopsRound}
 use Rattle.audit_cli_serve.specs.Rounds.{round_lines}
 use Rattle.audit_cli_serve.proofs.RoundLines.{round_more, cut_off}
-use Rattle.audit_cli_serve.proofs.Served.{rounds_more, none_gone, line_lost}
+use Rattle.audit_cli_serve.proofs.Served.{rounds_more, none_gone, line_lost, round_no_write}
 use Rattle.audit_cli_serve.proofs.rounds.serve_rounds.Goals as goal
 
 pub loop-round-init : goal.loop-round-init
@@ -92,3 +96,26 @@ loop-round-preserved g c =
         round_more (g.W.Write.contents c.args.writer.now) (g.W.Write.contents c.loop-round.writer) (g.W.Write.contents c.write_round.new.writer) before.0 c.in-Ok.turns (c.loop-round.round + 1) before.3 (omega (arith, before.1)) c.in_default.ensures.written,
       );
     }
+
+pub returns-in-Err-clause-unaccepted : goal.returns-in-Err-clause-unaccepted
+returns-in-Err-clause-unaccepted g c = λ is.
+    let fault_is : c.in-Err.fault ≡ Command File = cc is in
+    c.serve_round-kept.ensures.unaccepted (c.in-Err.is ∙ ap Err fault_is)
+
+-- a round writes nothing
+pub returns-in-Err-clause-unwritten : goal.returns-in-Err-clause-unwritten
+returns-in-Err-clause-unwritten g c = λ is.
+    let M = g.T.Duplex.calls in
+    let N = g.L.Listener.model in
+    let left = c.serve_round-kept.result.0 in
+    let stops : StopsRound M N c.args.sessions c.loop-round.store left c.loop-round.socket c.serve_round-kept.new.socket c.in-Err.fault =
+    subst (λ (answer : Result ℕ ServingError). IfErr answer (StopsRound M N c.args.sessions c.loop-round.store left c.loop-round.socket c.serve_round-kept.new.socket)) c.in-Err.is c.serve_round-kept.ensures.fault in
+    absurd (round_no_write M N c.args.sessions c.loop-round.store left c.loop-round.socket c.serve_round-kept.new.socket c.in-Err.fault stops (cc is))
+
+pub returns-in-Err-write_round-clause-unwritten : goal.returns-in-Err-write_round-clause-unwritten
+returns-in-Err-write_round-clause-unwritten g c = λ is.
+    let same : c.into.result ≡ Command (Lines Write) = cc is in
+    elim c.in-Err-write_round.ensures.fault [
+      | inl write ↦ write.1
+      | inr memory ↦ let other : c.into.result ≡ Command (Lines Memory) = c.into.ensures ∙ ap (λ (cause : LinesError). Command (Lines cause)) memory.0 in absurd (cc (sym same ∙ other))
+    ]
