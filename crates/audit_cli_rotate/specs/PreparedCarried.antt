@@ -20,8 +20,9 @@ prepared_end_status (Ok done) = ends.Done
 prepared_end_status (Err fault) = prepared_status fault
 
 -- `At` says at which path a store was opened, and `stores` which calls opened stores and let them go.
+-- `Synced` says which folder was synced, and `Failed` that a call of the system failed.
 module _ {F : Type 0} (facts : F → FileFacts) (remaining : F → Option (List ℕ)) (Synced : List ℕ → Type 0)
-    {O : Type 0} {E : Type 0} {h : sectors.Ghosts E} (stores : StoresModel O (Store E h))
+    (Failed : Type 0) {O : Type 0} {E : Type 0} {h : sectors.Ghosts E} (stores : StoresModel O (Store E h))
     (At : O → List ℕ → Store E h → Type 0) where
   -- The store in the file at the path was opened, an open one was joined to it with this result, and it was let go.
   pub record JoinsNext (request : Prepared) (was : O) (between : List (StoreCall (Store E h))) (old left : Store E h)
@@ -30,7 +31,8 @@ module _ {F : Type 0} (facts : F → FileFacts) (remaining : F → Option (List 
     pub at : At was request.next.now next
     pub new : Store E h
     pub between_is : between ≡ an_opening request.next.now (Ok next) ∷ a_letting_go new ∷ []
-    pub joins : JoinsPrepared facts remaining Synced request.after request.link.now old left next new before after result
+    pub joins : JoinsPrepared facts remaining Synced Failed request.after request.link.now old left next new before
+        after result
 
   -- It couldn't be opened, this is why, and nothing was written.
   pub record LacksNext (request : Prepared) (between : List (StoreCall (Store E h))) (old left : Store E h)

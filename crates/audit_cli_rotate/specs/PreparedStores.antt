@@ -1,7 +1,7 @@
 -- What becomes of two stores, of which the second was prepared.
 use denote.Ref.{Bor}
-use Rattle.std.specs.Prelude.{◌≡◌, ◌⊎◌, ◌-◌, ℕ, true, false, Option, Some, None, Result, Ok, Err, List, [], ◌++◌, codes}
-use Rattle.std.specs.Prelude.{take, drop}
+use Rattle.std.specs.Prelude.{◌≡◌, ◌⊎◌, ◌-◌, ℕ, ◌<◌, true, false, Option, Some, None, Result, Ok, Err, List, [], ◌++◌}
+use Rattle.std.specs.Prelude.{codes, take, drop}
 use Rattle.std.specs.Io.KnownBytes.{Appends, Keeps}
 use Rattle.audit_disk_model.specs.declared.sectors.Sectors as sectors
 use Rattle.audit_disk.specs.FileFacts.{FileFacts}
@@ -17,17 +17,23 @@ use Rattle.audit_store.specs.Store.{active_header, index_of}
 use Rattle.audit_store.specs.declared.store.Store.{Store}
 use Rattle.audit_store.specs.declared.store_error.StoreError.{StoreError}
 use Rattle.audit_join.specs.Brought.{AreBrought}
+use Rattle.audit_join.specs.Counting.{StopsCounting}
 use Rattle.audit_join.specs.FirstKey.{IsJudgedFirst}
 use Rattle.audit_join.specs.Joined.{EndsWith, IsJunction, open_count}
 use Rattle.audit_join.specs.JoinOutcome.{HasJoined, StopsJoining}
+use Rattle.audit_join.specs.declared.join_error.JoinError.{JoinError}
 use Rattle.audit_join.specs.declared.junction.Junction.{Junction}
 use Rattle.audit_text.specs.AckLine.{ack_line}
 use Rattle.audit_text.specs.NumberedLine.{numbered_line}
 use Rattle.audit_text.specs.Writing.{WritesInPart}
+use Rattle.audit_cli_base.specs.Faults.{IsNoWordFault}
+use Rattle.audit_cli_base.specs.declared.fault.CommandError.{CommandError}
 use Rattle.audit_cli_base.specs.declared.fault.CommandError.TheVariants.{Refused}
-use Rattle.audit_cli_rotate.specs.LinkFile.{HasLinkAt, HasBytesAt}
+use Rattle.audit_cli_rotate.specs.LinkFile.{HasLinkAt, HasBytesAt, HasNoLinkAt, HasOthersAt, IsLinkUnread}
+use Rattle.audit_cli_rotate.specs.PreparedFaults.{of_join}
 use Rattle.audit_cli_rotate.specs.declared.prepared_error.PreparedError.{PreparedError}
-use Rattle.audit_cli_rotate.specs.declared.prepared_error.PreparedError.TheVariants.{Command}
+use Rattle.audit_cli_rotate.specs.declared.prepared_error.PreparedError.TheVariants.{Command, OwnKey, NotEmpty}
+use Rattle.audit_cli_rotate.specs.declared.prepared_error.PreparedError.TheVariants.{OtherLink, OtherLog}
 
 -- the lines that closing a log and appending two events to a store without any print, with the two headers
 unfoldable pub joined_lines : Header → Header → List ℕ
@@ -50,6 +56,14 @@ module _ {D : Type 0} {g : sectors.Ghosts D} where
   counted_from first old counts =
       added_all (take (open_count (active_header old) - first) (drop first (index_of old).kinds)) counts
 
+module _ {D : Type 0} {g : sectors.Ghosts D} {E : Type 0} {h : sectors.Ghosts E} where
+  -- Why there is no junction to an empty store: the first key of the old log is its own; or a store returned an error,
+  -- or has no room.
+  abbrev pub IsNoJunction : Store D g → Store E h → PreparedError → Type 0
+  IsNoJunction old next OwnKey = IsJudgedFirst old next true
+  IsNoJunction old next (Command cause) = IsNoWordFault cause
+  IsNoJunction old next _ = ⊥
+
 module _ {F : Type 0} (facts : F → FileFacts) (remaining : F → Option (List ℕ)) where
   module _ {D : Type 0} {g : sectors.Ghosts D} where
     -- The numbers that the link in a file brought to a log, with its events but the first two, which are the link's.
@@ -65,7 +79,25 @@ module _ {F : Type 0} (facts : F → FileFacts) (remaining : F → Option (List 
     AreCounted None old counts = counts ≡ counted_from 0 old []
     AreCounted (Some after) old counts = AreCountedAfter after.now old counts
 
-  module _ (Synced : List ℕ → Type 0) {D : Type 0} {g : sectors.Ghosts D} {E : Type 0} {h : sectors.Ghosts E} where
+    -- Why they weren't counted, after a link: it couldn't be read, or an entry of the log; the log doesn't begin with
+    -- its entries; or there are too many. `Failed` says that a call of the system failed.
+    abbrev pub IsNotCountedAfter : Type 0 → List ℕ → Store D g → PreparedError → Type 0
+    IsNotCountedAfter Failed after old fault =
+        ((cause : CommandError) × (fault ≡ Command cause) × IsLinkUnread facts remaining Failed after cause)
+        ⊎ ((link : LinkData) × HasLinkAt facts remaining after link
+        × (((error : StoreError) × (fault ≡ Command (Refused error)))
+        ⊎ (((fault ≡ OtherLog) × AreBrought old link None)
+        ⊎ ((brought : List KindCount) × AreBrought old link (Some brought)
+        × ((error : JoinError) × (fault ≡ of_join error) × StopsCounting 2 old brought error)))))
+
+    -- the same with such a link or without
+    abbrev pub IsNotCounted : Type 0 → Option (Bor (List ℕ)) → Store D g → PreparedError → Type 0
+    IsNotCounted Failed None old fault = (error : JoinError) × (fault ≡ of_join error) × StopsCounting 0 old [] error
+    IsNotCounted Failed (Some after) old fault = IsNotCountedAfter Failed after.now old fault
+
+  -- `Synced` says which folder was synced, and `Failed` that a call of the system failed.
+  module _ (Synced : List ℕ → Type 0) (Failed : Type 0) {D : Type 0} {g : sectors.Ghosts D} {E : Type 0}
+      {h : sectors.Ghosts E} where
     -- The next store is empty, under another key than the first one of the old log. The link to it is in its file: until
     -- then the stores were only read.
     pub record IsLinkKept (path : List ℕ) (counts : List KindCount) (old looked : Store D g) (next : Store E h)
@@ -101,26 +133,52 @@ module _ {F : Type 0} (facts : F → FileFacts) (remaining : F → Option (List 
       pub kept : HasBytesAt facts remaining Synced path (link_bytes link)
       pub joins : IsLinkOf counts (active_header old) (active_header next) link
 
+    -- Why the link from one log to another wasn't found in the file at the path: that couldn't be opened, has none, or
+    -- has another link.
+    abbrev pub LacksLinkOf : List ℕ → List KindCount → Store D g → Store E h → Type 0
+    LacksLinkOf path counts old next = Failed
+        ⊎ (HasNoLinkAt facts remaining path
+        ⊎ ((link : LinkData) × HasLinkAt facts remaining path link
+        × (IsLinkOf counts (active_header old) (active_header next) link → ⊥)))
+
+    -- The file at the path, or what is there instead, isn't the link: that to an empty store, or one that was found.
+    abbrev pub IsOtherThanLink : List ℕ → List KindCount → Store D g → Store E h → Type 0
+    IsOtherThanLink path counts old next = Failed
+        ⊎ ((link : LinkData) × HasOthersAt facts remaining path (link_bytes link)
+        × ((((active_header next).count ≡ 0) × ((junction : Junction) × (link ≡ link_in junction.link)
+        × IsJunction (active_header next).key (active_header next).last_link counts junction))
+        ⊎ IsLinkOf counts (active_header old) (active_header next) link))
+
+    -- Why the two weren't joined while they were only looked at. An error of other commands is no wrong argument.
+    abbrev pub IsLeftUnjoined : List ℕ → List KindCount → Store D g → Store E h → PreparedError → Type 0
+    IsLeftUnjoined path counts old next OwnKey = ((active_header next).count ≡ 0) × IsJudgedFirst old next true
+    IsLeftUnjoined path counts old next NotEmpty = (0 < (active_header next).count) × LacksLinkOf path counts old next
+    IsLeftUnjoined path counts old next OtherLink = IsOtherThanLink path counts old next
+    IsLeftUnjoined path counts old next (Command cause) = IsNoWordFault cause
+    IsLeftUnjoined path counts old next _ = ⊥
+
     -- the stores were only looked at
     abbrev pub AreLookedAt : Store D g → Store D g → Store E h → Store E h → Type 0
     AreLookedAt old looked next left = OnlyRead old looked × (left ≡ next)
 
     -- The log was joined to an empty store; or was found to be joined to it. After an error the stores were only looked
-    -- at; or the link is in its file, and they weren't joined.
+    -- at, and this is why; or the link is in its file, and they weren't joined.
     abbrev pub JoinsCounted : List ℕ → List KindCount → Store D g → Store D g → Store E h → Store E h
         → Result (Unit {0}) PreparedError → Type 0
     JoinsCounted path counts old left next new (Ok done) =
         JoinsEmpty path counts old left next new
         ⊎ (IsFoundJoined path counts old next × AreLookedAt old left next new)
     JoinsCounted path counts old left next new (Err fault) =
-        AreLookedAt old left next new ⊎ StopsEmpty path counts old left next new fault
+        (IsLeftUnjoined path counts old next fault × AreLookedAt old left next new)
+        ⊎ StopsEmpty path counts old left next new fault
 
     -- the same with the numbers that the words ask for, once these were counted
     abbrev pub JoinsStores : Option (Bor (List ℕ)) → List ℕ → Store D g → Store D g → Store E h → Store E h
         → Result (Unit {0}) PreparedError → Type 0
     JoinsStores after path old left next new (Ok done) = (counts : List KindCount) × (looked : Store D g)
         × OnlyRead old looked × AreCounted after old counts × JoinsCounted path counts looked left next new (Ok done)
-    JoinsStores after path old left next new (Err fault) = AreLookedAt old left next new
+    JoinsStores after path old left next new (Err fault) =
+        (IsNotCounted Failed after old fault × AreLookedAt old left next new)
         ⊎ ((counts : List KindCount) × (looked : Store D g)
         × OnlyRead old looked × AreCounted after old counts × JoinsCounted path counts looked left next new (Err fault))
 

@@ -1,9 +1,12 @@
 //! The file of a link: it is made whole, or found, and read again in both cases.
-ghost use Rattle.std.specs.Prelude.{◌≡◌, List, IfOk, IfSome, OnOk};
+ghost use Rattle.std.specs.Prelude.{◌≡◌, ◌≢◌, ◌⊎◌, ◌<◌, List, length, Err, IfOk, IfErr, IfSome, OnOk, OnErr};
 ghost use Rattle.audit_disk.specs.Folder.{folder_of};
-ghost use Rattle.audit_link.specs.Links.{link_in};
+ghost use Rattle.audit_link.specs.Links.{LinkData, link_in};
 ghost use Rattle.audit_link.specs.LinkBytes.{SpellsLink};
-ghost use Rattle.audit_cli_rotate.specs.LinkFile.{HasLinkAt, HasBytesAt};
+ghost use Rattle.audit_text.specs.declared.input.TheConstants.{INPUT_LIMIT};
+ghost use Rattle.audit_cli_base.specs.Faults.{IsNoWordFault};
+ghost use Rattle.audit_cli_rotate.specs.LinkFile.{HasLinkAt, HasBytesAt, IsJudgingFault, IsLinkNotIn, IsLinkUnread};
+ghost use Rattle.audit_cli_rotate.specs.LinkFile.{IsNotKept};
 
 use crate::files::{Names, drop_leftover, drop_second_name, give_name, temporary_name};
 use crate::prepared_error::PreparedError;
@@ -28,7 +31,8 @@ pub(crate) fn keep_link<F: SystemFiles>(
 ) -> Result<(), PreparedError>
 where
     F::File: SystemFile,
-    ensures { OnOk result (HasBytesAt F.File.facts F.File.remaining (F.synced rt.now) path.now bytes.now) }
+    ensures kept { OnOk result (HasBytesAt F.File.facts F.File.remaining (F.synced rt.now) path.now bytes.now) }
+    ensures fault { IfErr result (IsNotKept F.File.facts F.File.remaining (F.failed rt.now) path.now bytes.now) }
 {
     match rt.symlink_metadata(path) {
         Ok(_) => {}
@@ -49,6 +53,7 @@ fn make_link_file<F: SystemFiles>(
 ) -> Result<(), CommandError>
 where
     F::File: SystemFile,
+    ensures { IfErr result IsNoWordFault }
 {
     let temporary = temporary_name(alloc, path)?;
     drop_leftover(rt, alloc, &temporary)?;
@@ -71,7 +76,9 @@ where
 fn write_synced<F: SystemFile + Write>(
     file: &mut F,
     bytes: &[u8],
-) -> Result<FileIdentity, CommandError> {
+) -> Result<FileIdentity, CommandError>
+    ensures { IfErr result IsNoWordFault }
+{
     if file.try_lock().is_err() {
         return Err(CommandError::InUse);
     }
@@ -89,10 +96,12 @@ fn find_link_file<F: SystemFiles>(
 ) -> Result<(), PreparedError>
 where
     F::File: SystemFile,
-    ensures { OnOk result (HasBytesAt F.File.facts F.File.remaining (F.synced rt.now) path.now bytes.now) }
+    ensures kept { OnOk result (HasBytesAt F.File.facts F.File.remaining (F.synced rt.now) path.now bytes.now) }
+    ensures fault { IfErr result (IsNotKept F.File.facts F.File.remaining (F.failed rt.now) path.now bytes.now) }
 {
-    let found = fs::metadata(rt, path)?;
-    if !found.is_file() {
+    let found = rt.look(path)?;
+    // A folder, or what might wait, isn't opened.
+    if rt.judge(&found, false).is_err() {
         return Err(PreparedError::OtherLink);
     }
     let mut file = rt.open_to_read(path)?;
@@ -103,7 +112,10 @@ where
 
 // Judges whether a file has these bytes, and no others.
 fn judge_bytes<R: Read>(alloc: Global, reader: &mut R, bytes: &[u8]) -> Result<(), PreparedError>
-    ensures { OnOk result (IfSome (R.remaining reader.old) (λ found. found ≡ bytes.now)) }
+    ensures same { OnOk result (IfSome (R.remaining reader.old) (λ found. found ≡ bytes.now)) }
+    ensures others { result ≡ Err PreparedError.OtherLink → IfSome (R.remaining reader.old) (λ found.
+        (INPUT_LIMIT < length found) ⊎ (found ≢ bytes.now)) }
+    ensures fault { IfErr result IsJudgingFault }
 {
     match read_input(alloc, reader) {
         Ok(found) => judge_found(&found, bytes),
@@ -113,7 +125,9 @@ fn judge_bytes<R: Read>(alloc: Global, reader: &mut R, bytes: &[u8]) -> Result<(
 }
 
 fn judge_found(found: &[u8], bytes: &[u8]) -> Result<(), PreparedError>
-    ensures { OnOk result (found.now ≡ bytes.now) }
+    ensures same { OnOk result (found.now ≡ bytes.now) }
+    ensures others { OnErr result (found.now ≢ bytes.now) }
+    ensures fault { IfErr result (λ fault. fault ≡ PreparedError.OtherLink) }
 {
     if are_equal(found, bytes) {
         Ok(())
@@ -130,7 +144,8 @@ pub(crate) fn link_at<F: SystemFiles>(
 ) -> Result<Link, CommandError>
 where
     F::File: SystemFile,
-    ensures { IfOk result (λ link. HasLinkAt F.File.facts F.File.remaining path.now (link_in link)) }
+    ensures read { IfOk result (λ link. HasLinkAt F.File.facts F.File.remaining path.now (link_in link)) }
+    ensures fault { IfErr result (IsLinkUnread F.File.facts F.File.remaining (F.failed rt.now) path.now) }
 {
     let mut file = rt.open_to_read(path)?;
     link_in_file(alloc, &mut file)
@@ -138,7 +153,8 @@ where
 
 // The link in a file, which contains nothing else. An input that is too long is no link.
 fn link_in_file<R: Read>(alloc: Global, reader: &mut R) -> Result<Link, CommandError>
-    ensures { IfOk result (λ link. IfSome (R.remaining reader.old) (λ bytes. SpellsLink bytes (link_in link))) }
+    ensures read { IfOk result (λ link. IfSome (R.remaining reader.old) (λ bytes. SpellsLink bytes (link_in link))) }
+    ensures fault { IfErr result (IsLinkNotIn (R.remaining reader.old)) }
 {
     match read_input(alloc, reader) {
         Ok(bytes) => link_of(alloc, &bytes),
@@ -148,7 +164,9 @@ fn link_in_file<R: Read>(alloc: Global, reader: &mut R) -> Result<Link, CommandE
 }
 
 fn link_of(alloc: Global, bytes: &[u8]) -> Result<Link, CommandError>
-    ensures { IfOk result (λ link. SpellsLink bytes.now (link_in link)) }
+    ensures read { IfOk result (λ link. SpellsLink bytes.now (link_in link)) }
+    ensures fault { IfErr result (λ fault. ((fault ≡ CommandError.BadProof)
+        × ((link : LinkData) → SpellsLink bytes.now link → ⊥)) ⊎ (fault ≡ CommandError.Refused StoreError.Memory)) }
 {
     match read_link(alloc, bytes) {
         Ok(link) => Ok(link),

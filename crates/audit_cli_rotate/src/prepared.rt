@@ -54,10 +54,11 @@ where
     // read again, and its folder was synced; the log of the store that was opened in the old file is closed as the link
     // says, and the next store, which was empty, has appended the two events. Or the link that was found is accepted under
     // the commitments of both. The lines of the two were written. After an error no store was opened and nothing was
-    // written; or the stores were only looked at; or the link is in its file, and what the join did until it failed was
-    // done. In each case nothing else was done to a store, and no other was opened.
-    ensures carried { IsPreparedCarriedOut F.File.facts F.File.remaining (F.synced rt.now) O.calls O.at request.entry
-        stores.old stores.new (W.contents output.old) (W.contents output.new) (W.flushed output.new)
+    // written; or the stores were only looked at, and `OwnKey`, `NotEmpty`, `OtherLink`, `OtherLog` and the errors of
+    // numbers have their cause; or the link is in its file, and what the join did until it failed was done. In each
+    // case nothing else was done to a store, and no other was opened.
+    ensures carried { IsPreparedCarriedOut F.File.facts F.File.remaining (F.synced rt.now) (F.failed rt.now) O.calls
+        O.at request.entry stores.old stores.new (W.contents output.old) (W.contents output.new) (W.flushed output.new)
         (W.unflushed output.new) result }
 {
     let done = perform(rt, stores, alloc, request, output);
@@ -92,8 +93,8 @@ where
     F::File: SystemFile,
     O: Stores<FileStore<F::File>>,
     W: Write,
-    ensures { IsPreparedDone F.File.facts F.File.remaining (F.synced rt.now) O.calls O.at request.entry
-        stores.old stores.new (W.contents output.old) (W.contents output.new) result }
+    ensures { IsPreparedDone F.File.facts F.File.remaining (F.synced rt.now) (F.failed rt.now) O.calls O.at
+        request.entry stores.old stores.new (W.contents output.old) (W.contents output.new) result }
 {
     let there = identity_if_any(rt, request.next)?;
     if request.old == request.next || is_same_file(rt, request.old, there) {
@@ -121,8 +122,8 @@ where
     O: Stores<Store<D>>,
     W: Write,
     ensures { (between : List (StoreCall (Store D ⟦<D as Sectors>⟧))) × O.calls.DidCalls stores.old stores.new between
-        × OpensNext F.File.facts F.File.remaining (F.synced rt.now) O.calls O.at request.entry stores.old between
-        old.old old.new (W.contents output.old) (W.contents output.new) result }
+        × OpensNext F.File.facts F.File.remaining (F.synced rt.now) (F.failed rt.now) O.calls O.at request.entry
+        stores.old between old.old old.new (W.contents output.old) (W.contents output.new) result }
 {
     let mut next = stores.open(alloc, request.next)?.content;
     let done = join_prepared(rt, alloc, old, &mut next, request, output);

@@ -151,6 +151,11 @@ impl From<io::Error> for PreparedError {
 }
 
 impl From<JoinError> for PreparedError {
+    ghost use Rattle.std.specs.Prelude.{◌≡◌};
+    ghost use Rattle.audit_cli_rotate.specs.PreparedFaults.{of_join};
+
+    ghost from_gives = { λ cause fault. fault ≡ of_join cause };
+
     fn from(cause: JoinError) -> Self {
         match cause {
             JoinError::Store(error) => PreparedError::Command(CommandError::Refused(error)),
