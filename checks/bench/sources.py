@@ -23,7 +23,8 @@ from checks.parts.scenes import program_of
 KIND = 7
 LINES = 200_000
 WINDOWS = 64, 1024
-TURNS = 5
+TURNS = 6
+WAYS = ("plain", ()), ("placed", ("--placed",))
 # A turn appends the lines for each window with places and without, and those of the feed. A batch takes whole sectors.
 SECTORS = 2_000_000
 
@@ -75,12 +76,13 @@ def source_of_new_store(folder):
     os.remove(store)
 
 
-def measure_turn(rates, folder):
-    """The feed has a store of its own, since it passes over as many lines as a log has of its kind."""
+def measure_turn(rates, folder, ways):
+    """In this order of ways, since whoever sends second has a longer log. The feed has a store of its own, since it passes
+    over as many lines as a log has of its kind."""
     with source_of_new_store(folder + "-sent") as (source, lines):
         for window in WINDOWS:
-            rates["plain", window].append(sent_a_second(source, lines, window))
-            rates["placed", window].append(sent_a_second(source, lines, window, "--placed"))
+            for name, words in ways:
+                rates[name, window].append(sent_a_second(source, lines, window, *words))
     with source_of_new_store(folder + "-fed") as (source, lines):
         rates["fed"].append(fed_a_second(source, lines, os.path.join(folder + "-fed", "position")))
 
@@ -100,6 +102,6 @@ def main(words):
     rates = collections.defaultdict(list)
     with tempfile.TemporaryDirectory(prefix="bench-sources-") as folder:
         for turn in range(TURNS):
-            measure_turn(rates, os.path.join(folder, str(turn)))
+            measure_turn(rates, os.path.join(folder, str(turn)), WAYS if turn % 2 else WAYS[::-1])
     report(rates)
     return 0
