@@ -7,6 +7,7 @@ import sys
 import threading
 import time
 
+from checks.library import common
 from checks.parts import frames, program
 from checks.parts.daemons import FedDaemon
 from checks.parts.files import write
@@ -119,7 +120,7 @@ def scene_killed_daemon():
     from audit_store import Client, StoreError, verify
     kills = 200 if program.LONG else 8
     acknowledged = {}
-    with FedDaemon(os.getcwd()) as daemon:
+    with FedDaemon(os.getcwd(), common.sectors()) as daemon:
         log, number = Client(daemon.socket, timeout=20), 0
 
         def keep(events):

@@ -7,6 +7,7 @@ import subprocess
 import sys
 import tempfile
 
+from checks.parts import program
 from checks.parts.places import CRATES, at_top
 from checks.parts.wrong import LeftOut, Wrong
 
@@ -49,6 +50,11 @@ def use_library():
         shutil.rmtree(FOLDER, ignore_errors=True)
         if given is None:
             os.environ.pop("AUDIT_STORE_LIBRARY", None)
+
+
+def sectors():
+    """How many sectors a store of a scene with kills has: enough for all that is sent meanwhile."""
+    return 1 << 21 if program.LONG else 1 << 15
 
 
 def commitment_of(log):

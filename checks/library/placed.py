@@ -4,6 +4,7 @@ import os
 import threading
 import time
 
+from checks.library import common
 from checks.library.asked import FIRST_KEY, exported, expect_raised, liar
 from checks.parts import frames, program
 from checks.parts.daemons import FedDaemon
@@ -18,7 +19,7 @@ KIND = 7
 def fed(kind=KIND):
     """A daemon with a source's socket, and the path of that."""
     path = os.path.join(os.getcwd(), "source")
-    return FedDaemon(os.getcwd(), options=("--writer", "%d:%s" % (kind, path))), path
+    return FedDaemon(os.getcwd(), common.sectors(), options=("--writer", "%d:%s" % (kind, path))), path
 
 
 def expect_whole(daemon, payloads, receipts):
