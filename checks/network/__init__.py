@@ -8,7 +8,7 @@ A scene whose tools aren't there is left out. Needed are openssl, and Debian's r
 With --long more is killed, and what rsyslogd loses when it is killed itself is counted.
 """
 from checks.network import bound, relp, stunnel
-from checks.parts.scenes import play_all, scenes_in, words_of
+from checks.parts.scenes import play_side_by_side, scenes_in, words_of
 
 SCENES = scenes_in(relp, stunnel, bound)
 SHORT = [name for name in SCENES if name != "relp_stopped"]
@@ -16,4 +16,4 @@ SHORT = [name for name in SCENES if name != "relp_stopped"]
 
 def main(words):
     _, names = words_of(words, SCENES, short=SHORT)
-    return play_all(SCENES, names)
+    return play_side_by_side(SCENES, names)

@@ -18,7 +18,7 @@ ends it
 """
 import subprocess
 
-from checks.parts.scenes import play_all, scenes_in, words_of
+from checks.parts.scenes import play_side_by_side, scenes_in, words_of
 from checks.parts.tools import needs
 from checks.parts.wrong import LeftOut
 from checks.power import cuts, rotations
@@ -32,4 +32,4 @@ def main(words):
     needs(*TOOLS, devices=["/dev/fuse"])
     if subprocess.run(["nbdkit", "python", "--dump-plugin"], capture_output=True).returncode:
         raise LeftOut("there is no nbdkit-plugin-python")
-    return play_all(SCENES, names)
+    return play_side_by_side(SCENES, names)

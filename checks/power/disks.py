@@ -10,6 +10,8 @@ from checks.parts.waiting import SECONDS, wait_for
 from checks.parts.wrong import Wrong
 
 chance = random.Random()
+# Scenes side by side are processes of their own, each with a chance of its own.
+os.register_at_fork(after_in_child=chance.seed)
 
 
 class Lost(Wrong):
