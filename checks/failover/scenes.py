@@ -50,12 +50,11 @@ def scene_clock(site):
     open(holder.path("clock-stops"), "w").close()
     holder.cut()
     site.takes_over("its clock and its network to etcd stop", holder, other, since)
-    # With a clock its daemon would end after three quarters of the lease. It served until the fence, which is between
-    # the other's lease and its daemon, and its events are in the log.
-    lease = other.when("this machine has the lease", since)
+    # With a clock its daemon would be killed after three quarters of the lease. It served until the fence, and its
+    # events are in the log.
     past = since + 0.75 * LEASE + 1
-    late = [when for source in site.sources for when, where in source.acks if where is holder and when > past]
-    expect_true(late and max(late) > lease - 1, "a holder without a clock didn't go on: nothing was shown")
+    expect_true(any(when > past for source in site.sources for when, where in source.acks if where is holder),
+                "a holder without a clock didn't go on: nothing was shown")
     wait_for(lambda: not is_alive(daemon), "the end of a fenced daemon")
     wait_for(lambda: "audit: 11 Device\n" in read_messages(holder.path("messages")), "the refusal of a fenced daemon")
     wait_for(lambda: holder.when("it gives the lease up: run ended with status 3", since),
@@ -146,9 +145,11 @@ def scene_member(site):
     expect_true(is_alive(daemon), "a daemon ends though two members of etcd are there")
     lost[1].kill()
     wait_for(lambda: not is_alive(daemon), "the end of a daemon without a lease")
-    before = sum(len(source.acks) for source in site.sources)
+    # Acknowledgements that were under way may be read late.
+    time.sleep(1)
+    before = site.count()
     time.sleep(2)
-    expect_true(sum(len(source.acks) for source in site.sources) == before, "an event is acknowledged without a lease")
+    expect_true(site.count() == before, "an event is acknowledged without a lease")
     for member in lost:
         member.start()
     site.serving()

