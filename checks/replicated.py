@@ -26,7 +26,7 @@ from checks.parts.processes import end_all, start
 from checks.parts.quorums import quorum_of
 from checks.parts.scenes import program_of
 from checks.parts.tools import needs
-from checks.parts.waiting import wait_for
+from checks.parts.waiting import wait_for, wait_listening
 from checks.parts.wrong import expect_true
 
 TOOLS = ["nbdkit", "qemu-nbd", "nbdfuse", "fusermount3"]
@@ -54,7 +54,7 @@ class Replica:
             os.remove(self.socket)
         self.server = start(["nbdkit", "--foreground", "--unix", self.socket, "--filter=limit", "file",
                              os.path.abspath(self.image), "limit=1"], stderr=subprocess.DEVNULL)
-        wait_for(lambda: os.path.exists(self.socket), "a server's socket")
+        wait_listening(self.socket, self.server)
 
     def kill(self):
         self.server.kill()

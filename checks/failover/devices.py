@@ -11,11 +11,13 @@ from checks.parts.quorums import quorum_of
 from checks.parts.waiting import wait_for
 
 REPLICAS = 3
-# Servers at another address than those that a fenced machine knows.
+# Servers at another address than those that a fenced machine knows, once they listen there.
 NBD_FENCE = r"""date +%s%N >../address.new
     mv ../address.new ../address
     for each in ../replica?.pid; do kill -9 "$(cat $each)"; done
-    for each in 0 1 2; do until [ -S ../replica$each.$(cat ../address) ]; do sleep 0.05; done; done"""
+    for each in 0 1 2; do
+        until grep -q " 00010000 .*/replica$each\.$(cat ../address)\$" /proc/net/unix; do sleep 0.05; done
+    done"""
 
 
 class Replica(threading.Thread):

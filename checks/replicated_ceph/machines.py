@@ -11,7 +11,7 @@ from checks.parts import program
 from checks.parts.ceph import OSDS, POOL
 from checks.parts.places import tool
 from checks.parts.tools import succeeds
-from checks.parts.waiting import SECONDS, wait_for
+from checks.parts.waiting import SECONDS, wait_for, wait_listening
 from checks.parts.wrong import expect_true
 from checks.replicated_ceph.common import CLIENTS, EARLY, IMAGE, PATH, acknowledged, commitment, count, good, how
 
@@ -54,13 +54,13 @@ class Machine:
         self.ask_for_image()
         if not how.qemu:
             # The socket may be there before the lock is, so only nbdfuse's file shows that the image is attached.
-            wait_for(lambda: os.path.exists(self.nbd) or not self.has_client(), "the image")
+            wait_listening(self.nbd, self.processes["client"])
             self.run("file", "nbdfuse", self.file, "nbd+unix:///?socket=" + self.nbd)
-        wait_for(lambda: self.has_file() or not self.has_client(), "the file on the image")
-        expect_true(self.has_client(), "the image is refused: " + self.said())
+        wait_for(lambda: self.has_file() or not self.is_attaching(), "the file on the image")
+        expect_true(self.is_attaching(), "the image is refused: " + self.said())
 
-    def has_client(self):
-        return self.processes["client"].poll() is None
+    def is_attaching(self):
+        return all(process.poll() is None for process in self.processes.values())
 
     def has_file(self):
         return os.path.exists(self.file) and os.stat(self.file).st_size > 0
