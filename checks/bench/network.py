@@ -22,6 +22,7 @@ from checks.parts.frames import append_frame, read_frame
 from checks.parts.processes import end_all
 from checks.parts.program import done
 from checks.parts.scenes import program_of
+from checks.parts.tools import needs
 from checks.parts.waiting import wait_for
 from checks.parts.wrong import expect
 
@@ -97,6 +98,7 @@ def measure_places(count):
 
 def main(words):
     count = int((program_of(words, 1) or [5000])[0])
+    needs("stunnel4", "openssl", "rsyslogd")
     with folder_of_its_own("bench-network-"):
         try:
             measure_send(count)

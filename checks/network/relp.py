@@ -87,6 +87,9 @@ class Site:
         for host in self.hosts:
             host.write(count)
 
+    def two_hosts(self):
+        return [host.process for host in self.hosts[:2]]
+
     def texts(self):
         return [payload.decode().split(" some ", 1)[1] for payload in self.daemon.payloads(self.folder)]
 
@@ -125,26 +128,46 @@ def scene_relp():
         stranger.kill()
 
 
+def kill(*processes):
+    """All are killed before any is started again."""
+    for process in processes:
+        process.kill()
+    for process in processes:
+        process.start()
+
+
+def restart(*processes):
+    for process in processes:
+        process.restart()
+
+
+def restart_without_collector(site):
+    """Hosts stop while nobody answers them."""
+    site.collector.kill()
+    restart(*site.two_hosts())
+    site.collector.start()
+
+
+STOPS = {
+    "kill of the collector": lambda site: kill(site.collector),
+    "restart of the collector": lambda site: restart(site.collector),
+    "kill of two hosts": lambda site: kill(*site.two_hosts()),
+    "restart of two hosts": lambda site: restart(*site.two_hosts()),
+    "restart of two hosts without the collector": restart_without_collector,
+    "kill of the collector and its daemon": lambda site: kill(site.collector, site.daemon),
+    "kill of these and two hosts": lambda site: kill(site.collector, site.daemon, *site.two_hosts()),
+}
+
+
 @scene
 def scene_relp_stopped():
     """If an rsyslogd itself is killed or stopped, what was acknowledged is kept. What that had in hand may be lost: it
     is counted."""
-    for way in "kill", "restart":
-        for part in "collector", "hosts":
-            site = Site(way + "-" + part)
-            for _ in range(10):
-                site.write(10)
-                time.sleep(random.uniform(0.2, 1.0))
-                stop_and_start(way, [site.collector]
-                               if part == "collector" else [host.process for host in site.hosts[:2]])
-            missing, count = site.missing_lines()
-            print("relp_stopped: 10 times %s of %s: %d lines of %d are missing" % (way, part, len(missing), count))
-
-
-def stop_and_start(way, processes):
-    for process in processes:
-        if way == "kill":
-            process.kill()
-            process.start()
-        else:
-            process.restart()
+    for what, stop_and_start in STOPS.items():
+        site = Site(what.replace(" ", "-"))
+        for _ in range(10):
+            site.write(10)
+            time.sleep(random.uniform(0.2, 1.0))
+            stop_and_start(site)
+        missing, count = site.missing_lines()
+        print("relp_stopped: 10 times %s: %d lines of %d are missing" % (what, len(missing), count))
