@@ -53,7 +53,8 @@ def main(words):
         except Exception as wrong:
             print("failover: %s" % told(wrong))
             for machine in site.machines if site else []:
-                print("\n".join("    %s: %s" % (machine.name, line) for _, line in machine.said[-6:]))
+                lines = [line for _, line in machine.said[-6:]] + machine.messages()[-6:]
+                print("\n".join("    %s: %s" % (machine.name, line) for line in lines))
             return 1
         finally:
             if site is not None:

@@ -134,6 +134,12 @@ class Machine:
             with contextlib.suppress(ProcessLookupError):
                 os.kill(process, number)
 
+    def messages(self):
+        """What its device and its daemon said."""
+        with contextlib.suppress(FileNotFoundError):
+            return read_messages(self.path("messages")).splitlines()
+        return []
+
     def lose(self):
         """All ends that runs there."""
         self.signal(signal.SIGKILL)

@@ -3,7 +3,7 @@ there.
 
 usage: bin/check power EXECUTABLE [--long] [SCENE ..]
 
---long cuts 600 times in all, otherwise it takes twenty seconds. The disk is disk.py of this folder, an nbdkit plugin, as
+--long cuts 600 times in all, otherwise it takes 20 seconds. The disk is disk.py of this folder, an nbdkit plugin, as
 a file by nbdfuse: it keeps, drops or tears what wasn't flushed. Needed are nbdkit with Python, nbdfuse, fusermount3 and
 FUSE (Debian's nbdkit, nbdkit-plugin-python, libnbd-bin and fuse3), and for `rotations` root, loop devices and ext4.
 
