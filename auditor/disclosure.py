@@ -121,6 +121,17 @@ def chosen_keys(data, start, is_chosen):
     return keys
 
 
+def write_new(out, text):
+    """Writes a new file that its owner alone may read. What couldn't be written whole is removed: it would disclose less."""
+    made = os.open(out, os.O_WRONLY | os.O_CREAT | os.O_EXCL, 0o600)
+    try:
+        with open(made, "w", encoding="ascii") as file:
+            file.write(text)
+    except OSError:
+        os.remove(out)
+        raise
+
+
 def make(export, keyfile, claimed, out, option, word):
     start, wanted = read_start(keyfile), ranges(word, 0xffffffff)
     if option not in ("--kind", "--events"):
@@ -130,8 +141,7 @@ def make(export, keyfile, claimed, out, option, word):
     events, _ = read_on(data, start, commitment(claimed))
     keys = chosen_keys(data, start, lambda index, kind: any(
         first <= (kind if option == "--kind" else index) <= last for first, last in wanted))
-    with open(os.open(out, os.O_WRONLY | os.O_CREAT | os.O_EXCL, 0o600), "w", encoding="ascii") as file:
-        file.write(text_of(keys, start))
+    write_new(out, text_of(keys, start))
     print("disclosed %d %d" % (len(keys), start.count + len(events)))
 
 
