@@ -49,7 +49,7 @@ def refused_memory_is_told(room):
     """With less and less memory a daemon begins and ends as ever, or reports the lack, and leaves no socket."""
     store = room.store("store", payloads_of("before", 20), sectors=sectors_for(10_000))
     found = set()
-    for limit in range(1600, 100, -10 if room.is_long else -60):
+    for limit in range(2700, 100, -10 if room.is_long else -60):
 
         prepare = with_data_limit(limit)
         # An executable of bin/try can't be loaded with so little memory.

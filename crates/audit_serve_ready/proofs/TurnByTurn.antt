@@ -84,10 +84,9 @@ all_still moved found now is none still = ap (λ (b : Bool). b || found) (sym is
 
 -- one step is about one session
 turn_about : (k : ℕ) (step : StepData) → IsTurn k step → IsAbout k step
-turn_about k (a_piece session piece) (inl visit) = visit.0
-turn_about k (an_end session) (inl visit) = visit
-turn_about k a_flush (inl visit) = visit
-turn_about k step (inr is) = subst (IsAbout k) (sym is) refl
+turn_about k (a_piece session piece) turn = turn.0
+turn_about k (an_end session) turn = turn
+turn_about k a_flush turn = turn
 
 one_at_most : (k : ℕ) (step : StepData) → steps_about k (step ∷ []) ≤ 1
 one_at_most k step = elim (cases_Bool (is_about k step)) [

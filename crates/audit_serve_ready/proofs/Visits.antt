@@ -2,7 +2,7 @@
 use Rattle.std.proofs.Common.{◌≡◌, ℕ, ◌<◌, ◌≤◌, Bool, true, false, ◌||◌, eqb, cond, Result, Ok, Err, IfOk, OnOk, OnErr, List, [], ◌∷◌, ◌++◌, length, take, drop, refl, sym, ap, subst, ◌∙◌, arith, inl, inr, ◌⊎◌, true≢false}
 use Rattle.std.proofs.lemmas.Bool.{eq-eqb, cond-true}
 use Rattle.std.proofs.lemmas.List.{append-nil, take-append-drop, length-append, length-take}
-use Rattle.audit_serve_passes.specs.declared.limits.TheConstants.{MAX_PIECE}
+use Rattle.audit_serve_ready.specs.declared.limits.TheConstants.{MAX_READ}
 use Rattle.audit_serve_passes.specs.Steps.{StepData, a_piece, an_end, AreAbout, IsPartOf, bytes_fed}
 use Rattle.audit_serve_passes.specs.Streams.{StreamCall, CallModel, bytes_read}
 use Rattle.audit_serve_passes.specs.Core.{CoreModel, GoesBy, no_bytes, bytes_for}
@@ -29,10 +29,6 @@ no_back (byte ∷ front) rest none = absurd (cc none)
 pub no_front : (front rest : List ℕ) → front ++ rest ≡ [] → front ≡ []
 no_front [] rest none = refl
 no_front (byte ∷ front) rest none = absurd (cc none)
-
-piece_turn : (k : ℕ) (piece : List ℕ) → length piece ≤ MAX_PIECE → IsTurn k (a_piece k piece)
-piece_turn k [] most = inr refl
-piece_turn k (byte ∷ piece) most = inl (refl, omega arith, most)
 
 same_unread : {S : Type 0} (bytes : List ℕ) (slot : SlotData S) → IsSamePlace [] slot (with_unread bytes slot)
 same_unread bytes vacant = record { kept = refl; mute = refl; shut = refl; noted = refl }
@@ -131,7 +127,7 @@ module _ {C S : Type 0} (M : CoreModel C) (N : CallModel S) where
       }
 
   -- one that was refused, at most in part: the rest is lost
-  pub fed_stopped : (k : ℕ) (old new : C) (slot : SlotData S) → is_shut slot ≡ false → length (unread_of slot) ≤ MAX_PIECE → GoesBy M (a_piece k (unread_of slot)) old new
+  pub fed_stopped : (k : ℕ) (old new : C) (slot : SlotData S) → is_shut slot ≡ false → length (unread_of slot) ≤ MAX_READ → GoesBy M (a_piece k (unread_of slot)) old new
       → StopsAtPlace N (M.DidStepsInPart old new) k slot (with_unread [] slot)
   fed_stopped k old new slot live most (part, inl none, goes) =
       let bytes : List ℕ = unread_of slot in
@@ -174,7 +170,7 @@ piece_waits : (k : ℕ) (piece : List ℕ) → IsWait (a_piece k piece) → piec
 piece_waits k piece waits = cc waits.1
 
 module _ {C S : Type 0} (M : CoreModel C) (N : CallModel S) (backlog : ℕ) where
-  pub is_fed : {given remains : ℕ} (moved : Bool) (k : ℕ) (taken : ℕ) (old new : C) (slot : SlotData S) → is_shut slot ≡ false → length (unread_of slot) ≤ MAX_PIECE → M.DidSteps old new (a_piece k (take taken (unread_of slot)) ∷ []) no_bytes
+  pub is_fed : {given remains : ℕ} (moved : Bool) (k : ℕ) (taken : ℕ) (old new : C) (slot : SlotData S) → is_shut slot ≡ false → length (unread_of slot) ≤ MAX_READ → M.DidSteps old new (a_piece k (take taken (unread_of slot)) ∷ []) no_bytes
       → (moved ≡ false → taken ≡ 0) → (moved ≡ true → 0 < taken) → taken ≤ length (unread_of slot)
       → (unread_of (with_unread (drop taken (unread_of slot)) slot) ≡ []) ⊎ IsPutOff M backlog (IsShort remains) k old (take taken (unread_of slot)) (unread_of (with_unread (drop taken (unread_of slot)) slot)) slot → SpendsShare M given remains old (a_piece k (take taken (unread_of slot)) ∷ [])
       → IsFedPiece M N backlog given remains moved k old new slot (with_unread (drop taken (unread_of slot)) slot)
@@ -198,7 +194,7 @@ module _ {C S : Type 0} (M : CoreModel C) (N : CallModel S) (backlog : ℕ) wher
     steps = an_end k ∷ [];
     calls = [];
     did = did;
-    taken = (an_end k, refl, inl refl);
+    taken = (an_end k, refl, refl);
     waits = λ still. absurd (true≢false still);
     moves = λ moving waits. never_ends k waits.0;
     served = record { read = refl; ends = inr shut; accounted = accounted_none N slot };
@@ -237,7 +233,7 @@ module _ {C S : Type 0} (M : CoreModel C) (N : CallModel S) (backlog : ℕ) wher
     steps = an_end k ∷ [];
     calls = calls;
     did = did;
-    taken = (an_end k, refl, inl refl);
+    taken = (an_end k, refl, refl);
     waits = λ still. absurd (true≢false still);
     moves = λ moving waits. never_ends k waits.0;
     served = record { read = looked M N before after calls look; ends = inr (ap (λ (x : Bool). x || is_shut after) last); accounted = look.accounted };
@@ -257,7 +253,7 @@ module _ {C S : Type 0} (M : CoreModel C) (N : CallModel S) (backlog : ℕ) wher
     steps = a_piece k fed.piece ∷ [];
     calls = calls;
     did = fed.did;
-    taken = (a_piece k fed.piece, refl, piece_turn k fed.piece fed.most);
+    taken = (a_piece k fed.piece, refl, (refl, fed.most));
     waits = λ still. ((k, ap (a_piece k) (fed.held still)), tt);
     moves = λ moving waits. fed.moves moving (piece_waits k fed.piece waits.0);
     served = subst (λ (all : List StreamCall). IsServedAt N k (a_piece k fed.piece ∷ []) [] [] all before after) (append-nil calls)

@@ -1,7 +1,7 @@
 -- What is done for the clients that are in their places.
 use Rattle.std.specs.Prelude.{◌≡◌, ◌≢◌, ◌⊎◌, ℕ, ◌<◌, ◌≤◌, Bool, true, false, ◌||◌, List, [], ◌∷◌, ◌++◌, length}
 use Rattle.std.specs.Prelude.{slice_index_or}
-use Rattle.audit_serve_passes.specs.declared.limits.TheConstants.{MAX_PIECE}
+use Rattle.audit_serve_ready.specs.declared.limits.TheConstants.{MAX_READ}
 use Rattle.audit_serve_passes.specs.Steps.{StepData, AreAbout, bytes_fed, ends_in}
 use Rattle.audit_serve_passes.specs.Streams.{StreamCall, a_read, a_failed_read, CallModel}
 use Rattle.audit_serve_passes.specs.Streams.{bytes_read, bytes_sent, has_failed_write}
@@ -50,7 +50,7 @@ module _ {S : Type 0} (N : CallModel S) where
   -- the same, if a step was refused by which at most a piece was lost
   pub record StopsAtPlace (Did : CoreDid) (k : ℕ) (before after : SlotData S) : Type 0 where
     pub lost : List ℕ
-    pub most : length lost ≤ MAX_PIECE
+    pub most : length lost ≤ MAX_READ
     pub serves : ServesPlace Did k lost before after
 
   -- ---- all places
@@ -74,7 +74,7 @@ module _ {S : Type 0} (N : CallModel S) where
   pub record StopsAtPlaces (Did : CoreDid) (before after : List (SlotData S)) : Type 0 where
     pub refused : ℕ
     pub lost : List ℕ
-    pub most : length lost ≤ MAX_PIECE
+    pub most : length lost ≤ MAX_READ
     pub serves : ServesPlaces Did (bytes_for refused lost) before after
 
   -- What was kept was written as far as the clients took it, and nothing was read.

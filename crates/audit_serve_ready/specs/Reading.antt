@@ -2,10 +2,8 @@
 use Rattle.std.specs.Prelude.{◌≡◌, ◌≢◌, ◌⊎◌, ℕ, ◌+◌, ◌-◌, ◌%◌, ◌<◌, ◌≤◌, nat_le, Bool, true, false, ◌==◌, if◌then◌else◌}
 use Rattle.std.specs.Prelude.{List, [], ◌∷◌, length, slice_index_or}
 use Rattle.std.specs.List.{AllByRecursion}
-use Rattle.audit_serve_passes.specs.declared.limits.TheConstants.{MAX_PIECE}
-use Rattle.audit_serve_ready.specs.declared.limits.TheConstants.{MAX_ASKED}
+use Rattle.audit_serve_ready.specs.declared.limits.TheConstants.{MAX_ASKED, MAX_READ}
 use Rattle.audit_serve_passes.specs.Steps.{StepData, a_piece, an_end, a_flush}
-use Rattle.audit_serve_passes.specs.Rounds.{IsVisit}
 use Rattle.audit_serve_passes.specs.Streams.{StreamCall, CallModel, bytes_read, bytes_sent}
 use Rattle.audit_serve_passes.specs.Core.{CoreModel, asked_by, no_bytes}
 use Rattle.audit_serve_ready.specs.declared.slot.Look.{Look}
@@ -16,9 +14,11 @@ use Rattle.audit_serve_ready.specs.Slot.{SlotData, unread_of, is_shut, IsAskedFo
 use Rattle.audit_serve_ready.specs.Places.{slot_at, has_last_read, IsServedAt, IsReadyPass}
 use Rattle.audit_serve_ready.specs.Backlog.{IsPutOff, TakesUp}
 
--- A session's turn: it is visited, or its bytes have to wait, so that none is taken.
+-- A session's turn: its next bytes, none of them if they have to wait, or its end.
 abbrev pub IsTurn : ℕ → StepData → Type 0
-IsTurn k step = IsVisit k step ⊎ (step ≡ a_piece k [])
+IsTurn k (a_piece session piece) = (session ≡ k) × (length piece ≤ MAX_READ)
+IsTurn k (an_end session) = session ≡ k
+IsTurn k a_flush = ⊥
 
 -- how many of these steps are about session k
 abbrev pub is_about : ℕ → StepData → Bool
@@ -108,7 +108,7 @@ module _ {C S : Type 0} (M : CoreModel C) (N : CallModel S) (backlog given remai
   -- A session was fed the first of what is unread, or had to wait.
   pub record IsFedPiece (moved : Bool) (k : ℕ) (old new : C) (before after : SlotData S) : Type 0 where
     pub piece : List ℕ
-    pub most : length piece ≤ MAX_PIECE
+    pub most : length piece ≤ MAX_READ
     pub held : moved ≡ false → piece ≡ []
     pub moves : moved ≡ true → piece ≢ []
     pub did : M.DidSteps old new (a_piece k piece ∷ []) no_bytes

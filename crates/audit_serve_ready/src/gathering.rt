@@ -12,6 +12,7 @@ ghost use Rattle.audit_serve_ready.specs.Rounds.{AsksDoor};
 
 use crate::door::Door;
 use crate::limits::MAX_ASKED;
+use crate::pass_bounds::{PassBounds, piece_for};
 use crate::ready_stream::ReadyStream;
 use crate::slot::Slot;
 use crate::turns::{is_due, read_turns, turn_of};
@@ -48,27 +49,27 @@ fn first_turn<C: SessionCore, S: ReadyStream + Drop>(
     slots: &mut [Slot<S>],
     first: usize,
     had_turn: &mut Marks,
-    backlog: usize,
+    bounds: PassBounds,
     questions: &mut Share,
 ) -> Result<bool, C::Error>
     requires { length slots.old ≤ SESSIONS }
     ensures stopped { OnErr result (StopsAtPlaces S.calls (C.model.DidStepsInPart core.old core.new)
         slots.old slots.new) }
     ensures refused { IfErr result (C.refuses core.old core.new) }
-    ensures done { IfOk result (λ moved. TakesTurns C.model S.calls backlog questions.old.left questions.new.left
+    ensures done { IfOk result (λ moved. TakesTurns C.model S.calls bounds.backlog questions.old.left questions.new.left
         moved (λ k. k ≡ first) had_turn.old had_turn.new core.old core.new slots.old slots.new) }
     ensures within { OwesOnlyAfterTurns C.model (length slots.old) had_turn.old core.old
-        → AreWithinBacklog C.model backlog core.old slots.old
+        → AreWithinBacklog C.model bounds.backlog core.old slots.old
         → OnOk result (OwesOnlyAfterTurns C.model (length slots.old) had_turn.new core.new
-        × AreWithinBacklog C.model backlog core.new slots.new) }
+        × AreWithinBacklog C.model bounds.backlog core.new slots.new) }
     ensures asked { questions.old.is_whole ≡ true → slice_index_or had_turn.old first true ≡ false
-        → first < length slots.old → MayAsk C.model backlog first core.old (slot_at first slots.old)
-        → OnOk result (HasTakenRequest C.model backlog first core.old
+        → first < length slots.old → MayAsk C.model bounds.backlog first core.old (slot_at first slots.old)
+        → OnOk result (HasTakenRequest C.model bounds.backlog first core.old
         (slot_at first slots.old) (slot_at first slots.new)
         × (slice_index_or had_turn.new first true ≡ true)) }
 {
     if first < slots.len() {
-        turn_of(core, slots, first, had_turn, backlog, questions)
+        turn_of(core, slots, first, had_turn, bounds, questions)
     } else {
         Ok(false)
     }
@@ -101,12 +102,16 @@ pub(crate) fn gather<C: SessionCore, D: Door>(
         → OnOk result (HasTakenRequest C.model backlog first core.old
         (slot_at first slots.old) (slot_at first slots.new)) }
 {
+    let bounds = PassBounds {
+        backlog,
+        piece: piece_for(slots),
+    };
     let mut questions = Share {
         left: MAX_ASKED,
         is_whole: true,
     };
     let mut had_turn = [false; SESSIONS];
-    let mut found = first_turn(core, slots, first, &mut had_turn, backlog, &mut questions)?;
+    let mut found = first_turn(core, slots, first, &mut had_turn, bounds, &mut questions)?;
     let mut from = if first < slots.len() { 1 } else { 0 };
     let mut moved = false;
     for reading in 0..MAX_READINGS {
@@ -116,7 +121,7 @@ pub(crate) fn gather<C: SessionCore, D: Door>(
             first,
             from,
             &mut had_turn,
-            backlog,
+            bounds,
             &mut questions,
         )?;
         found |= more;

@@ -19,6 +19,7 @@ mod limits;
 mod newcomer;
 mod next;
 mod note;
+mod pass_bounds;
 mod ready_stream;
 mod reception;
 mod serving;
@@ -28,7 +29,7 @@ mod unread;
 
 pub use departure::Departure;
 pub use door::Door;
-pub use limits::{DEFAULT_BACKLOG, MAX_ASKED, MAX_BACKLOG};
+pub use limits::{DEFAULT_BACKLOG, MAX_ASKED, MAX_BACKLOG, MAX_READ};
 pub use newcomer::Newcomer;
 pub use next::Next;
 pub use ready_stream::ReadyStream;

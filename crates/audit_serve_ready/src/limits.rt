@@ -1,5 +1,8 @@
 //! The limits of serving, in bytes.
 
+/// How many bytes are read in a pass from a client that is alone. Several have equal shares of them.
+pub const MAX_READ: usize = 1 << 16;
+
 /// The most bytes that may be kept for a client that doesn't take its replies.
 pub const MAX_BACKLOG: usize = 1 << 26;
 

@@ -22,14 +22,14 @@ use audit_serve_passes::SessionCore;
 /// Serves clients as they come and go, until the door says to stop or lets no replies leave, or the core refuses a
 /// step. The first place is that of session 0; a session whose place has no client is ended first.
 ///
-/// A pass reads one piece from each client, at most [`MAX_PIECE`](audit_serve_passes::MAX_PIECE) bytes, and feeds it to
-/// its session, up to the first request whose reply might be more than the `backlog` has room for, or than the
-/// questions of a pass may ask for ([`MAX_ASKED`](crate::MAX_ASKED)): the rest of the piece waits for a later pass. A
-/// client that doesn't take its replies waits too: what is kept for it is at most the backlog, in bytes, or one reply.
-/// The first turn goes round from pass to pass, and whoever has it has a question taken, however many others ask. So
-/// that one commit has what comes meanwhile, the door may have clients that have sent nothing asked again
-/// ([`Door::asks_again`]). Then the core flushes, and each client is sent what waits for it: what it doesn't take is
-/// kept for it. If a write fails, the client's replies are dropped, but all that it sent is read. A client whose
+/// A pass reads one piece from each client and feeds it to its session, up to the first request whose reply might be
+/// more than the `backlog` has room for, or than the questions of a pass may ask for ([`MAX_ASKED`](crate::MAX_ASKED)):
+/// the rest of the piece waits for a later pass. A piece has at most [`MAX_READ`](crate::MAX_READ) bytes, and less if
+/// clients share them. A client that doesn't take its replies waits too: what is kept for it is at most the backlog, in
+/// bytes, or one reply. The first turn goes round from pass to pass, and whoever has it has a question taken, however
+/// many others ask. So that one commit has what comes meanwhile, the door may have clients that have sent nothing asked
+/// again ([`Door::asks_again`]). Then the core flushes, and each client is sent what waits for it: what it doesn't take
+/// is kept for it. If a write fails, the client's replies are dropped, but all that it sent is read. A client whose
 /// session has ended goes when it has taken everything, and the next client gets its place and a session that begins
 /// anew.
 ///

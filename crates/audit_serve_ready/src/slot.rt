@@ -74,13 +74,14 @@ fn write_some<S: ReadyStream>(client: &mut Option<S>, bytes: &[u8]) -> Result<us
 fn read_some<S: ReadyStream>(
     client: &mut Option<S>,
     unread: &mut Unread,
+    most: usize,
 ) -> Option<Result<usize, StreamError>>
     ensures into { IsReadInto result unread.new }
     ensures did { is_no_client client.old ≡ false
         → HasCalled S.calls client.old client.new (ready_read_call result unread.new ∷ []) }
 {
     match client {
-        Some(client) => unread.read_from(client),
+        Some(client) => unread.read_from(client, most),
         None => {
             unread.clear();
             None
@@ -91,7 +92,7 @@ fn read_some<S: ReadyStream>(
 impl<S: ReadyStream + Drop> Slot<S> {
     ghost use Rattle.std.specs.Prelude.{◌≡◌, ◌≢◌, ◌+◌, ◌-◌, ◌<◌, ◌≤◌, max, nat_eq, [], length, drop, true, false, List};
     ghost use Rattle.std.specs.Prelude.{IfOk, IfSome, MatchOption};
-    ghost use Rattle.audit_serve_passes.specs.declared.limits.TheConstants.{MAX_PIECE};
+    ghost use Rattle.audit_serve_ready.specs.declared.limits.TheConstants.{MAX_READ};
     ghost use Rattle.audit_serve_passes.specs.Streams.{StreamCall};
     ghost use Rattle.audit_serve_ready.specs.declared.slot.Look.{Look};
     ghost use Rattle.audit_serve_ready.specs.Reading.{IsFound};
@@ -202,7 +203,7 @@ impl<S: ReadyStream + Drop> Slot<S> {
     /// The bytes of the client that its session hasn't taken.
     pub(crate) fn unread(&self) -> &[u8]
         ensures bytes { is_shut self.now ≡ false → result.now ≡ unread_of self.now }
-        ensures most { length result.now ≤ MAX_PIECE }
+        ensures most { length result.now ≤ MAX_READ }
     {
         self.unread.as_slice()
     }
@@ -223,8 +224,8 @@ impl<S: ReadyStream + Drop> Slot<S> {
         self.unread.clear();
     }
 
-    /// Reads a piece of the client's bytes if none are unread.
-    pub(crate) fn look(&mut self) -> Look
+    /// Reads a piece of the client's bytes, at most this many, if none are unread.
+    pub(crate) fn look(&mut self, most: usize) -> Look
         requires { is_shut self.old ≡ false }
         ensures looked { (calls : List StreamCall) × HasLooked S.calls self.old self.new calls
             × IsFound result calls self.new }
@@ -233,7 +234,7 @@ impl<S: ReadyStream + Drop> Slot<S> {
         if !self.unread.is_empty() {
             return Look::Bytes;
         }
-        match read_some(&mut self.client, &mut self.unread) {
+        match read_some(&mut self.client, &mut self.unread, most) {
             None => Look::Nothing,
             Some(Ok(count)) if count > 0 => Look::Bytes,
             Some(Ok(_)) => {

@@ -18,6 +18,7 @@ ghost use Rattle.audit_serve_ready.specs.Slot.{client_of, closed, is_shut, is_mu
 use crate::door::Door;
 use crate::gathering::{Marks, gather};
 use crate::note::Note;
+use crate::pass_bounds::PassBounds;
 use crate::ready_stream::ReadyStream;
 use crate::slot::{Look, Slot};
 use audit_serve_passes::{Allowance, SessionCore, Share};
@@ -75,31 +76,31 @@ fn read_turn<C: SessionCore, S: ReadyStream + Drop>(
     core: &mut C,
     session: usize,
     slot: &mut Slot<S>,
-    backlog: usize,
+    bounds: PassBounds,
     questions: &mut Share,
 ) -> Result<Turn, C::Error>
     requires { session < SESSIONS }
     ensures stopped { OnErr result (StopsAtPlace S.calls (C.model.DidStepsInPart core.old core.new) session
         slot.old slot.new) }
     ensures refused { IfErr result (C.refuses core.old core.new) }
-    ensures done { IfOk result (λ turn. HasTurn C.model S.calls backlog questions.old.left questions.new.left
+    ensures done { IfOk result (λ turn. HasTurn C.model S.calls bounds.backlog questions.old.left questions.new.left
         (has_moved turn) session (is_had turn) core.old core.new slot.old slot.new) }
-    ensures within { OnOk result (IsTurnWithin C.model backlog session core.old core.new slot.old slot.new) }
+    ensures within { OnOk result (IsTurnWithin C.model bounds.backlog session core.old core.new slot.old slot.new) }
     ensures idle { IfOk result (λ turn. is_had turn ≡ false → (core.new ≡ core.old) × (unread_of slot.old ≡ [])) }
-    ensures asked { questions.old.is_whole ≡ true → MayAsk C.model backlog session core.old slot.old
-        → OnOk result (HasTakenRequest C.model backlog session core.old slot.old slot.new) }
+    ensures asked { questions.old.is_whole ≡ true → MayAsk C.model bounds.backlog session core.old slot.old
+        → OnOk result (HasTakenRequest C.model bounds.backlog session core.old slot.old slot.new) }
 {
     if slot.is_shut() {
         core.end(session)?;
         return Ok(Turn::Moved);
     }
-    match slot.look() {
+    match slot.look(bounds.piece) {
         Look::Nothing => Ok(Turn::Idle),
         Look::Over => {
             core.end(session)?;
             Ok(Turn::Moved)
         }
-        Look::Bytes => feed_turn(core, session, slot, backlog, questions),
+        Look::Bytes => feed_turn(core, session, slot, bounds.backlog, questions),
     }
 }
 
@@ -169,7 +170,7 @@ pub(crate) fn turn_of<C: SessionCore, S: ReadyStream + Drop>(
     slots: &mut [Slot<S>],
     session: usize,
     had_turn: &mut Marks,
-    backlog: usize,
+    bounds: PassBounds,
     questions: &mut Share,
 ) -> Result<bool, C::Error>
     requires count { length slots.old ≤ SESSIONS }
@@ -177,23 +178,23 @@ pub(crate) fn turn_of<C: SessionCore, S: ReadyStream + Drop>(
     ensures stopped { OnErr result (StopsAtPlaces S.calls (C.model.DidStepsInPart core.old core.new)
         slots.old slots.new) }
     ensures refused { IfErr result (C.refuses core.old core.new) }
-    ensures done { IfOk result (λ moved. TakesTurns C.model S.calls backlog questions.old.left questions.new.left
+    ensures done { IfOk result (λ moved. TakesTurns C.model S.calls bounds.backlog questions.old.left questions.new.left
         moved (λ k. k ≡ session) had_turn.old had_turn.new core.old core.new slots.old slots.new) }
     ensures within { OwesOnlyAfterTurns C.model (length slots.old) had_turn.old core.old
-        → AreWithinBacklog C.model backlog core.old slots.old
+        → AreWithinBacklog C.model bounds.backlog core.old slots.old
         → OnOk result (OwesOnlyAfterTurns C.model (length slots.old) had_turn.new core.new
-        × AreWithinBacklog C.model backlog core.new slots.new) }
+        × AreWithinBacklog C.model bounds.backlog core.new slots.new) }
     ensures kept { OnOk result (KeepsTurns had_turn.old had_turn.new slots.old slots.new) }
     ensures asked { questions.old.is_whole ≡ true → slice_index_or had_turn.old session true ≡ false
-        → MayAsk C.model backlog session core.old (slot_at session slots.old)
-        → OnOk result (HasTakenRequest C.model backlog session core.old
+        → MayAsk C.model bounds.backlog session core.old (slot_at session slots.old)
+        → OnOk result (HasTakenRequest C.model bounds.backlog session core.old
         (slot_at session slots.old) (slot_at session slots.new)
         × (slice_index_or had_turn.new session true ≡ true)) }
 {
     if !is_due(core, session, had_turn) {
         return Ok(false);
     }
-    let turn = read_turn(core, session, &mut slots[session], backlog, questions)?;
+    let turn = read_turn(core, session, &mut slots[session], bounds, questions)?;
     had_turn[session] = turn.is_had();
     Ok(turn.has_moved())
 }
@@ -206,27 +207,27 @@ pub(crate) fn read_turns<C: SessionCore, S: ReadyStream + Drop>(
     first: usize,
     from: usize,
     had_turn: &mut Marks,
-    backlog: usize,
+    bounds: PassBounds,
     questions: &mut Share,
 ) -> Result<bool, C::Error>
     requires { length slots.old ≤ SESSIONS }
     ensures stopped { OnErr result (StopsAtPlaces S.calls (C.model.DidStepsInPart core.old core.new)
         slots.old slots.new) }
     ensures refused { IfErr result (C.refuses core.old core.new) }
-    ensures done { IfOk result (λ moved. TakesTurns C.model S.calls backlog questions.old.left questions.new.left moved
+    ensures done { IfOk result (λ moved. TakesTurns C.model S.calls bounds.backlog questions.old.left questions.new.left moved
         (λ k. from ≤ turn_number first (length slots.old) k) had_turn.old had_turn.new core.old core.new
         slots.old slots.new) }
     ensures within { OwesOnlyAfterTurns C.model (length slots.old) had_turn.old core.old
-        → AreWithinBacklog C.model backlog core.old slots.old
+        → AreWithinBacklog C.model bounds.backlog core.old slots.old
         → OnOk result (OwesOnlyAfterTurns C.model (length slots.old) had_turn.new core.new
-        × AreWithinBacklog C.model backlog core.new slots.new) }
+        × AreWithinBacklog C.model bounds.backlog core.new slots.new) }
     ensures kept { OnOk result (KeepsTurns had_turn.old had_turn.new slots.old slots.new) }
 {
     let count = slots.len();
     let mut found = false;
     for number in from..count {
         let session = session_of_turn(first, number, count);
-        let taken = turn_of(core, slots, session, had_turn, backlog, questions)?;
+        let taken = turn_of(core, slots, session, had_turn, bounds, questions)?;
         found |= taken;
     }
     Ok(found)

@@ -1,5 +1,5 @@
 use Rattle.std.proofs.Common.{◌≡◌, ◌+◌, ◌<◌, ◌≤◌, ℕ, List, ◌∷◌, [], length, take, drop, sym, ap, subst, ◌∙◌, arith, true≢false}
-use Rattle.audit_serve_passes.specs.declared.limits.TheConstants.{MAX_PIECE}
+use Rattle.audit_serve_ready.specs.declared.limits.TheConstants.{MAX_READ}
 use Rattle.audit_serve_passes.specs.Steps.{a_piece}
 use Rattle.audit_serve_passes.specs.Core.{GoesBy, asked_by, no_bytes}
 use Rattle.audit_serve_ready.specs.Slot.{unread_of}
@@ -30,7 +30,7 @@ returns-after-taken-gt0-clause-done g c =
     let bytes : c.unread.result.now ≡ unread_of slot = c.unread.ensures.bytes c.requires.live in
     let moved = has_moved c.if-taken-gt0.result in
     subst (λ after. IsFedPiece M N c.args.backlog c.args.questions.now.left c.feed_within.new.allowance.questions.left moved k old new slot after) (sym c.advance.ensures)
-    (is_fed M N c.args.backlog moved k taken old new slot c.requires.live (subst (λ (all : List ℕ). length all ≤ MAX_PIECE) bytes c.unread.ensures.most)
+    (is_fed M N c.args.backlog moved k taken old new slot c.requires.live (subst (λ (all : List ℕ). length all ≤ MAX_READ) bytes c.unread.ensures.most)
     (subst (λ (all : List ℕ). M.DidSteps old new (a_piece k (take taken all) ∷ []) no_bytes) bytes c.in-Ok.ensures.did)
     (λ still. elim c.if-taken-gt0.branch [
       | then-taken-gt0 w ↦ absurd (true≢false (sym (ap has_moved w.result-is) ∙ still))
@@ -60,7 +60,7 @@ returns-in-Err-clause-stopped g c =
     let k = c.args.session in
     let bytes : c.unread.result.now ≡ unread_of slot = c.unread.ensures.bytes c.requires.live in
     subst (λ after. StopsAtPlace N (M.DidStepsInPart old new) k slot after) (sym c.drop_unread.ensures)
-    (fed_stopped M N k old new slot c.requires.live (subst (λ (all : List ℕ). length all ≤ MAX_PIECE) bytes c.unread.ensures.most)
+    (fed_stopped M N k old new slot c.requires.live (subst (λ (all : List ℕ). length all ≤ MAX_READ) bytes c.unread.ensures.most)
     (subst (λ (all : List ℕ). GoesBy M (a_piece k all) old new) bytes c.in-Err.ensures.reaches))
 
 pub returns-after-taken-gt0-clause-within : goal.returns-after-taken-gt0-clause-within

@@ -18,12 +18,12 @@ returns-in_err-end-clause-stopped g c =
 pub returns-then-is_shut-clause-done : goal.returns-then-is_shut-clause-done
 returns-then-is_shut-clause-done g c =
     let shut : is_shut c.args.slot.now ≡ true = search rules in
-    shut_turn g.C.SessionCore.model g.S.ReadyStream.calls c.args.backlog c.args.session c.args.core.now c.end.new.self c.args.slot.now shut c.in_ok-end.ensures.did c.in_ok-end.ensures.over
+    shut_turn g.C.SessionCore.model g.S.ReadyStream.calls c.args.bounds.backlog c.args.session c.args.core.now c.end.new.self c.args.slot.now shut c.in_ok-end.ensures.did c.in_ok-end.ensures.over
 
 pub returns-in-Nothing-clause-done : goal.returns-in-Nothing-clause-done
 returns-in-Nothing-clause-done g c =
     let found = subst (λ found. IsFound found c.look.ensures.looked.0 c.look.new.self) c.in-Nothing.is c.look.ensures.looked.2 in
-    vain_turn g.C.SessionCore.model g.S.ReadyStream.calls c.args.backlog c.args.session c.args.core.now c.args.slot.now c.look.new.self c.look.ensures.looked.0 c.look.ensures.looked.1 found.0 found.1
+    vain_turn g.C.SessionCore.model g.S.ReadyStream.calls c.args.bounds.backlog c.args.session c.args.core.now c.args.slot.now c.look.new.self c.look.ensures.looked.0 c.look.ensures.looked.1 found.0 found.1
 
 pub returns-in_err-end-in-Over-clause-stopped : goal.returns-in_err-end-in-Over-clause-stopped
 returns-in_err-end-in-Over-clause-stopped g c =
@@ -34,7 +34,7 @@ returns-in_err-end-in-Over-clause-stopped g c =
 pub returns-in_ok-end-in-Over-clause-done : goal.returns-in_ok-end-in-Over-clause-done
 returns-in_ok-end-in-Over-clause-done g c =
     let found = subst (λ found. IsFound found c.look.ensures.looked.0 c.look.new.self) c.in-Over.is c.look.ensures.looked.2 in
-    over_turn g.C.SessionCore.model g.S.ReadyStream.calls c.args.backlog c.args.session c.args.core.now c.end-in-Over.new.self c.args.slot.now c.look.new.self c.look.ensures.looked.0 c.look.ensures.looked.1 found.0 found.1 c.in_ok-end-in-Over.ensures.did c.in_ok-end-in-Over.ensures.over
+    over_turn g.C.SessionCore.model g.S.ReadyStream.calls c.args.bounds.backlog c.args.session c.args.core.now c.end-in-Over.new.self c.args.slot.now c.look.new.self c.look.ensures.looked.0 c.look.ensures.looked.1 found.0 found.1 c.in_ok-end-in-Over.ensures.did c.in_ok-end-in-Over.ensures.over
 
 pub feed_turn-requires-clause-live : goal.feed_turn-requires-clause-live
 feed_turn-requires-clause-live g c =
@@ -52,24 +52,24 @@ returns-in-Bytes-clause-done g c =
     let N = g.S.ReadyStream.calls in
     let going = subst (λ found. IsFound found c.look.ensures.looked.0 c.look.new.self) c.in-Bytes.is c.look.ensures.looked.2 in
     if_ok_all c.feed_turn.result c.feed_turn.ensures.taken c.feed_turn.ensures.done
-    (λ turn had fed. fed_turn M N c.args.backlog (has_moved turn) c.args.session (is_had turn) c.args.core.now c.feed_turn.new.core c.args.slot.now c.look.new.self c.feed_turn.new.slot c.look.ensures.looked.0 had c.look.ensures.looked.1 going fed)
+    (λ turn had fed. fed_turn M N c.args.bounds.backlog (has_moved turn) c.args.session (is_had turn) c.args.core.now c.feed_turn.new.core c.args.slot.now c.look.new.self c.feed_turn.new.slot c.look.ensures.looked.0 had c.look.ensures.looked.1 going fed)
 
 pub returns-then-is_shut-clause-within : goal.returns-then-is_shut-clause-within
 returns-then-is_shut-clause-within g c =
-    turn_ended g.C.SessionCore.model c.args.backlog c.args.session c.args.core.now c.end.new.self c.args.slot.now c.args.slot.now (an_end c.args.session ∷ []) no_bytes (omega arith) c.in_ok-end.ensures.did c.in_ok-end.ensures.over c.in_ok-end.ensures.owes
+    turn_ended g.C.SessionCore.model c.args.bounds.backlog c.args.session c.args.core.now c.end.new.self c.args.slot.now c.args.slot.now (an_end c.args.session ∷ []) no_bytes (omega arith) c.in_ok-end.ensures.did c.in_ok-end.ensures.over c.in_ok-end.ensures.owes
 
 pub returns-in-Nothing-clause-within : goal.returns-in-Nothing-clause-within
 returns-in-Nothing-clause-within g c =
-    turn_idle g.C.SessionCore.model c.args.backlog c.args.session c.args.core.now c.args.slot.now c.look.new.self (looked_length g.S.ReadyStream.calls c.look.ensures.looked.0 c.args.slot.now c.look.new.self c.look.ensures.looked.1)
+    turn_idle g.C.SessionCore.model c.args.bounds.backlog c.args.session c.args.core.now c.args.slot.now c.look.new.self (looked_length g.S.ReadyStream.calls c.look.ensures.looked.0 c.args.slot.now c.look.new.self c.look.ensures.looked.1)
 
 pub returns-in_ok-end-in-Over-clause-within : goal.returns-in_ok-end-in-Over-clause-within
 returns-in_ok-end-in-Over-clause-within g c =
-    turn_ended g.C.SessionCore.model c.args.backlog c.args.session c.args.core.now c.end-in-Over.new.self c.args.slot.now c.look.new.self (an_end c.args.session ∷ []) no_bytes (looked_length g.S.ReadyStream.calls c.look.ensures.looked.0 c.args.slot.now c.look.new.self c.look.ensures.looked.1)
+    turn_ended g.C.SessionCore.model c.args.bounds.backlog c.args.session c.args.core.now c.end-in-Over.new.self c.args.slot.now c.look.new.self (an_end c.args.session ∷ []) no_bytes (looked_length g.S.ReadyStream.calls c.look.ensures.looked.0 c.args.slot.now c.look.new.self c.look.ensures.looked.1)
     c.in_ok-end-in-Over.ensures.did c.in_ok-end-in-Over.ensures.over c.in_ok-end-in-Over.ensures.owes
 
 pub returns-in-Bytes-clause-within : goal.returns-in-Bytes-clause-within
 returns-in-Bytes-clause-within g c =
-    on_ok c.feed_turn.result (turn_then g.C.SessionCore.model c.args.backlog c.args.session c.args.core.now c.feed_turn.new.core c.args.slot.now c.look.new.self c.feed_turn.new.slot (looked_length g.S.ReadyStream.calls c.look.ensures.looked.0 c.args.slot.now c.look.new.self c.look.ensures.looked.1)) c.feed_turn.ensures.within
+    on_ok c.feed_turn.result (turn_then g.C.SessionCore.model c.args.bounds.backlog c.args.session c.args.core.now c.feed_turn.new.core c.args.slot.now c.look.new.self c.feed_turn.new.slot (looked_length g.S.ReadyStream.calls c.look.ensures.looked.0 c.args.slot.now c.look.new.self c.look.ensures.looked.1)) c.feed_turn.ensures.within
 
 pub returns-then-is_shut-clause-asked : goal.returns-then-is_shut-clause-asked
 returns-then-is_shut-clause-asked g c =
@@ -88,5 +88,5 @@ pub returns-in-Bytes-clause-asked : goal.returns-in-Bytes-clause-asked
 returns-in-Bytes-clause-asked g c =
     let M = g.C.SessionCore.model in λ whole may.
     let same = (c.look.ensures.waits may.unread).1 in
-    subst (λ slot. OnOk c.feed_turn.result (HasTakenRequest M c.args.backlog c.args.session c.args.core.now slot c.feed_turn.new.slot)) same
-    (c.feed_turn.ensures.asked whole (subst (MayAsk M c.args.backlog c.args.session c.args.core.now) (sym same) may))
+    subst (λ slot. OnOk c.feed_turn.result (HasTakenRequest M c.args.bounds.backlog c.args.session c.args.core.now slot c.feed_turn.new.slot)) same
+    (c.feed_turn.ensures.asked whole (subst (MayAsk M c.args.bounds.backlog c.args.session c.args.core.now) (sym same) may))

@@ -10,7 +10,7 @@ use Rattle.audit_serve_ready.proofs.turns.read_turns.Goals as goal
 
 pub loop-number-init : goal.loop-number-init
 loop-number-init g c = (
-  turns_none g.C.SessionCore.model g.S.ReadyStream.calls c.args.backlog c.args.had_turn.now c.args.core.now c.args.slots.now (λ k within unmarked live meant. omega (arith, meant.0, meant.1)),
+  turns_none g.C.SessionCore.model g.S.ReadyStream.calls c.args.bounds.backlog c.args.had_turn.now c.args.core.now c.args.slots.now (λ k within unmarked live meant. omega (arith, meant.0, meant.1)),
   (λ unowed inside. (unowed, inside)),
   (λ k had. (had, refl)),
 )
@@ -21,7 +21,7 @@ returns-in_err-taken-clause-stopped g c =
     let N = g.S.ReadyStream.calls in
     let l = c.loop-number in
     if_err c.from_residual.result (stops_more M N c.args.core.now l.core c.turn_of.new.core c.args.slots.now l.slots c.turn_of.new.slots
-    (turns_serve M N c.args.backlog c.args.had_turn.now l.had_turn c.args.core.now l.core c.args.slots.now l.slots l.invariant.0) c.in_err-taken.ensures.stopped)
+    (turns_serve M N c.args.bounds.backlog c.args.had_turn.now l.had_turn c.args.core.now l.core c.args.slots.now l.slots l.invariant.0) c.in_err-taken.ensures.stopped)
 
 pub returns-in_err-taken-clause-refused : goal.returns-in_err-taken-clause-refused
 returns-in_err-taken-clause-refused g c =
@@ -39,11 +39,11 @@ loop-number-preserved g c =
     let all = length c.args.slots.now in
     let session = c.session_of_turn-session.result in
     let below : session < all = c.session_of_turn-session.ensures.there in (
-      turns_then M N c.args.backlog l.found c.in_ok-taken.taken c.args.had_turn.now l.had_turn c.turn_of.new.had_turn c.args.core.now l.core c.turn_of.new.core c.args.slots.now l.slots c.turn_of.new.slots l.invariant.0 c.in_ok-taken.ensures.done
+      turns_then M N c.args.bounds.backlog l.found c.in_ok-taken.taken c.args.had_turn.now l.had_turn c.turn_of.new.had_turn c.args.core.now l.core c.turn_of.new.core c.args.slots.now l.slots c.turn_of.new.slots l.invariant.0 c.in_ok-taken.ensures.done
           (λ k within meant. either_turn c.args.first all c.args.from l.number session k below within c.session_of_turn-session.ensures.number meant),
       (λ unowed inside.
           let were = l.invariant.1 unowed inside in
-          as_many M c.args.backlog here all c.turn_of.new.had_turn c.turn_of.new.core c.turn_of.new.slots l.invariant.0.pass.count
+          as_many M c.args.bounds.backlog here all c.turn_of.new.had_turn c.turn_of.new.core c.turn_of.new.slots l.invariant.0.pass.count
           (c.in_ok-taken.ensures.within (owes_as_many M here all l.had_turn l.core l.invariant.0.pass.count were.0) were.1)),
       keeps_then c.args.had_turn.now l.had_turn c.turn_of.new.had_turn c.args.slots.now l.slots c.turn_of.new.slots l.invariant.2 c.in_ok-taken.ensures.kept,
     )
@@ -51,5 +51,5 @@ loop-number-preserved g c =
 pub returns-clause-done : goal.returns-clause-done
 returns-clause-done g c =
     let l = c.loop-number in
-    turns_mean g.C.SessionCore.model g.S.ReadyStream.calls c.args.backlog l.found c.args.had_turn.now l.had_turn c.args.core.now l.core c.args.slots.now l.slots
+    turns_mean g.C.SessionCore.model g.S.ReadyStream.calls c.args.bounds.backlog l.found c.args.had_turn.now l.had_turn c.args.core.now l.core c.args.slots.now l.slots
     (λ k within least. (least, omega (arith, number_below c.args.first (length c.args.slots.now) k within, c.loop-number-test.false))) l.invariant.0
