@@ -1,11 +1,12 @@
 -- The sockets of a daemon: at which paths they listen, and the rights of those who come by them.
 use denote.Ref.{Bor}
 use Rattle.std.specs.Prelude.{ℕ, ℤ, Option, Some, None, List, [], ◌∷◌, ◌++◌, map}
-use Rattle.std.specs.List.{AllZip}
+use Rattle.std.specs.List.{AllByRecursion, AllZip}
 use Rattle.audit_serve_passes.specs.declared.rights.Rights.{Rights}
-use Rattle.audit_serve_sockets.specs.Bound.{SocketFacts, ListensAt}
+use Rattle.audit_serve_sockets.specs.Bound.{SocketFacts, ListensAt, IsNameGone, IsLockGone}
 use Rattle.audit_cli_daemon.specs.Rights.{rights_at}
 use Rattle.audit_cli_daemon.specs.Sources.{SourceData, words_of, sources_in}
+use Rattle.audit_cli_daemon.specs.declared.sockets.MadeSocket.{MadeSocket}
 use Rattle.audit_cli_daemon.specs.declared.sockets.Sockets.{Sockets}
 
 -- the rights that clients have who come by them; those of the last one are these
@@ -25,6 +26,15 @@ paths_at readers sources others = path_of_readers readers ++ (map path_of_source
 
 abbrev pub paths_served : Sockets → List (List ℕ)
 paths_served sockets = paths_at sockets.readers (sources_in (words_of sockets.sources.now)) sockets.clients.now
+
+-- what was made of a socket isn't there any more: its file, and its lock unless that shows a socket that is abandoned
+pub record IsRemoved {F : Type 0} (facts : SocketFacts) (made : MadeSocket F) : Type 0 where
+  pub file : IsNameGone facts made.path.now made.name
+  pub lock : IsLockGone facts made.lock
+
+-- nor is anything that was made of these
+abbrev pub AreRemoved : {F : Type 0} → SocketFacts → List (MadeSocket F) → Type 0
+AreRemoved facts made = AllByRecursion (IsRemoved facts) made
 
 -- at each of these paths a socket listens, whose file has these permission bits; these are their descriptors, in order
 abbrev pub ListenAt : SocketFacts → ℕ → List (List ℕ) → List ℤ → Type 0

@@ -1,8 +1,9 @@
-ghost use Rattle.std.specs.Prelude.{◌≡◌, ◌++◌, [], ◌∷◌, ℕ, List, map, IfOk, OnOk, OnErr};
+ghost use Rattle.std.specs.Prelude.{◌≡◌, ◌++◌, [], ◌∷◌, ℕ, List, map, IfOk, IfSome, OnOk, OnErr, string_bytes};
 ghost use Rattle.audit_serve_door.specs.Entrances.{rights_of, mode_of, descriptor_of};
-ghost use Rattle.audit_serve_sockets.specs.Bound.{ListensAt};
+ghost use Rattle.audit_serve_sockets.specs.Bound.{ListensAt, IsNameGone};
 ghost use Rattle.audit_cli_daemon.specs.Rights.{modes_at, source_rights};
-ghost use Rattle.audit_cli_daemon.specs.Sockets.{rights_served, paths_served, path_of_source, ListenAt};
+ghost use Rattle.audit_cli_daemon.specs.Sockets.{rights_served, paths_served, path_of_source, ListenAt, IsRemoved};
+ghost use Rattle.audit_cli_daemon.specs.Sockets.{AreRemoved};
 ghost use Rattle.audit_cli_daemon.specs.Sources.{words_of, sources_in};
 
 use crate::sources::source_in;
@@ -74,6 +75,7 @@ impl<'a, F: SystemFile> MadeSocket<'a, F> {
     // Removes the file, and then its lock, as far as they are still this program's. The first error is returned, after
     // both were tried.
     fn remove<R: SystemSockets<File = F>>(self, rt: &R) -> io::Result<()>
+        ensures gone { OnOk result (IsRemoved (R.sockets rt.now) self.entry) }
         ensures failed { OnErr result (R.call_failed rt.now) }
     {
         let removed = self.name.remove(rt, self.path);
@@ -193,17 +195,31 @@ impl<'a> Sockets<'a> {
     pub fn remove<R: SystemSockets>(&self, rt: &R, made: Made<'a, R::File>) -> io::Result<()>
     where
         R::File: SystemFile,
+        ensures gone { OnOk result (AreRemoved (R.sockets rt.now) made.entry.sockets.items) }
+        ensures stop { OnOk result (IfSome made.entry.stop (IsNameGone (R.sockets rt.now) (string_bytes self.now.stop))) }
         ensures failed { OnErr result (R.call_failed rt.now) }
     {
-        let mut removed = match made.stop {
+        let Made { sockets, stop } = made;
+        let removed = match stop {
             Some(name) => name.remove(rt, self.stop.as_str()),
             None => Ok(()),
         };
-        for socket in made.sockets {
-            removed = removed.and(socket.remove(rt));
-        }
-        removed
+        removed.and(remove_all(rt, sockets))
     }
+}
+
+// Removes all of these. The first error is returned, after all were tried.
+fn remove_all<R: SystemSockets>(rt: &R, sockets: Vec<MadeSocket<'_, R::File>>) -> io::Result<()>
+where
+    R::File: SystemFile,
+    ensures gone { OnOk result (AreRemoved (R.sockets rt.now) sockets.entry.items) }
+    ensures failed { OnErr result (R.call_failed rt.now) }
+{
+    let mut removed = Ok(());
+    for socket in sockets {
+        removed = removed.and(socket.remove(rt));
+    }
+    removed
 }
 
 // Makes the file of a socket, whose clients have these rights, and listens. What was made is noted.

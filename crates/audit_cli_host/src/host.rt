@@ -220,6 +220,10 @@ where
         self.rt.judge_identity(found, identity)
     }
 
+    fn has_identity(&self, path: &str, identity: FileIdentity) -> bool {
+        self.rt.has_identity(path, identity)
+    }
+
     fn remove_at(&self, path: &str) -> io::Result<()> {
         self.noted(path, self.rt.remove_at(path))
     }

@@ -27,8 +27,8 @@ pub struct SocketName {
 }
 
 impl SocketName {
-    ghost use Rattle.std.specs.Prelude.{◌≡◌, OnErr};
-    ghost use Rattle.audit_serve_sockets.specs.Bound.{mode_of_name};
+    ghost use Rattle.std.specs.Prelude.{◌≡◌, OnOk, OnErr};
+    ghost use Rattle.audit_serve_sockets.specs.Bound.{IsNameGone, mode_of_name};
 
     /// The permission bits that the socket's file was given.
     pub fn mode(&self) -> u32
@@ -39,6 +39,7 @@ impl SocketName {
 
     /// Removes the socket's file, if its path still names it. Another file there is kept.
     pub fn remove<R: SystemSockets>(self, rt: &R, path: &str) -> io::Result<()>
+        ensures gone { OnOk result (IsNameGone (R.sockets rt.now) path.now self) }
         ensures failed { OnErr result (R.call_failed rt.now) }
     {
         remove_own(rt, path, self.identity)
@@ -46,10 +47,10 @@ impl SocketName {
 }
 
 impl SocketFile {
-    ghost use Rattle.std.specs.Prelude.{◌≡◌, IfOk, OnErr};
+    ghost use Rattle.std.specs.Prelude.{◌≡◌, IfOk, OnOk, OnErr};
     ghost use Rattle.std.specs.Net.Unix.{unix_listener_raw_fd};
     ghost use Rattle.audit_serve_sockets.specs.Bound.{CallFailed, IsBound, descriptor_of_socket, mode_of_name};
-    ghost use Rattle.audit_serve_sockets.specs.Bound.{mode_of_socket};
+    ghost use Rattle.audit_serve_sockets.specs.Bound.{IsLockGone, IsNameGone, mode_of_socket};
 
     /// Makes the socket's file, and takes the lock beside it (`SOCKET.lock`) until its end. Only its owner has access
     /// when it is created; then `mode` is set if it differs. A socket of this user beside a lock that nobody holds is
@@ -129,6 +130,8 @@ impl SocketFile {
     ) -> io::Result<()>
     where
         R::File: SystemFile,
+        ensures gone { OnOk result (IsNameGone (R.sockets rt.now) path.now self.name) }
+        ensures unlocked { OnOk result (IsLockGone (R.sockets rt.now) lock) }
         ensures failed { OnErr result (R.call_failed rt.now) }
     {
         let removed = self.name.remove(rt, path);

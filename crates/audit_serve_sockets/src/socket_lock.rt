@@ -1,5 +1,5 @@
-ghost use Rattle.std.specs.Prelude.{◌≡◌, ◌⊎◌, Ok, OnErr};
-ghost use Rattle.audit_serve_sockets.specs.Bound.{CallFailed};
+ghost use Rattle.std.specs.Prelude.{◌≡◌, ◌⊎◌, Ok, OnOk, OnErr};
+ghost use Rattle.audit_serve_sockets.specs.Bound.{CallFailed, IsGone};
 
 use crate::system_sockets::SystemSockets;
 use audit_disk::{FileIdentity, SystemFile};
@@ -41,8 +41,8 @@ struct Opened<F> {
 }
 
 impl<F: SystemFile> SocketLock<F> {
-    ghost use Rattle.std.specs.Prelude.{◌≡◌, ◌⊎◌, Ok, OnErr};
-    ghost use Rattle.audit_serve_sockets.specs.Bound.{CallFailed};
+    ghost use Rattle.std.specs.Prelude.{◌≡◌, ◌⊎◌, Ok, OnOk, OnErr};
+    ghost use Rattle.audit_serve_sockets.specs.Bound.{CallFailed, IsLockGone};
 
     /// Takes the lock of the socket at this path, without waiting. Its file is made if there is none. A file that isn't
     /// this user's own is an error.
@@ -100,6 +100,7 @@ impl<F: SystemFile> SocketLock<F> {
 
     /// Removes the lock's file, unless it shows that the socket beside it is abandoned, and unlocks it.
     pub fn remove<R: SystemSockets>(self, rt: &R) -> io::Result<()>
+        ensures gone { OnOk result (IsLockGone (R.sockets rt.now) self) }
         ensures failed { OnErr result (R.call_failed rt.now) }
     {
         if self.guards_one {
@@ -144,23 +145,16 @@ fn is_at<R: SystemSockets>(rt: &R, path: &str, identity: FileIdentity) -> io::Re
     rt.judge_identity(&rt.see(path)?, identity)
 }
 
-// Whether a path names the file with this identity.
-fn names<R: SystemSockets>(rt: &R, path: &str, identity: FileIdentity) -> bool {
-    match rt.see(path) {
-        Ok(found) => FileIdentity::of(&found) == identity,
-        Err(_) => false,
-    }
-}
-
 /// Removes a file if its path still names it. Another file there is kept.
 pub(crate) fn remove_own<R: SystemSockets>(
     rt: &R,
     path: &str,
     identity: FileIdentity,
 ) -> io::Result<()>
+    ensures gone { OnOk result (IsGone (R.sockets rt.now) path.now identity) }
     ensures failed { OnErr result (R.call_failed rt.now) }
 {
-    if names(rt, path, identity) {
+    if rt.has_identity(path, identity) {
         rt.remove_at(path)
     } else {
         Ok(())

@@ -68,9 +68,14 @@ pub trait SystemSockets: Files + Net {
     fn judge_identity(&self, found: &Metadata, identity: FileIdentity) -> io::Result<()>
         ensures { OnErr result (call_failed self.now) };
 
+    /// Whether the file at a path has this identity. One that can't be looked at hasn't.
+    fn has_identity(&self, path: &str, identity: FileIdentity) -> bool
+        ensures { result ≡ false → (sockets self.now).lacks path.now identity };
+
     /// Removes the file at a path.
     fn remove_at(&self, path: &str) -> io::Result<()>
-        ensures { OnErr result (call_failed self.now) };
+        ensures removes { OnOk result ((sockets self.now).removes path.now) }
+        ensures failed { OnErr result (call_failed self.now) };
 
     /// Waits for the next connection at a listening socket, and accepts it.
     fn accept_at(&self, listener: &UnixListener) -> io::Result<UnixStream>
@@ -136,6 +141,13 @@ impl SystemSockets for HostRuntime {
 
     fn judge_identity(&self, found: &Metadata, identity: FileIdentity) -> io::Result<()> {
         in_use_unless(FileIdentity::of(found) == identity)
+    }
+
+    fn has_identity(&self, path: &str, identity: FileIdentity) -> bool {
+        match self.see(path) {
+            Ok(found) => FileIdentity::of(&found) == identity,
+            Err(_) => false,
+        }
     }
 
     fn remove_at(&self, path: &str) -> io::Result<()> {
