@@ -1,5 +1,5 @@
 """Compares auditor/check_proof.py and read_export.py with the program, on what a tour left and on damaged copies of it;
-and tries what auditor/disclosure.py discloses of it.
+and tries what auditor/disclosure.py discloses of it, and what auditor/bundle.py packs.
 
 usage: bin/check auditor EXECUTABLE FOLDER
 
@@ -18,6 +18,7 @@ import disclosure
 import history
 import read_export
 
+from checks.bundled import sealed_line, try_bundles
 from checks.parts import program
 from checks.parts.files import read, read_text, write
 from checks.parts.logs import entries_of, keys_from, unsealed_entry, word_of
@@ -206,13 +207,7 @@ def answered(*words):
     return status, output.getvalue(), messages.getvalue()
 
 
-def sealed_line(line):
-    """What is shown of an event that isn't disclosed, by its line of `audit verify`."""
-    _, index, kind, digits = line.split()
-    return "sealed %s %s %d" % (index, kind, len(digits) // 2 if digits != "-" else 0)
-
-
-def try_disclosures(comparison, entries, newer):
+def try_disclosures(comparison, entries, older, newer):
     """Chosen events read as the program verified them, and of the others kind and length are shown."""
     def expect(what, found, wanted):
         comparison.asked += 1
@@ -238,6 +233,10 @@ def try_disclosures(comparison, entries, newer):
         expect("another file", answered("--make", "events.export", "first.key", newer, "chosen", option, word),
                (1, "", "disclosure: file exists\n"))
         os.remove("chosen")
+    done_by_disclosure = answered("--make", "events.export", "first.key", newer, "chosen", "--events", "3,10-12")
+    expect("a disclosure for bundles", done_by_disclosure[0], 0)
+    try_bundles(expect, entries, newer, older)
+    os.remove("chosen")
     try_damaged_disclosures(expect, entries, newer)
 
 
@@ -302,7 +301,7 @@ def compare_all(comparison):
     compare_exports(comparison, entries, newer)
     compare_closed_exports(comparison, entries)
     compare_words(comparison, newer)
-    try_disclosures(comparison, entries, newer)
+    try_disclosures(comparison, entries, older, newer)
 
 
 def compare_folder(folder):

@@ -15,7 +15,7 @@ TOOLS = """witness-git fleet metrics journal-feed file-feed failover fence-ceph 
 format-sealed anchor anchor-check mark event-times rotate-log begin-after audit-log""".split()
 FILES = """rsyslog.conf rsyslog-read.conf rsyslog-collect.conf rsyslog-forward.conf stunnel-logger.conf
 stunnel-host.conf device.conf failover.conf rbd.device rbd-exclusive.py feed.py anchors.py links.py shown.sh metrics.rules.yml""".split()
-PROGRAMS = "check_proof.py disclosure.py history.py read_export.py state.py".split()
+PROGRAMS = "bundle.py bundle_check.py check_proof.py disclosure.py history.py read_export.py state.py".split()
 
 
 def run(name, *words, destdir=None, **how):
