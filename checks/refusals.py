@@ -61,6 +61,8 @@ PLACES = {
     "other root": ["bin/check client"],
     "state in use": ["bin/check client"],
     "witness file in use": ["bin/check client"],
+    "not linked: old half": ["bin/check rotating"],
+    "not linked: new half": ["bin/check rotating"],
     "bad reply": ["bin/check client"],
     "connection ended": ["bin/check client"],
     "no reply in time": ["bin/check client"],

@@ -1,4 +1,4 @@
-"""Rotates a log that is a folder by tools/rotate-log, lists it by audit-log, and lets a witness follow by begin-after.
+"""Rotates a log that is a folder by tools/rotate-log, lists it by audit-log, and lets a witness follow by its links.
 Runs are killed at any moment; links and servers are forged.
 
 usage: bin/check rotating EXECUTABLE [--long] [SCENE ..]
@@ -210,12 +210,11 @@ def scene_refused():
         expect(run_tool("audit-log", *words)[:2], (2, b""), "wrong words of audit-log")
 
 
-def followed(*words):
-    """What begin-after answers: its status, and what it printed."""
-    status, output, messages = run_tool("begin-after", *words)
-    expect_true(status == 0 or (output == b"" and messages.startswith(b"begin-after: ")),
-                "begin-after %s: %r" % (" ".join(words), (status, output, messages)))
-    return status, output.decode()
+def followed(state, link, socket, following):
+    """How a witness answers that goes on from STATE by a link: its status, and its line."""
+    status, output, messages = program.whole("watch", socket, following, "--after", state, link)
+    expect_true(status == 0 or messages.startswith(b"audit: ") or output, "%s: %r" % (link, (status, output, messages)))
+    return status, (output or messages).decode()
 
 
 @scene
@@ -227,31 +226,32 @@ def scene_followed():
     append([b"three"])
     rotated()
     first = "log/closed/%s" % closed_names()[-1]
+    begun = commitment_of("log/current.store")
     with Daemon("log/current.store", "new.sock"):
-        expect(followed("state0", "log/current.link", "new.sock", "state1")[0], 1,
+        expect(followed("state0", "log/current.link", "new.sock", "state1"), (1, "audit: not linked: old half\n"),
                "a witness whose last look was before the log was closed")
-        with Daemon(first + "/store", "old.sock"):
-            expect(followed("state0", "log/current.link", "new.sock", "state1", "--old", "old.sock"),
-                   (0, "begun %s\n" % commitment_of_served("new.sock")), "a witness that asks the closed log first")
-    expect(read_text("state1"), commitment_of("log/current.store") + "\n", "the file of a witness that followed")
+        watch("state0", first + "/store")
+        expect(followed("state0", "log/current.link", "new.sock", "state1"), (0, "same\n"), "a log of two entries")
+    expect(read_text("state1"), begun + "\n", "the file of a witness that followed")
     append([b"four"])
-    watch("state1", "log/current.store")
+    grown = commitment_of("log/current.store")
+    with Daemon("log/current.store", "new.sock"):
+        expect(followed("state0", "log/current.link", "new.sock", "late"), (0, "grew %s\n" % grown),
+               "a witness that comes later")
+        expect(followed("missing", "missing", "new.sock", "state1")[0], 0, "a file that was begun goes on by itself")
+    expect(read_text("late"), "%s\n%s\n" % (begun, grown), "two commitments, to the entries of the link and to all")
+    expect(read_text("state1"), read_text("late"), "the file of the other witness")
     rotated()
     watch("state1", "log/closed/%s/store" % closed_names()[-1])
     append([b"five"])
     with Daemon("log/current.store", "new.sock"):
         expect(followed("state1", "log/current.link", "new.sock", "state2")[0], 0, "a second rotation")
     expect(read_text("state2").splitlines()[-1], commitment_of("log/current.store"), "the file after two rotations")
-    expect_true(len(read_text("state2").splitlines()) == 2, "two commitments, to the entries of the link and to all")
 
 
 def watch(state, store):
     with Daemon(store, "watched.sock"):
         done("watch", "watched.sock", state)
-
-
-def commitment_of_served(socket):
-    return done("ask", socket, "commitment").decode().split("\n")[0].removeprefix("commit ")
 
 
 @scene
@@ -273,24 +273,34 @@ def scene_forged():
     write("cut.link", link[:-1])
     write("empty.link", b"")
     write("taken", b"kept")
+    os.mkfifo("pipe.link")
+    begun = commitment_of("log/current.store") + "\n"
     with Daemon("log/current.store", "new.sock"), Daemon("fork/current.store", "fork.sock"):
-        for wrong, words in {
-                "a fork's link": ("state0", "fork/current.link", "fork.sock", "next"),
-                "another log's link": ("state0", "other/current.link", "new.sock", "next"),
-                "a changed link": ("state0", "changed.link", "new.sock", "next"),
-                "a cut link": ("state0", "cut.link", "new.sock", "next"),
-                "an empty link": ("state0", "empty.link", "new.sock", "next"),
-                "a server of a fork": ("state0", "log/current.link", "fork.sock", "next"),
-                "a server of the closed log": ("state0", "log/current.link", "fork.sock", "next", "--old", "new.sock"),
-                "a file that exists": ("state0", "log/current.link", "new.sock", "taken")}.items():
-            expect(followed(*words)[0], 1, wrong)
-        expect(followed("state0", "log/current.link", "nobody.sock", "next")[0], 3, "a server that isn't there")
-        expect(followed("missing", "log/current.link", "new.sock", "next")[0], 3, "a witness without a file")
+        expect_refused()
         expect((os.path.exists("next"), read("taken")), (False, b"kept"), "what is kept of what was refused")
+        expect(read_text("begun"), begun, "what a link shows, whatever a server says")
         expect(followed("state0", "log/current.link", "new.sock", "next")[0], 0, "the link that leads on")
-    expect([name for name in os.listdir(".") if name.startswith("next.begin-")], [], "drafts that are left")
-    for words in [], ["a", "b", "c"], ["a", "b", "c", "d", "--old"]:
-        expect(run_tool("begin-after", *words)[:2], (2, b""), "wrong words of begin-after")
+    for words in ["new.sock", "next", "some.link"], ["new.sock", "next", "--after", "state0"]:
+        expect(program.whole("watch", *words)[0], 2, "half of what says where a witness goes on from")
+
+
+def expect_refused():
+    for wrong, said, words in (
+            ("a fork's link", "audit: not linked: old half\n", ("state0", "fork/current.link", "fork.sock", "next")),
+            ("another log's link", "audit: not linked: old half\n", ("state0", "other/current.link", "new.sock", "next")),
+            ("a changed link", "audit: not linked: new half\n", ("state0", "changed.link", "new.sock", "next")),
+            ("a cut link", "audit: 32 BadProof\n", ("state0", "cut.link", "new.sock", "next")),
+            ("an empty link", "audit: 32 BadProof\n", ("state0", "empty.link", "new.sock", "next")),
+            ("a server of a fork", "other root\n", ("state0", "log/current.link", "fork.sock", "begun")),
+            ("a file with another line", "audit: line 1: bad commitment line\n",
+             ("state0", "log/current.link", "new.sock", "taken"))):
+        status, line = followed(*words)
+        expect((status, line.partition("\n")[0] + "\n"), (1, said), wrong)
+    for wrong, words in (("a server that isn't there", ("state0", "log/current.link", "nobody.sock", "next")),
+                         ("a witness without a file", ("missing", "log/current.link", "new.sock", "next")),
+                         ("a link that isn't there", ("state0", "missing", "new.sock", "next")),
+                         ("a pipe as a link", ("state0", "pipe.link", "new.sock", "next"))):
+        expect(followed(*words)[0], 3, wrong)
 
 
 SCENES = scenes_in(sys.modules[__name__])

@@ -31,7 +31,7 @@ _audit() {
     daemon) options="$options --reader --writer --allow-close --idle --backlog --reserve --socket-mode --extends" ;;
     send) options="$options --text --long --window --until-refused --placed --from --receipts --retry --timeout" ;;
     ask) options="$options --from --timeout" ;;
-    watch) options="$options --every --timeout --quiet" ;;
+    watch) options="$options --every --timeout --quiet --after" ;;
     read) options="$options --first --under --text --numbers --json --kind --every --timeout" ;;
     help) options= ;;
     esac
@@ -50,7 +50,7 @@ _audit() {
     else
         case $command:$place:$question in
         format:[02]: | format:2:* | append:0: | close:0: | rotate:[01]: | rotate:3:* | show:0: | check:0: | export:[01]: | \
-            verify:[01]: | serve:[01]: | loop:[01]: | daemon:[01]: | stop:0: | send:0: | watch:[01]: | read:[01]: | prove:0: | ask:0: | \
+            verify:[01]: | serve:[01]: | loop:[01]: | daemon:[01]: | stop:0: | send:0: | watch:[01]: | watch:2:* | read:[01]: | prove:0: | ask:0: | \
             prove:4:* | ask:2:export | ask:3:entry | ask:4:member | ask:4:increment) files=1 ;;
         prove:1:) choices="member increment" ;;
         ask:1:) choices="commitment state place entry member increment export close" ;;

@@ -52,10 +52,10 @@ pub(crate) fn print_cause<F: Files, M: Write>(
     }
 }
 
-// The file that a witness or a reader keeps, and that of the witness under which a reader reads.
+// The file that a witness or a reader keeps, and that of the witness after which it begins or under which it reads.
 fn kept_by<'a>(request: Remote<'a>) -> Option<(&'a str, Option<&'a str>)> {
     match request {
-        Remote::Watch { state, .. } => Some((state, None)),
+        Remote::Watch { state, after, .. } => Some((state, after)),
         Remote::Read { state, under, .. } => Some((state, under)),
         _ => None,
     }

@@ -17,6 +17,9 @@ pub const WRITER: &str = "writer";
 /// An option of `rotate`, which then makes no store.
 pub const PREPARED: &str = "prepared";
 
+/// The word for the link by which a witness goes on from another log.
+pub const LINK: &str = "LINK";
+
 /// An option of the commands that open a store to append to it.
 pub const EXTENDS: &str = "extends";
 
@@ -743,7 +746,8 @@ fn with_word<'a>(
     command.arg(word_in(alloc, form, word)?)
 }
 
-// A word of a command. Those about a store that is made are left out if it was prepared.
+// A word of a command. Those about a store that is made are left out if it was prepared, and a witness takes a link only
+// with the file that it comes from.
 fn word_in<'a>(
     alloc: Global,
     form: &'static Form,
@@ -752,6 +756,9 @@ fn word_in<'a>(
     let arg = word_of(alloc, word);
     if form.name == "rotate" && (word.name == "SECTORS" || word.name == "KEYFILE") {
         return arg.required(false).required_unless_present(PREPARED);
+    }
+    if word.name == LINK {
+        return arg.requires_arg("after");
     }
     Ok(arg)
 }

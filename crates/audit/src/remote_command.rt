@@ -1,5 +1,6 @@
 //! The commands that ask a server, as requests.
 use crate::command::{report_form, word};
+use crate::forms::LINK;
 use audit_cli_client::Request as Remote;
 use clap::ArgMatches;
 
@@ -37,6 +38,8 @@ pub fn remote_request<'a>(name: &str, given: &ArgMatches<'a>) -> Option<Remote<'
             every: given.get_str("every"),
             timeout,
             is_quiet: given.get_flag("quiet"),
+            after: given.get_str("after"),
+            link: given.get_str(LINK),
         }),
         "read" => Some(Remote::Read {
             socket,

@@ -1,5 +1,5 @@
 //! The commands that ask a server, as the command line and its help show them.
-use crate::forms::{Choice, Form, Word};
+use crate::forms::{Choice, Form, LINK, Word};
 
 static SEND: Form = Form {
     name: "send",
@@ -143,8 +143,20 @@ static WATCH: Form = Form {
             help: "The file with a COUNT:ROOT a line, the newest last",
             is_required: true,
         },
+        Word {
+            name: LINK,
+            help: "The link from the log of the option --after",
+            is_required: false,
+        },
     ],
     options: &[
+        Choice {
+            name: "after",
+            value: Some("FILE"),
+            help: "Begins STATE after FILE, the STATE of the log before, by a link from it",
+            needs: Some(LINK),
+            excludes: None,
+        },
         Choice {
             name: "every",
             value: Some("SECONDS"),

@@ -24,6 +24,7 @@ use Rattle.audit_cli_client.specs.declared.arguments.Question.TheVariants as que
 use Rattle.audit_cli_client.specs.declared.arguments.Evidence.TheVariants as evidence
 use Rattle.audit_cli_client.specs.declared.request.TheConstants.{TIMEOUT, WINDOW}
 use Rattle.audit_cli_client.specs.declared.request.Request.{Request}
+use Rattle.audit_cli_client.specs.declared.beginning.Predecessor.{Predecessor}
 use Rattle.audit_cli_client.specs.declared.request.Request.TheVariants.{Ask, Send, Watch, Read}
 use Rattle.audit_cli_client.specs.declared.reading.ReadTask.{ReadTask}
 use Rattle.audit_cli_client.specs.declared.sending.Task.{Task}
@@ -134,14 +135,21 @@ IsNoTask text long window timeout placed first retry =
     (form_asked text ≡ None) ⊎ ((long_asked long text ≡ None) ⊎ (IsNoWindow window ⊎ (AreNoSeconds timeout
     ⊎ ((placing_asked (form_asked text) placed first ≡ None) ⊎ AreNoSeconds retry))))
 
+-- the log before, and the link from it: both or neither
+abbrev pub before_asked : Option (Bor (List ℕ)) → Option (Bor (List ℕ)) → Option (Option Predecessor)
+before_asked None None = Some None
+before_asked None (Some link) = None
+before_asked (Some state) None = None
+before_asked (Some state) (Some link) = Some (Some (record { state = state; link = link }))
+
 -- one of the words that are checked before the socket is opened is wrong
 abbrev pub HasRefusedWord : Request → Type 0
 HasRefusedWord (Ask socket words first timeout) = IsNoSocketPath socket.now 0
     ⊎ ((question_from first (question_in words.0.now words.1 words.2 words.3) ≡ None) ⊎ AreNoSeconds timeout)
 HasRefusedWord (Send socket text long window timeout until_refused placed first keys retry) =
     IsNoSocketPath socket.now 0 ⊎ IsNoTask text long window timeout placed first retry
-HasRefusedWord (Watch socket state every timeout is_quiet) =
-    IsNoSocketPath socket.now 0 ⊎ (AreNoSeconds every ⊎ AreNoSeconds timeout)
+HasRefusedWord (Watch socket state every timeout is_quiet after link) = IsNoSocketPath socket.now 0
+    ⊎ (AreNoSeconds every ⊎ (AreNoSeconds timeout ⊎ (before_asked after link ≡ None)))
 HasRefusedWord (Read socket state first under form kinds every timeout) =
     IsNoSocketPath socket.now 0 ⊎ (AreNoSeconds every ⊎ AreNoSeconds timeout)
 
@@ -177,9 +185,9 @@ IsOrderOf (Ask socket words first timeout) (order.Ask path asked seconds) = (pat
     × (seconds_or_default timeout ≡ Ok seconds)
 IsOrderOf (Send socket text long window timeout until_refused placed first keys retry) (order.Send path task) =
     (path ≡ socket) × IsTaskOfWords text long window timeout until_refused placed first keys retry task
-IsOrderOf (Watch socket state every timeout is_quiet) (order.Watch post pause) = (post.socket ≡ socket)
+IsOrderOf (Watch socket state every timeout is_quiet after link) (order.Watch post pause) = (post.socket ≡ socket)
     × (post.state ≡ state) × IsPause every pause × (seconds_or_default timeout ≡ Ok post.seconds)
-    × (post.is_quiet ≡ is_quiet)
+    × (post.is_quiet ≡ is_quiet) × (before_asked after link ≡ Some post.before)
 IsOrderOf (Read socket state first under form kinds every timeout) (order.Read task pause) =
     IsTaskOf socket state first under form kinds task × IsPause every pause
     × (seconds_or_default timeout ≡ Ok task.seconds) × (task.is_quiet ≡ is_some pause)

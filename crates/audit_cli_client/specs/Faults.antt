@@ -15,7 +15,7 @@ use Rattle.audit_client.specs.declared.send_error.SendError.{SendError}
 use Rattle.audit_client.specs.declared.send_error.SendError.TheVariants as sending
 use Rattle.audit_cli_client.specs.declared.fault.RemoteError.{RemoteError}
 use Rattle.audit_cli_client.specs.declared.fault.RemoteError.TheVariants.{Command, NoConnection, Server, BadStateLine}
-use Rattle.audit_cli_client.specs.declared.fault.RemoteError.TheVariants.{Contradicted, NotLed, NotAcknowledged, StateInUse, ReaderInUse}
+use Rattle.audit_cli_client.specs.declared.fault.RemoteError.TheVariants.{Contradicted, NotLed, NotLinked, NotAcknowledged, StateInUse, ReaderInUse}
 
 -- the error for refused memory
 abbrev pub no_memory : RemoteError
@@ -41,6 +41,7 @@ remote_status (NoConnection kind) = ends.Device
 remote_status (Server error) = status_of_server error
 remote_status (Contradicted found) = ends.Refused
 remote_status (NotLed error found) = ends.Refused
+remote_status (NotLinked half) = ends.Refused
 remote_status (BadStateLine line) = ends.Refused
 remote_status StateInUse = ends.Device
 remote_status ReaderInUse = ends.Device

@@ -4,6 +4,7 @@ pub mod Sent
 pub mod State
 pub mod StoreStateLine
 pub mod Alarm
+pub mod Beginning
 pub mod Arguments
 pub mod Looking
 pub mod Asked

@@ -4,8 +4,10 @@ use Rattle.std.specs.Io.KnownBytes.{Appends}
 use Rattle.audit_text.specs.Writing.{WritesInPart}
 use Rattle.audit_client.specs.declared.fault.ClientError.{ClientError}
 use Rattle.audit_client.specs.declared.fault.ClientError.TheVariants as client
+use Rattle.audit_link.specs.declared.checking.LinkJudgment.{LinkJudgment}
+use Rattle.audit_link.specs.declared.checking.LinkJudgment.TheVariants as link
 use Rattle.audit_cli_client.specs.declared.fault.RemoteError.{RemoteError}
-use Rattle.audit_cli_client.specs.declared.fault.RemoteError.TheVariants.{NoConnection, StateInUse, ReaderInUse, Server, NotLed}
+use Rattle.audit_cli_client.specs.declared.fault.RemoteError.TheVariants.{NoConnection, StateInUse, ReaderInUse, Server, NotLed, NotLinked}
 
 -- the line of an error of the server that has no number
 abbrev pub message_of_server : ClientError → Option (List ℕ)
@@ -22,6 +24,12 @@ message_not_led client.Shorter = Some (codes "audit: shorter\n")
 message_not_led client.OtherRoot = Some (codes "audit: other root\n")
 message_not_led _ = None
 
+-- the line of a witness that can't go on from the log before
+abbrev pub message_not_linked : LinkJudgment → Option (List ℕ)
+message_not_linked link.OldHalf = Some (codes "audit: not linked: old half\n")
+message_not_linked link.NewHalf = Some (codes "audit: not linked: new half\n")
+message_not_linked link.Accepted = None
+
 -- the line that says why a command failed, if it is one of the client's own and has no number: each passing fault's is
 abbrev pub message_of : RemoteError → Option (List ℕ)
 message_of (NoConnection kind) = Some (codes "audit: file fault\n")
@@ -29,6 +37,7 @@ message_of StateInUse = Some (codes "audit: witness file in use\n")
 message_of ReaderInUse = Some (codes "audit: state in use\n")
 message_of (Server error) = message_of_server error
 message_of (NotLed error found) = message_not_led error
+message_of (NotLinked half) = message_not_linked half
 message_of _ = None
 
 -- The text was written; or a part of it, and then the writer failed.

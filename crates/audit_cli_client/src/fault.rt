@@ -3,11 +3,13 @@ ghost use Rattle.std.specs.Io.KnownBytes.{Appends};
 ghost use Rattle.audit_text.specs.Writing.{WritesInPart};
 ghost use Rattle.audit_cli_client.specs.Faults.{no_memory, remote_status, status_of_server, of_sending, judgment_of};
 ghost use Rattle.audit_cli_client.specs.Faults.{judgment_in, is_passing_fault};
-ghost use Rattle.audit_cli_client.specs.Messages.{Says, message_of, message_of_server, message_not_led};
+ghost use Rattle.audit_cli_client.specs.Messages.{Says, message_of, message_of_server};
+ghost use Rattle.audit_cli_client.specs.Messages.{message_not_led, message_not_linked};
 
 use crate::contradiction::Contradiction;
 use audit_cli_base::{CommandError, Status, report};
 use audit_client::{AskError, ClientError, FallibleWrite, SendError, word_of_refusal};
+use audit_link::LinkJudgment;
 use audit_store::StoreError;
 use audit_text::LinesError;
 use audit_wire::Refusal;
@@ -30,6 +32,8 @@ pub enum RemoteError {
     NotLed(ClientError, Option<Contradiction>),
     /// The line with this number, counted from 1, of a witness's file isn't a commitment.
     BadStateLine(u64),
+    /// The log doesn't go on from the one that a witness looked at before: this half of the link isn't so.
+    NotLinked(LinkJudgment),
     /// Another witness looks by the file, and didn't end in time.
     StateInUse,
     /// Another program reads by the file, and didn't end in time.
@@ -57,6 +61,7 @@ impl RemoteError {
             RemoteError::Server(error) => status_of_server(error),
             RemoteError::Contradicted(_)
             | RemoteError::NotLed(_, _)
+            | RemoteError::NotLinked(_)
             | RemoteError::BadStateLine(_) => Status::Refused,
         }
     }
@@ -97,6 +102,7 @@ impl RemoteError {
             RemoteError::ReaderInUse => Some("audit: state in use\n"),
             RemoteError::Server(error) => message_of_server(error),
             RemoteError::NotLed(error, _) => message_not_led(error),
+            RemoteError::NotLinked(half) => message_not_linked(half),
             _ => None,
         }
     }
@@ -147,6 +153,16 @@ fn message_not_led(error: ClientError) -> Option<&'static str>
         ClientError::Shorter => Some("audit: shorter\n"),
         ClientError::OtherRoot => Some("audit: other root\n"),
         _ => None,
+    }
+}
+
+fn message_not_linked(half: LinkJudgment) -> Option<&'static str>
+    ensures { option_map (λ words. words.now) result ≡ message_not_linked half }
+{
+    match half {
+        LinkJudgment::OldHalf => Some("audit: not linked: old half\n"),
+        LinkJudgment::NewHalf => Some("audit: not linked: new half\n"),
+        LinkJudgment::Accepted => None,
     }
 }
 

@@ -5,6 +5,7 @@ mod alarm;
 mod alarm_file;
 mod arguments;
 mod asking;
+mod beginning;
 mod connection;
 mod contradiction;
 mod draft;
@@ -32,6 +33,7 @@ mod witnessed;
 
 pub use arguments::{Evidence, Question};
 pub use asking::answer;
+pub use beginning::{Predecessor, begin_after, linked_start};
 pub use contradiction::Contradiction;
 pub use fault::RemoteError;
 pub use reading::ReadTask;

@@ -9,10 +9,11 @@ ghost use Rattle.audit_cli_client.specs.Arguments.{AreNoSeconds, IsNoWindow, Has
 ghost use Rattle.audit_cli_client.specs.Arguments.{IsTaskOfWords, IsNoTask, stop_asked, placing_asked};
 ghost use Rattle.audit_cli_client.specs.Requests.{IsClientRun, EndsOrder, Performs, status_of_done, done_after};
 ghost use Rattle.audit_cli_client.specs.ServerCalls.{CommandStreams};
-ghost use Rattle.audit_cli_client.specs.Arguments.{IsPause, seconds_or_default, window_or_default};
+ghost use Rattle.audit_cli_client.specs.Arguments.{IsPause, before_asked, seconds_or_default, window_or_default};
 
 use crate::alarm::print_contradiction;
 use crate::arguments::{Question, QuestionWords, question_asked, seconds_asked, window_asked};
+use crate::beginning::Predecessor;
 use crate::fault::RemoteError;
 use crate::reading::{ReadTask, read_for_ever};
 use crate::sending::Task;
@@ -80,6 +81,10 @@ pub enum Request<'a> {
         timeout: Option<&'a str>,
         /// Whether nothing is printed of a log that is the same or has grown.
         is_quiet: bool,
+        /// The file of the log before, by which a file without a line is begun. It comes with the link from that log.
+        after: Option<&'a str>,
+        /// The file with that link.
+        link: Option<&'a str>,
     },
     /// Reads the log on from the bookmark in a file, and prints its events.
     Read {
@@ -291,6 +296,8 @@ fn judge<'a>(request: Request<'a>) -> Result<Order<'a>, CommandError>
             every,
             timeout,
             is_quiet,
+            after,
+            link,
         } => {
             socket_path_asked(socket, 0)?;
             let seconds = seconds_or_default(timeout)?;
@@ -299,6 +306,7 @@ fn judge<'a>(request: Request<'a>) -> Result<Order<'a>, CommandError>
                 state,
                 seconds,
                 is_quiet,
+                before: before_asked(after, link)?,
             };
             let every = pause_asked(every)?;
             Ok(Order::Watch { post, every })
@@ -433,6 +441,22 @@ fn pause_asked(word: Option<&str>) -> Result<Option<u64>, CommandError>
             Err(fault) => Err(fault),
         },
         None => Ok(None),
+    }
+}
+
+fn before_asked<'a>(
+    after: Option<&'a str>,
+    link: Option<&'a str>,
+) -> Result<Option<Predecessor<'a>>, CommandError>
+    ensures asked { IfOk result (λ before. before_asked after.entry link.entry ≡ Some before) }
+    ensures wrong { before_asked after.entry link.entry ≡ None → result ≡ Err CommandError.BadArgument }
+    ensures fault { IfErr result (λ fault. (fault ≡ CommandError.BadArgument)
+        × (before_asked after.entry link.entry ≡ None)) }
+{
+    match (after, link) {
+        (None, None) => Ok(None),
+        (Some(state), Some(link)) => Ok(Some(Predecessor { state, link })),
+        _ => Err(CommandError::BadArgument),
     }
 }
 

@@ -14,6 +14,7 @@ ghost use Rattle.audit_cli_client.specs.State.{commitment_word};
 
 use crate::alarm::push_date;
 use crate::alarm_file::keep_alarm;
+use crate::beginning::{Predecessor, begin_after};
 use crate::connection::{connect, socket_identity};
 use crate::contradiction::fault_of_look;
 use crate::fault::RemoteError;
@@ -23,14 +24,16 @@ use crate::state_file::StateFile;
 use crate::state_lines::push_commitment_line;
 use crate::state_lock::{Locked, lock_state, remove_made};
 use crate::state_text::StateAt;
+use crate::witnessed::witnessed_at;
+use audit_cli_base::CommandError;
 use audit_cli_host::Dial;
 use audit_client::{ClientError, FallibleWrite, Kept, Sight, watch_and_keep};
 use audit_disk::SystemFile;
 use audit_proof::Commitment;
-use audit_text::Shown;
+use audit_text::{Shown, read_input};
 use httpdate::HttpDate;
 use std::alloc::Global;
-use std::fs::Files;
+use std::fs::{self, Files};
 use std::io::{self, BufReader, Write};
 use std::time::{Clock, Duration};
 
@@ -45,6 +48,8 @@ pub struct Post<'a> {
     pub seconds: u64,
     /// Whether nothing is printed of a log that is the same or has grown.
     pub is_quiet: bool,
+    /// The log before, by which a file without a line is begun.
+    pub before: Option<Predecessor<'a>>,
 }
 
 /// Looks once, and prints what was seen.
@@ -303,7 +308,7 @@ where
         file,
     };
     let mut kept = StateFile::read(alloc, text)?;
-    let sight = look_and_keep(rt, alloc, post, &mut kept);
+    let sight = look_on(rt, alloc, post, &mut kept);
     if is_made && sight.is_err() {
         remove_made(rt, post.state);
     }
@@ -314,6 +319,26 @@ where
         }
         other => other,
     }
+}
+
+// Begins a file without a line by the log before, if one is named, and looks.
+fn look_on<F: Files + Dial + Clock, K: Kept<Error = RemoteError>>(
+    rt: &F,
+    alloc: Global,
+    post: Post<'_>,
+    kept: &mut K,
+) -> Result<Sight, RemoteError> {
+    if let Some(before) = post.before
+        && kept.newest().is_none()
+    {
+        let old = witnessed_at(rt, alloc, before.state)?;
+        if !fs::metadata(rt, before.link)?.is_file() {
+            return Err(RemoteError::Command(CommandError::File));
+        }
+        let link = read_input(alloc, &mut fs::open(rt, before.link)?)?;
+        begin_after(alloc, &old, &link, kept)?;
+    }
+    look_and_keep(rt, alloc, post, kept)
 }
 
 fn look_and_keep<F: Dial + Clock, K: Kept<Error = RemoteError>>(
