@@ -26,7 +26,7 @@ from checks.parts.processes import end_all, start
 from checks.parts.quorums import quorum_of
 from checks.parts.scenes import program_of
 from checks.parts.tools import needs
-from checks.parts.waiting import wait_for, wait_listening
+from checks.parts.waiting import is_readable, wait_for, wait_listening
 from checks.parts.wrong import expect_true
 
 TOOLS = ["nbdkit", "qemu-nbd", "nbdfuse", "fusermount3"]
@@ -95,7 +95,11 @@ class Machine:
     def mount(self):
         wait_for(self.has_replicas, "the quorum")
         self.processes.append(start(["nbdfuse", self.file, "nbd+unix:///?socket=" + self.socket]))
-        wait_for(lambda: os.path.exists(self.file), "the file on the quorum")
+        wait_for(lambda: os.path.exists(self.file) or self.has_ended(), "the file on the quorum")
+        expect_true(not self.has_ended(), "the file on the quorum is refused")
+
+    def has_ended(self):
+        return any(process.poll() is not None for process in self.processes)
 
     def is_refused(self):
         """Whether it can't have the replicas."""
@@ -107,6 +111,7 @@ class Machine:
     def daemon(self):
         daemon = start([program.PATH, "daemon", self.file, self.folder + "/daemon"], stdout=subprocess.PIPE)
         self.processes.append(daemon)
+        expect_true(is_readable(daemon.stdout), "the daemon doesn't open its log")
         ready = daemon.stdout.readline().split()
         expect_true(ready[:1] == [b"ready"], "the daemon doesn't start")
         return int(ready[1])

@@ -5,15 +5,16 @@ import os
 import subprocess
 import uuid
 
-from checks.parts.tools import call
+from checks.parts.tools import call, said_by
 from checks.parts.waiting import free_port, wait_for
 from checks.parts.wrong import Wrong, expect_true
 
 TOOLS = ["ceph", "rbd", "monmaptool", "ceph-mon", "ceph-osd", "ceph-objectstore-tool"]
 OSDS = 3
 POOL = "rbd"
-# The shorter times make a cluster notice a dead OSD within seconds. librbd's cache is off, as docs/operations.md asks
-# for.
+# A dead OSD is noticed at once, as its port refuses connections; one that is only slow, on a busy machine, has half a
+# minute, and doesn't end itself if it was thought dead six times in ten minutes. librbd's cache is off, as
+# docs/operations.md asks for.
 CONFIGURATION = """[global]
 fsid = {fsid}
 mon host = 127.0.0.1:{port}
@@ -40,7 +41,8 @@ bluestore block create = true
 osd crush chooseleaf type = 0
 osd class update on start = false
 osd heartbeat interval = 1
-osd heartbeat grace = 4
+osd heartbeat grace = 30
+osd max markdown count = 1000000
 osd pool default size = {osds}
 osd pool default min size = 2
 osd pool default pg autoscale mode = off
@@ -48,6 +50,12 @@ osd pool default pg autoscale mode = off
 [client]
 rbd cache = false
 """
+
+
+def state_of(image):
+    """What the cluster says of itself and of an image, for a check that gives up."""
+    return "\n".join("%s: %s" % (" ".join(words), said_by(*words))
+                     for words in (["ceph", "-s"], ["rbd", "status", image], ["rbd", "lock", "ls", image]))
 
 
 def start_silently(*words):

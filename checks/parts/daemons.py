@@ -8,7 +8,7 @@ from checks.parts.files import read
 from checks.parts.places import KEY
 from checks.parts.processes import forget, start
 from checks.parts.program import done
-from checks.parts.waiting import wait_listening
+from checks.parts.waiting import doing, is_readable, pressure, wait_listening
 from checks.parts.wrong import Wrong, expect, expect_true, short
 
 
@@ -49,6 +49,8 @@ class Daemon:
     def start(self):
         how = {"stdout": subprocess.PIPE, **self.how}
         self.process = start([program.PATH, "daemon", self.store, self.socket, *self.words], **how)
+        if not is_readable(self.process.stdout):
+            raise Wrong("a daemon doesn't open its log: it %s; %s" % (doing(self.process), pressure()))
         self.ready = self.process.stdout.readline()
         if not self.ready.startswith(b"ready "):
             raise Wrong("a daemon doesn't start: %s" % short(self.end()))

@@ -32,9 +32,19 @@ def call(*words, timeout=SECONDS):
 
 
 def succeeds(*words):
-    """Whether a command of the system exists and succeeds."""
+    """Whether a command of the system exists, and succeeds in time."""
     try:
         return subprocess.run(words, stdin=subprocess.DEVNULL, stdout=subprocess.DEVNULL, stderr=subprocess.DEVNULL,
                               timeout=SECONDS).returncode == 0
-    except OSError:
+    except (OSError, subprocess.TimeoutExpired):
         return False
+
+
+def said_by(*words, timeout=30):
+    """What a command of the system says, however it ends."""
+    try:
+        done = subprocess.run(words, stdin=subprocess.DEVNULL, stdout=subprocess.PIPE, stderr=subprocess.STDOUT,
+                              timeout=timeout)
+        return done.stdout.decode(errors="replace").strip()
+    except (OSError, subprocess.TimeoutExpired) as why:
+        return str(why)

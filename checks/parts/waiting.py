@@ -1,6 +1,7 @@
 """Waiting for what comes, and what can be seen of other processes meanwhile."""
 import contextlib
 import os
+import select
 import socket
 import stat
 import time
@@ -66,6 +67,38 @@ def is_alive(process):
             return file.read().rsplit(")", 1)[1].split()[0] != "Z"
     except (FileNotFoundError, ProcessLookupError):
         return False
+
+
+def is_readable(stream, seconds=SECONDS):
+    """Waits until a program has said something, or has ended. Whether it did in time."""
+    return bool(select.select([stream], [], [], seconds)[0])
+
+
+def doing(process):
+    """What a program that was started does: its status, or where in the system each thread waits, and the seconds of a
+    processor that it had."""
+    if process.poll() is not None:
+        return "ended with status %d" % process.returncode
+    folder = "/proc/%d/" % process.pid
+    waits, times = [], []
+    with contextlib.suppress(OSError):
+        for thread in os.listdir(folder + "task"):
+            with open("%stask/%s/wchan" % (folder, thread)) as file:
+                waits.append(file.read().strip() or "?")
+        with open(folder + "stat", errors="replace") as file:
+            times = file.read().rsplit(")", 1)[1].split()[11:13]
+    seconds = sum(map(int, times)) / os.sysconf("SC_CLK_TCK")
+    return "had %.1f s of a processor, waits in %s" % (seconds, " ".join(sorted(waits)))
+
+
+def pressure():
+    """The machine's load, and how much of the time programs waited for a processor. A program that is starved by others
+    of a higher priority looks as if it hung."""
+    found = []
+    for path in "/proc/loadavg", "/proc/pressure/cpu":
+        with contextlib.suppress(OSError), open(path) as file:
+            found.append(file.readline().strip())
+    return "load " + ", waiting ".join(found)
 
 
 def free_port():

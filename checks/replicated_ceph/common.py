@@ -7,7 +7,6 @@ from checks.parts.places import tool
 from checks.parts.waiting import SECONDS
 from checks.parts.wrong import expect_true
 
-IMAGE = POOL + "/store"
 CLIENTS = 3
 # How many events each client sends while something happens, of how many the first acknowledged ones may bring it about,
 # and how many are sent afterwards.
@@ -48,9 +47,9 @@ def count(text):
 
 
 class How:
-    """Whether the image is attached by qemu-storage-daemon, otherwise the plugin of nbdkit; and the size of the
+    """The image; whether it is attached by qemu-storage-daemon, otherwise the plugin of nbdkit; and the size of the
     store."""
-    qemu, plugin = False, tool("rbd-exclusive.py")
+    image, qemu, plugin = POOL + "/store", False, tool("rbd-exclusive.py")
     sectors = None
 
 

@@ -8,12 +8,12 @@ import threading
 import time
 
 from checks.parts import program
-from checks.parts.ceph import OSDS, POOL
+from checks.parts.ceph import OSDS, state_of
 from checks.parts.places import tool
 from checks.parts.tools import succeeds
-from checks.parts.waiting import SECONDS, wait_for, wait_listening
-from checks.parts.wrong import expect_true
-from checks.replicated_ceph.common import CLIENTS, EARLY, IMAGE, PATH, acknowledged, commitment, count, good, how
+from checks.parts.waiting import SECONDS, doing, is_readable, pressure, wait_for, wait_listening
+from checks.parts.wrong import Wrong, expect_true
+from checks.replicated_ceph.common import CLIENTS, EARLY, PATH, acknowledged, commitment, count, good, how
 
 
 class Machine:
@@ -42,21 +42,24 @@ class Machine:
         if how.qemu:
             open(self.file, "a").close()
             self.run("client", "qemu-storage-daemon", "--blockdev",
-                     "driver=rbd,node-name=image,pool=%s,image=store,cache.direct=on" % POOL,
+                     "driver=rbd,node-name=image,pool=%s,image=%s,cache.direct=on" % tuple(how.image.split("/")),
                      "--export", "type=fuse,id=export,node-name=image,writable=on,mountpoint=" + self.file)
         else:
-            self.run("client", "nbdkit", "--foreground", "--unix", self.nbd, "python", how.plugin, "image=" + IMAGE)
+            self.run("client", "nbdkit", "--foreground", "--unix", self.nbd, "python", how.plugin, "image=" + how.image)
 
     def attach(self):
         """Attaches the image, whoever has it: that one is fenced first. On a busy machine a command of Ceph's may take
         too long, and the fence is repeated."""
-        wait_for(lambda: succeeds(tool("fence-ceph"), IMAGE), "the fence")
-        self.ask_for_image()
-        if not how.qemu:
-            # The socket may be there before the lock is, so only nbdfuse's file shows that the image is attached.
-            wait_listening(self.nbd, self.processes["client"])
-            self.run("file", "nbdfuse", self.file, "nbd+unix:///?socket=" + self.nbd)
-        wait_for(lambda: self.has_file() or not self.is_attaching(), "the file on the image")
+        try:
+            wait_for(lambda: succeeds(tool("fence-ceph"), how.image), "the fence")
+            self.ask_for_image()
+            if not how.qemu:
+                # The socket may be there before the lock is, so only nbdfuse's file shows that the image is attached.
+                wait_listening(self.nbd, self.processes["client"])
+                self.run("file", "nbdfuse", self.file, "nbd+unix:///?socket=" + self.nbd)
+            wait_for(lambda: self.has_file() or not self.is_attaching(), "the file on the image")
+        except Wrong as wrong:
+            raise Wrong("%s\n%s" % (wrong, self.state())) from None
         expect_true(self.is_attaching(), "the image is refused: " + self.said())
 
     def is_attaching(self):
@@ -69,6 +72,11 @@ class Machine:
         with open(self.messages, errors="replace") as messages:
             return messages.read()
 
+    def state(self):
+        """What its processes do and said, and what the cluster says, for a check that gives up."""
+        found = ["%s: %s" % (name, doing(process)) for name, process in self.processes.items()]
+        return "\n".join([pressure(), *found, self.said(), state_of(how.image)])
+
     def format(self):
         """Makes a store of the image, under another key, and nothing is acknowledged yet."""
         with open("key", "w") as key:
@@ -79,6 +87,8 @@ class Machine:
     def start(self):
         """Starts the daemon, and returns how many events it has."""
         daemon = self.run("daemon", program.PATH, "daemon", self.file, self.socket, stdout=subprocess.PIPE)
+        if not is_readable(daemon.stdout):
+            raise Wrong("the daemon doesn't open its log\n" + self.state())
         ready = daemon.stdout.readline().split()
         expect_true(ready[:1] == [b"ready"], "the daemon doesn't start: " + self.said())
         return int(ready[1])
