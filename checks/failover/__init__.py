@@ -19,6 +19,7 @@ from checks.failover.site import Site
 from checks.parts.files import folder_of_its_own
 from checks.parts.scenes import scenes_in, words_of
 from checks.parts.tools import needs
+from checks.parts.waiting import pressure
 from checks.parts.wrong import told
 
 TOOLS = ["etcd", "openssl", "nbdkit", "nbdfuse", "fusermount3", "setpriv"]
@@ -52,6 +53,7 @@ def main(words):
             return 0
         except Exception as wrong:
             print("failover: %s" % told(wrong))
+            print("\n".join([pressure()] + ([site.device.state()] if site else [])))
             for machine in site.machines if site else []:
                 lines = [line for _, line in machine.said[-6:]] + machine.messages()[-6:]
                 print("\n".join("    %s: %s" % (machine.name, line) for line in lines))

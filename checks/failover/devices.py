@@ -6,15 +6,24 @@ import threading
 
 from checks.failover.machines import read_messages
 from checks.parts import ceph
+from checks.parts.files import read
 from checks.parts.places import tool
 from checks.parts.quorums import quorum_of
 from checks.parts.waiting import wait_for
 
-REPLICAS = 3
-# Servers at another address than those that a fenced machine knows, once they listen there.
+# BLOCK is what is read of a device at once.
+REPLICAS, BLOCK = 3, 4096
+# Servers at another address than those that a fenced machine knows, once they listen there. Each is reached a moment
+# after the one before, as over a network. All stand still before one ends: a machine that goes on would write to those
+# that are left, until each replica has another content and no two of them agree.
 NBD_FENCE = r"""date +%s%N >../address.new
     mv ../address.new ../address
-    for each in ../replica?.pid; do kill -9 "$(cat $each)"; done
+    for signal in STOP KILL; do
+        for each in 0 1 2; do
+            until kill -$signal "$(cat ../replica$each.pid)"; do sleep 0.05; done
+            sleep 0.1
+        done
+    done
     for each in 0 1 2; do
         until grep -q " 00010000 .*/replica$each\.$(cat ../address)\$" /proc/net/unix; do sleep 0.05; done
     done"""
@@ -39,8 +48,9 @@ class Replica(threading.Thread):
             self.server = subprocess.Popen(["nbdkit", "--foreground", "--unix", path, "--filter=limit", "file",
                                             self.name + ".image",
                                             "limit=1"], stdin=subprocess.DEVNULL, stderr=subprocess.DEVNULL)
-            with open(self.name + ".pid", "w") as file:
+            with open(self.name + ".pid.new", "w") as file:
                 file.write("%d\n" % self.server.pid)
+            os.rename(self.name + ".pid.new", self.name + ".pid")
             self.server.wait()
 
     def end(self):
@@ -63,6 +73,13 @@ class Nbd:
         self.attach = ('qemu-nbd --fork --pid-file client.pid --persistent --socket "$PWD/nbd" --image-opts "%s"'
                        % options)
 
+    def state(self):
+        """In how many blocks each replica has another content: no two agree, and the quorum can't read it."""
+        images = [read(replica.name + ".image") for replica in self.replicas]
+        starts = range(0, len(images[0]), BLOCK)
+        differing = sum(len({image[at:at + BLOCK] for image in images}) == REPLICAS for at in starts)
+        return "blocks of which each replica has another content: %d" % differing
+
     def end(self):
         for replica in self.replicas:
             replica.end()
@@ -78,6 +95,9 @@ class Ceph:
         self.cluster = ceph.Cluster(os.path.abspath("ceph"))
         self.cluster.begin()
         self.cluster.make_image("store", size.sectors * 512)
+
+    def state(self):
+        return ceph.state_of("rbd/store")
 
     def end(self):
         self.cluster.end()

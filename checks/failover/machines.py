@@ -13,8 +13,8 @@ from checks.parts import program
 from checks.parts.places import tool
 from checks.parts.tools import call
 
-# Seconds of a lease, and between looks.
-LEASE, LOOK = 9, 1
+# Seconds of a lease, between looks, and for attaching and opening.
+LEASE, LOOK, OPENING = 9, 1, 60
 # What failover runs: the device as a file, and a daemon on it.
 SCRIPT = r"""#!/bin/sh
 set -eu
@@ -35,10 +35,10 @@ take)
     {fence}
     {attach} >/dev/null 2>>messages
     until [ -s client.pid ]; do sleep 0.05; done
-    until [ -S nbd ]; do kill -0 "$(cat client.pid)" && sleep 0.05 || exit 1; done
+    until grep -q " 00010000 .* $PWD/nbd\$" /proc/net/unix; do kill -0 "$(cat client.pid)" && sleep 0.05 || exit 1; done
     nbdfuse "$PWD/mounted/store" "nbd+unix:///?socket=$PWD/nbd" >/dev/null 2>>messages &
     echo $! >file.pid
-    until [ -s mounted/store ]; do kill -0 "$(cat client.pid)" && sleep 0.05 || exit 1; done
+    until [ -s mounted/store ]; do kill -0 "$(cat client.pid)" "$(cat file.pid)" && sleep 0.05 || exit 1; done
     # The address of the store leads here now.
     ln -sfn "$PWD" address
     mv -T address ../address.of.store
@@ -93,7 +93,8 @@ class Machine:
         self.said = []
         self.process = subprocess.Popen(
             [sys.executable, "-c", STOPPED_CLOCK, self.path("clock-stops"), tool("failover"), "--ttl", str(LEASE),
-             "--look", str(LOOK), "--ca", "ca.pem", "--cert", "own.pem", "--cert-key", "own.key",
+             "--look", str(LOOK), "--opening", str(OPENING), "--ca", "ca.pem", "--cert", "own.pem", "--cert-key",
+             "own.key",
              ",".join(link.address for link in self.links), "store", self.script],
             stdin=subprocess.DEVNULL, stderr=subprocess.PIPE)
         threading.Thread(target=self.listen, args=(self.process.stderr,), daemon=True).start()

@@ -50,9 +50,8 @@ def scene_clock(site):
     open(holder.path("clock-stops"), "w").close()
     holder.cut()
     site.takes_over("its clock and its network to etcd stop", holder, other, since)
-    # With a clock its daemon would be killed after three quarters of the lease. It served until the fence, and its
-    # events are in the log.
-    past = since + 0.75 * LEASE + 1
+    # With a clock its daemon would have been killed after three quarters of the lease.
+    past = since + 0.75 * LEASE
     expect_true(any(when > past for source in site.sources for when, where in source.acks if where is holder),
                 "a holder without a clock didn't go on: nothing was shown")
     wait_for(lambda: not is_alive(daemon), "the end of a fenced daemon")
