@@ -41,7 +41,7 @@ class Machine:
 
     def format_uncut(self):
         self.log = Log()
-        status, _, err = audit("format", "--in-place", "--erase", "image", str(SECTORS), self.log.key)
+        status, _, err = audit("format", "--in-place", "--erase", "image", str(SECTORS), self.log.key, "--explain")
         expect_true(status == 0, "format: " + err)
 
     def check(self):

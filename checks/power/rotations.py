@@ -45,7 +45,7 @@ class Rotations:
         self.cached = 0
         place = FileSystem("image", "mounted")
         try:
-            status, _, err = audit("format", "mounted/some.store", str(SECTORS // 4), self.logs[0].key)
+            status, _, err = audit("format", "mounted/some.store", str(SECTORS // 4), self.logs[0].key, "--explain")
             expect_true(status == 0, "format: " + err)
         finally:
             place.remove()
