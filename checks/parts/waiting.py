@@ -71,7 +71,9 @@ def is_alive(process):
 
 def is_readable(stream, seconds=SECONDS):
     """Waits until a program has said something, or has ended. Whether it did in time."""
-    return bool(select.select([stream], [], [], seconds)[0])
+    poll = select.poll()
+    poll.register(stream, select.POLLIN)
+    return bool(poll.poll(seconds * 1000))
 
 
 def doing(process):

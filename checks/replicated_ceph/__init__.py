@@ -29,10 +29,10 @@ from checks.parts.files import folder_of_its_own
 from checks.parts.scenes import program_of
 from checks.parts.tools import needs
 from checks.parts.wrong import LeftOut, Usage, told
-from checks.replicated_ceph.common import CLIENTS, FEW, MANY, OF_A_STORE, PATH, SIZES, how, say
+from checks.replicated_ceph.common import CLIENTS, FEW, FLOOD, MANY, OF_A_STORE, PATH, SIZES, how, say
 from checks.replicated_ceph.machines import Machine
 from checks.replicated_ceph.scenes import kill_osds, lose_two_osds, read_replicas, refuse_second
-from checks.replicated_ceph.takeovers import take_over
+from checks.replicated_ceph.takeovers import Takeover, take_over
 from checks.replicated_ceph.unsafe import play_unsafe
 
 
@@ -75,7 +75,8 @@ def numbers_of(words):
     given = [int(word) for word in words]
     kills, takeovers = given + [10, 100][len(given):]
     seen = min(takeovers, OF_A_STORE)
-    events = CLIENTS * ((kills + 2 + seen) * MANY + seen * FEW)
+    floods = sum(Takeover.is_flooded(number) for number in range(seen))
+    events = CLIENTS * ((kills + 2 + seen - floods) * MANY + floods * FLOOD + seen * FEW)
     return kills, takeovers, next(size for size in SIZES if size > events + 64)
 
 
@@ -84,7 +85,7 @@ def task_of(words):
     given, rest = {"--qemu", "--unsafe"} & set(words), [word for word in words if word not in ("--qemu", "--unsafe")]
     try:
         if "--unsafe" in given:
-            takeovers, how.sectors = int((program_of(rest, 1) or [100])[0]), SIZES[0]
+            takeovers, how.sectors = int((program_of(rest, 1) or [100])[0]), SIZES[1]
             how.qemu = True
             expect_complete()
             how.qemu = False

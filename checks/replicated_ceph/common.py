@@ -9,8 +9,8 @@ from checks.parts.wrong import expect_true
 
 CLIENTS = 3
 # How many events each client sends while something happens, of how many the first acknowledged ones may bring it about,
-# and how many are sent afterwards.
-MANY, EARLY, FEW = 100, 60, 5
+# and how many are sent afterwards. FLOOD takes longer than a fence.
+MANY, EARLY, FEW, FLOOD = 100, 60, 5, 3000
 # How many takeovers a store sees; and the sizes of a store, of which the larger one's replica is the largest object of
 # Ceph.
 OF_A_STORE, SIZES = 10, [16384, 65536]

@@ -93,6 +93,11 @@ class Machine:
         expect_true(ready[:1] == [b"ready"], "the daemon doesn't start: " + self.said())
         return int(ready[1])
 
+    def end_daemon(self):
+        daemon = self.processes.pop("daemon")
+        daemon.kill()
+        daemon.wait()
+
     def unmount(self, *words):
         subprocess.run(["fusermount3", "-u", *words, self.file if how.qemu else self.mounted],
                        stderr=subprocess.DEVNULL)

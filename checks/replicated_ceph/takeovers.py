@@ -6,7 +6,8 @@ import time
 
 from checks.parts.waiting import SECONDS
 from checks.parts.wrong import Wrong, expect_true
-from checks.replicated_ceph.common import FEW, MANY, MOMENT, OF_A_STORE, acknowledged, audit, commitment, good, say
+from checks.replicated_ceph.common import (
+    FEW, FLOOD, MANY, MOMENT, OF_A_STORE, acknowledged, audit, commitment, good, say)
 from checks.replicated_ceph.machines import Clients, Machine, check_payloads
 from checks.replicated_ceph.scenes import check_blocklist
 
@@ -21,8 +22,15 @@ class Takeover:
     def __init__(self, first, number):
         self.first, self.second = first, Machine("first" if first.folder.endswith("second") else "second")
         self.what, hung, self.is_busy = self.KINDS[number % len(self.KINDS)]
+        self.floods = self.is_flooded(number)
         self.clients, self.hung = None, [first.processes[name] for name in hung if name in first.processes]
         self.known = commitment(good("ask", first.socket, "commitment"))
+
+    @classmethod
+    def is_flooded(cls, number):
+        """Whether clients append until the fence stops them."""
+        _, hung, is_busy = cls.KINDS[number % len(cls.KINDS)]
+        return is_busy and not hung
 
     def play(self):
         before = self.interrupt()
@@ -51,7 +59,7 @@ class Takeover:
         """Stops what hangs, at a random moment. Returns how many events were acknowledged by then."""
         if not self.is_busy:
             return int(self.known.split(":")[0])
-        self.clients = Clients(self.first, MANY)
+        self.clients = Clients(self.first, FLOOD if self.floods else MANY)
         self.clients.wait()
         for process in self.hung:
             process.send_signal(signal.SIGSTOP)

@@ -6,7 +6,7 @@ from checks.parts.files import read_text
 from checks.parts.places import tool
 from checks.parts.waiting import SECONDS, wait_for
 from checks.parts.wrong import Wrong, expect_true
-from checks.replicated_ceph.common import MANY, acknowledged, audit, count, good, how, say
+from checks.replicated_ceph.common import CLIENTS, FLOOD, acknowledged, audit, count, good, how, say
 from checks.replicated_ceph.machines import Clients, Machine
 
 # Events that are sent to each of two daemons in turn.
@@ -34,8 +34,9 @@ def missing_events(machine):
 
 
 def take_over_cached(first, second):
-    """The second machine fences the first one, on which clients append. How many acknowledged events are missing."""
-    clients = Clients(first, MANY)
+    """The second machine fences the first one, on which clients append until then. How many acknowledged events are
+    missing."""
+    clients = Clients(first, FLOOD)
     clients.wait()
     second.attach()
     try:
@@ -45,28 +46,34 @@ def take_over_cached(first, second):
         clients.end()
         return len(acknowledged)
     clients.end()
+    expect_true(len(clients.acks()) < clients.wanted, "nobody appended any more when the fence came")
     return missing_events(second)
 
 
-def served(machine):
-    """A machine that serves a new store."""
-    machine.attach()
+def serve_new(machine):
     machine.format()
     machine.start()
-    return machine
 
 
 def lose_by_cache(takeovers):
-    """Takeovers of machines with librbd's cache. Each has a new store."""
-    lost = []
-    for _ in range(takeovers):
-        first, second = Machine("first"), Machine("second")
-        missing = take_over_cached(served(first), second)
+    """Takeovers of machines with librbd's cache, each from the one before. A log that has lost events, or may have no
+    room for the next ones, is followed by a new one."""
+    lost, first = [], Machine("first")
+    first.attach()
+    serve_new(first)
+    for number in range(takeovers):
+        second = Machine("first" if first.folder.endswith("second") else "second")
+        missing = take_over_cached(first, second)
+        first.lose()
+        Machine.all.remove(first)
         if missing:
             lost.append(missing)
-        for machine in first, second:
-            machine.lose()
-            Machine.all.remove(machine)
+            say("fence %d: %d of %d acknowledged events are missing" % (number + 1, missing, len(acknowledged)))
+        if missing or len(acknowledged) > how.sectors - 2 * CLIENTS * FLOOD:
+            second.end_daemon()
+            serve_new(second)
+        first = second
+    first.lose()
     return lost
 
 
@@ -81,7 +88,8 @@ def share_image():
     """Two machines have an image with the feature exclusive-lock, and nobody fences."""
     how.qemu = True
     first, second = Machine("first"), Machine("second")
-    served(first)
+    first.attach()
+    serve_new(first)
     second.ask_for_image()
     wait_for(second.has_file, "the file on the image")
     second.start()
