@@ -10,7 +10,7 @@ Firefox, if it is there. --million also verifies an export of a million events (
 prints its figures. --keep writes the cases and the page's verdicts to a folder, and --shots the pictures of docs. TEST
 chooses tests by name: hostile payloads, wrong inputs, changed fields, searches, the proof of an event, entries under
 the keys of receipts, stops, prints (no key in a PDF's text, all events there), reports that are opened again,
-connections, keyboard, contrast, small windows.
+connections, keyboard, contrast, small windows, entries that end where the page stops reading.
 
 --policy writes the hashes of the page's script and style into its policy. Run it after each edit of the page.
 
@@ -57,7 +57,7 @@ def tests_of(browser, room, options):
         "states": lambda: verdicts.test_states(browser, tails, options["--keep"]),
         "hostile": lambda: hostile.test_hostile(browser, room), "pages": lambda: events.test_pages(browser),
         "searches": lambda: events.test_searches(browser), "events": lambda: events.test_events(browser, room),
-        "refused": lambda: hostile.test_refused(browser, room),
+        "parts": lambda: million.test_parts(browser, room), "refused": lambda: hostile.test_refused(browser, room),
         "connections": lambda: hostile.test_connections(browser, room),
         "receipts": lambda: receipts.test_receipts(browser, room),
         "disclosed": lambda: disclosed.test_disclosed(browser, room),

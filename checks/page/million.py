@@ -1,4 +1,4 @@
-"""A million events."""
+"""A million events, and entries that end where a part of the file does."""
 import hashlib
 import hmac
 import os
@@ -16,18 +16,22 @@ from checks.parts.wrong import expect, expect_true
 def make_million(path, number):
     """An export of that many events with ciphers of 128 bytes, whatever their payloads are: no keystream is needed to
     seal them."""
-    key, link, leaves = FIRST_KEY, bytes(32), []
     pattern = hashlib.sha256(b"cipher").digest() * 4
+    return make_export(path, (at.to_bytes(8, "big") + pattern[8:] for at in range(number)))
+
+
+def make_export(path, ciphers):
+    """An export with these ciphers, and its commitment."""
+    key, link, leaves = FIRST_KEY, bytes(32), []
     with open(path, "wb") as file:
-        for at in range(number):
+        for at, cipher in enumerate(ciphers):
             kind = (at % 5).to_bytes(4, "big")
-            cipher = at.to_bytes(8, "big") + pattern[8:]
             link = hashlib.sha256(link + cipher + kind).digest()
-            entry = kind + b"\0\0\0\x80" + cipher + link + hmac.digest(key, link, "sha256")
+            entry = kind + len(cipher).to_bytes(4, "big") + cipher + link + hmac.digest(key, link, "sha256")
             file.write(entry)
             leaves.append(hashlib.sha256(b"\0" + entry).digest())
             key = hashlib.sha256(b"Increment Hash" + key).digest()
-    return word_of(number, history.root(leaves))
+    return word_of(len(leaves), history.root(leaves))
 
 
 WEBCRYPTO = r"""
@@ -103,3 +107,31 @@ def test_million(browser, room, number=1000000):
     return ("%d events in %.1f s, %d a second; %.1f s of processor, %d a second; %d MB more; the page waited %d ms at most; "
             "WebCrypto, one by one: %d events a second") % (
         number, seconds, number / seconds, used, number / used, grown, page.run("longest"), other)
+
+
+def test_parts(browser, room):
+    """The page reads 2^20 bytes at a time. Entries end there, at the end of a block of 64 bytes or inside of one, or
+    leave so few bytes that the next one's length isn't among them. What follows is whole, or cut off."""
+    page, count = Page(browser, PAGE), 0
+    for left in (0, 1, 8, 63, 72):
+        for tail, cut in (([], 0), ([72, 73], 0), ([72], 67)):
+            judge_parts(page, os.path.join(room, "parts%d.export" % count), left, tail, cut)
+            count += 1
+    return "%d exports whose entries end at parts of the file" % count
+
+
+def judge_parts(page, path, left, tail, cut):
+    longest = 32768
+    sizes = [longest] * 31 + [longest - left] + [longest] * 32 + tail
+    claimed = make_export(path, (bytes([at & 255]) * (size - 72) for at, size in enumerate(sizes)))
+    os.truncate(path, os.path.getsize(path) - cut)
+    page.set_file("#export-file", path)
+    page.run("seen('key').value = '%s', seen('commitment').value = '%s'" % (FIRST_KEY.hex(), claimed))
+    page.run("pressed('export')")
+    what = "an export with %d bytes before a part's end, and then %s without %d bytes" % (left, tail, cut)
+    expect(page.run("lineOfPanel('export')"), "entry 64: 40 Short" if cut else "verified %d open" % len(sizes), what)
+    with open(path, "rb") as file:
+        expect(page.run("saidBy('export').inputs['SHA-256']"), hashlib.file_digest(file, "sha256").hexdigest(),
+               "the hash of " + what)
+    page.run("seen('last').click(), rest()")
+    expect(page.run("cells().at(-1)[0]"), str(len(sizes) - bool(cut) - 1), "the last event of " + what)
