@@ -142,7 +142,8 @@ def measure_turn(device, rates):
 def measure_openings(device, counts):
     """How long it takes to attach a device that another machine has left, and to open its log, as the log grows."""
     file, held = device.attach(), 0
-    done("format", "--in-place", "--erase", file, str(device.sectors), KEY)
+    # A store of a million events takes minutes to format on replicas that are busy.
+    done("format", "--in-place", "--erase", file, str(device.sectors), KEY, seconds=1800)
     for count in counts:
         with served(device, file) as daemon, open("lines", "rb") as given:
             send = [program.PATH, "send", daemon.socket, "--window", "1024"]
