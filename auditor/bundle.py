@@ -8,8 +8,9 @@ against COMMIT. Then OUT, a new file, gets the export, the keys, the commitment,
 says what they show and what they don't, and the SHA-256 of each. The same words make the same bytes.
 
 With --without-others it has the chosen entries alone instead of the export, each with its inclusion proof: nothing of the
-others is in it but hashes. --anchors adds the signed and stamped notes in DIR, as tools/anchor keeps them, --with a further
-file, such as a certificate, but no first key and no state. The last line is `bundled`, the number of chosen events, and that of all.
+others is in it but hashes. At least one event has to be chosen then. --anchors adds the signed and stamped notes in DIR, as
+tools/anchor keeps them, --with a further file, such as a certificate, but no first key and no state. The last line is
+`bundled`, the number of chosen events, and that of all.
 
 bundle_check.py checks an archive. Status 1: EXPORT isn't matched, or OUT exists. It needs only Python's standard library.
 """
@@ -31,6 +32,9 @@ ANCHOR_FILES = "note", "note.sig", "note.tsr", "increment", "time"
 NUMBER = re.compile("[0-9]{8}")
 NAME = re.compile("[A-Za-z0-9_-][A-Za-z0-9._-]{0,99}")
 SUMS = "SHA256SUMS"
+# The names of the files that a bundle may have: no other program is led out of the folder that it unpacks them into.
+FILES = re.compile(r"(README\.txt|SHA256SUMS|chosen\.keys|commitment|events\.export|verify\.html|proofs/[0-9]{1,8}\.proof"
+                   r"|anchors/[0-9]{8}/(note|note\.sig|note\.tsr|increment|time)|with/[A-Za-z0-9_-][A-Za-z0-9._-]{0,99})")
 # What begins a first key and a state, which open everything.
 SECRET = re.compile(rb"[0-9a-fA-F]{64}\s*\Z|audit-state ")
 
@@ -122,8 +126,8 @@ def inclusion_proof(rows, index, entry):
 
 
 def proofs_of(data, start, chosen):
-    """The chosen entries of a whole export, each with its proof, by their names in a bundle."""
-    if start.count:
+    """The chosen entries of a whole export, each with its proof, by their names in a bundle. Without one nothing is shown."""
+    if start.count or not chosen:
         raise BadArgument
     entries = [entry for _, _, _, entry in linked_entries(data, start)]
     rows = rows_of([leaf_hash(entry) for entry in entries])

@@ -18,7 +18,7 @@ import io
 import sys
 import tarfile
 
-from bundle import SUMS, Claim, packed, with_sums
+from bundle import FILES, SUMS, Claim, packed, with_sums
 from check_proof import MEMBERSHIP, BadProof, event_under, is_accepted, read_proof
 from disclosure import matched, read
 from history import BadArgument, commitment
@@ -38,6 +38,8 @@ def unpacked(data):
                 files[member.name[len("bundle/"):]] = archive.extractfile(member).read() if member.isreg() else b""
     except (tarfile.TarError, ValueError, OSError):
         raise NoBundle("it is no archive") from None
+    if not all(FILES.fullmatch(name) for name in files):
+        raise NoBundle("it has a file that no bundle has")
     if packed(files) != data:
         raise NoBundle("it is not the archive of its files")
     return files
@@ -77,7 +79,7 @@ def shown_by_proof(data, index, key, claimed):
 def shown_by_proofs(files, keys, claimed):
     """The lines of the entries that are proved, and their indices. There is a proof for each key."""
     names = {name for name in files if name.startswith("proofs/")}
-    if names != {"proofs/%d.proof" % index for index in keys}:
+    if not names or names != {"proofs/%d.proof" % index for index in keys}:
         raise NoBundle("there isn't one proof for each key")
     lines = [shown_by_proof(files["proofs/%d.proof" % index], index, keys[index], claimed) for index in sorted(keys)]
     lines.append("proved %d %d" % (len(keys), claimed[0]))

@@ -73,6 +73,11 @@ def try_other_programs(expect, name, newer):
             expect(proof, done("check", proof, newer, "--key", keys[str(index)]).decode(), events[index] + "\n")
 
 
+def claim_of(newer, files):
+    """What is so of a bundle."""
+    return bundle.Claim(newer, int(newer.split(":")[0]), 0, False, CHOSEN, "events.export" in files, 0)
+
+
 def try_lies(expect, data, newer, older):
     """Whatever else is said, or is in the archive, is refused: also where digests and page were made again."""
     def refused(what, other, word=newer):
@@ -89,13 +94,15 @@ def try_lies(expect, data, newer, older):
         refused("bytes left out or added", other)
     for name in files:
         refused("no " + name, bundle.packed({other: files[other] for other in files if other != name}))
+    for name in "../outside", "/outside", "with/..", "with/a\nb", "with/a/b", "other", "anchors/1/note", "":
+        refused("a file named %r" % name, bundle.packed(bundle.with_sums({**rest, name: b"x"}, claim_of(newer, files))))
     refused("a file that no digest has", bundle.packed({**files, "with/more": b"more"}))
     for what, others in (("a time", {"mtime": 1}), ("an owner", {"uname": "root"}), ("a mode", {"mode": 0o600})):
         refused(what, archive(member_of(name, files[name], **others) for name in sorted(files)))
     refused("another order", archive(member_of(name, files[name]) for name in sorted(files, reverse=True)))
     link = member_of("zz", b"", type=tarfile.SYMTYPE, linkname="/etc/passwd")
     refused("a link", archive([*(member_of(name, files[name]) for name in sorted(files)), link]))
-    claim = bundle.Claim(newer, int(newer.split(":")[0]), 0, False, CHOSEN, "events.export" in files, 0)
+    claim = claim_of(newer, files)
     for what, other in (("fewer are shown", claim._replace(chosen=CHOSEN[1:])), ("anchors", claim._replace(anchors=1)),
                         ("the others", claim._replace(others=not claim.others)), ("the count", claim._replace(count=7))):
         refused("a page that is wrong about " + what, bundle.packed(bundle.with_sums(rest, other)))
@@ -113,6 +120,8 @@ def try_exchanged_proofs(refused, rest, claim):
         first, second = proofs[:2]
         changed = {**rest, first: rest[second], second: rest[first]}
         refused("exchanged proofs", bundle.packed(bundle.with_sums(changed, claim)))
+        none = {**{name: rest[name] for name in rest if name not in proofs}, "chosen.keys": b""}
+        refused("nothing is shown", bundle.packed(bundle.with_sums(none, claim._replace(chosen=()))))
         fewer = {name: rest[name] for name in rest if name != first}
         refused("a proof is missing", bundle.packed(bundle.with_sums(fewer, claim)))
         more = {**rest, "proofs/1.proof": rest[first]}
