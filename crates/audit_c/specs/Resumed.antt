@@ -1,7 +1,7 @@
 -- A verification that goes on after a saved state.
 use Rattle.std.specs.Prelude.{◌≡◌, ◌⊎◌, ℕ, List, []}
 use Rattle.audit_verify.specs.State.{StateData}
-use Rattle.audit_saved.specs.Saved.{SpellsState, IsNoState}
+use Rattle.audit_verify_saved.specs.Saved.{SpellsState, IsNoState}
 use Rattle.audit_c.specs.declared.answers.TheConstants.{OK, MALFORMED}
 use Rattle.audit_c.specs.declared.verifier.Verifier.{Verifier}
 use Rattle.audit_c.specs.Fed.{HasBeenFed}

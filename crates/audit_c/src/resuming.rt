@@ -1,12 +1,12 @@
 //! The verification of what follows a saved state.
 ghost use Rattle.std.specs.Prelude.{◌≡◌, ◌==◌, []};
-ghost use Rattle.audit_saved.specs.Saved.{shown};
+ghost use Rattle.audit_verify_saved.specs.Saved.{shown};
 ghost use Rattle.audit_c.specs.Fed.{HasBeenFed};
 ghost use Rattle.audit_c.specs.Resumed.{IsBegunFrom};
 
 use crate::answers::{MALFORMED, OK};
 use crate::verifier::Verifier;
-use audit_saved::{Saved, read_saved};
+use audit_verify_saved::{Saved, read_saved};
 
 /// Begins the verification of the entries after a saved state, by its text. Returns `OK`, or `MALFORMED` if the bytes
 /// are the text of no state; the verifier is then as it was.

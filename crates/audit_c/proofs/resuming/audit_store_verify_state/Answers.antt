@@ -1,5 +1,5 @@
 use Rattle.std.proofs.Common.{inl, inr, refl}
-use Rattle.audit_saved.specs.Saved.{shown}
+use Rattle.audit_verify_saved.specs.Saved.{shown}
 use Rattle.audit_c.proofs.resuming.audit_store_verify_state.Goals as goal
 
 pub returns-in_default : goal.returns-in_default

@@ -1,5 +1,5 @@
 use Rattle.std.proofs.Common.{refl, arith}
-use Rattle.audit_saved.specs.Saved.{shown}
+use Rattle.audit_verify_saved.specs.Saved.{shown}
 use Rattle.audit_c.proofs.Steps.{fed_none}
 use Rattle.audit_c.proofs.resuming.begin.Goals as goal
 
