@@ -138,17 +138,11 @@ impl<F: SectorFile> FileDisk<F> {
         ensures shut { IsTrue result → IsShut self.now }
         ensures reaches { IsFalse result → PassesCalls self.now }
     {
-        self.failed_at.is_some() || self.clock >= self.last_call()
-    }
-
-    /// The clock from which on writes and syncs are refused.
-    fn last_call(&self) -> u64
-        ensures { result ≡ end_of self.now }
-    {
-        match self.single_from {
+        let end = match self.single_from {
             Some(_) => LAST_SINGLE,
             None => u64::MAX,
-        }
+        };
+        self.failed_at.is_some() || self.clock >= end
     }
 
     /// Refuses a write or a sync. From now on every call fails.

@@ -81,7 +81,7 @@ impl SystemFiles for HostRuntime {
 
     fn text_if_any(&self, alloc: Global, path: &str) -> io::Result<Option<String>> {
         match if_any(fs::open(self, path))? {
-            Some(file) => Ok(Some(io::read_to_string(alloc, file)?)),
+            Some(file) => unless_gone(io::read_to_string(alloc, file)),
             None => Ok(None),
         }
     }
@@ -105,6 +105,21 @@ impl SystemFiles for HostRuntime {
             Ok(folder) => folder.sync_all(),
             Err(_) => Ok(()),
         }
+    }
+}
+
+// The error of Linux for a device that isn't there any more (`ENODEV` of errno(3)).
+const NO_DEVICE: i32 = 19;
+
+// What was read of a file of the system, or nothing if the device that it describes went away since it was opened: so
+// reads the file of a loop device that was detached.
+fn unless_gone(text: io::Result<String>) -> io::Result<Option<String>>
+    ensures failed { IsErr result → IsErr text }
+{
+    match text {
+        Ok(text) => Ok(Some(text)),
+        Err(error) if error.raw_os_error() == Some(NO_DEVICE) => Ok(None),
+        Err(error) => Err(error),
     }
 }
 
