@@ -4,7 +4,7 @@ use Rattle.std.proofs.lemmas.Bool.{false≢true}
 use Rattle.std.proofs.lemmas.List.{append-nil, set-get_or, take-map, drop-map, take_all, take-append-drop, drop_more}
 use Rattle.audit_disk_model.specs.declared.sectors.Sectors as sectors
 use Rattle.audit_chain.specs.Event.{EventData}
-use Rattle.audit_store_layout.specs.Origin.{Origin}
+use Rattle.audit_store_commit.specs.Origin.{Origin}
 use Rattle.audit_server_commit.specs.Waiting.{Append}
 use Rattle.audit_server_commit.specs.GroupCommit.{ServerState}
 use Rattle.audit_server_commit.specs.Arrivals.{appends_among}

@@ -3,7 +3,7 @@ use Rattle.std.proofs.Common.{◌≡◌, ◌∙◌, inl, inr, Result, Ok, Err, L
 use Rattle.std.proofs.lemmas.List.{append-nil}
 use Rattle.audit_disk_model.specs.declared.sectors.Sectors as sectors
 use Rattle.audit_chain.specs.Event.{EventData}
-use Rattle.audit_store_layout.specs.Origin.{Origin}
+use Rattle.audit_store_commit.specs.Origin.{Origin}
 use Rattle.audit_server_commit.specs.Waiting.{Append}
 use Rattle.audit_server_commit.specs.GroupCommit.{ServerState}
 use Rattle.audit_server_commit.specs.Arrivals.{Arrival, appends_among, entered}

@@ -2,7 +2,7 @@
 use Rattle.std.specs.Prelude.{◌≡◌, true, false, List, [], ◌∷◌}
 use Rattle.audit_disk_model.specs.declared.sectors.Sectors as sectors
 use Rattle.audit_chain.specs.Event.{EventData}
-use Rattle.audit_store_layout.specs.Origin.{Origin}
+use Rattle.audit_store_commit.specs.Origin.{Origin}
 use Rattle.audit_server_commit.specs.Waiting.{Append, nothing_waits}
 use Rattle.audit_server_commit.specs.Replies.{Sent, all_delivered, AreWhole}
 use Rattle.audit_server_commit.specs.GroupCommit.{ServerState}

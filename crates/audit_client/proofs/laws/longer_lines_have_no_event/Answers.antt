@@ -1,5 +1,0 @@
-use Rattle.audit_client.proofs.LongLines.{long_line_has_no_event}
-use Rattle.audit_client.proofs.laws.longer_lines_have_no_event.Goals as goal
-
-pub returns : goal.returns
-returns c = long_line_has_no_event

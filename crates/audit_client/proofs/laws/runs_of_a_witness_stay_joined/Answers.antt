@@ -1,5 +1,0 @@
-use Rattle.audit_client.proofs.KeptCommitments.{runs_joined}
-use Rattle.audit_client.proofs.laws.runs_of_a_witness_stay_joined.Goals as goal
-
-pub returns : goal.returns
-returns c = runs_joined
