@@ -1,5 +1,5 @@
-"""Compares auditor/check_proof.py and read_export.py with the program, on what a tour left and on damaged copies of it;
-and tries what auditor/disclosure.py discloses of it, and what auditor/bundle.py packs.
+"""Compares auditor/check_proof.py, read_export.py and disclosure.py with the program, on what a tour left and on
+damaged copies of it; and tries what auditor/bundle.py packs.
 
 usage: bin/check auditor EXECUTABLE FOLDER
 
@@ -207,6 +207,20 @@ def answered(*words):
     return status, output.getvalue(), messages.getvalue()
 
 
+def both(expect, *words):
+    """What disclosure.py answers, as the program does, which makes the same file."""
+    makes, out = words[0] == "--make", words[4] if words[0] == "--make" else ""
+    ours, made = answered(*words), os.path.exists(out) and read(out)
+    if makes and ours[0] == 0:
+        os.remove(out)
+    command = ["disclose", *words[1:]] if makes else ["verify", *words, "--disclosed"]
+    code, output, messages = program.whole(*command)
+    said = ours[2].replace("disclosure: ", "audit: ")
+    expect(" ".join(command), (code, output.decode(), messages.decode()), (*ours[:2], said))
+    expect("what is made by it", os.path.exists(out) and read(out), made)
+    return ours
+
+
 def try_disclosures(comparison, entries, older, newer):
     """Chosen events read as the program verified them, and of the others kind and length are shown."""
     def expect(what, found, wanted):
@@ -224,16 +238,16 @@ def try_disclosures(comparison, entries, older, newer):
     of_first_kind = {at for at in range(count) if kinds[at] == kinds[0]}
     for option, word, chosen in (("--events", "3,10-12", {3, 10, 11, 12}), ("--events", "99", set()),
                                  ("--events", "0-%d" % count, set(range(count))), ("--kind", kinds[0], of_first_kind)):
-        made = answered("--make", "events.export", "first.key", newer, "chosen", option, word)
+        made = both(expect, "--make", "events.export", "first.key", newer, "chosen", option, word)
         expect("--make %s" % word, made, (0, "disclosed %d %d\n" % (len(chosen), count), ""))
         expect("the mode", os.stat("chosen").st_mode & 0o777, 0o600)
         wanted = [line if at in chosen else sealed_line(line) for at, line in enumerate(events)]
         wanted.append(lines[-1].replace("verified", "matched"))
-        expect(word, answered("events.export", "chosen", newer), (0, "".join(line + "\n" for line in wanted), ""))
-        expect("another file", answered("--make", "events.export", "first.key", newer, "chosen", option, word),
+        expect(word, both(expect, "events.export", "chosen", newer), (0, "".join(line + "\n" for line in wanted), ""))
+        expect("another file", both(expect, "--make", "events.export", "first.key", newer, "chosen", option, word),
                (1, "", "disclosure: file exists\n"))
         os.remove("chosen")
-    done_by_disclosure = answered("--make", "events.export", "first.key", newer, "chosen", "--events", "3,10-12")
+    done_by_disclosure = both(expect, "--make", "events.export", "first.key", newer, "chosen", "--events", "3,10-12")
     expect("a disclosure for bundles", done_by_disclosure[0], 0)
     try_bundles(expect, entries, newer, older)
     os.remove("chosen")
@@ -242,23 +256,24 @@ def try_disclosures(comparison, entries, older, newer):
 
 def try_damaged_disclosures(expect, entries, newer):
     """Damage to an export is found without a key, also where a MAC is hit: the commitment is to it."""
-    expect("a key's name", answered("--make", "events.export", "first.key", newer, "chosen", "--events", "1")[0], 0)
+    expect("a key's name", both(expect, "--make", "events.export", "first.key", newer, "chosen", "--events", "1")[0], 0)
     data, text = b"".join(entries), read("chosen")
     for damaged in [*turned(data, 97), data[:-1], b"".join(entries[:-1]), b"".join(entries[1:]), data + entries[0]]:
         write("damaged", damaged)
-        status, shown, _ = answered("damaged", "chosen", newer)
+        status, shown, _ = both(expect, "damaged", "chosen", newer)
         expect("a damaged export", (status, shown), (1, ""))
-        made = answered("--make", "damaged", "first.key", newer, "none", "--events", "1")
+        made = both(expect, "--make", "damaged", "first.key", newer, "none", "--events", "1")
         expect("what is made of it", made[:2], (1, ""))
         expect("what is left", os.path.exists("none"), False)
     for other in (text[:-1], text + b"\n", text.replace(b"key 1", b"key 01"), text + text, text.upper(), b"\xff",
                   b"count 0\n" + text, text.replace(b"\n", b"\r\n")):
         write("other", other)
-        shown = answered("events.export", "other", newer)
+        shown = both(expect, "events.export", "other", newer)
         expect("the disclosure %r" % other, shown, (2, "", "disclosure: bad argument\n"))
-    for words in (("--kind", ""), ("--kind", "4294967296"), ("--events", "2-1"), ("--events", "1,"), ("--event", "1")):
-        expect(" ".join(words), answered("--make", "events.export", "first.key", newer, "none", *words)[0], 2)
-    expect("a missing export", answered("missing", "chosen", newer), (3, "", "disclosure: file fault\n"))
+    for words in (("--kind", ""), ("--kind", "4294967296"), ("--events", "2-1"), ("--events", "1,"),
+                  ("--events", "1-")):
+        expect(" ".join(words), both(expect, "--make", "events.export", "first.key", newer, "none", *words)[0], 2)
+    expect("a missing export", both(expect, "missing", "chosen", newer), (3, "", "disclosure: file fault\n"))
     try_disclosed_tail(expect, entries, newer)
 
 
@@ -270,11 +285,11 @@ def try_disclosed_tail(expect, entries, newer):
     at_half = word_of(half, history.root([history.leaf_hash(entry) for entry in entries[:half]]))
     done("verify", "front", "first.key", at_half, "--save", "half.state")
     lines = done("verify", "tail", "half.state", newer).decode().splitlines()
-    made = answered("--make", "tail", "half.state", newer, "later", "--events", "%d-" % half + str(half + 1))
+    made = both(expect, "--make", "tail", "half.state", newer, "later", "--events", "%d-" % half + str(half + 1))
     expect("a tail's disclosure", made, (0, "disclosed 2 %d\n" % len(entries), ""))
     wanted = lines[:2] + [sealed_line(line) for line in lines[2:-1]] + [lines[-1].replace("verified", "matched")]
-    expect("a tail", answered("tail", "later", newer), (0, "".join(line + "\n" for line in wanted), ""))
-    expect("a tail without its state", answered("tail", "chosen", newer)[0], 1)
+    expect("a tail", both(expect, "tail", "later", newer), (0, "".join(line + "\n" for line in wanted), ""))
+    expect("a tail without its state", both(expect, "tail", "chosen", newer)[0], 1)
     key = read_export.read_start("half.state").key.hex().encode()
     expect("whether the state's key is in it", key in read("later"), False)
 

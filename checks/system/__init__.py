@@ -9,10 +9,11 @@ device or another user is left out where these are missing. Expected results are
 """
 from checks.parts.scenes import play_in_rooms, scenes_in, words_of
 from checks.system import (
-    devices, following, outputs, prepared, progress, reading, rights, rotating, salvaging, saying, sharing, streams)
+    devices, disclosing, following, outputs, prepared, progress, reading, rights, rotating, salvaging, saying, sharing,
+    streams)
 
-SCENES = scenes_in(streams, sharing, following, rotating, prepared, rights, outputs, devices, saying, reading, salvaging,
-                   progress)
+SCENES = scenes_in(streams, sharing, following, rotating, prepared, rights, outputs, disclosing, devices, saying,
+                   reading, salvaging, progress)
 
 
 def main(words):
