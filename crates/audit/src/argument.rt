@@ -2,13 +2,14 @@
 use crate::bytes::Bytes;
 use crate::command::Asked;
 use crate::contents::{StateText, state_in, state_or_other};
-use crate::continuing::explain_start;
+use crate::continuing::{explain_start, verified_by};
 use crate::form::key_flaw;
 use crate::noted::unread_note;
 use crate::places::key_file_of;
 use crate::question::bad_question;
 use crate::wrong_word::wrong_word;
 use audit_cli_client::Request as Remote;
+use audit_cli_disclosure::Request as Disclosure;
 use audit_cli_host::Notes;
 use audit_cli_store::Request;
 use audit_disk::FileIdentity;
@@ -29,11 +30,11 @@ pub(crate) fn explain_argument<F: Files, M: Write>(
         let shown = Shown(file);
         return writeln!(messages, "audit: {shown}: it isn't a note");
     }
-    if let Asked::Plain(Request::Verify(asked)) = asked
+    if let Some(verified) = verified_by(asked)
         && may_be_state(notes)
-        && let Some(state) = state_in(rt, alloc, asked.start)
+        && let Some(state) = state_in(rt, alloc, verified.start)
     {
-        return explain_start(asked, state, messages);
+        return explain_start(asked, verified, state, messages);
     }
     if let Asked::Remote(Remote::Read { state, .. }) = asked
         && wrong_word(asked).is_none()
@@ -73,6 +74,13 @@ pub(crate) fn explain_argument<F: Files, M: Write>(
             writeln!(
                 messages,
                 "audit: {shown}: a link, which is checked under two commitments, OLDER and NEWER"
+            )
+        }
+        Asked::Disclosure(Disclosure::Show(asked)) => {
+            let shown = Shown(asked.disclosed);
+            writeln!(
+                messages,
+                "audit: {shown}: no disclosure, or one that was changed or cut off"
             )
         }
         Asked::Plain(Request::Open(asked)) => {

@@ -7,6 +7,7 @@ use crate::noted::unread_note;
 use crate::places::store_of;
 use audit_cli_client::Request as Remote;
 use audit_cli_daemon::Request as Daemon;
+use audit_cli_disclosure::Request as Disclosure;
 use audit_cli_host::Notes;
 use audit_cli_rotate::Prepared;
 use audit_cli_store::{Access, Request};
@@ -162,6 +163,8 @@ pub(crate) fn explain_contents<F: Files, M: Write>(
         Asked::Plain(Request::Open(asked)) => (Some(asked.proof), Contents::Proof),
         Asked::Plain(Request::CheckLink(asked)) => (Some(asked.link), Contents::Link),
         Asked::Plain(Request::Verify(asked)) => (Some(asked.export), Contents::Export),
+        Asked::Disclosure(Disclosure::Disclose(asked)) => (Some(asked.export), Contents::Export),
+        Asked::Disclosure(Disclosure::Show(asked)) => (Some(asked.export), Contents::Export),
         Asked::Prepared(
             Prepared {
                 after: Some(after),

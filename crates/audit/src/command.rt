@@ -1,9 +1,12 @@
-use crate::forms::{EXPLAIN, EXTENDS, NO_PROGRESS, PREPARED, WRITER, command_line};
+use crate::forms::{
+    DISCLOSED, EVENTS, EXPLAIN, EXTENDS, NO_PROGRESS, PREPARED, WRITER, command_line,
+};
 use crate::noted::NoteRequest;
 use crate::remote_command::remote_request;
 use audit_cli_append::Request as Lines;
 use audit_cli_client::Request as Remote;
 use audit_cli_daemon::{Request as Daemon, Settings};
+use audit_cli_disclosure::{ChoiceWord, Disclosing, Request as Disclosure, Showing};
 use audit_cli_offline::{CheckForm, ReportForm};
 use audit_cli_rotate::{Prepared, Request as Rotation};
 use audit_cli_serve::Request as Serving;
@@ -32,6 +35,8 @@ pub enum Asked<'a> {
     Plain(Request<'a>),
     /// A note of a commitment.
     Note(NoteRequest<'a>),
+    /// A disclosure that is made, or by which an export is shown.
+    Disclosure(Disclosure<'a>),
     /// An append of lines.
     Lines(Lines<'a>),
     /// Closing a log, and beginning a new store with its last commitment.
@@ -85,6 +90,10 @@ fn asked_by<'m, 'a: 'm>(name: &str, given: &'m ArgMatches<'a>) -> Asked<'m> {
     }
     match name {
         "append" => Asked::Lines(append_request(given)),
+        "disclose" => Asked::Disclosure(Disclosure::Disclose(disclosing(given))),
+        "verify" if given.get_flag(DISCLOSED) => Asked::Disclosure(Disclosure::Show(showing(
+            given,
+        ))),
         "note" => Asked::Note(NoteRequest {
             name: word(given, "NAME"),
             commitment: word(given, "COMMIT"),
@@ -263,6 +272,28 @@ fn verify_request<'a>(given: &ArgMatches<'a>) -> Request<'a> {
         from: given.get_str("from"),
         save: given.get_str("save"),
     })
+}
+
+fn disclosing<'a>(given: &ArgMatches<'a>) -> Disclosing<'a> {
+    Disclosing {
+        export: word(given, "EXPORT"),
+        start: word(given, "KEYFILE"),
+        commitment: word(given, "COMMIT"),
+        out: word(given, "OUT"),
+        choice: match given.get_str(EVENTS) {
+            Some(events) => ChoiceWord::Events(events),
+            None => ChoiceWord::Kinds(word(given, "kind")),
+        },
+    }
+}
+
+fn showing<'a>(given: &ArgMatches<'a>) -> Showing<'a> {
+    Showing {
+        export: word(given, "EXPORT"),
+        disclosed: word(given, "KEYFILE"),
+        commitment: word(given, "COMMIT"),
+        form: report_form(given),
+    }
 }
 
 fn prove_request<'a>(given: &ArgMatches<'a>) -> Request<'a> {

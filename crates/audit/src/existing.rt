@@ -3,6 +3,7 @@ use crate::argument::is_same;
 use crate::command::Asked;
 use crate::contents::{state_in, store_head};
 use audit_cli_client::Request as Remote;
+use audit_cli_disclosure::Request as Disclosure;
 use audit_cli_store::{Request, Site, Verification};
 use audit_disk::FileIdentity;
 use audit_text::Shown;
@@ -51,6 +52,9 @@ pub(crate) fn explain_existing<F: Files, M: Write>(
             }
         },
         Asked::Rotation(rotation) => (rotation.new, "it isn't the store that these words make"),
+        Asked::Disclosure(Disclosure::Disclose(asked)) => {
+            (asked.out, "it is there, and a disclosure replaces nothing")
+        }
         _ => return Ok(()),
     };
     writeln!(messages, "audit: {}: {cause}", Shown(path))

@@ -25,6 +25,8 @@ pub(crate) enum Form<'a> {
     Kind,
     /// Kinds of any events, with commas between them.
     Kinds,
+    /// Numbers, or two with a dash between them, with commas between them.
+    Rows,
     /// Permissions.
     Mode,
     /// A count and a root.
@@ -68,6 +70,7 @@ impl Form<'_> {
             },
             Form::Kind => kind_in_word(bytes).is_some(),
             Form::Kinds => word.split(',').all(|part| is_any_kind(part)),
+            Form::Rows => word.split(',').all(|part| is_row(part.as_bytes())),
             Form::Mode => mode_asked(word).is_ok(),
             Form::Commitment => commitment_in_word(bytes).is_some(),
             Form::Key => {
@@ -115,6 +118,9 @@ impl Display for Form<'_> {
             Form::Kinds => f.write_str(
                 "numbers from 0 to 4294967295, in decimal digits, with commas between them",
             ),
+            Form::Rows => f.write_str(
+                "numbers below 2^64, or two with a dash between them, with commas between them",
+            ),
             Form::Mode => f.write_str("600 to 677, in octal digits"),
             Form::Commitment => f.write_str("COUNT:ROOT, a number and 64 hex digits"),
             Form::Key => write!(f, "{KEY_DIGITS} hex digits"),
@@ -146,6 +152,20 @@ fn is_any_kind(word: &str) -> bool {
     match number_in_text(word.as_bytes()) {
         Some(kind) => kind <= u64::from(u32::MAX),
         None => false,
+    }
+}
+
+// Whether a word is a number, or two with a dash between them, of which the second isn't less.
+fn is_row(word: &[u8]) -> bool {
+    let (first, last) = split_at_first(word, b'-');
+    let last = if first.len() == word.len() {
+        first
+    } else {
+        last
+    };
+    match (number_in_text(first), number_in_text(last)) {
+        (Some(first), Some(last)) => first <= last,
+        _ => false,
     }
 }
 

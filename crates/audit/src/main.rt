@@ -2,9 +2,11 @@
 #![tactic(auto)]
 
 mod argument;
+mod auditor_forms;
 mod bytes;
 mod cause;
 mod command;
+mod command_form;
 mod contents;
 mod continuing;
 mod disk_blocks;
@@ -22,6 +24,8 @@ mod question;
 mod remote_command;
 mod remote_forms;
 mod server;
+mod serving_forms;
+mod store_forms;
 mod streams;
 mod warning;
 mod witnessed;
@@ -29,14 +33,15 @@ mod words;
 mod wrong_word;
 
 use audit_cli_base::{CommandError, Status, report};
-use audit_cli_host::{Host, Messages, NotedFile, Notes, Progress, Subject};
+use audit_cli_host::{Host, NotedFile, Notes, Subject};
+use audit_cli_terminal::{Messages, Progress};
 use audit_store::StoreError;
 use program::{Terminals, run};
-use std::env::Args;
+use std::env::{self, Args};
 use std::io::{self, BufWriter, ErrorKind, IsTerminal, Write};
 use std::process::ExitCode;
 use streams::hold_standard_streams;
-use words::words;
+use words::Named;
 
 // The size in bytes of the buffer for output.
 const OUTPUT_ROOM: usize = 1 << 16;
@@ -49,7 +54,8 @@ fn start(rt: &HostRuntime) -> Status {
     if hold_standard_streams(rt).is_err() {
         return report(CommandError::File, &mut rt.stderr());
     }
-    let begun = match words(rt, rt.alloc()) {
+    // The first word is the program's name. Otherwise memory is refused, or a word isn't text.
+    let begun = match env::args(&(Named(rt), rt.alloc())) {
         Ok(words) => run_words(rt, words),
         Err(error) => Err(error),
     };
@@ -60,28 +66,18 @@ fn start(rt: &HostRuntime) -> Status {
 }
 
 fn run_words(rt: &HostRuntime, words: Args) -> io::Result<Status> {
-    let words: Vec<String> = words.collect(rt.alloc())?;
-    let progress = Progress::new(rt);
-    let status = run_noted(rt, &words, &Notes::new(&words, &progress), &progress);
-    progress.erase();
-    status
-}
-
-fn run_noted(
-    rt: &HostRuntime,
-    words: &[String],
-    notes: &Notes<'_>,
-    progress: &Progress<'_>,
-) -> io::Result<Status> {
     let alloc = rt.alloc();
-    let mut input = NotedFile::new(rt.reader(), Subject::Input, notes);
-    let output = NotedFile::new(io::writer(rt), Subject::Output, notes);
+    let words: Vec<String> = words.collect(alloc)?;
+    let progress = Progress::new(rt);
+    let notes = Notes::new(&words, &progress);
+    let mut input = NotedFile::new(rt.reader(), Subject::Input, &notes);
+    let output = NotedFile::new(io::writer(rt), Subject::Output, &notes);
     let mut output = BufWriter::with_capacity(alloc, OUTPUT_ROOM, output)?;
-    Ok(run(
-        &Host::new(rt, notes),
+    let status = run(
+        &Host::new(rt, &notes),
         alloc,
-        words,
-        notes,
+        &words,
+        &notes,
         Terminals {
             input: rt.stdin().is_terminal(),
             output: rt.stdout().is_terminal(),
@@ -89,8 +85,10 @@ fn run_noted(
         },
         &mut input,
         &mut output,
-        &mut Messages::new(progress),
-    ))
+        &mut Messages::new(&progress),
+    );
+    progress.erase();
+    Ok(status)
 }
 
 // Prints why the program couldn't start: memory was refused, or a word isn't text.

@@ -1,6 +1,7 @@
 //! Notes: the command that writes one, and the words of other commands that name a file with one.
 use crate::command::Asked;
 use audit_cli_base::CommandError;
+use audit_cli_disclosure::Request as Disclosure;
 use audit_cli_note::{NoteError, named_commitment, note_path};
 use audit_cli_store::Request;
 use audit_disk::{SystemFile, SystemFiles};
@@ -91,6 +92,8 @@ fn commitment_words<'a>(asked: Asked<'a>) -> (Option<&'a str>, Option<&'a str>) 
         Asked::Plain(Request::CheckLink(asked)) => (Some(asked.old), asked.new),
         Asked::Plain(Request::Verify(asked)) => (Some(asked.commitment), None),
         Asked::Note(note) => (Some(note.commitment), None),
+        Asked::Disclosure(Disclosure::Disclose(asked)) => (Some(asked.commitment), None),
+        Asked::Disclosure(Disclosure::Show(asked)) => (Some(asked.commitment), None),
         _ => (None, None),
     }
 }
@@ -153,6 +156,14 @@ fn with_first<'a>(asked: Asked<'a>, word: &'a str) -> Asked<'a> {
         Asked::Note(mut note) => {
             note.commitment = word;
             Asked::Note(note)
+        }
+        Asked::Disclosure(Disclosure::Disclose(mut asked)) => {
+            asked.commitment = word;
+            Asked::Disclosure(Disclosure::Disclose(asked))
+        }
+        Asked::Disclosure(Disclosure::Show(mut asked)) => {
+            asked.commitment = word;
+            Asked::Disclosure(Disclosure::Show(asked))
         }
         _ => asked,
     }

@@ -2,6 +2,7 @@
 use crate::command::Asked;
 use audit_cli_client::Request as Remote;
 use audit_cli_daemon::Request as Daemon;
+use audit_cli_disclosure::Request as Disclosure;
 use audit_cli_serve::Request as Serving;
 use audit_cli_store::Request;
 
@@ -14,7 +15,10 @@ pub(crate) fn store_of<'a>(asked: Asked<'a>) -> Option<&'a str> {
         Asked::Prepared(asked) => Some(asked.old),
         Asked::Serving(Serving::Serve { file, .. } | Serving::Loop { file, .. }) => Some(file),
         Asked::Daemon(Daemon::Run(settings)) => Some(settings.file),
-        Asked::Daemon(Daemon::Stop { .. }) | Asked::Remote(_) | Asked::Note(_) => None,
+        Asked::Daemon(Daemon::Stop { .. })
+        | Asked::Remote(_)
+        | Asked::Note(_)
+        | Asked::Disclosure(_) => None,
     }
 }
 
@@ -39,6 +43,7 @@ pub(crate) fn key_file_of<'a>(asked: Asked<'a>) -> Option<&'a str> {
     match asked {
         Asked::Plain(Request::Format { key_file, .. }) => Some(key_file),
         Asked::Plain(Request::Verify(asked)) => Some(asked.start),
+        Asked::Disclosure(Disclosure::Disclose(asked)) => Some(asked.start),
         Asked::Rotation(rotation) => Some(rotation.key_file),
         Asked::Remote(Remote::Read { state, first, .. }) => Some(first.unwrap_or(state)),
         _ => None,

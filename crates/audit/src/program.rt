@@ -9,12 +9,14 @@ use audit_cli_base::{CommandError, Status, report, report_end};
 use audit_cli_calls::SystemStores;
 use audit_cli_client::{Request as Remote, SystemServers};
 use audit_cli_daemon::{Request as Daemon, Settings};
-use audit_cli_host::{Dial, Extent, Notes, Screen, Subject};
+use audit_cli_disclosure::{Disclosing, Request as Disclosure, Showing, SystemAuditorFiles};
+use audit_cli_host::{Dial, Extent, Notes, Subject};
 use audit_cli_note::write_note;
 use audit_cli_offline::ReportForm;
 use audit_cli_rotate::{Prepared, Request as Rotation};
 use audit_cli_serve::Request as Serving;
 use audit_cli_store::Request;
+use audit_cli_terminal::Screen;
 use audit_disk::{SystemFile, SystemFiles};
 use audit_proof::Commitment;
 use audit_serve_sockets::SystemSockets;
@@ -59,29 +61,12 @@ where
         hint(messages);
     }
     match matches_of(alloc, words) {
-        Ok(matches) => run_given(
-            rt, alloc, &matches, notes, terminals, input, output, messages,
-        ),
+        Ok(matches) => {
+            let line = request_of(&matches);
+            run_line(rt, alloc, line, notes, terminals, input, output, messages)
+        }
         Err(error) => explain_words(alloc, words, &error, notes, output, messages),
     }
-}
-
-// Runs the command that was given.
-fn run_given<F: SystemFiles + SystemSockets + Clock + Dial, R: Read, W: Write, M: Write>(
-    rt: &F,
-    alloc: Global,
-    matches: &ArgMatches<'_>,
-    notes: &Notes<'_>,
-    terminals: Terminals,
-    input: &mut R,
-    output: &mut W,
-    messages: &mut M,
-) -> Status
-where
-    F::File: SystemFile,
-{
-    let line = request_of(matches);
-    run_line(rt, alloc, line, notes, terminals, input, output, messages)
 }
 
 // Runs the command of a command line, and explains its end.
@@ -186,7 +171,7 @@ fn only_answers(asked: Asked<'_>) -> bool {
     match asked {
         Asked::Plain(Request::Format { .. } | Request::Close { .. }) => false,
         Asked::Plain(Request::Verify(asked)) => asked.save.is_none(),
-        Asked::Plain(_) | Asked::Note(_) => true,
+        Asked::Plain(_) | Asked::Note(_) | Asked::Disclosure(Disclosure::Show(_)) => true,
         Asked::Remote(Remote::Ask { question, .. }) => question.0 != "close",
         _ => false,
     }
@@ -210,6 +195,7 @@ where
     match asked {
         Asked::Plain(request) => answer(rt, alloc, request, input, output, messages),
         Asked::Note(request) => note(alloc, request, output, messages),
+        Asked::Disclosure(request) => disclose(rt, alloc, request, output, messages),
         Asked::Lines(request) => append(rt, alloc, request, older, input, output, messages),
         Asked::Rotation(request) => rotate(rt, alloc, request, output, messages),
         Asked::Prepared(request) => rotate_prepared(rt, alloc, request, output, messages),
@@ -246,6 +232,21 @@ fn note<W: Write, M: Write>(
         Err(fault) => Err(fault_of(fault)),
     };
     report_end(done, output.flush(), messages)
+}
+
+#[inline(never)]
+fn disclose<F: SystemFiles, W: Write, M: Write>(
+    rt: &F,
+    alloc: Global,
+    request: Disclosure<'_>,
+    output: &mut W,
+    messages: &mut M,
+) -> Status
+where
+    F::File: SystemFile,
+{
+    let mut files = SystemAuditorFiles::new(rt);
+    audit_cli_disclosure::run(&mut files, alloc, request, output, messages)
 }
 
 #[inline(never)]
@@ -348,6 +349,7 @@ where
 fn prints_text(asked: Asked<'_>) -> bool {
     match asked {
         Asked::Plain(Request::Verify(asked)) => asked.form != ReportForm::Events,
+        Asked::Disclosure(Disclosure::Show(asked)) => asked.form != ReportForm::Events,
         Asked::Remote(Remote::Read { form, .. }) => form != ReportForm::Events,
         _ => false,
     }
@@ -359,6 +361,10 @@ fn show_progress(asked: Asked<'_>, notes: &Notes<'_>) {
         Asked::Plain(Request::Verify(asked)) => {
             notes.show_progress(notes.subject_of(asked.export), Extent::Whole)
         }
+        Asked::Disclosure(
+            Disclosure::Disclose(Disclosing { export, .. })
+            | Disclosure::Show(Showing { export, .. }),
+        ) => notes.show_progress(notes.subject_of(export), Extent::Whole),
         Asked::Plain(
             Request::Format { file, .. }
             | Request::Close { file }

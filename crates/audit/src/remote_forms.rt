@@ -1,5 +1,6 @@
 //! The commands that ask a server, as the command line and its help show them.
-use crate::forms::{Choice, Form, LINK, Word};
+use crate::command_form::{Choice, Form, Word};
+use crate::forms::LINK;
 
 static SEND: Form = Form {
     name: "send",

@@ -1,5 +1,6 @@
 //! The newest commitment in the file of a witness that a command line names: the log of its store has to extend it.
-use audit_cli_client::{RemoteError, witnessed_at};
+use audit_cli_connection::RemoteError;
+use audit_cli_witness::witnessed_at;
 use audit_proof::Commitment;
 use std::alloc::Global;
 use std::fs::Files;

@@ -1,14 +1,12 @@
-use std::alloc::Global;
-use std::env::{Args, Env, FillError};
-use std::{env, io};
+use std::env::{Env, FillError};
 
 // The program's name in its own texts.
 const NAME: [u8; 5] = *b"audit";
 
-// An environment in which the program has this name, whatever path it was started by. That path may not be text, and
-// nothing depends on it.
+/// An environment in which the program has this name, whatever path it was started by. That path may not be text, and
+/// nothing depends on it.
 #[derive(Drop)]
-struct Named<'a, E>(&'a E);
+pub struct Named<'a, E>(pub &'a E);
 
 impl<E: Env> Env for Named<'_, E> {
     fn arg(&self, i: usize, buf: &mut [u8]) -> Result<usize, FillError> {
@@ -29,10 +27,4 @@ impl<E: Env> Env for Named<'_, E> {
     fn var_at(&self, i: usize, buf: &mut [u8]) -> Result<usize, FillError> {
         self.0.var_at(i, buf)
     }
-}
-
-/// Returns the words of the command line, of which the first is the program's name. Errors: `OutOfMemory` if memory is
-/// refused, and another error if a word isn't text.
-pub fn words<R: Env>(rt: &R, alloc: Global) -> io::Result<Args> {
-    env::args(&(Named(rt), alloc))
 }

@@ -4,6 +4,7 @@ use crate::form::Form;
 use audit_cli_append::Request as Lines;
 use audit_cli_client::Request as Remote;
 use audit_cli_daemon::{Request as Daemon, Settings, source_in};
+use audit_cli_disclosure::{ChoiceWord, Request as Disclosure};
 use audit_cli_serve::Request as Serving;
 use audit_cli_store::{Request, Site};
 use audit_log::{MAX_SECTORS, MIN_SECTORS};
@@ -65,6 +66,7 @@ pub(crate) fn wrong_word<'a>(asked: Asked<'a>) -> Option<Wrong<'a>> {
             Some(note.commitment),
             Form::Commitment,
         )),
+        Asked::Disclosure(request) => wrong_in_disclosure(request),
         Asked::Lines(lines) => wrong_in_lines(lines),
         Asked::Rotation(rotation) => judge("SECTORS", Some(rotation.sectors), SECTORS),
         Asked::Prepared(_) => None,
@@ -131,6 +133,19 @@ fn wrong_in_plain<'a>(request: Request<'a>) -> Option<Wrong<'a>> {
         | Request::Close { .. }
         | Request::Show { .. }
         | Request::ShowHeader { .. } => None,
+    }
+}
+
+fn wrong_in_disclosure<'a>(request: Disclosure<'a>) -> Option<Wrong<'a>> {
+    match request {
+        Disclosure::Disclose(asked) => {
+            let choice = match asked.choice {
+                ChoiceWord::Kinds(kinds) => judge("--kind", Some(kinds), Form::Kinds),
+                ChoiceWord::Events(events) => judge("--events", Some(events), Form::Rows),
+            };
+            judge("COMMIT", Some(asked.commitment), Form::Commitment).or(choice)
+        }
+        Disclosure::Show(asked) => judge("COMMIT", Some(asked.commitment), Form::Commitment),
     }
 }
 

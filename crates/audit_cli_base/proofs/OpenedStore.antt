@@ -9,7 +9,7 @@ use Rattle.audit_disk.specs.Positioned.{PositionedView, ShowsFront}
 use Rattle.audit_disk.proofs.FileSectors.{take-sectors_of}
 use Rattle.audit_log.specs.Reads.{OnlyReads}
 use Rattle.audit_log.specs.declared.header.Header.{Header}
-use Rattle.audit_store_layout.specs.IndexData.{IndexData}
+use Rattle.audit_store_commit.specs.IndexData.{IndexData}
 use Rattle.audit_store.specs.Recovered.{IsOpened}
 use Rattle.audit_cli_base.specs.OpenedStore.{FindsHeader, IsDeviceAt, IsReadDeviceAt}
 use Rattle.audit_cli_base.specs.declared.fault.CommandError.{CommandError}

@@ -8,10 +8,10 @@ use Rattle.audit_disk.specs.Positioned.{PositionedView, ShowsFront}
 use Rattle.audit_log.specs.declared.header.Header.{Header}
 use Rattle.audit_tree.specs.Subtree.{leaf_hash_of}
 use Rattle.audit_proof.specs.declared.commitment.Commitment.{Commitment}
-use Rattle.audit_store_layout.specs.Headers.{log_leaves}
-use Rattle.audit_store_layout.specs.Layout.{IsRecoverable}
-use Rattle.audit_store_layout.specs.Origin.{Origin}
-use Rattle.audit_store_layout.specs.Recovery.{restored_header}
+use Rattle.audit_store_commit.specs.Headers.{log_leaves}
+use Rattle.audit_store_commit.specs.Layout.{IsRecoverable}
+use Rattle.audit_store_commit.specs.Origin.{Origin}
+use Rattle.audit_store_commit.specs.Recovery.{restored_header}
 use Rattle.audit_store.specs.Recovered.{CanBeOpened, IsOpened, IsOfDeviceOrMemory}
 use Rattle.audit_store.specs.Extending.{ExtendsGiven, IsOtherLog, OnExtendingError}
 use Rattle.audit_store.specs.declared.extending_error.ExtendingError.{ExtendingError}

@@ -4,7 +4,7 @@ ghost use Rattle.audit_chain.specs.Event.{EventData};
 ghost use Rattle.audit_chain.specs.Entries.{log_entries};
 ghost use Rattle.audit_proof.specs.Acceptance.{commitment_to};
 ghost use Rattle.audit_proof.specs.declared.commitment.Commitment.{Commitment};
-ghost use Rattle.audit_store_layout.specs.Origin.{Origin};
+ghost use Rattle.audit_store_commit.specs.Origin.{Origin};
 ghost use Rattle.audit_store.specs.Extending.{ExtendsCommitment};
 ghost use Rattle.audit_store.specs.Store.{index_of, Holds};
 ghost use Rattle.audit_verify.specs.TreesCollide.{TreesCollide};

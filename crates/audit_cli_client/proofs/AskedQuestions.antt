@@ -3,26 +3,26 @@ use Rattle.std.specs.Prelude.{◌≡◌, ◌⊎◌, ℕ, Option, Some, None, Lis
 use Rattle.std.specs.List.{concat}
 use Rattle.std.proofs.Common.{inl, inr, refl, sym, ap, subst}
 use Rattle.audit_proof.specs.declared.commitment.Commitment.{Commitment}
-use Rattle.audit_client.specs.declared.exporting.Export.{Export}
-use Rattle.audit_client.specs.declared.fault.ClientError.{ClientError}
-use Rattle.audit_client.specs.declared.putting.AskError.{AskError}
-use Rattle.audit_client.specs.declared.putting.AskError.TheVariants as asking
-use Rattle.audit_client.specs.Exporting.{GivesExport}
-use Rattle.audit_client.specs.Failing.{FailsNewest, FailsClosing, FailsExport, FailsPutting, FailsPuttingOne, IsUnasked}
-use Rattle.audit_client.specs.declared.store_state.StoreState.{StoreState}
-use Rattle.audit_client.specs.StateAsking.{FailsState}
-use Rattle.audit_client.specs.declared.kind_place.KindPlace.{KindPlace}
-use Rattle.audit_client.specs.PlaceAsking.{FailsPlace}
-use Rattle.audit_client.specs.Putting.{IsFile, AreGivenEntries}
-use Rattle.audit_client.specs.Watching.{GivesNewest}
-use Rattle.audit_cli_client.specs.declared.arguments.Evidence.{Evidence}
-use Rattle.audit_cli_client.specs.declared.arguments.Question.{Question}
-use Rattle.audit_cli_client.specs.declared.arguments.Question.TheVariants as question
-use Rattle.audit_cli_client.specs.declared.fault.RemoteError.{RemoteError}
-use Rattle.audit_cli_client.specs.declared.fault.RemoteError.TheVariants.{Server}
+use Rattle.audit_wire_ask.specs.declared.exporting.Export.{Export}
+use Rattle.audit_wire_ask.specs.declared.fault.ClientError.{ClientError}
+use Rattle.audit_wire_ask.specs.declared.putting.AskError.{AskError}
+use Rattle.audit_wire_ask.specs.declared.putting.AskError.TheVariants as asking
+use Rattle.audit_wire_ask.specs.Exporting.{GivesExport}
+use Rattle.audit_wire_ask.specs.Failing.{FailsNewest, FailsClosing, FailsExport, FailsPutting, FailsPuttingOne, IsUnasked}
+use Rattle.audit_wire_ask.specs.declared.store_state.StoreState.{StoreState}
+use Rattle.audit_wire_ask.specs.StateAsking.{FailsState}
+use Rattle.audit_wire_ask.specs.declared.kind_place.KindPlace.{KindPlace}
+use Rattle.audit_wire_ask.specs.PlaceAsking.{FailsPlace}
+use Rattle.audit_wire_ask.specs.Putting.{IsFile, AreGivenEntries}
+use Rattle.audit_wire_ask.specs.Watching.{GivesNewest}
+use Rattle.audit_cli_connection.specs.declared.question.Evidence.{Evidence}
+use Rattle.audit_cli_connection.specs.declared.question.Question.{Question}
+use Rattle.audit_cli_connection.specs.declared.question.Question.TheVariants as question
+use Rattle.audit_cli_connection.specs.declared.fault.RemoteError.{RemoteError}
+use Rattle.audit_cli_connection.specs.declared.fault.RemoteError.TheVariants.{Server}
 use Rattle.audit_cli_client.specs.Asked.{AsksOnly, AnswersQuestion, GivesState, GivesPlace, GivesLast, IsGivenEvidence, FailsEvidence}
 use Rattle.audit_cli_client.specs.Arguments.{judged_question}
-use Rattle.audit_cli_client.specs.Faults.{of_asking}
+use Rattle.audit_cli_connection.specs.Faults.{of_asking}
 use denote.Ref.{Bor}
 
 -- what was put is given

@@ -3,11 +3,11 @@ use Rattle.std.specs.Prelude.{Bool, false, Option, Result, Ok, Err}
 use Rattle.std.specs.List.{flat_map, AllByRecursion}
 use Rattle.std.proofs.Common.{◌≡◌, ◌∙◌, ℕ, ◌+◌, List, [], ◌∷◌, ◌++◌, length, length-append, refl, sym, subst, arith}
 use Rattle.std.proofs.lemmas.Grind.{flat_map-append}
-use Rattle.audit_cli_client.specs.declared.fault.RemoteError.{RemoteError}
-use Rattle.audit_cli_client.specs.Faults.{is_passing_fault}
-use Rattle.audit_cli_client.specs.declared.reading.ReadTask.{ReadTask}
+use Rattle.audit_cli_connection.specs.declared.fault.RemoteError.{RemoteError}
+use Rattle.audit_cli_connection.specs.Faults.{is_passing_fault}
+use Rattle.audit_cli_connection.specs.declared.read_task.ReadTask.{ReadTask}
 use Rattle.audit_cli_client.specs.ReadingTask.{FollowsReading, OneReading, IsReadAgain, ArePrintedInTurn, reading_calls_of, ReadsOnAgain, ReadsLast}
-use Rattle.audit_cli_client.specs.ServerCalls.{ServersModel, a_reading, a_rest}
+use Rattle.audit_cli_connection.specs.ServerCalls.{ServersModel, a_reading, a_rest}
 
 again_more : (readings : List OneReading) (one : OneReading) → AllByRecursion (λ (reading : OneReading). IsReadAgain reading.done) readings → IsReadAgain one.done
     → AllByRecursion (λ (reading : OneReading). IsReadAgain reading.done) (readings ++ one ∷ [])

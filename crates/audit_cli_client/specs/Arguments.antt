@@ -14,20 +14,20 @@ use Rattle.audit_cli_base.specs.declared.fault.CommandError.TheVariants.{BadArgu
 use Rattle.audit_cli_base.specs.SocketPath.{IsNoSocketPath}
 use Rattle.audit_text.specs.declared.line_form.LineForm.{LineForm}
 use Rattle.audit_text.specs.declared.line_form.LineForm.TheVariants.{Spelled, Text}
-use Rattle.audit_client.specs.declared.placing.Placing.{Placing}
-use Rattle.audit_client.specs.declared.placing.Placing.TheVariants as placing
-use Rattle.audit_client.specs.declared.stop_at.StopAt.{StopAt}
-use Rattle.audit_client.specs.declared.stop_at.StopAt.TheVariants as stop
+use Rattle.audit_wire_ask.specs.declared.placing.Placing.{Placing}
+use Rattle.audit_wire_ask.specs.declared.placing.Placing.TheVariants as placing
+use Rattle.audit_wire_ask.specs.declared.stop_at.StopAt.{StopAt}
+use Rattle.audit_wire_ask.specs.declared.stop_at.StopAt.TheVariants as stop
+use Rattle.audit_cli_connection.specs.declared.post.Predecessor.{Predecessor}
+use Rattle.audit_cli_connection.specs.declared.question.Question.{Question}
+use Rattle.audit_cli_connection.specs.declared.question.Question.TheVariants as question
+use Rattle.audit_cli_connection.specs.declared.question.Evidence.TheVariants as evidence
+use Rattle.audit_cli_connection.specs.declared.read_task.ReadTask.{ReadTask}
+use Rattle.audit_cli_connection.specs.declared.task.Task.{Task}
 use Rattle.audit_cli_client.specs.declared.arguments.TheConstants.{MAX_SECONDS, MAX_WINDOW}
-use Rattle.audit_cli_client.specs.declared.arguments.Question.{Question}
-use Rattle.audit_cli_client.specs.declared.arguments.Question.TheVariants as question
-use Rattle.audit_cli_client.specs.declared.arguments.Evidence.TheVariants as evidence
 use Rattle.audit_cli_client.specs.declared.request.TheConstants.{TIMEOUT, WINDOW}
 use Rattle.audit_cli_client.specs.declared.request.Request.{Request}
-use Rattle.audit_cli_client.specs.declared.beginning.Predecessor.{Predecessor}
 use Rattle.audit_cli_client.specs.declared.request.Request.TheVariants.{Ask, Send, Watch, Read}
-use Rattle.audit_cli_client.specs.declared.reading.ReadTask.{ReadTask}
-use Rattle.audit_cli_client.specs.declared.sending.Task.{Task}
 use Rattle.audit_cli_client.specs.declared.request.Order.{Order}
 use Rattle.audit_cli_client.specs.declared.request.Order.TheVariants as order
 

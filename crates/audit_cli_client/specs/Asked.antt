@@ -6,25 +6,25 @@ use Rattle.audit_proof.specs.declared.commitment.Commitment.{Commitment}
 use Rattle.audit_wire.specs.declared.request.Request.TheVariants as request
 use Rattle.audit_wire.specs.declared.reply.Reply.TheVariants as reply
 use Rattle.audit_cli_base.specs.declared.arguments.ProofRequest.TheVariants as proof
-use Rattle.audit_client.specs.declared.asking.TheConstants.{ASKED_TAG}
-use Rattle.audit_client.specs.declared.fault.ClientError.{ClientError}
-use Rattle.audit_client.specs.Conversation.{Converses}
-use Rattle.audit_client.specs.Failing.{FailsNewest, FailsClosing, FailsEntry, FailsMember, FailsIncrement, FailsExport}
-use Rattle.audit_client.specs.Failing.{IsUnasked}
-use Rattle.audit_client.specs.declared.store_state.StoreState.{StoreState}
-use Rattle.audit_client.specs.StateAsking.{state_reply, FailsState}
-use Rattle.audit_client.specs.declared.kind_place.KindPlace.{KindPlace}
-use Rattle.audit_client.specs.PlaceAsking.{place_reply, FailsPlace}
-use Rattle.audit_client.specs.PlaceLine.{place_line}
-use Rattle.audit_client.specs.Putting.{IsGivenEntry, IsGivenMember, IsGivenIncrement, AreGivenEntries}
-use Rattle.audit_client.specs.Watching.{GivesNewest}
-use Rattle.audit_cli_client.specs.declared.arguments.Evidence.{Evidence}
-use Rattle.audit_cli_client.specs.declared.arguments.Evidence.TheVariants as evidence
-use Rattle.audit_cli_client.specs.declared.arguments.Question.{Question}
-use Rattle.audit_cli_client.specs.declared.arguments.Question.TheVariants as question
+use Rattle.audit_wire_ask.specs.declared.asking.TheConstants.{ASKED_TAG}
+use Rattle.audit_wire_ask.specs.declared.fault.ClientError.{ClientError}
+use Rattle.audit_wire_ask.specs.Conversation.{Converses}
+use Rattle.audit_wire_ask.specs.Failing.{FailsNewest, FailsClosing, FailsEntry, FailsMember, FailsIncrement, FailsExport}
+use Rattle.audit_wire_ask.specs.Failing.{IsUnasked}
+use Rattle.audit_wire_ask.specs.declared.store_state.StoreState.{StoreState}
+use Rattle.audit_wire_ask.specs.StateAsking.{state_reply, FailsState}
+use Rattle.audit_wire_ask.specs.declared.kind_place.KindPlace.{KindPlace}
+use Rattle.audit_wire_ask.specs.PlaceAsking.{place_reply, FailsPlace}
+use Rattle.audit_wire_ask.specs.PlaceLine.{place_line}
+use Rattle.audit_wire_ask.specs.Putting.{IsGivenEntry, IsGivenMember, IsGivenIncrement, AreGivenEntries}
+use Rattle.audit_wire_ask.specs.Watching.{GivesNewest}
+use Rattle.audit_cli_connection.specs.declared.question.Evidence.{Evidence}
+use Rattle.audit_cli_connection.specs.declared.question.Evidence.TheVariants as evidence
+use Rattle.audit_cli_connection.specs.declared.question.Question.{Question}
+use Rattle.audit_cli_connection.specs.declared.question.Question.TheVariants as question
+use Rattle.audit_cli_connection.specs.declared.fault.RemoteError.{RemoteError}
+use Rattle.audit_cli_connection.specs.declared.fault.RemoteError.TheVariants.{Server}
 use Rattle.audit_cli_client.specs.StoreStateLine.{store_state_line}
-use Rattle.audit_cli_client.specs.declared.fault.RemoteError.{RemoteError}
-use Rattle.audit_cli_client.specs.declared.fault.RemoteError.TheVariants.{Server}
 
 -- these bytes were asked for and given, and are accepted
 abbrev pub IsGivenEvidence : Option (List ℕ) → Option (List ℕ) → Option (List ℕ) → Option (List ℕ) → Evidence → List ℕ

@@ -1,15 +1,7 @@
-pub mod Faults
-pub mod Frames
 pub mod Sent
-pub mod State
 pub mod StoreStateLine
-pub mod Alarm
-pub mod Beginning
 pub mod Arguments
-pub mod Looking
 pub mod Asked
 pub mod Requests
-pub mod Messages
-pub mod ServerCalls
 pub mod ReadingTask
 pub mod ReadFaults

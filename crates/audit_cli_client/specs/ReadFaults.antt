@@ -3,13 +3,13 @@ use Rattle.std.specs.Prelude.{false, Option, Some, None}
 use Rattle.audit_proof.specs.declared.commitment.Commitment.{Commitment}
 use Rattle.audit_cli_base.specs.declared.fault.CommandError.{CommandError}
 use Rattle.audit_cli_base.specs.declared.fault.CommandError.TheVariants.{Export}
-use Rattle.audit_client.specs.declared.fault.ClientError.{ClientError}
-use Rattle.audit_client.specs.declared.fault.ClientError.TheVariants as client
-use Rattle.audit_client.specs.declared.watching.Unseen.{Unseen}
-use Rattle.audit_client_read.specs.declared.read_error.ReadError.{ReadError}
-use Rattle.audit_client_read.specs.declared.read_error.ReadError.TheVariants as reading
-use Rattle.audit_cli_client.specs.declared.fault.RemoteError.{RemoteError}
-use Rattle.audit_cli_client.specs.declared.fault.RemoteError.TheVariants.{Command, Server, NotLed}
+use Rattle.audit_wire_ask.specs.declared.fault.ClientError.{ClientError}
+use Rattle.audit_wire_ask.specs.declared.fault.ClientError.TheVariants as client
+use Rattle.audit_wire_ask.specs.declared.watching.Unseen.{Unseen}
+use Rattle.audit_wire_read.specs.declared.read_error.ReadError.{ReadError}
+use Rattle.audit_wire_read.specs.declared.read_error.ReadError.TheVariants as reading
+use Rattle.audit_cli_connection.specs.declared.fault.RemoteError.{RemoteError}
+use Rattle.audit_cli_connection.specs.declared.fault.RemoteError.TheVariants.{Command, Server, NotLed}
 
 -- a judgment of the log is one of what the reader holds
 abbrev pub fault_of_client : ClientError → RemoteError

@@ -1,10 +1,10 @@
 -- A log that is read on again and again.
 use Rattle.std.specs.Prelude.{◌≡◌, ℕ, ◌^◌, ◌-◌, true, false, Option, Some, None, List, [], ◌∷◌, length, Result, Ok, Err}
 use Rattle.std.specs.List.{flat_map, AllByRecursion}
-use Rattle.audit_cli_client.specs.declared.fault.RemoteError.{RemoteError}
-use Rattle.audit_cli_client.specs.declared.reading.ReadTask.{ReadTask}
-use Rattle.audit_cli_client.specs.Faults.{is_passing_fault}
-use Rattle.audit_cli_client.specs.ServerCalls.{ServerCall, ServersModel, a_reading, a_rest}
+use Rattle.audit_cli_connection.specs.declared.fault.RemoteError.{RemoteError}
+use Rattle.audit_cli_connection.specs.declared.read_task.ReadTask.{ReadTask}
+use Rattle.audit_cli_connection.specs.Faults.{is_passing_fault}
+use Rattle.audit_cli_connection.specs.ServerCalls.{ServerCall, ServersModel, a_reading, a_rest}
 
 -- After a reading that succeeded another follows, and nothing is reported; after one that failed for a while another
 -- does, and that is reported. Every other fault ends it.

@@ -1,22 +1,19 @@
 -- The whole of a command that asks a server.
-use Rattle.std.specs.Prelude.{◌≡◌, ◌⊎◌, ℕ, ◌^◌, ◌-◌, false, Option, Some, None, List, [], ◌∷◌, length, Result, Ok, Err}
-use Rattle.std.specs.List.{flat_map, AllByRecursion}
+use Rattle.std.specs.Prelude.{◌≡◌, ◌⊎◌, Option, Some, None, ℕ, List, [], ◌∷◌, Result, Ok, Err}
 use Rattle.std.specs.Io.KnownBytes.{Appends, Keeps}
 use Rattle.audit_text.specs.declared.fault.LinesError.TheVariants.{Write}
 use Rattle.audit_cli_base.specs.declared.fault.CommandError.TheVariants.{BadArgument, Lines}
 use Rattle.audit_cli_base.specs.declared.status.Status.{Status}
 use Rattle.audit_cli_base.specs.declared.status.Status.TheVariants as ends
-use Rattle.audit_client.specs.declared.watching.Sight.{Sight}
-use Rattle.audit_cli_client.specs.declared.fault.RemoteError.{RemoteError}
-use Rattle.audit_cli_client.specs.declared.fault.RemoteError.TheVariants.{Command}
+use Rattle.audit_cli_connection.specs.declared.fault.RemoteError.{RemoteError}
+use Rattle.audit_cli_connection.specs.declared.fault.RemoteError.TheVariants.{Command}
+use Rattle.audit_cli_connection.specs.Faults.{remote_status, judgment_of, IsNoJudgment}
+use Rattle.audit_cli_connection.specs.ServerCalls.{ServersModel, CommandStreams, a_query, a_sending, a_reading}
+use Rattle.audit_cli_witness.specs.Looks.{LooksOnce, LooksToTheEnd}
 use Rattle.audit_cli_client.specs.declared.request.Order.{Order}
 use Rattle.audit_cli_client.specs.declared.request.Order.TheVariants as order
 use Rattle.audit_cli_client.specs.declared.request.Request.{Request}
-use Rattle.audit_cli_client.specs.declared.watching.Post.{Post}
 use Rattle.audit_cli_client.specs.Arguments.{HasRefusedWord, IsOrderOf}
-use Rattle.audit_cli_client.specs.Faults.{remote_status, judgment_of, is_passing_fault, IsNoJudgment}
-use Rattle.audit_cli_client.specs.Looking.{PrintsLook, FollowsLook, IsFollowed, look_line}
-use Rattle.audit_cli_client.specs.ServerCalls.{ServersModel, CommandStreams, a_query, a_sending, a_look, a_reading, a_rest}
 use Rattle.audit_cli_client.specs.ReadingTask.{ReadsToTheEnd}
 
 abbrev pub status_of_done : Result Status RemoteError → Status
@@ -29,41 +26,6 @@ done_after (Ok done) = Ok ends.Done
 done_after (Err fault) = Err fault
 
 module _ {F : Type 0} (servers : ServersModel F) where
-  -- A witness looked once, and printed what it saw, if anything.
-  pub record LooksOnce (post : Post) (was now : F) (old new : Option (List ℕ)) (failed : Type 0)
-      (result : Result (Unit {0}) RemoteError) : Type 0 where
-    pub sight : Result Sight RemoteError
-    pub looked : servers.DidCalls was now (a_look post sight ∷ [])
-    pub printed : PrintsLook post.is_quiet sight old new failed result
-
-  -- A witness looked again and again, with a pause after each look, and this is what each saw. Each saw something or
-  -- failed for a while, and their lines were printed in order.
-  pub record LooksOn (post : Post) (every : ℕ) (was now : F) (old new : Option (List ℕ))
-      (seen : List (Result Sight RemoteError)) : Type 0 where
-    pub did : servers.DidCalls was now (flat_map (λ saw. a_look post saw ∷ a_rest every ∷ []) seen)
-    pub followed : AllByRecursion IsFollowed seen
-    pub printed : Appends old new (flat_map (look_line post.is_quiet) seen)
-
-  -- A witness looked so, and then for the last time: that look failed for more than a while, or its line couldn't be
-  -- printed.
-  pub record LooksLast (post : Post) (every : ℕ) (was now : F) (old new : Option (List ℕ)) (failed : Type 0)
-      (fault : RemoteError) : Type 0 where
-    pub seen : List (Result Sight RemoteError)
-    pub mid : F
-    pub between : Option (List ℕ)
-    pub earlier : LooksOn post every was mid old between seen
-    pub sight : Result Sight RemoteError
-    pub looked : servers.DidCalls mid now (a_look post sight ∷ [])
-    pub ended : FollowsLook post.is_quiet sight between new failed (Err fault)
-    pub lasting : is_passing_fault fault ≡ false
-
-  -- It looked until there was a last look, or as often as a number counts.
-  abbrev pub LooksToTheEnd : Post → ℕ → F → F → Option (List ℕ) → Option (List ℕ) → Type 0
-      → Result (Unit {0}) RemoteError → Type 0
-  LooksToTheEnd post every was now old new failed (Ok done) = (seen : List (Result Sight RemoteError))
-      × (length seen ≡ 2 ^ 64 - 1) × LooksOn post every was now old new seen
-  LooksToTheEnd post every was now old new failed (Err fault) = LooksLast post every was now old new failed fault
-
   -- What was ordered was done, and nothing else, and this is how it ended.
   abbrev pub EndsOrder : Order → F → F → CommandStreams → CommandStreams → Type 0 → Result Status RemoteError → Type 0
   EndsOrder (order.Ask socket question seconds) was now before after failed done =
@@ -73,11 +35,11 @@ module _ {F : Type 0} (servers : ServersModel F) where
   EndsOrder (order.Send socket task) was now before after failed done =
       servers.DidCalls was now (a_sending socket.now task before after done ∷ [])
   EndsOrder (order.Watch post None) was now before after failed done = (result : Result (Unit {0}) RemoteError)
-      × LooksOnce post was now before.output after.output failed result
+      × LooksOnce servers post was now before.output after.output failed result
       × (done ≡ done_after result) × (after.input ≡ before.input)
   EndsOrder (order.Watch post (Some every)) was now before after failed done =
       (result : Result (Unit {0}) RemoteError)
-      × LooksToTheEnd post every was now before.output after.output failed result
+      × LooksToTheEnd servers post every was now before.output after.output failed result
       × (done ≡ done_after result) × (after.input ≡ before.input)
   EndsOrder (order.Read task None) was now before after failed done = (result : Result (Unit {0}) RemoteError)
       × servers.DidCalls was now (a_reading task before.output after.output result ∷ [])

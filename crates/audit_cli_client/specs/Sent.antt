@@ -2,9 +2,9 @@
 use Rattle.std.specs.Prelude.{ℕ, Option, Some, None, nat_lt, if◌then◌else◌}
 use Rattle.audit_cli_base.specs.declared.status.Status.{Status}
 use Rattle.audit_cli_base.specs.declared.status.Status.TheVariants as ends
-use Rattle.audit_client.specs.declared.send_error.SendError.{SendError}
-use Rattle.audit_client.specs.declared.sending.SendEnd.{SendEnd}
-use Rattle.audit_cli_client.specs.Faults.{remote_status, of_sending}
+use Rattle.audit_wire_ask.specs.declared.send_error.SendError.{SendError}
+use Rattle.audit_wire_ask.specs.declared.sending.SendEnd.{SendEnd}
+use Rattle.audit_cli_connection.specs.Faults.{remote_status, of_sending}
 
 -- the error's status, or refused if some answers are refusals
 abbrev pub status_of_sending : Option SendError → ℕ → Status

@@ -3,7 +3,7 @@ use Rattle.std.specs.Prelude.{ℕ, ◌-◌, List, ◌++◌, codes}
 use Rattle.std.specs.Fmt.{decimal}
 use Rattle.hex.specs.Hex.{encode_lower}
 use Rattle.audit_cli_offline.specs.ReportLines.{state_word}
-use Rattle.audit_client.specs.declared.store_state.StoreState.{StoreState}
+use Rattle.audit_wire_ask.specs.declared.store_state.StoreState.{StoreState}
 
 -- the commitment; the sectors of the device, the end of the log, the generation, the version of the format, whether the
 -- log is closed, and the sectors after its end

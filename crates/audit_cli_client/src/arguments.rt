@@ -4,7 +4,8 @@ ghost use Rattle.audit_cli_client.specs.Arguments.{judged_number, seconds_asked,
 ghost use Rattle.audit_cli_client.specs.Arguments.{question_in, question_from, judged_question};
 ghost use Rattle.audit_text.specs.Number.{number_in_text};
 
-use audit_cli_base::{CommandError, ProofRequest, proof_request};
+use audit_cli_base::{CommandError, proof_request};
+use audit_cli_connection::{Evidence, Question};
 use audit_text::{kind_in_word, number_in_text};
 
 /// The most seconds of a timeout or a pause: a day.
@@ -12,32 +13,6 @@ pub const MAX_SECONDS: u64 = 86_400;
 
 /// The most lines that are sent ahead of their answers.
 pub const MAX_WINDOW: u64 = 1024;
-
-/// What is asked of a server.
-#[derive(Clone, Copy)]
-pub enum Question<'a> {
-    /// The newest commitment.
-    Commitment,
-    /// The state of the store.
-    State,
-    /// How many events of this kind the log has.
-    Place(u32),
-    /// An entry or a proof, and the file for it.
-    Evidence(Evidence, &'a str),
-    /// All entries from an index on, and the file for them.
-    Export(&'a str, u64),
-    /// To close the log.
-    Close,
-}
-
-/// What a server sends in one reply.
-#[derive(Clone, Copy)]
-pub enum Evidence {
-    /// The entry of this index.
-    Entry(u64),
-    /// A proof.
-    Proof(ProofRequest),
-}
 
 /// The words of a question: its name, and up to three more.
 pub type QuestionWords<'a> = (&'a str, Option<&'a str>, Option<&'a str>, Option<&'a str>);

@@ -3,34 +3,33 @@ ghost use Rattle.std.specs.Prelude.{◌≡◌, ◌⊎◌, ℕ, List, Option, Ok,
 ghost use Rattle.std.specs.Io.KnownBytes.{Appends};
 ghost use Rattle.audit_text.specs.NumberedLine.{numbered_line};
 ghost use Rattle.audit_proof.specs.declared.commitment.Commitment.{Commitment};
-ghost use Rattle.audit_client.specs.declared.fault.ClientError.{ClientError};
-ghost use Rattle.audit_client.specs.declared.putting.AskError.{AskError};
-ghost use Rattle.audit_client.specs.Failing.{FailsPutting, FailsPuttingOne, FailsExport, IsUnasked};
-ghost use Rattle.audit_client.specs.PlaceLine.{place_line};
-ghost use Rattle.audit_client.specs.Putting.{AreGivenEntries};
-ghost use Rattle.audit_cli_client.specs.declared.fault.RemoteError.{RemoteError};
+ghost use Rattle.audit_wire_ask.specs.declared.fault.ClientError.{ClientError};
+ghost use Rattle.audit_wire_ask.specs.declared.putting.AskError.{AskError};
+ghost use Rattle.audit_wire_ask.specs.Failing.{FailsPutting, FailsPuttingOne, FailsExport, IsUnasked};
+ghost use Rattle.audit_wire_ask.specs.PlaceLine.{place_line};
+ghost use Rattle.audit_wire_ask.specs.Putting.{AreGivenEntries};
+ghost use Rattle.audit_cli_connection.specs.declared.fault.RemoteError.{RemoteError};
+ghost use Rattle.audit_cli_connection.specs.Faults.{of_asking};
 ghost use Rattle.audit_cli_client.specs.Asked.{AsksOnly, PrintsAnswer, IsGivenEvidence, FailsEvidence};
-ghost use Rattle.audit_cli_client.specs.Faults.{of_asking};
 ghost use Rattle.audit_cli_client.specs.StoreStateLine.{store_state_line};
 
-use crate::arguments::{Evidence, Question};
-use crate::connection::{connect, socket_identity};
-use crate::fault::RemoteError;
-use crate::line::{LineEnd, Pace};
 use crate::out::OutFile;
 use crate::store_state_line::put_store_state;
 use audit_cli_base::{
     CommandError, ProofRequest, is_standard_output, write_exported, write_number,
 };
-use audit_cli_host::Dial;
-use audit_client::{
-    AskError, ClientError, Export, KindPlace, Out, StoreState, close_log, newest_commitment,
-    place_of_kind, put_entry, put_export, put_increment, put_member, put_place, state_of_store,
+use audit_cli_connection::{
+    Evidence, LineEnd, Pace, Question, RemoteError, connect, socket_identity,
 };
+use audit_cli_host::Dial;
 use audit_disk::FileIdentity;
 use audit_proof::Commitment;
 use audit_text::{put_line, write_whole};
 use audit_wire::Refusal;
+use audit_wire_ask::{
+    AskError, ClientError, Export, KindPlace, Out, StoreState, close_log, newest_commitment,
+    place_of_kind, put_entry, put_export, put_increment, put_member, put_place, state_of_store,
+};
 use std::alloc::Global;
 use std::fs::{self, Files};
 use std::io::{BufReader, Read, Write};

@@ -2,10 +2,10 @@
 ghost use Rattle.std.specs.Prelude.{◌≡◌, ◌⊎◌, [], Some, None, IfOk, OnOk, OnErr, if◌then◌else◌};
 
 use crate::draft::Draft;
-use crate::fault::RemoteError;
 use audit_cli_base::{OutputFile, STANDARD_OUTPUT, is_standard_output};
-use audit_client::Out;
+use audit_cli_connection::RemoteError;
 use audit_disk::FileIdentity;
+use audit_wire_ask::Out;
 use std::alloc::Global;
 use std::fs::Files;
 use std::io::{BufWriter, Write};

@@ -1,5 +1,5 @@
 //! How long a server that isn't there is tried again.
-use crate::fault::RemoteError;
+use audit_cli_connection::RemoteError;
 use std::io::Write;
 use std::thread;
 use std::time::{Clock, Duration, Instant};

@@ -1,5 +1,5 @@
 //! The file that standard output is.
-use crate::alarm_file::lacks_feed;
+use audit_cli_witness::lacks_feed;
 use audit_text::{LinesError, write_whole};
 use std::fs::{self, Files, OpenFile};
 use std::io::{self, Read, Seek, Write};

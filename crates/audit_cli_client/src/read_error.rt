@@ -2,12 +2,11 @@
 ghost use Rattle.std.specs.Prelude.{◌≡◌, Some, None};
 ghost use Rattle.audit_cli_client.specs.ReadFaults.{fault_of_unseen, fault_of_client, fault_of_reading};
 
-use crate::contradiction::Contradiction;
-use crate::fault::RemoteError;
 use audit_cli_base::CommandError;
-use audit_client::{ClientError, Unseen};
-use audit_client_read::ReadError;
+use audit_cli_connection::{Contradiction, RemoteError};
 use audit_proof::Commitment;
+use audit_wire_ask::{ClientError, Unseen};
+use audit_wire_read::ReadError;
 
 /// The fault of a reader that holds this commitment.
 pub fn fault_of_reading(held: Commitment, error: ReadError<CommandError>) -> RemoteError

@@ -1,24 +1,23 @@
 //! Reading a log on by the bookmark in a file.
-use crate::alarm_file::keep_alarm;
-use crate::connection::{connect, socket_identity};
-use crate::fault::RemoteError;
 use crate::left_files::remove_left;
-use crate::line::{LineEnd, Pace};
 use crate::printed_file::PrintedFile;
 use crate::read_error::{fault_of_reading, fault_of_unseen};
-use crate::reading::ReadTask;
-use crate::state_lock::{Locked, lock_state, metadata_if_any, remove_made};
-use crate::witnessed::witnessed_at;
 use audit_cli_base::{CommandError, OutputFile, read_key};
+use audit_cli_connection::{
+    LineEnd, Pace, ReadTask, RemoteError, connect, no_memory, socket_identity,
+};
 use audit_cli_host::Dial;
 use audit_cli_offline::{Printing, VerifiedEnd, kinds_in_word, write_end_message, write_last_line};
 use audit_cli_read::{BookmarkFile, EventOutlet};
-use audit_client::FallibleWrite;
-use audit_client_read::{Outlet, newest_under, read_on};
+use audit_cli_witness::{
+    Locked, keep_alarm, lock_state, metadata_if_any, remove_made, witnessed_at,
+};
 use audit_disk::{FileIdentity, SystemFile};
 use audit_proof::Commitment;
 use audit_text::{read_input, write_whole};
 use audit_verify::{Bookmark, State, StateError, read_bookmark};
+use audit_wire_ask::FallibleWrite;
+use audit_wire_read::{Outlet, newest_under, read_on};
 use std::alloc::Global;
 use std::fs::{self, Files, Metadata};
 use std::io::{BufReader, Read, Write};
@@ -188,7 +187,7 @@ fn bookmark_in<R: Read>(alloc: Global, file: &mut R) -> Result<Bookmark, RemoteE
     match read_bookmark(alloc, &text) {
         Ok(mark) => Ok(mark),
         Err(StateError::Damaged) => Err(RemoteError::Command(CommandError::BadArgument)),
-        Err(StateError::Memory) => Err(crate::fault::no_memory()),
+        Err(StateError::Memory) => Err(no_memory()),
     }
 }
 

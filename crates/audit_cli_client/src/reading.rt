@@ -1,38 +1,14 @@
 //! A log that is read on, by the bookmark in a file.
 ghost use Rattle.std.specs.Prelude.{◌≡◌, List, [], ◌∷◌, Option, Some, false, Result, IfErr, IfSome, OnOk, OnErr};
-ghost use Rattle.audit_cli_client.specs.declared.fault.RemoteError.{RemoteError};
-ghost use Rattle.audit_cli_client.specs.Faults.{is_passing_fault};
+ghost use Rattle.audit_cli_connection.specs.declared.fault.RemoteError.{RemoteError};
+ghost use Rattle.audit_cli_connection.specs.Faults.{is_passing_fault};
+ghost use Rattle.audit_cli_connection.specs.ServerCalls.{a_reading, a_rest};
 ghost use Rattle.audit_cli_client.specs.ReadingTask.{ReadsToTheEnd, FollowsReading};
-ghost use Rattle.audit_cli_client.specs.ServerCalls.{a_reading, a_rest};
 
-use crate::fault::RemoteError;
-use crate::servers::Servers;
-use crate::watching::{report_passing, report_return};
-use audit_cli_offline::ReportForm;
-use audit_client::FallibleWrite;
+use audit_cli_connection::{ReadTask, RemoteError, Servers, report_passing, report_return};
+use audit_wire_ask::FallibleWrite;
 use httpdate::HttpDate;
 use std::alloc::Global;
-
-/// What is read, from where on, and how it is printed.
-#[derive(Clone, Copy)]
-pub struct ReadTask<'a> {
-    /// The server's socket.
-    pub socket: &'a str,
-    /// The file with the bookmark.
-    pub state: &'a str,
-    /// The file with the log's first key, from which it is read if there is no bookmark.
-    pub first: Option<&'a str>,
-    /// The file of a witness, whose newest commitment the log has to extend.
-    pub under: Option<&'a str>,
-    /// How events are printed.
-    pub form: ReportForm,
-    /// The kinds of the events that are printed, with commas between them; any kind if there is no word.
-    pub kinds: Option<&'a str>,
-    /// How many seconds the server has for each reply.
-    pub seconds: u64,
-    /// Whether nothing is printed if there is nothing new.
-    pub is_quiet: bool,
-}
 
 /// Reads on again and again, pausing for `every` seconds after each time. A server that isn't there, or doesn't answer,
 /// is reported once until something else happens, and so is its return. What isn't such a fault ends it.

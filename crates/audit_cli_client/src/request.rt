@@ -3,26 +3,22 @@ ghost use Rattle.std.specs.Prelude.{◌≡◌, ◌⊎◌, ℕ, List, [], Err, So
 ghost use Rattle.std.specs.Io.KnownBytes.{Appends, Keeps};
 ghost use Rattle.audit_text.specs.declared.fault.LinesError.{LinesError};
 ghost use Rattle.audit_text.specs.LineEvents.{form_asked, long_asked};
-ghost use Rattle.audit_cli_client.specs.declared.fault.RemoteError.{RemoteError};
-ghost use Rattle.audit_cli_client.specs.Faults.{IsNoJudgment, judgment_of};
+ghost use Rattle.audit_cli_connection.specs.declared.fault.RemoteError.{RemoteError};
+ghost use Rattle.audit_cli_connection.specs.Faults.{IsNoJudgment, judgment_of};
+ghost use Rattle.audit_cli_connection.specs.ServerCalls.{CommandStreams};
 ghost use Rattle.audit_cli_client.specs.Arguments.{AreNoSeconds, IsNoWindow, HasRefusedWord, IsOrderOf};
 ghost use Rattle.audit_cli_client.specs.Arguments.{IsTaskOfWords, IsNoTask, stop_asked, placing_asked};
-ghost use Rattle.audit_cli_client.specs.Requests.{IsClientRun, EndsOrder, Performs, status_of_done, done_after};
-ghost use Rattle.audit_cli_client.specs.ServerCalls.{CommandStreams};
 ghost use Rattle.audit_cli_client.specs.Arguments.{IsPause, before_asked, seconds_or_default, window_or_default};
+ghost use Rattle.audit_cli_client.specs.Requests.{IsClientRun, EndsOrder, Performs, status_of_done, done_after};
 
-use crate::alarm::print_contradiction;
-use crate::arguments::{Question, QuestionWords, question_asked, seconds_asked, window_asked};
-use crate::beginning::Predecessor;
-use crate::fault::RemoteError;
-use crate::reading::{ReadTask, read_for_ever};
-use crate::sending::Task;
-use crate::servers::Servers;
-use crate::watching::{Post, watch_for_ever, watch_once};
+use crate::arguments::{QuestionWords, question_asked, seconds_asked, window_asked};
+use crate::reading::read_for_ever;
 use audit_cli_base::{CommandError, Status, report_flush, socket_path_asked};
+use audit_cli_connection::{Post, Predecessor, Question, ReadTask, RemoteError, Servers, Task};
 use audit_cli_offline::ReportForm;
-use audit_client::{FallibleWrite, Placing, StopAt};
+use audit_cli_witness::{print_contradiction, watch_for_ever, watch_once};
 use audit_text::{LineForm, LongLines, form_asked, long_asked, number_in_text};
+use audit_wire_ask::{FallibleWrite, Placing, StopAt};
 use std::alloc::Global;
 use std::io::{Read, Write};
 

@@ -1,21 +1,19 @@
 //! Sending events to a server.
 ghost use Rattle.std.specs.Prelude.{◌≡◌, ◌+◌, ◌≤◌, ℕ, None, IfOk, IfErr, OnErr};
 ghost use Rattle.std.specs.Io.Buffered.{reader_remaining};
-ghost use Rattle.audit_client.specs.Placing.{PlacesAndSends, FailsPlacing, LogsAndSends, FailsLogging, LogsInPart};
+ghost use Rattle.audit_wire_ask.specs.Placing.{PlacesAndSends, FailsPlacing, LogsAndSends, FailsLogging, LogsInPart};
 ghost use Rattle.audit_cli_client.specs.Sent.{status_of_sent};
 
-use crate::alarm_file::{lacks_feed, open_lines};
-use crate::connection::connect;
-use crate::fault::RemoteError;
-use crate::line::{Line, LineEnd, Pace};
 use crate::outage::Outage;
 use audit_cli_base::Status;
+use audit_cli_connection::{Line, LineEnd, Pace, RemoteError, Task, connect};
 use audit_cli_host::Dial;
-use audit_client::{
+use audit_cli_witness::{lacks_feed, open_lines};
+use audit_text::{CutLines, LongLines};
+use audit_wire_ask::{
     ClientError, FallibleWrite, KeptInput, NoKeys, Places, Placing, SendEnd, SendError, StopAt,
     log_and_send, place_and_send,
 };
-use audit_text::{CutLines, LineForm, LongLines};
 use std::alloc::Global;
 use std::fs::Files;
 use std::io::{BufReader, Read, Write};
@@ -23,27 +21,6 @@ use std::time::Clock;
 
 // The size in bytes of the buffer for the input: the most that is read at a time.
 const INPUT_ROOM: usize = 1 << 16;
-
-/// How events are sent.
-#[derive(Clone, Copy)]
-pub struct Task<'a> {
-    /// How lines have their events.
-    pub form: LineForm,
-    /// What becomes of lines that are too long.
-    pub long: LongLines,
-    /// The most lines that are sent ahead of their answers.
-    pub window: u64,
-    /// How many seconds an answer is waited for.
-    pub seconds: u64,
-    /// Where sending stops.
-    pub stop_at: StopAt,
-    /// The places that the events are given.
-    pub placing: Placing,
-    /// The file to which the keys of placed events are appended, if they are kept.
-    pub keys: Option<&'a str>,
-    /// How many seconds a server that is lost is tried again, if so.
-    pub retry: Option<u64>,
-}
 
 /// Sends the events of the input to a server, and prints its answers. Returns the status of a command whose lines were
 /// all answered.

@@ -3,8 +3,8 @@ ghost use Rattle.std.specs.Prelude.{◌≡◌, OnOk};
 ghost use Rattle.audit_cli_client.specs.StoreStateLine.{store_state_line};
 
 use audit_cli_offline::push_state;
-use audit_client::StoreState;
 use audit_text::{push_hex, push_number};
+use audit_wire_ask::StoreState;
 use std::alloc::AllocError;
 
 /// Replaces the buffer's contents with the line of a store's state: what `show` says of a store, in one line, and the

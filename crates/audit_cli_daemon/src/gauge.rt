@@ -70,18 +70,13 @@ impl<'n, 'a, 'b, F: Read + Seek, M: Write> Gauge<'n, 'a, 'b, F, M> {
 
     // In how many passes no further mark can be passed; few are enough to make the looks cheap.
     fn passes_without_mark(&self, taken: u64) -> u64 {
-        if self.has_room_before_mark(taken, MANY_PASSES * PASS_SECTORS) {
-            MANY_PASSES
-        } else if self.has_room_before_mark(taken, FEW_PASSES * PASS_SECTORS) {
-            FEW_PASSES
-        } else {
-            0
+        for passes in [MANY_PASSES, FEW_PASSES] {
+            let then = taken.saturating_add(passes * PASS_SECTORS);
+            if mark_passed(self.said, then, self.most).is_none() {
+                return passes;
+            }
         }
-    }
-
-    // Whether no further mark is passed once as many sectors more are taken.
-    fn has_room_before_mark(&self, taken: u64, more: u64) -> bool {
-        mark_passed(self.said, taken.saturating_add(more), self.most).is_none()
+        0
     }
 
     fn print(&mut self, mark: u64, left: u64) {

@@ -1,5 +1,5 @@
-//! The operating system as the program `audit` uses it: failed calls are noted, and a line shows how far a file has
-//! been read or written.
+//! The operating system as the program `audit` uses it: failed calls are noted, and how far a file has been read or
+//! written.
 #![tactic(auto)]
 
 mod dial;
@@ -7,13 +7,9 @@ mod host;
 mod key_text;
 mod noted_file;
 mod notes;
-mod progress;
-mod screen;
 
 pub use dial::{Dial, dial_within, retry_time};
 pub use host::Host;
 pub use key_text::{KEY_DIGITS, KeyText};
 pub use noted_file::NotedFile;
 pub use notes::{Extent, Notes, Subject};
-pub use progress::{Messages, Progress};
-pub use screen::Screen;

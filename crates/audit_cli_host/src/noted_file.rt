@@ -1,5 +1,5 @@
 use crate::notes::{Notes, Subject};
-use crate::progress::Motion;
+use audit_cli_terminal::Motion;
 use audit_disk::{PositionedFile, SECTOR_SIZE, SystemFile};
 use std::cell::Cell;
 use std::fs::{Metadata, OpenFile, Permissions, TryLockError};
@@ -58,16 +58,12 @@ impl<'n, 'w, F> NotedFile<'n, 'w, F> {
         outcome
     }
 
-    fn moved(&self, motion: Motion, place: u64) {
-        self.notes
-            .moved(motion, self.subject, place, self.total.get());
-    }
-
     // Adds the bytes that a call read or wrote to the place, and notes it.
     fn went_on(&mut self, motion: Motion, moved: &io::Result<usize>) {
         if let Ok(count) = moved {
             self.place = self.place.saturating_add(*count as u64);
-            self.moved(motion, self.place);
+            let total = self.total.get();
+            self.notes.moved(motion, self.subject, self.place, total);
         }
     }
 
@@ -75,7 +71,9 @@ impl<'n, 'w, F> NotedFile<'n, 'w, F> {
     fn was_at(&self, motion: Motion, sectors: usize, offset: u64) {
         if offset >= HEADERS {
             let bytes = (sectors as u64).saturating_mul(SECTOR_SIZE as u64);
-            self.moved(motion, offset.saturating_add(bytes));
+            let place = offset.saturating_add(bytes);
+            let total = self.total.get();
+            self.notes.moved(motion, self.subject, place, total);
         }
     }
 }

@@ -1,5 +1,5 @@
 use crate::key_text::KeyText;
-use crate::progress::{Motion, Progress};
+use audit_cli_terminal::{Motion, Progress};
 use std::cell::Cell;
 use std::fs::TryLockError;
 use std::io::{self, ErrorKind};

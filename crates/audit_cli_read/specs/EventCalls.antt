@@ -5,7 +5,7 @@ use Rattle.audit_text.specs.Writing.{WritesInPart}
 use Rattle.audit_verify.specs.Bookmark.{bookmark_text}
 use Rattle.audit_cli_offline.specs.Printing.{PrintingData}
 use Rattle.audit_cli_offline.specs.ReportLines.{event_lines}
-use Rattle.audit_client_read.specs.Outlet.{OutletCall, a_keeping, a_printing}
+use Rattle.audit_wire_read.specs.Outlet.{OutletCall, a_keeping, a_printing}
 use Rattle.audit_cli_read.specs.declared.event_outlet.EventOutlet.{EventOutlet}
 
 -- the lines that were printed

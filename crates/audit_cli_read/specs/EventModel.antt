@@ -8,7 +8,7 @@ use Rattle.audit_text.specs.Writing.{WritesInPart}
 use Rattle.audit_cli_offline.specs.Printing.{PrintingData}
 use Rattle.audit_cli_offline.specs.ReportLines.{event_lines, printed_event}
 use Rattle.audit_verify.specs.Bookmark.{bookmark_text}
-use Rattle.audit_client_read.specs.Outlet.{OutletCall, a_keeping, a_printing, OutletModel}
+use Rattle.audit_wire_read.specs.Outlet.{OutletCall, a_keeping, a_printing, OutletModel}
 use Rattle.audit_cli_read.specs.declared.event_outlet.EventOutlet.{EventOutlet}
 use Rattle.audit_cli_read.specs.EventCalls.{lines_of_calls, file_after_calls, DidOutlet, TriedOutlet}
 

@@ -10,11 +10,11 @@ use crate::bookmark_file::BookmarkFile;
 use audit_chain::Event;
 use audit_cli_base::CommandError;
 use audit_cli_offline::{Printing, write_events};
-use audit_client::FallibleWrite;
-use audit_client_read::Outlet;
 use audit_proof::Commitment;
 use audit_text::LinesError;
 use audit_verify::{State, bookmark_text};
+use audit_wire_ask::FallibleWrite;
+use audit_wire_read::Outlet;
 use std::alloc::Global;
 
 /// An output on which events are printed as lines, and a file with a bookmark.

@@ -3,7 +3,7 @@ use Rattle.std.specs.Prelude.{OnOk, OnErr, IfOk, IfErr, IsOk, IsErr}
 use Rattle.std.specs.Io.KnownBytes.{Appends, Keeps}
 use Rattle.std.proofs.Common.{◌≡◌, ◌∙◌, ◌⊎◌, ℕ, Option, None, Some, Result, Ok, Err, List, [], ◌∷◌, append-nil, inl, inr, refl, sym, subst}
 use Rattle.audit_disk_model.specs.View.{View}
-use Rattle.audit_store_layout.specs.IndexData.{IndexData}
+use Rattle.audit_store_commit.specs.IndexData.{IndexData}
 use Rattle.audit_disk_model.specs.declared.sectors.Sectors as sectors
 use Rattle.audit_disk.specs.FileFacts.{FileFacts}
 use Rattle.audit_disk.specs.Positioned.{PositionedView, ShowsFront}

@@ -16,10 +16,10 @@ use Rattle.audit_chain.specs.Key.{evolved_key}
 use Rattle.audit_chain.proofs.Fronts.{one_entry}
 use Rattle.audit_chain.proofs.Opening.{sealed_parts_fit}
 use Rattle.audit_log.specs.declared.header.Header.{Header}
-use Rattle.audit_store_layout.specs.Origin.{Origin}
-use Rattle.audit_store_layout.specs.Headers.{contents_of, header_of, key_left}
-use Rattle.audit_store_layout.specs.LogSectors.{IsLog}
-use Rattle.audit_store_layout.specs.Recovery.{stamp_of}
+use Rattle.audit_store_commit.specs.Origin.{Origin}
+use Rattle.audit_store_commit.specs.Headers.{contents_of, header_of, key_left}
+use Rattle.audit_store_commit.specs.LogSectors.{IsLog}
+use Rattle.audit_store_commit.specs.Recovery.{stamp_of}
 use Rattle.audit_store.specs.EntryRead.{IsIndexedEntryRead}
 use Rattle.audit_store.specs.Queries.{IsEntry}
 use Rattle.audit_store.specs.Store.{device, active_header, index_of, is_broken, Holds}

@@ -7,7 +7,7 @@ use Rattle.audit_disk_model.specs.declared.sectors.Sectors as sectors
 use Rattle.audit_disk.specs.FileFacts.{FileFacts}
 use Rattle.audit_log.specs.declared.header.Header.{Header}
 use Rattle.audit_proof.specs.declared.commitment.Commitment.{Commitment}
-use Rattle.audit_store_layout.specs.IndexData.{IndexData}
+use Rattle.audit_store_commit.specs.IndexData.{IndexData}
 use Rattle.audit_link.specs.Accepted.{AcceptsLink, AreCountsOf, IsLinkJudgment, SaysEvent}
 use Rattle.audit_link.specs.Counts.{AreCounts, IsUncounted, added_all}
 use Rattle.audit_link.specs.declared.counts_error.CountsError.{CountsError}

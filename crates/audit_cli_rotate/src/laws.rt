@@ -1,7 +1,7 @@
 //! Laws of rotations. Each function does nothing: its contract is the law.
 ghost use Rattle.std.specs.Prelude.{◌≡◌, true, List, [], ◌∷◌};
 ghost use Rattle.audit_chain.specs.Event.{EventData};
-ghost use Rattle.audit_store_layout.specs.Origin.{Origin};
+ghost use Rattle.audit_store_commit.specs.Origin.{Origin};
 ghost use Rattle.audit_store.specs.Store.{active_header, Holds};
 ghost use Rattle.audit_cli_rotate.specs.Links.{link_to, closed_events, IsFoundRotated};
 ghost use Rattle.audit_cli_rotate.specs.Lines.{rotated_lines};

@@ -2,7 +2,7 @@
 ghost use Rattle.std.specs.Prelude.{◌≡◌, ◌↔◌, List, IfOk, IfErr, IsTrue};
 ghost use Rattle.audit_chain.specs.Event.{EventData};
 ghost use Rattle.audit_chain.specs.Key.{evolved_key};
-ghost use Rattle.audit_store_layout.specs.Origin.{Origin};
+ghost use Rattle.audit_store_commit.specs.Origin.{Origin};
 ghost use Rattle.audit_store.specs.Store.{Holds};
 ghost use Rattle.audit_cli_rotate.specs.OwnKey.{IsAuthenticatedUnder, IsJudged, LacksFirstEntry};
 

@@ -9,7 +9,7 @@ use Rattle.audit_chain.specs.EventData.{EventData}
 use Rattle.audit_disk_model.specs.View.{View}
 use Rattle.audit_disk_model.specs.declared.sectors.Sectors as sectors
 use Rattle.audit_log.specs.declared.header.TheConstants.{MIN_SECTORS, MAX_SECTORS}
-use Rattle.audit_store_layout.specs.Origin.{Origin}
+use Rattle.audit_store_commit.specs.Origin.{Origin}
 use Rattle.audit_store.specs.Store.{active_header, Holds, IsFormatted}
 use Rattle.audit_store.specs.declared.store.Store.{Store}
 use denote.Ref.{Bor}

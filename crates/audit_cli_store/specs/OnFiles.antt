@@ -13,8 +13,8 @@ use Rattle.audit_disk.specs.Positioned.{PositionedView}
 use Rattle.audit_disk.specs.SectorSource.{source_of}
 use Rattle.audit_disk.specs.declared.files.TheConstants.{OWNER_ONLY}
 use Rattle.audit_log.specs.declared.header.Header.{Header}
-use Rattle.audit_store_layout.specs.Layout.{IsRecoverable}
-use Rattle.audit_store_layout.specs.Origin.{Origin}
+use Rattle.audit_store_commit.specs.Layout.{IsRecoverable}
+use Rattle.audit_store_commit.specs.Origin.{Origin}
 use Rattle.audit_store.specs.ReadOnlyOpening.{at_rest}
 use Rattle.audit_store.specs.Store.{active_header, Holds, IsFormatted}
 use Rattle.audit_store.specs.declared.store.Store.{Store}

@@ -4,7 +4,7 @@ use Rattle.sha2.specs.Sha256.{sha256}
 use Rattle.audit_chain.specs.Event.{EventData}
 use Rattle.audit_chain.specs.Entries.{log_entries}
 use Rattle.audit_tree.specs.Paths.{membership_path, increment_path}
-use Rattle.audit_store_layout.specs.Headers.{log_leaves}
+use Rattle.audit_store_commit.specs.Headers.{log_leaves}
 use Rattle.audit_proof.specs.ProofBytes.{Member, Increment as Incremental, member_bytes, increment_bytes}
 use Rattle.audit_store.specs.Recovered.{IsOfDeviceOrMemory}
 use Rattle.audit_cli_base.specs.declared.arguments.ProofRequest.{ProofRequest}

@@ -5,7 +5,7 @@ ghost use Rattle.audit_chain.specs.Event.{EventData};
 ghost use Rattle.audit_disk.specs.SectorSource.{source_of};
 ghost use Rattle.audit_store.specs.ReadOnlyOpening.{at_rest};
 ghost use Rattle.audit_store.specs.Store.{Holds};
-ghost use Rattle.audit_store_layout.specs.Origin.{Origin};
+ghost use Rattle.audit_store_commit.specs.Origin.{Origin};
 ghost use Rattle.audit_cli_base.specs.Arguments.{RefusesWords, number_asked, selects_output};
 ghost use Rattle.audit_cli_base.specs.OpenedStore.{IsStoreOn};
 ghost use Rattle.audit_cli_store.specs.OnFiles.{exported_text, IsPutTo, AnswersAbout, AnswersOn, AnswersAt};

@@ -2,7 +2,7 @@
 ghost use Rattle.std.specs.Prelude.{◌≡◌, ◌≢◌, ◌⊎◌, ◌<◌, ◌≤◌, true, false, Err, List, length, vec_len, MatchResult, IfOk};
 ghost use Rattle.std.specs.Prelude.{IfErr};
 ghost use Rattle.audit_chain.specs.Event.{EventData};
-ghost use Rattle.audit_store_layout.specs.Origin.{Origin};
+ghost use Rattle.audit_store_commit.specs.Origin.{Origin};
 ghost use Rattle.audit_proof.specs.ProofBytes.{member_in, increment_in};
 ghost use Rattle.audit_store.specs.Recovered.{IsOfDeviceOrMemory};
 ghost use Rattle.audit_store.specs.Queries.{IsProofOf, OnlyRead};

@@ -2,7 +2,7 @@
 use audit_chain::{Event, FIRST_LINK, Key, Sealed, seal};
 use audit_disk::{FailOnce, MemDisk, Sectors};
 use audit_log::{Chosen, GENERATION_LIMIT, Header, VERSION, write_header};
-use audit_store_layout::LogIndex;
+use audit_store_commit::LogIndex;
 use audit_store_opening::{HeaderRefusal, ScanFault, find_header, index_room, judge, scan};
 use audit_tree::leaf_hash;
 use std::alloc::Global;

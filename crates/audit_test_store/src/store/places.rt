@@ -1,7 +1,7 @@
 //! How many events of a kind a store holds, and the keys of the entries of a batch.
 use super::*;
 use audit_chain::FIRST_LINK;
-use audit_store_layout::{Batch, seal_batch};
+use audit_store_commit::{Batch, seal_batch};
 
 // Events of these kinds without payloads.
 fn of_kinds(rt: &impl Abort, alloc: Global, kinds: &[u32]) -> Vec<Event> {

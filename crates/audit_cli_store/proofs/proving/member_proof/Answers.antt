@@ -3,7 +3,7 @@ use Rattle.std.specs.Prelude.{take, IfErr}
 use Rattle.std.proofs.lemmas.Result.{err_from_is_err_and}
 use Rattle.sha2.specs.Sha256.{sha256}
 use Rattle.audit_tree.specs.Paths.{membership_path}
-use Rattle.audit_store_layout.specs.Headers.{log_leaves, contents_of}
+use Rattle.audit_store_commit.specs.Headers.{log_leaves, contents_of}
 use Rattle.audit_proof.specs.ProofBytes.{Member}
 use Rattle.audit_store.specs.Recovered.{IsOfDeviceOrMemory}
 use Rattle.audit_cli_store.proofs.KnownEntries.{index_known, only_memory, member_inside}

@@ -1,7 +1,7 @@
 use Rattle.std.specs.Prelude.{◌⊎◌, MatchResult}
 use Rattle.std.proofs.lemmas.Result.{err_from_is_err_and}
 use Rattle.std.proofs.Common.{◌≡◌, ◌<◌, ap, refl, sym, subst, length}
-use Rattle.audit_store_layout.specs.Headers.{contents_of}
+use Rattle.audit_store_commit.specs.Headers.{contents_of}
 use Rattle.audit_cli_store.specs.Proofs.{AsksOutside, IsDeviceOrMemory, proof_of_log}
 use Rattle.audit_cli_store.proofs.KnownEntries.{only_memory}
 use Rattle.audit_cli_store.proofs.proving.proof_bytes.Goals as goal

@@ -1,5 +1,0 @@
-use Rattle.audit_cli_client.proofs.StateLines.{newest_kept}
-use Rattle.audit_cli_client.proofs.laws.the_next_look_begins_from_what_was_kept.Goals as goal
-
-pub returns : goal.returns
-returns c = newest_kept

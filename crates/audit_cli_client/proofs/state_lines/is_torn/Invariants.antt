@@ -1,5 +1,0 @@
-use Rattle.audit_cli_client.specs.State.{IsBegunWith}
-use Rattle.audit_cli_client.proofs.state_lines.is_torn.Given as goal
-
-abbrev pub invariant-loop : goal.invariant-loop
-invariant-loop l = IsBegunWith l.part l.line.items

@@ -1,0 +1,5 @@
+pub mod Faults
+pub mod Frames
+pub mod Dates
+pub mod Messages
+pub mod ServerCalls

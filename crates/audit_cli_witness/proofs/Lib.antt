@@ -1,0 +1,3 @@
+mod AddedLines
+pub mod StateLines
+mod Looks

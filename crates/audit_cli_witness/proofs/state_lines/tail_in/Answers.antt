@@ -1,0 +1,26 @@
+use Rattle.std.proofs.Common.{sym, subst, arith}
+use Rattle.std.proofs.lemmas.Bool.{eqb-true, eqb-false}
+use Rattle.audit_text.specs.Lines.{IsCutInLines}
+use Rattle.audit_cli_witness.proofs.StateLines.{IsReadUpTo, none_read, one_line_more, all_lines_read, last_read_if}
+use Rattle.audit_cli_witness.proofs.state_lines.tail_in.Goals as goal
+
+pub loop-rest-init : goal.loop-rest-init
+loop-rest-init c = record { read = rw c.new-kept.ensures.items (none_read c.args.text.now) }
+
+pub loop-rest-preserved : goal.loop-rest-preserved
+loop-rest-preserved c =
+    let some = eqb-false _ _ (sym c.loop-rest-test.ensures) in
+    let cut : IsCutInLines c.loop-rest.rest.now c.split_at_first.result.0.now c.split_at_first.result.1.now = record { first = c.split_at_first.ensures.before; after = c.split_at_first.ensures.after } in
+    record {
+      read = subst (λ kept. IsReadUpTo c.args.text.now kept c.split_at_first.result.1.now) (sym c.in_ok-push.ensures.items)
+          (one_line_more c.args.text.now c.loop-rest.kept.items c.in-Some.commitment c.loop-rest.rest.now c.split_at_first.result.0.now c.split_at_first.result.1.now c.loop-rest.invariant.read (omega (arith, some)) cut c.if-line-rest.false (sym c.in-Some.ensures));
+    }
+
+pub returns-then-line-rest : goal.returns-then-line-rest
+returns-then-line-rest c =
+    let some = eqb-false _ _ (sym c.loop-rest-test.ensures) in
+    let cut : IsCutInLines c.loop-rest.rest.now c.split_at_first.result.0.now c.split_at_first.result.1.now = record { first = c.split_at_first.ensures.before; after = c.split_at_first.ensures.after } in
+    last_read_if c.args.text.now c.loop-rest.kept.items c.loop-rest.rest.now c.split_at_first.result.0.now c.split_at_first.result.1.now c.last_in.result c.loop-rest.invariant.read (omega (arith, some)) cut c.if-line-rest.true c.last_in.ensures
+
+pub returns : goal.returns
+returns c = all_lines_read c.args.text.now c.loop-rest.kept.items c.loop-rest.rest.now c.loop-rest.invariant.read (eqb-true _ _ (sym c.loop-rest-test.ensures))

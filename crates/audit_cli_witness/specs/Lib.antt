@@ -1,0 +1,5 @@
+pub mod State
+pub mod Alarm
+pub mod Beginning
+pub mod Looking
+pub mod Looks
