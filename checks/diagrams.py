@@ -16,7 +16,7 @@ import re
 
 from checks.parts.places import TOP
 
-DRAWN = ["docs/architecture.md", "crates/audit_store_layout/PROMISES.md"]
+DRAWN = ["docs/architecture.md", "crates/audit_store_commit/PROMISES.md"]
 LISTED = ["docs/comparison.md", "docs/controls.md"]
 
 
@@ -83,7 +83,7 @@ def wrong_names(line):
 
 def calls_of_a_commit():
     """The calls of `commit` on a device, in their order."""
-    code = read("crates/audit_store_layout/src/committing.rt")
+    code = read("crates/audit_store_commit/src/committing.rt")
     bodies = [re.search(r"\bfn %s<.*?\n\{\n(.*?)\n\}\n" % name, code, re.S)[1]
               for name in ("publish_batch", "replace_header")]
     found = re.findall(r"\b(write_batch|write_header|sync)\(", "\n".join(bodies))

@@ -1,8 +1,8 @@
 # Bash completion for `audit`: `source packaging/completion.bash`.
 _audit() {
     local word=${COMP_WORDS[COMP_CWORD]} before=${COMP_WORDS[COMP_CWORD - 1]} command=${COMP_WORDS[1]}
-    local commands="replay format append close rotate show prove check note export verify serve loop daemon stop send ask watch read help"
-    local valued="--mode --long --expect --reserve --sessions --socket-mode --reader --writer --idle --backlog --window --timeout --every --kind --from --save --first --under --receipts --retry --extends --after"
+    local commands="replay format append close rotate show prove check note export verify disclose serve loop daemon stop send ask watch read help"
+    local valued="--mode --long --expect --reserve --sessions --socket-mode --reader --writer --idle --backlog --window --timeout --every --kind --events --from --save --first --under --receipts --retry --extends --after"
     local options="--explain --no-progress --help" choices= files= place=0 question= index
     [[ $command = verify || $command = read ]] || valued="$valued --text"
     [[ $command != rotate ]] || valued="$valued --link"
@@ -24,7 +24,8 @@ _audit() {
     show) options="$options --free --read-only --header" ;;
     prove) options="$options --read-only" ;;
     check) options="$options --print --key --text --json --link" ;;
-    verify) options="$options --text --numbers --json --kind --from --save" ;;
+    verify) options="$options --text --numbers --json --kind --from --save --disclosed" ;;
+    disclose) options="$options --kind --events" ;;
     export) options="$options --from --read-only --salvage" ;;
     serve) options="$options --sessions --socket-mode" ;;
     loop) options="$options --socket-mode" ;;
@@ -50,7 +51,7 @@ _audit() {
     else
         case $command:$place:$question in
         format:[02]: | format:2:* | append:0: | close:0: | rotate:[01]: | rotate:3:* | show:0: | check:0: | export:[01]: | \
-            verify:[01]: | serve:[01]: | loop:[01]: | daemon:[01]: | stop:0: | send:0: | watch:[01]: | watch:2:* | read:[01]: | prove:0: | ask:0: | \
+            verify:[01]: | disclose:[01]: | disclose:3:* | serve:[01]: | loop:[01]: | daemon:[01]: | stop:0: | send:0: | watch:[01]: | watch:2:* | read:[01]: | prove:0: | ask:0: | \
             prove:4:* | ask:2:export | ask:3:entry | ask:4:member | ask:4:increment) files=1 ;;
         prove:1:) choices="member increment" ;;
         ask:1:) choices="commitment state place entry member increment export close" ;;

@@ -36,6 +36,8 @@ completes "a file" audit daemon s x --reader "a f"
 completes "a file" audit daemon s x --writer 1 : "a f"
 completes "a file" audit daemon --writer 1 : p s "a f"
 completes "a file" audit rotate o n 3 "a f"
+completes "a file" audit disclose e k c "a f"
+completes "" audit disclose e k c o --events 3
 completes "" audit format s 1
 completes export audit ask s ex
 completes cut audit send s --text 1 --long c
