@@ -291,6 +291,21 @@ def verified_further():
     return numbered(*(lambda value=value: value for value in values))
 
 
+def disclosed():
+    """The keys of chosen events of the printed ones, and what begins a disclosure of those after the third."""
+    keys = entry_keys(ZERO_KEY, PRINTED)
+    # A state's key and its check aren't in it.
+    _, link, *nodes, _ = state_values(3)
+    shown = [keys[1], keys[2], keys[4], keys[3], keys[5], link, *nodes, keys[4], keys[0], keys[3]]
+    return numbered(*(lambda value=value: value for value in shown))
+
+
+def disclosed_script():
+    entries = log_of(PRINTED).entries
+    return numbered(export_of(PRINTED[:3]), lambda: entries[3], lambda: b"".join(entries[4:]),
+                    *(root_after(PRINTED[:count]) for count in (3, 6)))
+
+
 def verified_further_script():
     entries = log_of(PRINTED).entries
     return numbered(export_of(PRINTED[:3]), lambda: entries[3], lambda: b"".join(entries[4:]),
@@ -302,6 +317,8 @@ FILES = {"cases/%s" % name: make for name, make in {
     "checked_links/script": checked_links,
     "close/stdout": close,
     "contents_of_proofs/script": contents_of_proofs,
+    "disclosures/script": disclosed_script,
+    "disclosures/stdout": disclosed,
     "exported_stores/script": exported_stores_script,
     "exported_stores/stdout": exported_stores,
     "exports_from_an_index/script": exports_from_an_index_script,
