@@ -1,5 +1,6 @@
-"""Verifies an export, from a file and from a pipe, and serves a session over lines, with less and less memory until the
-executable can't be loaded. Then it asks a store of more than 2^20 events, with little more than its index takes.
+"""Verifies an export, from a file and from a pipe, discloses events of it, and serves a session over lines, with less
+and less memory until the executable can't be loaded. Then it asks a store of more than 2^20 events, with little more
+than its index takes.
 
 usage: bin/check memory EXECUTABLE
 
@@ -15,7 +16,7 @@ import tempfile
 
 from checks.parts import program
 from checks.parts.daemons import commitment_of
-from checks.parts.files import folder_of_its_own, read
+from checks.parts.files import folder_of_its_own, read, write
 from checks.parts.limits import downwards, with_limit
 from checks.parts.logs import event_lines
 from checks.parts.places import KEY
@@ -68,6 +69,30 @@ def with_pipe(limit, data, *words):
     return process.returncode, out, err
 
 
+def disclose_with_less():
+    """A disclosure of the same export is whole, or not there, and shows the long event or nothing after a refusal."""
+    words = "disclose", "export", KEY, commitment_of("store"), "chosen"
+    events = "--events", "0,%d" % (COUNT - 1)
+    made = done(*words, *events)
+    text = read("chosen")
+    wanted = done("verify", "export", "chosen", words[3], "--disclosed")
+
+    def disclose(limit):
+        if os.path.exists("chosen"):
+            os.remove("chosen")
+        status = expect_answer(with_limit(limit, *words, *events), made, "of `disclose` with %d KiB" % limit)
+        expect(read("chosen") if os.path.exists("chosen") else None, text if status == 0 else None, "the disclosure")
+        return status
+
+    def show(limit):
+        return expect_answer(with_limit(limit, "verify", "export", "kept", words[3], "--disclosed"), wanted,
+                             "of `verify --disclosed` with %d KiB" % limit)
+
+    write("kept", text)
+    downwards(disclose, STEP, "disclosure")
+    downwards(show, STEP, "reading of a disclosure")
+
+
 def serve_with_less():
     """One line has many requests for the commitment of an empty store, and each gets its reply."""
     done("format", "none", "64", KEY)
@@ -101,6 +126,7 @@ def main(words):
     program_of(words)
     with folder_of_its_own("memory-"):
         verify_with_less()
+        disclose_with_less()
         serve_with_less()
         if program.is_by_rattle() or program.is_unproved():
             return 0
