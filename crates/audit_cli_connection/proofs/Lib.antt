@@ -1,1 +1,2 @@
+pub mod BodyBytes
 pub mod SaidMessages

@@ -1,5 +1,5 @@
 //! Where frames end in the bytes of a connection.
-ghost use Rattle.std.specs.Prelude.{◌≡◌};
+ghost use Rattle.std.specs.Prelude.{◌≡◌, ◌≤◌, length};
 ghost use Rattle.audit_cli_connection.specs.Frames.{is_start, place_in_body, place_after_byte};
 ghost use Rattle.audit_cli_connection.specs.Frames.{frames_place_after, ends_within};
 
@@ -33,11 +33,28 @@ impl Place {
         let mut has_ended = false;
         let mut rest = bytes;
         while let Some((byte, later)) = rest.split_first() {
-            place = place.after_byte(*byte);
-            has_ended = has_ended || place.is_start();
-            rest = later;
+            let next = place.after_byte(*byte);
+            has_ended = has_ended || next.is_start();
+            (place, rest) = next.within_body(later);
         }
         Passed { place, has_ended }
+    }
+
+    // Passes over the bytes after which the frame at hand goes on, at once. Returns the place after them, and the bytes
+    // that are left.
+    fn within_body(self, bytes: &[u8]) -> (Place, &[u8])
+        ensures place { frames_place_after result.0 result.1.now ≡ frames_place_after self bytes.now }
+        ensures ended { ends_within result.0 result.1.now ≡ ends_within self bytes.now }
+        ensures fewer { length result.1.now ≤ length bytes.now }
+    {
+        match self {
+            Place::Body(more) => {
+                let passed = bytes.len().min(usize::from(more));
+                let (_, later) = bytes.split_at(passed);
+                (Place::Body(more - passed as u16), later)
+            }
+            other => (other, bytes),
+        }
     }
 
     fn after_byte(self, byte: u8) -> Place
