@@ -11,8 +11,8 @@ use audit_cli_host::Dial;
 use audit_cli_witness::{lacks_feed, open_lines};
 use audit_text::{CutLines, LongLines};
 use audit_wire_ask::{
-    ClientError, FallibleWrite, KeptInput, NoKeys, Places, Placing, SendEnd, SendError, StopAt,
-    log_and_send, place_and_send,
+    ClientError, FallibleWrite, KeptInput, KeyFile, KeyLines, NoKeys, Places, Placing, SendEnd,
+    SendError, StopAt, log_and_send, place_and_send,
 };
 use std::alloc::Global;
 use std::fs::Files;
@@ -34,7 +34,7 @@ pub fn send_to_socket<F: Files + Dial + Clock, R: Read, W: Write, M: Write>(
     messages: &mut M,
 ) -> Result<Status, RemoteError> {
     let mut keys = match task.keys {
-        Some(path) => Some(begin_lines(rt, path)?),
+        Some(path) => Some(KeyFile::new(begin_lines(rt, path)?)),
         None => None,
     };
     match task.long {
@@ -56,7 +56,7 @@ pub fn send_to_socket<F: Files + Dial + Clock, R: Read, W: Write, M: Write>(
 
 // Sends over a connection, and if it is lost over another one: the lines that weren't answered again, with the numbers
 // and places that they had, and then the next ones.
-fn send_on<F: Dial + Clock, R: Read, W: Write, K: Write, M: Write>(
+fn send_on<F: Dial + Clock, R: Read, W: Write, K: KeyLines, M: Write>(
     rt: &F,
     alloc: Global,
     socket: &str,
@@ -146,7 +146,7 @@ struct Leg {
 }
 
 // Sends over one connection, the lines after the first `before`.
-fn send_once<F: Dial + Clock, R: Read, W: Write, K: Write>(
+fn send_once<F: Dial + Clock, R: Read, W: Write, K: KeyLines>(
     rt: &F,
     alloc: Global,
     socket: &str,
@@ -176,7 +176,7 @@ fn begin_lines<F: Files>(rt: &F, path: &str) -> Result<F::File, RemoteError> {
     Ok(file)
 }
 
-fn send_over<C: Clock, R: Read, W: Write, K: Write>(
+fn send_over<C: Clock, R: Read, W: Write, K: KeyLines>(
     alloc: Global,
     task: Task<'_>,
     before: u64,
@@ -227,7 +227,7 @@ fn send_task<I: Read, A: FallibleWrite, B: Read, W: Write>(
 }
 
 // The same, and keeps their keys after the newest commitment.
-fn send_and_keep<I: Read, A: FallibleWrite, B: Read, W: Write, K: Write>(
+fn send_and_keep<I: Read, A: FallibleWrite, B: Read, W: Write, K: KeyLines>(
     alloc: Global,
     task: Task<'_>,
     before: u64,

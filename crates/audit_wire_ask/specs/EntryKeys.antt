@@ -8,6 +8,7 @@ use Rattle.audit_proof.specs.declared.commitment.Commitment.{Commitment}
 use Rattle.audit_text.specs.Writing.{WritesInPart}
 use Rattle.audit_wire.specs.declared.reply.Reply.{Reply}
 use Rattle.audit_wire.specs.declared.reply.Reply.TheVariants as reply
+use Rattle.audit_wire_ask.specs.declared.key_file.KeyFile.{KeyFile}
 use Rattle.audit_wire_ask.specs.declared.send_error.SendError.{SendError}
 use Rattle.audit_wire_ask.specs.declared.send_error.SendError.TheVariants.{Keys}
 use Rattle.audit_wire_ask.specs.Conversation.{ReadsReply, ReadsReplies}
@@ -19,6 +20,10 @@ log_line newest = codes "log " ++ decimal newest.count ++ codes ":" ++ encode_lo
 -- the index of an event, and the key of its entry
 unfoldable pub key_line : ℕ → List ℕ → List ℕ
 key_line index key = codes "key " ++ decimal index ++ codes " " ++ encode_lower key ++ codes "\n"
+
+-- the writer by which keys are kept
+abbrev pub written_file : {W : Type 0} → KeyFile W → W
+written_file keys = keys.writer
 
 -- what is kept of a reply
 abbrev pub key_kept : Reply → List ℕ

@@ -13,6 +13,7 @@ use crate::conversation::next_reply;
 use crate::entry_key::keep_key;
 use crate::fallible_write::FallibleWrite;
 use crate::fault::ClientError;
+use crate::key_lines::KeyLines;
 use crate::place_line::put_place;
 use crate::places::Places;
 use crate::refusal_word::word_of_refusal;
@@ -37,7 +38,7 @@ pub(crate) struct Answers {
 
 /// Reads the answers to as many lines, of which the first has the number `before` + 1, and prints a line for each as
 /// soon as it is read. The key in an answer is kept before its line is printed.
-pub(crate) fn take_answers<R: Read, O: FallibleWrite, K: FallibleWrite>(
+pub(crate) fn take_answers<R: Read, O: FallibleWrite, K: KeyLines>(
     alloc: Global,
     places: Places,
     from: &mut R,
@@ -86,7 +87,7 @@ fn refusals_after(refused: u64, refuses: bool) -> u64
 }
 
 // Reads the answer to a line and prints it. Returns whether the event isn't in the log.
-fn take_answer<R: Read, O: FallibleWrite, K: FallibleWrite>(
+fn take_answer<R: Read, O: FallibleWrite, K: KeyLines>(
     alloc: Global,
     places: Places,
     from: &mut R,

@@ -5,30 +5,14 @@ ghost use Rattle.audit_text.specs.Writing.{WritesInPart};
 ghost use Rattle.audit_wire_ask.specs.EntryKeys.{key_line, log_line, key_kept};
 
 use crate::answering::print_line;
-use crate::fallible_write::FallibleWrite;
 use crate::fault::ClientError;
+use crate::key_lines::KeyLines;
 use crate::send_error::SendError;
 use audit_base::Hash;
 use audit_proof::Commitment;
 use audit_text::{push_hex, push_number};
 use audit_wire::Reply;
 use std::alloc::AllocError;
-use std::io::{self, Write};
-
-/// A writer that drops what it is given. Keys that go there aren't kept.
-#[derive(Clone, Copy, Debug, Drop)]
-pub struct NoKeys;
-
-/// Nothing is known of the bytes.
-impl Write for NoKeys {
-    fn write(&mut self, bytes: &[u8]) -> io::Result<usize> {
-        Ok(bytes.len())
-    }
-
-    fn flush(&mut self) -> io::Result<()> {
-        Ok(())
-    }
-}
 
 /// Replaces the buffer's contents with `log` and a commitment. It precedes the keys of a log.
 #[tactic(auto, unfolding(crate::specs::EntryKeys::log_line))]
@@ -55,7 +39,7 @@ fn put_key(line: &mut Vec<u8>, index: u64, key: &Hash) -> Result<(), AllocError>
 }
 
 /// Keeps the line of the key in a reply, if it has one.
-pub(crate) fn keep_key<K: FallibleWrite>(
+pub(crate) fn keep_key<K: KeyLines>(
     keys: &mut K,
     line: &mut Vec<u8>,
     given: &Reply,
@@ -68,6 +52,9 @@ pub(crate) fn keep_key<K: FallibleWrite>(
     let Reply::Placed { index, key, .. } = given else {
         return Ok(());
     };
+    if !keys.are_kept() {
+        return Ok(());
+    }
     if put_key(line, *index, key).is_err() {
         return Err(SendError::Client(ClientError::Memory));
     }

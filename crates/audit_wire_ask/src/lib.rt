@@ -11,6 +11,8 @@ mod fallible_write;
 mod fault;
 mod keeping;
 mod kept_input;
+mod key_file;
+mod key_lines;
 mod kind_place;
 pub mod laws;
 mod older;
@@ -33,12 +35,13 @@ pub use asking::{
     member_proof, newest_commitment,
 };
 pub use conversation::{ask, next_reply, send_bytes};
-pub use entry_key::NoKeys;
 pub use exporting::{Export, ask_ahead, entry_in, export_entries, piece_tag};
 pub use fallible_write::FallibleWrite;
 pub use fault::ClientError;
 pub use keeping::{Kept, WatchError, watch_and_keep};
 pub use kept_input::KeptInput;
+pub use key_file::KeyFile;
+pub use key_lines::{KeyLines, NoKeys};
 pub use kind_place::KindPlace;
 pub use place_asking::place_of_kind;
 pub use place_line::put_place;

@@ -11,6 +11,7 @@ use crate::asking::newest_commitment;
 use crate::entry_key::put_log;
 use crate::fallible_write::FallibleWrite;
 use crate::fault::ClientError;
+use crate::key_lines::KeyLines;
 use crate::place_asking::place_of_kind;
 use crate::places::Places;
 use crate::send_error::SendError;
@@ -33,7 +34,7 @@ pub enum Placing {
 
 /// Sends events as [`send_events`] does, at the places that they are given, for which it asks first. Returns these places
 /// too. Errors: those of that question, after which no event was sent.
-pub fn place_and_send<I: Read, W: FallibleWrite, R: Read, O: FallibleWrite, K: FallibleWrite>(
+pub fn place_and_send<I: Read, W: FallibleWrite, R: Read, O: FallibleWrite, K: KeyLines>(
     alloc: Global,
     placing: Placing,
     form: LineForm,
@@ -62,7 +63,7 @@ pub fn place_and_send<I: Read, W: FallibleWrite, R: Read, O: FallibleWrite, K: F
 
 /// Asks for the newest commitment, keeps it in a line of `keys`, and then sends events as [`place_and_send`] does. Errors:
 /// those of both questions, after which no event was sent; and that the line couldn't be kept, before any was.
-pub fn log_and_send<I: Read, W: FallibleWrite, R: Read, O: FallibleWrite, K: FallibleWrite>(
+pub fn log_and_send<I: Read, W: FallibleWrite, R: Read, O: FallibleWrite, K: KeyLines>(
     alloc: Global,
     placing: Placing,
     form: LineForm,
@@ -93,7 +94,7 @@ pub fn log_and_send<I: Read, W: FallibleWrite, R: Read, O: FallibleWrite, K: Fal
 }
 
 // Asks for the newest commitment, and keeps it in a line.
-fn begin_log<W: Write, R: Read, K: FallibleWrite>(
+fn begin_log<W: Write, R: Read, K: KeyLines>(
     alloc: Global,
     to: &mut W,
     from: &mut R,

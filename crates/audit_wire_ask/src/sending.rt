@@ -8,6 +8,7 @@ ghost use Rattle.audit_wire_ask.specs.EntryKeys.{KeepsAllKeys, KeepsKeys, KeysBr
 use crate::answering::{Answers, take_answers};
 use crate::fallible_write::FallibleWrite;
 use crate::fault::ClientError;
+use crate::key_lines::KeyLines;
 use crate::places::Places;
 use crate::send_error::SendError;
 use crate::stop_at::StopAt;
@@ -42,7 +43,7 @@ pub struct SendEnd {
 /// has. If its place is below that, it is in the log already, unless others send events of that kind. If it isn't, the
 /// event counts as refused, since those before it are missing. The key in the answer to an event that was appended is
 /// kept in a line of `keys` before the line of the answer is printed.
-pub fn send_events<I: Read, W: FallibleWrite, R: Read, O: FallibleWrite, K: FallibleWrite>(
+pub fn send_events<I: Read, W: FallibleWrite, R: Read, O: FallibleWrite, K: KeyLines>(
     alloc: Global,
     places: Places,
     form: LineForm,
@@ -122,7 +123,7 @@ fn stops_at(stop_at: StopAt, refused: u64) -> bool
 }
 
 // Reads and prints the answers to all lines that were sent.
-fn take_last<R: Read, O: FallibleWrite, K: FallibleWrite>(
+fn take_last<R: Read, O: FallibleWrite, K: KeyLines>(
     alloc: Global,
     places: Places,
     before: u64,
@@ -219,7 +220,7 @@ struct Round {
 
 // Sends the next lines, and then reads and prints answers. If the requests couldn't be written, the answers that the
 // server gave before are still read.
-fn send_round<I: Read, W: FallibleWrite, R: Read, O: FallibleWrite, K: FallibleWrite>(
+fn send_round<I: Read, W: FallibleWrite, R: Read, O: FallibleWrite, K: KeyLines>(
     alloc: Global,
     places: Places,
     form: LineForm,

@@ -1,4 +1,4 @@
-use Rattle.std.proofs.Common.{rules, arith, sym, ap, ◌∙◌, ◌≡◌, ◌≤◌, length, ℕ, ◌-◌, drop}
+use Rattle.std.proofs.Common.{arith, sym, ap, ◌∙◌, ℕ, ◌-◌}
 use Rattle.audit_cli_connection.specs.Frames.{frames_place_after, ends_within}
 use Rattle.audit_cli_connection.specs.declared.frames.Place.TheVariants.{Body}
 use Rattle.audit_cli_connection.proofs.BodyBytes.{place_past, ends_past}

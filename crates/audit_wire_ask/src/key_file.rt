@@ -1,0 +1,40 @@
+//! Files of keys.
+ghost use Rattle.std.specs.Prelude.{◌≡◌};
+ghost use Rattle.audit_wire_ask.specs.EntryKeys.{written_file};
+
+use crate::key_lines::KeyLines;
+use std::io::{self, Write};
+
+/// A file, or another writer, where keys are kept.
+#[derive(Drop)]
+pub struct KeyFile<W> {
+    writer: W,
+}
+
+impl<W> KeyFile<W> {
+    /// Keeps keys by this writer.
+    pub fn new(writer: W) -> KeyFile<W>
+        ensures { written_file result ≡ writer }
+    {
+        KeyFile { writer }
+    }
+}
+
+impl<W: Write> KeyLines for KeyFile<W> {
+    fn are_kept(&self) -> bool {
+        true
+    }
+}
+
+/// Its bytes are those of the writer.
+impl<W: Write> Write for KeyFile<W> {
+    ghost contents = { λ keys. W.contents (written_file keys) };
+
+    fn write(&mut self, bytes: &[u8]) -> io::Result<usize> {
+        self.writer.write(bytes)
+    }
+
+    fn flush(&mut self) -> io::Result<()> {
+        self.writer.flush()
+    }
+}
