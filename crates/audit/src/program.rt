@@ -26,6 +26,7 @@ use clap::error::ErrorKind;
 use clap::{ArgMatches, Error};
 use std::alloc::{AllocError, Global};
 use std::io::{Read, Write};
+use std::os::unix::net::UnixStream;
 use std::time::Clock;
 
 /// Which streams of the program are terminals.
@@ -325,7 +326,15 @@ where
     F::File: SystemFile,
 {
     let mut stores = SystemStores::new(rt);
-    audit_cli_serve::run(rt, &mut stores, alloc, request, input, output, messages)
+    audit_cli_serve::run::<F, UnixStream, (), SystemStores<'_, F>, R, W, M>(
+        rt,
+        &mut stores,
+        alloc,
+        request,
+        input,
+        output,
+        messages,
+    )
 }
 
 #[inline(never)]

@@ -4,14 +4,17 @@ use denote.Ref.{Bor}
 use Rattle.std.specs.List.{flat_map}
 use Rattle.std.specs.Prelude.{IfErr, OnOk, OnErr, IsOk, IsErr, IfSome}
 use Rattle.std.specs.Io.KnownBytes.{Appends, Keeps}
-use Rattle.std.proofs.Common.{◌≡◌, ◌⊎◌, ◌∙◌, inl, inr, ℕ, Bool, true, false, Option, Some, None, Result, Ok, Err, List, [], ◌∷◌, ◌++◌, length, append-nil, ap, refl, sym, subst}
+use Rattle.std.proofs.Common.{◌≡◌, ◌⊎◌, ◌∙◌, inl, inr, ℕ, ◌+◌, Bool, true, false, Option, Some, None, Result, Ok, Err, List, [], ◌∷◌, ◌++◌, length, append-nil, ap, refl, sym, subst}
 use Rattle.audit_disk_model.specs.declared.sectors.Sectors as sectors
 use Rattle.audit_store.specs.declared.store.Store.{Store}
+use Rattle.audit_serve_passes.specs.Steps.{StepData}
 use Rattle.audit_serve_passes.specs.Streams.{CallModel}
 use Rattle.audit_serve_sockets.specs.Frames.{frame_line}
-use Rattle.audit_serve_sockets.specs.Input.{SpellsInput}
+use Rattle.audit_serve_sockets.specs.Carrying.{LosesSome, client_end, server_end}
+use Rattle.audit_serve_sockets.specs.Input.{SpellsInput, SpellsUpToBad}
 use Rattle.audit_serve_sockets.specs.Listening.{ListenerModel}
-use Rattle.audit_serve_sockets.specs.Looping.{IsWholeLoop}
+use Rattle.audit_serve_sockets.specs.Looping.{AreLinePasses, IsWholeLoop}
+use Rattle.audit_serve_sockets.specs.declared.link.Link.{Link}
 use Rattle.audit_cli_base.specs.Mode.{IsMode}
 use Rattle.audit_cli_base.specs.Watched.{after_reference}
 use Rattle.audit_disk.specs.declared.files.TheConstants.{OWNER_ONLY}
@@ -20,11 +23,11 @@ use Rattle.audit_cli_serve.specs.Arguments.{rounds_asked, sessions_wanted}
 use Rattle.audit_cli_base.specs.declared.fault.CommandError.{CommandError}
 use Rattle.audit_cli_calls.specs.StoreCalls.{StoresModel, an_opening, a_letting_go}
 use Rattle.audit_server_model.specs.Serving.{StoreKeepsOn}
-use Rattle.audit_cli_serve.specs.Carried.{IsServingDone, IsUnopened, IsLoopStopped, KeepsOpened, LoopsAt, LoopsOpened, LoopStopsOpened, ServesAt, ServesWithLines, IsStoppedWith, ServesOpened, StopsOpened}
+use Rattle.audit_cli_serve.specs.Carried.{IsServingDone, IsUnopened, IsLoopStopped, KeepsOpened, LoopsAt, LoopsToBad, LosesLoop, LoopsOpened, LoopStopsOpened, ServesAt, ServesWithLines, IsStoppedWith, ServesOpened, StopsOpened}
 use Rattle.audit_cli_serve.specs.Rounds.{round_lines, AreCutOff}
-use Rattle.audit_cli_serve.specs.Served.{LoopsOver, ServesRounds, StopsLoop, StopsRounds}
+use Rattle.audit_cli_serve.specs.Served.{CutsFrameOver, LoopsOver, LoopReachesOver, ServesRounds, StopsLoop, StopsRounds}
 use Rattle.audit_cli_serve.specs.declared.fault.ServingError.{ServingError}
-use Rattle.audit_cli_serve.specs.declared.fault.ServingError.TheVariants.{Command}
+use Rattle.audit_cli_serve.specs.declared.fault.ServingError.TheVariants.{Command, BadFrameLine}
 use Rattle.audit_cli_serve.specs.declared.request.Request.{Request}
 use Rattle.audit_cli_serve.specs.declared.request.Request.TheVariants.{Serve, Loop}
 
@@ -85,11 +88,13 @@ removed_by Failed (Err error) failed is = failed
 
 module _ {D : Type 0} {g : sectors.Ghosts D} where
   -- why a loop ended with an error, once it was looked whether the store was in its place and the socket's file was removed
-  pub loop_stopped_after : (Failed Connects : Type 0) (replaced : Bool) (opened left : Store D g) (served watched result : Ending) → IfErr served (StopsLoop opened left) → (replaced ≡ true → watched ≡ Err (Command Replaced)) → (replaced ≡ false → watched ≡ served)
-      → IfErr result (λ fault. (watched ≡ Err fault) ⊎ (fault ≡ Command File)) → (result ≡ Err (Command File) → Failed ⊎ Connects) → IfErr result (IsLoopStopped Failed Connects opened left)
-  loop_stopped_after Failed Connects replaced opened left served watched (Ok done) stops is not ends failed = tt
-  loop_stopped_after Failed Connects replaced opened left served watched (Err fault) stops is not ends failed =
-      record { why = by ends; cause = λ file. failed (ap Err file) }
+  pub loop_stopped_after : (Failed Lost : Type 0) (replaced : Bool) (input before mid after : Option (List ℕ)) (opened left : Store D g) (served watched result : Ending) → after ≡ mid → IfErr served (StopsLoop opened left)
+      → (left ≡ opened) ⊎ LoopReachesOver opened left input → ((number : ℕ) → served ≡ Err (BadFrameLine number) → LoopsToBad number input before mid opened left)
+      → (replaced ≡ true → watched ≡ Err (Command Replaced)) → (replaced ≡ false → watched ≡ served)
+      → IfErr result (λ fault. (watched ≡ Err fault) ⊎ (fault ≡ Command File)) → (result ≡ Err (Command File) → Failed ⊎ Lost) → IfErr result (IsLoopStopped Failed Lost input before after opened left)
+  loop_stopped_after Failed Lost replaced input before mid after opened left served watched (Ok done) same_output stops reached bad is not ends failed = tt
+  loop_stopped_after Failed Lost replaced input before mid after opened left served watched (Err fault) same_output stops reached bad is not ends failed =
+      record { why = by ends; cause = λ file. failed (ap Err file); reached = reached; bad = λ number line. bad_by number line ends }
     where
       watched_by : (replaced : Bool) → IsWatched replaced served watched → watched ≡ Err fault → (fault ≡ Command Replaced) ⊎ StopsLoop opened left fault
       watched_by true gone same = inl (cc (sym same ∙ gone))
@@ -99,36 +104,60 @@ module _ {D : Type 0} {g : sectors.Ghosts D} where
       by (inl same) = watched_by replaced (is_watched replaced served watched is not) same
       by (inr file) = inr (inr (inl file))
 
-  -- it didn't begin: there was no socket, or memory was refused
-  pub loop_not_begun : (Failed Connects : Type 0) (opened : Store D g) (result : Ending) → IfErr result (StopsLoop opened opened) → (result ≡ Err (Command File) → Failed) → IfErr result (IsLoopStopped Failed Connects opened opened)
-  loop_not_begun Failed Connects opened (Ok done) stops failed = tt
-  loop_not_begun Failed Connects opened (Err fault) stops failed = record { why = inr stops; cause = λ file. inl (failed (ap Err file)) }
+      bad_watched : (number : ℕ) (replaced : Bool) → IsWatched replaced served watched → fault ≡ BadFrameLine number → watched ≡ Err fault → LoopsToBad number input before after opened left
+      bad_watched number true gone line same = let two : Command Replaced ≡ BadFrameLine number = cc (sym gone ∙ same ∙ ap Err line) in absurd (cc two)
+      bad_watched number false stays line same =
+          subst (λ (known : Option (List ℕ)). LoopsToBad number input before known opened left) (sym same_output) (bad number (sym stays ∙ same ∙ ap Err line))
+
+      bad_by : (number : ℕ) → fault ≡ BadFrameLine number → (watched ≡ Err fault) ⊎ (fault ≡ Command File) → LoopsToBad number input before after opened left
+      bad_by number line (inl same) = bad_watched number replaced (is_watched replaced served watched is not) line same
+      bad_by number line (inr file) = let two : Command File ≡ BadFrameLine number = sym file ∙ line in absurd (cc two)
 
   pub loops_at : (input before after : Option (List ℕ)) (opened left : Store D g) (done : Ending) → OnOk done ((lines : List (List ℕ)) × LoopsOver opened left before after (IsWholeLoop lines) × IfSome input (SpellsInput lines)) → OnOk done (LoopsAt input before after opened left)
   loops_at input before after opened left (Err fault) looped = tt
   loops_at input before after opened left (Ok done) (lines, looped, spelled) = record { lines = lines; looped = looped; spelled = spelled }
 
-  loops_plain : (one other : GName) (input was old new end : Option (List ℕ)) (opened left : Store D g) → was ≡ after_reference one old → (one ≡ other → end ≡ new) → LoopsAt input was (after_reference other new) opened left → LoopsAt input old end opened left
-  loops_plain one other input was old new end opened left is same at =
-      let run = at.looped.run in
+  pub bad_at : (input before after : Option (List ℕ)) (opened left : Store D g) (number : ℕ) → (lines : List (List ℕ)) × (length lines + 1 ≡ number) × LoopsOver opened left before after (AreLinePasses lines) × IfSome input (SpellsUpToBad lines) → LoopsToBad number input before after opened left
+  bad_at input before after opened left number (lines, count, looped, spelled) = record { lines = lines; count = count; looped = looped; spelled = spelled }
+
+  -- the same bytes of the input
+  pub reached_by : (opened left : Store D g) (known input : Option (List ℕ)) → (left ≡ opened) ⊎ LoopReachesOver opened left known → known ≡ input → (left ≡ opened) ⊎ LoopReachesOver opened left input
+  reached_by opened left known input reached same = subst (λ (bytes : Option (List ℕ)). (left ≡ opened) ⊎ LoopReachesOver opened left bytes) same reached
+
+  pub bad_by_input : (number : ℕ) (known input before after : Option (List ℕ)) (opened left : Store D g) → LoopsToBad number known before after opened left → known ≡ input → LoopsToBad number input before after opened left
+  bad_by_input number known input before after opened left bad same = subst (λ (bytes : Option (List ℕ)). LoopsToBad number bytes before after opened left) same bad
+
+  -- why the connection failed
+  pub lost_on : {E Q : Type 0} (Met : Q → ℕ → Type 0) (Unwritten Unread : E → Type 0) (Gave : E → List ℕ → Type 0) (opened left : Store D g) (link : Link E E) → LosesSome Unwritten Unread Gave (client_end link) (server_end link) ⊎ (LosesSome Unwritten Unread Gave (server_end link) (client_end link) ⊎ CutsFrameOver opened left)
+      → LosesLoop Met Unwritten Unread Gave opened left
+  lost_on Met Unwritten Unread Gave opened left link (inl sent) = inr (inl (record { link = link; lost = inl sent }))
+  lost_on Met Unwritten Unread Gave opened left link (inr (inl back)) = inr (inl (record { link = link; lost = inr back }))
+  lost_on Met Unwritten Unread Gave opened left link (inr (inr cut)) = inr (inr cut)
+
+  -- what was written behind the number of a reference was written to what it leads to
+  over_plain : (one other : GName) (was old new end : Option (List ℕ)) (opened left : Store D g) {Shape : List StepData → Type 0} → was ≡ after_reference one old → (one ≡ other → end ≡ new) → LoopsOver opened left was (after_reference other new) Shape → LoopsOver opened left old end Shape
+  over_plain one other was old new end opened left is same over =
+      let run = over.run in
       let written = run.written in record {
-        lines = at.lines;
-        looped = record {
-          core = at.looped.core;
-          made = at.looped.made;
-          last = at.looped.last;
-          left = at.looped.left;
-          run = record {
-            steps = run.steps;
-            taken = run.taken;
-            did = run.did;
-            others = run.others;
-            shape = run.shape;
-            written = record { bodies = written.bodies; are = written.are; all = written.all; written = plain one other was old new end (flat_map frame_line written.bodies) is same written.written };
-          };
+        core = over.core;
+        made = over.made;
+        last = over.last;
+        left = over.left;
+        run = record {
+          steps = run.steps;
+          taken = run.taken;
+          did = run.did;
+          others = run.others;
+          shape = run.shape;
+          written = record { bodies = written.bodies; are = written.are; all = written.all; written = plain one other was old new end (flat_map frame_line written.bodies) is same written.written };
         };
-        spelled = at.spelled;
       }
+
+  loops_plain : (one other : GName) (input was old new end : Option (List ℕ)) (opened left : Store D g) → was ≡ after_reference one old → (one ≡ other → end ≡ new) → LoopsAt input was (after_reference other new) opened left → LoopsAt input old end opened left
+  loops_plain one other input was old new end opened left is same at = record { lines = at.lines; looped = over_plain one other was old new end opened left is same at.looped; spelled = at.spelled }
+
+  bad_plain : (number : ℕ) (one other : GName) (input was old new end : Option (List ℕ)) (opened left : Store D g) → was ≡ after_reference one old → (one ≡ other → end ≡ new) → LoopsToBad number input was (after_reference other new) opened left → LoopsToBad number input old end opened left
+  bad_plain number one other input was old new end opened left is same bad = record { lines = bad.lines; count = bad.count; looped = over_plain one other was old new end opened left is same bad.looped; spelled = bad.spelled }
 
   -- a store that was opened and let go
   pub keeps_opened : {O : Type 0} (stores : StoresModel O (Store D g)) (At : List ℕ → Store D g → Type 0) (path : List ℕ) (first mid last : O) (opened left : Store D g) → At path opened → stores.DidCalls first mid (an_opening path (Ok opened) ∷ []) → stores.DidCalls mid last (a_letting_go left ∷ []) → StoreKeepsOn opened left → KeepsOpened g stores At path first last opened left
@@ -140,9 +169,15 @@ module _ {D : Type 0} {g : sectors.Ghosts D} where
   loops_opened stores At Bound Connects path socket mode first last one other input was old new end opened left (Ok done) kept is same looped bound connects =
       record { opened = opened; left = left; kept = kept; bound = bound.0; listens = bound.1; connects = connects; looped = loops_plain one other input was old new end opened left is same looped }
 
-  pub loops_stopped : {O : Type 0} (stores : StoresModel O (Store D g)) (At : List ℕ → Store D g → Type 0) (Failed : Type 0) (Connects : List ℕ → Type 0) (path socket : List ℕ) (first last : O) (before after : Option (List ℕ)) (opened left : Store D g) (done : Ending) → KeepsOpened g stores At path first last opened left → IfErr done (IsLoopStopped Failed (Connects socket) opened left) → IfErr done (λ fault. IsUnopened stores path first last before after fault ⊎ LoopStopsOpened g stores At Failed Connects path socket first last fault)
-  loops_stopped stores At Failed Connects path socket first last before after opened left (Ok done) kept stopped = tt
-  loops_stopped stores At Failed Connects path socket first last before after opened left (Err fault) kept stopped = inr (record { opened = opened; left = left; kept = kept; stopped = stopped })
+  pub loops_stopped : {O : Type 0} (stores : StoresModel O (Store D g)) (At : List ℕ → Store D g → Type 0) (Failed : Type 0) (Lost : Store D g → Store D g → Type 0) (path : List ℕ) (first last : O) (one other : GName) (input was old new end : Option (List ℕ)) (opened left : Store D g) (done : Ending) → KeepsOpened g stores At path first last opened left → was ≡ after_reference one old → (one ≡ other → end ≡ new)
+      → IfErr done (IsLoopStopped Failed (Lost opened left) input was (after_reference other new) opened left) → IfErr done (λ fault. IsUnopened stores path first last old end fault ⊎ LoopStopsOpened g stores At Failed Lost path first last input old end fault)
+  loops_stopped stores At Failed Lost path first last one other input was old new end opened left (Ok done) kept is same stopped = tt
+  loops_stopped stores At Failed Lost path first last one other input was old new end opened left (Err fault) kept is same stopped = inr (record {
+    opened = opened;
+    left = left;
+    kept = kept;
+    stopped = record { why = stopped.why; cause = stopped.cause; reached = stopped.reached; bad = λ number line. bad_plain number one other input was old new end opened left is same (stopped.bad number line) };
+  })
 
 module _ {D : Type 0} {g : sectors.Ghosts D} {T L : Type 0} (M : CallModel T) (N : ListenerModel L T) where
   -- all rounds
@@ -208,22 +243,22 @@ module _ {D : Type 0} {g : sectors.Ghosts D} {T L : Type 0} (M : CallModel T) (N
     stops_opened (Ok done) stopped = tt
     stops_opened (Err fault) (text, appends, why) = inr (record { opened = opened; left = left; kept = kept; stopped = (text, plain one other was old new end text is same appends, why) })
 
-module _ {D : Type 0} (g : sectors.Ghosts D) {O : Type 0} (stores : StoresModel O (Store D g)) (At : List ℕ → Store D g → Type 0) {T L : Type 0} (M : CallModel T) (N : ListenerModel L T) (Bound : List ℕ → ℕ → L → Type 0) (Failed : Type 0) (Connects : List ℕ → Type 0) (was now : O) where
+module _ {D : Type 0} (g : sectors.Ghosts D) {O : Type 0} (stores : StoresModel O (Store D g)) (At : List ℕ → Store D g → Type 0) {T L : Type 0} (M : CallModel T) (N : ListenerModel L T) (Bound : List ℕ → ℕ → L → Type 0) (Failed : Type 0) (Connects : List ℕ → Type 0) (Lost : Store D g → Store D g → Type 0) (was now : O) where
   pub loop_performed : (input before after : Option (List ℕ)) (request : Request) (file socket : Bor (List ℕ)) (socket_mode : Option (Bor (List ℕ))) (mode : ℕ) (done : Ending) → request ≡ Loop file socket socket_mode → (socket_mode ≡ None → mode ≡ OWNER_ONLY) → IfSome socket_mode (λ word. IsMode word.now mode)
-      → OnOk done (LoopsOpened g stores At Bound Connects file.now socket.now mode was now input before after) → IfErr done (λ fault. IsUnopened stores file.now was now before after fault ⊎ LoopStopsOpened g stores At Failed Connects file.now socket.now was now fault) → IsServingDone g stores At M N Bound Failed Connects request was now input before after done
-  loop_performed input before after request file socket socket_mode mode done is owner mode_is looped stopped = subst (λ (one : Request). IsServingDone g stores At M N Bound Failed Connects one was now input before after done) (sym is) (by done looped stopped)
+      → OnOk done (LoopsOpened g stores At Bound Connects file.now socket.now mode was now input before after) → IfErr done (λ fault. IsUnopened stores file.now was now before after fault ⊎ LoopStopsOpened g stores At Failed Lost file.now was now input before after fault) → IsServingDone g stores At M N Bound Failed Connects Lost request was now input before after done
+  loop_performed input before after request file socket socket_mode mode done is owner mode_is looped stopped = subst (λ (one : Request). IsServingDone g stores At M N Bound Failed Connects Lost one was now input before after done) (sym is) (by done looped stopped)
     where
-      by : (done : Ending) → OnOk done (LoopsOpened g stores At Bound Connects file.now socket.now mode was now input before after) → IfErr done (λ fault. IsUnopened stores file.now was now before after fault ⊎ LoopStopsOpened g stores At Failed Connects file.now socket.now was now fault) → IsServingDone g stores At M N Bound Failed Connects (Loop file socket socket_mode) was now input before after done
+      by : (done : Ending) → OnOk done (LoopsOpened g stores At Bound Connects file.now socket.now mode was now input before after) → IfErr done (λ fault. IsUnopened stores file.now was now before after fault ⊎ LoopStopsOpened g stores At Failed Lost file.now was now input before after fault) → IsServingDone g stores At M N Bound Failed Connects Lost (Loop file socket socket_mode) was now input before after done
       by (Ok done) looped stopped = record { mode = mode; owner = owner; mode_is = mode_is; looped = looped }
       by (Err fault) looped stopped = stopped
 
   pub performed : (input before after : Option (List ℕ)) (file socket rounds : Bor (List ℕ)) (sessions socket_mode : Option (Bor (List ℕ))) (count each mode : ℕ) (done : Ending) → rounds_asked rounds.now ≡ Ok count → sessions_wanted sessions ≡ Ok each → (socket_mode ≡ None → mode ≡ OWNER_ONLY) → IfSome socket_mode (λ word. IsMode word.now mode)
-      → OnOk done (ServesOpened g stores At M N Bound file.now socket.now mode each count was now before after) → IfErr done (λ fault. IsUnopened stores file.now was now before after fault ⊎ StopsOpened g stores At M N Bound file.now socket.now mode each was now before after fault) → (done ≡ Err (Command File) → IsUnopened stores file.now was now before after (Command File) ⊎ Failed) → IsServingDone g stores At M N Bound Failed Connects (Serve file socket rounds sessions socket_mode) was now input before after done
+      → OnOk done (ServesOpened g stores At M N Bound file.now socket.now mode each count was now before after) → IfErr done (λ fault. IsUnopened stores file.now was now before after fault ⊎ StopsOpened g stores At M N Bound file.now socket.now mode each was now before after fault) → (done ≡ Err (Command File) → IsUnopened stores file.now was now before after (Command File) ⊎ Failed) → IsServingDone g stores At M N Bound Failed Connects Lost (Serve file socket rounds sessions socket_mode) was now input before after done
   performed input before after file socket rounds sessions socket_mode count each mode (Ok done) asked wanted owner mode_is served stopped failed = record { count = count; rounds_are = asked; each = each; sessions_are = wanted; mode = mode; owner = owner; mode_is = mode_is; served = served }
   performed input before after file socket rounds sessions socket_mode count each mode (Err (Command File)) asked wanted owner mode_is served stopped failed = by stopped (failed refl)
     where
       by : IsUnopened stores file.now was now before after (Command File) ⊎ StopsOpened g stores At M N Bound file.now socket.now mode each was now before after (Command File) → IsUnopened stores file.now was now before after (Command File) ⊎ Failed
-          → IsServingDone g stores At M N Bound Failed Connects (Serve file socket rounds sessions socket_mode) was now input before after (Err (Command File))
+          → IsServingDone g stores At M N Bound Failed Connects Lost (Serve file socket rounds sessions socket_mode) was now input before after (Err (Command File))
       by stops (inl unopened) = inl unopened
       by (inl unopened) (inr why) = inl unopened
       by (inr stops) (inr why) = inr ((λ file_fault. why), (each, wanted, (mode, stops)))
@@ -231,8 +266,8 @@ module _ {D : Type 0} (g : sectors.Ghosts D) {O : Type 0} (stores : StoresModel 
   performed input before after file socket rounds sessions socket_mode count each mode (Err fault) asked wanted owner mode_is served (inr stopped) failed = inr ((λ file_fault. absurd (cc file_fault)), (each, wanted, (mode, stopped)))
 
 -- an error before a store was opened
-pub unopened : {D : Type 0} (g : sectors.Ghosts D) {O : Type 0} (stores : StoresModel O (Store D g)) (At : List ℕ → Store D g → Type 0) {T L : Type 0} (M : CallModel T) (N : ListenerModel L T) (Bound : List ℕ → ℕ → L → Type 0) (Failed : Type 0) (Connects : List ℕ → Type 0) (was : O) (request : Request) (cause : CommandError) (done : Ending) (input before : Option (List ℕ)) → done ≡ Err (Command cause) → IsServingDone g stores At M N Bound Failed Connects request was was input before before done
-unopened g stores At M N Bound Failed Connects was request cause done input before is = subst (λ (ending : Ending). IsServingDone g stores At M N Bound Failed Connects request was was input before before ending) (sym is) (inl (cause, refl, (inl (stores.nothing_called was), kept_bytes before)))
+pub unopened : {D : Type 0} (g : sectors.Ghosts D) {O : Type 0} (stores : StoresModel O (Store D g)) (At : List ℕ → Store D g → Type 0) {T L : Type 0} (M : CallModel T) (N : ListenerModel L T) (Bound : List ℕ → ℕ → L → Type 0) (Failed : Type 0) (Connects : List ℕ → Type 0) (Lost : Store D g → Store D g → Type 0) (was : O) (request : Request) (cause : CommandError) (done : Ending) (input before : Option (List ℕ)) → done ≡ Err (Command cause) → IsServingDone g stores At M N Bound Failed Connects Lost request was was input before before done
+unopened g stores At M N Bound Failed Connects Lost was request cause done input before is = subst (λ (ending : Ending). IsServingDone g stores At M N Bound Failed Connects Lost request was was input before before ending) (sym is) (inl (cause, refl, (inl (stores.nothing_called was), kept_bytes before)))
 
 -- the opening failed
 pub opening_failed : {O S : Type 0} (stores : StoresModel O S) (path : List ℕ) (was now : O) (cause : CommandError) (done : Ending) (before : Option (List ℕ)) → done ≡ Err (Command cause) → stores.DidCalls was now (an_opening path (Err cause) ∷ []) → IfErr done (λ fault. IsUnopened stores path was now before before fault)

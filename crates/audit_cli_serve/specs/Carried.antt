@@ -1,14 +1,16 @@
 -- The effect of carrying out a request.
 use denote.Ref.{Bor}
-use Rattle.std.specs.Prelude.{◌≡◌, ◌⊎◌, ℕ, Option, None, Result, Ok, Err, List, [], length, IfSome}
+use Rattle.std.specs.Prelude.{◌≡◌, ◌⊎◌, ◌+◌, ℕ, Option, None, Result, Ok, Err, List, [], length, IfSome}
 use Rattle.std.specs.Io.KnownBytes.{Keeps, Appends}
 use Rattle.audit_disk_model.specs.declared.sectors.Sectors as sectors
 use Rattle.audit_disk.specs.declared.files.TheConstants.{OWNER_ONLY}
 use Rattle.audit_store.specs.declared.store.Store.{Store}
 use Rattle.audit_serve_passes.specs.Streams.{CallModel}
-use Rattle.audit_serve_sockets.specs.Input.{SpellsInput}
+use Rattle.audit_serve_sockets.specs.Carrying.{LosesSome, client_end, server_end}
+use Rattle.audit_serve_sockets.specs.Input.{SpellsInput, SpellsUpToBad}
 use Rattle.audit_serve_sockets.specs.Listening.{ListenerModel}
-use Rattle.audit_serve_sockets.specs.Looping.{IsWholeLoop}
+use Rattle.audit_serve_sockets.specs.Looping.{AreLinePasses, IsWholeLoop}
+use Rattle.audit_serve_sockets.specs.declared.link.Link.{Link}
 use Rattle.audit_server_model.specs.Serving.{StoreKeepsOn}
 use Rattle.audit_cli_base.specs.Arguments.{RefusesWords}
 use Rattle.audit_cli_calls.specs.StoreCalls.{StoresModel, OpensAndLetsGo, OpensNone}
@@ -20,10 +22,12 @@ use Rattle.audit_cli_base.specs.declared.fault.CommandError.TheVariants.{File, R
 use Rattle.audit_cli_serve.specs.Arguments.{rounds_asked, sessions_wanted}
 use Rattle.audit_cli_serve.specs.Faults.{serving_status}
 use Rattle.audit_cli_serve.specs.Rounds.{round_lines, AreCutOff}
-use Rattle.audit_cli_serve.specs.Served.{ServesRounds, StopsRounds, LoopsOver, StopsLoop}
+use Rattle.audit_cli_serve.specs.Served.{ServesRounds, StopsRounds, LoopsOver, LoopReachesOver, StopsLoop}
+use Rattle.audit_cli_serve.specs.Served.{CutsFrameOver}
 use Rattle.audit_cli_serve.specs.Words.{IsServingFault}
 use Rattle.audit_cli_serve.specs.declared.fault.ServingError.{ServingError}
-use Rattle.audit_cli_serve.specs.declared.fault.ServingError.TheVariants.{Command}
+use Rattle.audit_cli_serve.specs.declared.fault.ServingError.TheVariants.{Command, BadFrameLine}
+use Rattle.audit_cli_serve.specs.declared.request.TheConstants.{STRANGERS}
 use Rattle.audit_cli_serve.specs.declared.request.Request.{Request}
 use Rattle.audit_cli_serve.specs.declared.request.Request.TheVariants.{Serve, Loop}
 
@@ -37,6 +41,25 @@ abbrev pub serving_end_status : Result (Unit {0}) ServingError → Status
 serving_end_status (Ok done) = ends.Done
 serving_end_status (Err fault) = serving_status fault
 
+-- `Met` says how many connections of others came in a search for one's own, and the others of an end of a connection
+-- that its last call failed, or read these bytes.
+module _ {E Q : Type 0} (Met : Q → ℕ → Type 0) (Unwritten Unread : E → Type 0) (Gave : E → List ℕ → Type 0) where
+  -- as many connections of others came as are let in
+  pub record MeetsOthers : Type 0 where
+    pub search : Q
+    pub met : Met search STRANGERS
+
+  -- a piece was lost on a connection between two ends
+  pub record LosesOnLink : Type 0 where
+    pub link : Link E E
+    pub lost : LosesSome Unwritten Unread Gave (client_end link) (server_end link)
+        ⊎ LosesSome Unwritten Unread Gave (server_end link) (client_end link)
+
+  -- How a loop fails though no call of the system did: there is no connection to oneself, or it lost a piece; or output
+  -- of the core isn't whole frames.
+  abbrev pub LosesLoop : {D : Type 0} {g : sectors.Ghosts D} → Store D g → Store D g → Type 0
+  LosesLoop opened left = MeetsOthers ⊎ (LosesOnLink ⊎ CutsFrameOver opened left)
+
 module _ {D : Type 0} {g : sectors.Ghosts D} where
   -- A whole session was served over a store, whose bytes the lines of the input spell, and its replies were written.
   pub record LoopsAt (input before after : Option (List ℕ)) (opened left : Store D g) : Type 0 where
@@ -44,11 +67,22 @@ module _ {D : Type 0} {g : sectors.Ghosts D} where
     pub looped : LoopsOver opened left before after (IsWholeLoop lines)
     pub spelled : IfSome input (SpellsInput lines)
 
+  -- The lines before the one with this number were served, and their replies written; that one spells no bytes.
+  pub record LoopsToBad (number : ℕ) (input before after : Option (List ℕ)) (opened left : Store D g) : Type 0 where
+    pub lines : List (List ℕ)
+    pub count : length lines + 1 ≡ number
+    pub looped : LoopsOver opened left before after (AreLinePasses lines)
+    pub spelled : IfSome input (SpellsUpToBad lines)
+
   -- Why a loop over a store ended with an error: the store wasn't in its place at the end, or the session stopped. A
-  -- file fault needs a call that failed, or a connection that was made, as `Failed` and `Connects` say.
-  pub record IsLoopStopped (Failed Connects : Type 0) (opened left : Store D g) (fault : ServingError) : Type 0 where
+  -- file fault needs a call that failed, or the connection, as `Failed` and `Lost` say. Nothing was fed but a prefix of
+  -- what the first lines spell; if one spells no bytes, all earlier ones were served.
+  pub record IsLoopStopped (Failed Lost : Type 0) (input before after : Option (List ℕ)) (opened left : Store D g)
+      (fault : ServingError) : Type 0 where
     pub why : (fault ≡ Command Replaced) ⊎ StopsLoop opened left fault
-    pub cause : fault ≡ Command File → Failed ⊎ Connects
+    pub cause : fault ≡ Command File → Failed ⊎ Lost
+    pub reached : (left ≡ opened) ⊎ LoopReachesOver opened left input
+    pub bad : (number : ℕ) → fault ≡ BadFrameLine number → LoopsToBad number input before after opened left
 
 -- `Bound` says where a socket was bound.
 module _ {D : Type 0} {g : sectors.Ghosts D} {T L : Type 0} (M : CallModel T) (N : ListenerModel L T)
@@ -108,12 +142,12 @@ module _ {D : Type 0} (g : sectors.Ghosts D) {O : Type 0} (stores : StoresModel 
     pub kept : StoreKeepsOn opened left
 
   -- the same, and a loop over it ended with an error
-  pub record LoopStopsOpened (Failed : Type 0) (Connects : List ℕ → Type 0) (path socket : List ℕ) (was now : O)
-      (fault : ServingError) : Type 0 where
+  pub record LoopStopsOpened (Failed : Type 0) (Lost : Store D g → Store D g → Type 0) (path : List ℕ) (was now : O)
+      (input before after : Option (List ℕ)) (fault : ServingError) : Type 0 where
     pub opened : Store D g
     pub left : Store D g
     pub kept : KeepsOpened path was now opened left
-    pub stopped : IsLoopStopped Failed (Connects socket) opened left fault
+    pub stopped : IsLoopStopped Failed (Lost opened left) input before after opened left fault
 
 -- `Connects` says to which path a connection was made.
 module _ {D : Type 0} (g : sectors.Ghosts D) {O : Type 0} (stores : StoresModel O (Store D g))
@@ -172,19 +206,21 @@ module _ {D : Type 0} (g : sectors.Ghosts D) {O : Type 0} (stores : StoresModel 
     pub kept : KeepsOpened g stores At path was now opened left
     pub stopped : IsStoppedWith M N (Bound socket mode) sessions opened left before after fault
 
--- `Failed` says that a call failed.
+-- `Failed` says that a call failed, and `Lost` that a loop's connection did.
 module _ {D : Type 0} (g : sectors.Ghosts D) {O : Type 0} (stores : StoresModel O (Store D g))
     (At : List ℕ → Store D g → Type 0) {T L : Type 0} (M : CallModel T) (N : ListenerModel L T)
-    (Bound : List ℕ → ℕ → L → Type 0) (Failed : Type 0) (Connects : List ℕ → Type 0) where
+    (Bound : List ℕ → ℕ → L → Type 0) (Failed : Type 0) (Connects : List ℕ → Type 0)
+    (Lost : Store D g → Store D g → Type 0) where
   -- A store was opened in the file that was named, and let go with its events. As many sessions as asked for were served
   -- in each round over it, on a socket at the path that was asked for, up to this error. A file fault needs a call that
   -- failed.
-  abbrev pub StopsAsked : Request → O → O → Option (List ℕ) → Option (List ℕ) → ServingError → Type 0
-  StopsAsked (Serve file socket rounds sessions mode) was now before after fault =
+  abbrev pub StopsAsked : Request → O → O → Option (List ℕ) → Option (List ℕ) → Option (List ℕ) → ServingError
+      → Type 0
+  StopsAsked (Serve file socket rounds sessions mode) was now input before after fault =
       (fault ≡ Command File → Failed) × ((each : ℕ) × (sessions_wanted sessions ≡ Ok each)
       × ((bits : ℕ) × StopsOpened g stores At M N Bound file.now socket.now bits each was now before after fault))
-  StopsAsked (Loop file socket mode) was now before after fault =
-      LoopStopsOpened g stores At Failed Connects file.now socket.now was now fault
+  StopsAsked (Loop file socket mode) was now input before after fault =
+      LoopStopsOpened g stores At Failed Lost file.now was now input before after fault
 
   abbrev pub IsServedAsAsked : Request → O → O → Option (List ℕ) → Option (List ℕ) → Option (List ℕ) → Type 0
   IsServedAsAsked (Serve file socket rounds sessions mode) was now input before after =
@@ -198,7 +234,8 @@ module _ {D : Type 0} (g : sectors.Ghosts D) {O : Type 0} (stores : StoresModel 
       → Result (Unit {0}) ServingError → Type 0
   IsServingDone request was now input before after (Ok done) = IsServedAsAsked request was now input before after
   IsServingDone request was now input before after (Err fault) =
-      IsUnopened stores (file_named request) was now before after fault ⊎ StopsAsked request was now before after fault
+      IsUnopened stores (file_named request) was now before after fault
+      ⊎ StopsAsked request was now input before after fault
 
   -- A request was carried out with this result, and the output was then flushed. The program's status is that of the
   -- result, or that of an output that couldn't be flushed.

@@ -4,11 +4,13 @@
 mod arguments;
 mod fault;
 mod looping;
+mod own_connections;
 mod request;
 mod rounds;
 
 pub use arguments::{rounds_asked, sessions_asked};
 pub use fault::ServingError;
 pub use looping::loop_over;
+pub use own_connections::OwnConnections;
 pub use request::{Request, run};
 pub use rounds::serve_rounds;

@@ -12,16 +12,18 @@ ghost use Rattle.audit_server_model.specs.Serving.{StoreKeepsOn};
 ghost use Rattle.audit_cli_base.specs.Watched.{watched_bytes};
 ghost use Rattle.audit_cli_serve.specs.Carried.{ServesAt, ServesOpened, IsStoppedWith, StopsOpened, LoopsAt};
 ghost use Rattle.audit_cli_serve.specs.Carried.{LoopsOpened, LoopStopsOpened, IsLoopStopped, IsUnopened};
+ghost use Rattle.audit_cli_serve.specs.Carried.{LoopsToBad, LosesLoop, MeetsOthers};
 ghost use Rattle.audit_cli_serve.specs.Carried.{IsServingDone, IsServingCarriedOut};
 ghost use Rattle.audit_cli_serve.specs.Rounds.{round_lines};
-ghost use Rattle.audit_cli_serve.specs.Served.{StopsLoop};
+ghost use Rattle.audit_cli_serve.specs.Served.{LoopReachesOver, StopsLoop};
 ghost use Rattle.audit_cli_serve.specs.Faults.{IsNoWordError};
-ghost use Rattle.audit_cli_serve.specs.declared.fault.ServingError.TheVariants.{Command};
+ghost use Rattle.audit_cli_serve.specs.declared.fault.ServingError.TheVariants.{BadFrameLine, Command};
 ghost use Rattle.audit_cli_serve.specs.Words.{IsWrongNumber, HasWrongWord, IsServingFault};
 
 use crate::arguments::{rounds_asked, sessions_asked};
 use crate::fault::ServingError;
 use crate::looping::loop_over;
+use crate::own_connections::OwnConnections;
 use crate::rounds::serve_rounds;
 use audit_cli_base::{
     CommandError, FileDevice, FileStore, Opened, Status, StoreWatch, WatchedOutput, report_flush,
@@ -31,7 +33,9 @@ use audit_cli_calls::{FlushedOutput, Stores};
 use audit_disk::{SystemFile, SystemFiles};
 use audit_disk_model::Sectors;
 use audit_serve_passes::Duplex;
-use audit_serve_sockets::{Link, Listener, SocketFile, SocketLock, SystemSockets};
+use audit_serve_sockets::{
+    Link, Listener, SocketFile, SocketLock, SystemSockets, TriedRead, TriedWrite,
+};
 use audit_store::Store;
 use audit_text::LinesError;
 use std::alloc::Global;
@@ -69,11 +73,11 @@ pub enum Request<'a> {
     },
 }
 
-/// Carries out a request over the stores of a system, `stores`, which are those of `rt`. Lines that begin with `audit: ` are written to `messages`, all others to `output`. The
-/// output is flushed after each round, after the replies to each line, and at the end. Once the store isn't in its place,
-/// no line is written any more ([`WatchedOutput`]), and that is the fault. Returns the status with which the program
-/// exits.
-pub fn run<F, O, R, W, M>(
+/// Carries out a request over the stores of a system, `stores`, which are those of `rt`. Lines that begin with `audit: `
+/// are written to `messages`, all others to `output`. The output is flushed after each round, after the replies to each
+/// line, and at the end. Once the store isn't in its place, no line is written any more ([`WatchedOutput`]), and that is
+/// the fault. Returns the status with which the program exits.
+pub fn run<F, E, S, O, R, W, M>(
     rt: &F,
     stores: &mut O,
     alloc: Global,
@@ -83,7 +87,9 @@ pub fn run<F, O, R, W, M>(
     messages: &mut M,
 ) -> Status
 where
-    F: SystemFiles + SystemSockets + Clock,
+    F: SystemFiles + OwnConnections<E, S> + Clock,
+    E: TriedRead + TriedWrite + Drop,
+    S: Drop,
     F::File: SystemFile,
     O: Stores<FileStore<F::File>>,
     R: Read,
@@ -102,6 +108,7 @@ where
     ensures carried { IsServingCarriedOut ⟦<FileDevice<F::File> as Sectors>⟧ O.calls (O.at stores.old)
         ⟦<UnixStream as Duplex>⟧.calls ⟦<SocketFile as Listener<UnixStream>>⟧.model (IsBound (F.sockets rt.now))
         (CallFailed (F.call_failed rt.now) F.File.facts) (F.sockets rt.now).connects
+        (LosesLoop F.met E.unwritten E.unread E.gave)
         request.entry stores.old stores.new (R.remaining input.old) (W.contents output.old) (W.contents output.new)
         (W.flushed output.new) (W.unflushed output.new) result }
 {
@@ -116,7 +123,7 @@ where
 
 // The words are checked before the store is opened, and the store is opened before the socket's file is made. The
 // socket's file is removed at the end.
-fn perform<F, O, R, W>(
+fn perform<F, E, S, O, R, W>(
     rt: &F,
     stores: &mut O,
     alloc: Global,
@@ -125,7 +132,9 @@ fn perform<F, O, R, W>(
     output: &mut W,
 ) -> Result<(), ServingError>
 where
-    F: SystemFiles + SystemSockets + Clock,
+    F: SystemFiles + OwnConnections<E, S> + Clock,
+    E: TriedRead + TriedWrite + Drop,
+    S: Drop,
     F::File: SystemFile,
     O: Stores<FileStore<F::File>>,
     R: Read,
@@ -136,6 +145,7 @@ where
     ensures served { IsServingDone ⟦<FileDevice<F::File> as Sectors>⟧ O.calls (O.at stores.old)
         ⟦<UnixStream as Duplex>⟧.calls ⟦<SocketFile as Listener<UnixStream>>⟧.model (IsBound (F.sockets rt.now))
         (CallFailed (F.call_failed rt.now) F.File.facts) (F.sockets rt.now).connects
+        (LosesLoop F.met E.unwritten E.unread E.gave)
         request.entry stores.old stores.new (R.remaining input.old) (W.contents output.old) (W.contents output.new)
         result }
 {
@@ -322,7 +332,7 @@ fn after_removing(
     Ok(removed?)
 }
 
-fn loop_file<F, O, R, W>(
+fn loop_file<F, E, S, O, R, W>(
     rt: &F,
     stores: &mut O,
     alloc: Global,
@@ -333,7 +343,9 @@ fn loop_file<F, O, R, W>(
     output: &mut W,
 ) -> Result<(), ServingError>
 where
-    F: SystemFiles + SystemSockets + Clock,
+    F: SystemFiles + OwnConnections<E, S> + Clock,
+    E: TriedRead + TriedWrite + Drop,
+    S: Drop,
     F::File: SystemFile,
     O: Stores<FileStore<F::File>>,
     R: Read,
@@ -345,8 +357,9 @@ where
     ensures stopped { IfErr result (λ fault. IsUnopened O.calls
         file.now stores.old stores.new (W.contents output.old) (W.contents output.new) fault
         ⊎ LoopStopsOpened ⟦<FileDevice<F::File> as Sectors>⟧ O.calls (O.at stores.old)
-        (CallFailed (F.call_failed rt.now) F.File.facts) (F.sockets rt.now).connects file.now socket.now
-        stores.old stores.new fault) }
+        (CallFailed (F.call_failed rt.now) F.File.facts) (LosesLoop F.met E.unwritten E.unread E.gave)
+        file.now stores.old stores.new (R.remaining input.old) (W.contents output.old) (W.contents output.new)
+        fault) }
 {
     let Opened { content, identity } = stores.open(alloc, file)?;
     let watch = StoreWatch::new(rt, file, identity, content.sectors());
@@ -357,7 +370,7 @@ where
 }
 
 // Whatever happens, the store is returned as the session left it. It stays locked until the socket's file is removed.
-fn loop_store<F: SystemFiles + SystemSockets + Clock, D: Sectors + Drop, R: Read, W: Write>(
+fn loop_store<F, E, S, D, R, W>(
     rt: &F,
     alloc: Global,
     store: Store<D>,
@@ -367,7 +380,13 @@ fn loop_store<F: SystemFiles + SystemSockets + Clock, D: Sectors + Drop, R: Read
     output: &mut WatchedOutput<'_, '_, F, W>,
 ) -> (Store<D>, Result<(), ServingError>)
 where
+    F: SystemFiles + OwnConnections<E, S> + Clock,
     F::File: SystemFile,
+    E: TriedRead + TriedWrite + Drop,
+    S: Drop,
+    D: Sectors + Drop,
+    R: Read,
+    W: Write,
     ensures words { IfErr result.1 IsNoWordError }
     // Nothing else is done to the store.
     ensures kept { StoreKeepsOn store result.0 }
@@ -376,7 +395,8 @@ where
     ensures bound { OnOk result.1 ((bound : SocketFile) × IsBound (F.sockets rt.now) socket.now mode bound) }
     ensures connected { OnOk result.1 ((F.sockets rt.now).connects socket.now) }
     ensures stopped { IfErr result.1 (IsLoopStopped (CallFailed (F.call_failed rt.now) F.File.facts)
-        ((F.sockets rt.now).connects socket.now) store result.0) }
+        (LosesLoop F.met E.unwritten E.unread E.gave store result.0) (R.remaining input.old)
+        (watched_bytes W.contents output.old) (watched_bytes W.contents output.new) store result.0) }
 {
     // The input's buffer is allocated before the socket's file is made, so that the file is removed whatever is
     // refused later.
@@ -393,7 +413,7 @@ where
     (store, ended)
 }
 
-fn loop_bound<F: SystemSockets, D: Sectors + Drop, R: BufRead, W: Write>(
+fn loop_bound<F, E, S, D, R, W>(
     rt: &F,
     alloc: Global,
     store: Store<D>,
@@ -402,14 +422,24 @@ fn loop_bound<F: SystemSockets, D: Sectors + Drop, R: BufRead, W: Write>(
     reader: &mut R,
     output: &mut W,
 ) -> (Store<D>, Result<(), ServingError>)
+where
+    F: OwnConnections<E, S>,
+    E: TriedRead + TriedWrite + Drop,
+    S: Drop,
+    D: Sectors + Drop,
+    R: BufRead,
+    W: Write,
     ensures words { IfErr result.1 IsNoWordError }
     ensures kept { StoreKeepsOn store result.0 }
     ensures looped { OnOk result.1 (LoopsAt (R.remaining reader.old) (W.contents output.old) (W.contents output.new)
         store result.0) }
     ensures connected { OnOk result.1 ((F.sockets rt.now).connects socket.now) }
     ensures stopped { IfErr result.1 (StopsLoop store result.0) }
-    ensures failed { result.1 ≡ Err (Command File)
-        → F.call_failed rt.now ⊎ (F.sockets rt.now).connects socket.now }
+    ensures failed { result.1 ≡ Err (Command File) → F.call_failed rt.now
+        ⊎ LosesLoop F.met E.unwritten E.unread E.gave store result.0 }
+    ensures reached { (result.0 ≡ store) ⊎ LoopReachesOver store result.0 (R.remaining reader.old) }
+    ensures bad { (number : ℕ) → result.1 ≡ Err (BadFrameLine number) → LoopsToBad number (R.remaining reader.old)
+        (W.contents output.old) (W.contents output.new) store result.0 }
 {
     match connect(rt, bound, socket) {
         Ok(mut link) => loop_over(alloc, store, &mut link, reader, output),
@@ -419,23 +449,26 @@ fn loop_bound<F: SystemSockets, D: Sectors + Drop, R: BufRead, W: Write>(
 
 // Makes both ends of a connection through the socket. Another client may connect first, so the client's end sends a
 // random text, and the server's end is the connection on which it arrives.
-fn connect<F: SystemSockets>(
-    rt: &F,
-    bound: &SocketFile,
-    socket: &str,
-) -> Result<Link<UnixStream, UnixStream>, ServingError>
+fn connect<F, E, S>(rt: &F, bound: &SocketFile, socket: &str) -> Result<Link<E, E>, ServingError>
+where
+    F: OwnConnections<E, S>,
+    E: TriedRead + TriedWrite + Drop,
+    S: Drop,
     ensures connects { OnOk result ((F.sockets rt.now).connects socket.now) }
-    // That none of the connections is the other end is a failure, too.
-    ensures failed { OnErr result (F.call_failed rt.now) }
+    // That none of as many connections as are let in is the other end is a failure, too.
+    ensures failed { OnErr result (F.call_failed rt.now
+        ⊎ MeetsOthers F.met E.unwritten E.unread E.gave) }
     ensures fault { IfErr result (λ fault. fault ≡ Command File) }
 {
-    let mut client = rt.connect_to(socket)?;
+    let mut client = rt.connect_to_own(socket)?;
     let text = rt.random_text()?;
-    rt.send_text(&mut client, &text)?;
+    rt.send_to_own(&mut client, &text)?;
+    let mut search = rt.begin_search();
     for _ in 0..STRANGERS {
-        let mut server = bound.accept(rt)?;
-        if rt.hears_text(&mut server, &text)? {
-            return Ok(Link::new(client, server));
+        let arrived = rt.accept_own(bound)?;
+        match rt.hears_own(arrived, &text, &mut search)? {
+            Some(server) => return Ok(Link::new(client, server)),
+            None => {}
         }
     }
     Err(ServingError::Command(CommandError::File))

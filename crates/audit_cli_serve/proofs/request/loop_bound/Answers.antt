@@ -1,5 +1,6 @@
 use Rattle.audit_server_model.proofs.Serving.{kept_none}
-use Rattle.audit_cli_serve.proofs.Carried.{loops_at}
+use Rattle.std.proofs.Common.{inr}
+use Rattle.audit_cli_serve.proofs.Carried.{bad_at, lost_on, loops_at}
 use Rattle.audit_cli_serve.proofs.request.loop_bound.Goals as goal
 
 pub returns-in-Ok-clause-looped : goal.returns-in-Ok-clause-looped
@@ -7,3 +8,9 @@ returns-in-Ok-clause-looped g c = loops_at _ _ _ c.args.store c.loop_over.result
 
 pub returns-in-Err-clause-kept : goal.returns-in-Err-clause-kept
 returns-in-Err-clause-kept g c = kept_none c.args.store
+
+pub returns-in-Ok-clause-bad : goal.returns-in-Ok-clause-bad
+returns-in-Ok-clause-bad g c = λ number is. bad_at _ _ _ c.args.store c.loop_over.result.0 number (c.loop_over.ensures.bad number is)
+
+pub returns-in-Ok-clause-failed : goal.returns-in-Ok-clause-failed
+returns-in-Ok-clause-failed g c = λ is. inr (lost_on _ _ _ _ c.args.store c.loop_over.result.0 c.loop_over.new.link (c.loop_over.ensures.lost is))
