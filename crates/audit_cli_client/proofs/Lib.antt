@@ -1,2 +1,3 @@
 pub mod AskedQuestions
 mod Readings
+mod NoBadArguments

@@ -1,13 +1,13 @@
 -- The words of requests to a server.
 use denote.Ref.{Bor}
 use Rattle.std.specs.Prelude.{◌≡◌, ◌⊎◌, ℕ, nat_le, ◌&&◌, Option, Some, None, Result, Ok, Err, List, codes}
-use Rattle.std.specs.Prelude.{Bool, true, false, if◌then◌else◌}
+use Rattle.std.specs.Prelude.{Bool, true, false, not, if◌then◌else◌}
 use Rattle.std.specs.Str.{bytes_eq}
 use Rattle.audit_text.specs.Number.{number_in_text}
 use Rattle.std.specs.Option.{is_some}
 use Rattle.audit_cli_offline.specs.declared.report_form.ReportForm.{ReportForm}
 use Rattle.audit_text.specs.LineEvents.{form_asked, long_asked, kind_in_word}
-use Rattle.audit_cli_base.specs.Arguments.{proof_asked}
+use Rattle.audit_cli_base.specs.Arguments.{proof_asked, selects_output}
 use Rattle.audit_cli_base.specs.declared.arguments.ProofRequest.{ProofRequest}
 use Rattle.audit_cli_base.specs.declared.fault.CommandError.{CommandError}
 use Rattle.audit_cli_base.specs.declared.fault.CommandError.TheVariants.{BadArgument}
@@ -80,7 +80,8 @@ abbrev pub proof_question : Bor (List ℕ) → Option ProofRequest → Option Qu
 proof_question out None = None
 proof_question out (Some proof) = Some (question.Evidence (evidence.Proof proof) out)
 
--- the question in a name and up to three words; the last one names the file for the answer
+-- the question in a name and up to three words; the last one names the file for the answer, and an export isn't written
+-- to standard output
 abbrev pub question_in : List ℕ → Option (Bor (List ℕ)) → Option (Bor (List ℕ)) → Option (Bor (List ℕ))
     → Option Question
 question_in name None None None =
@@ -89,7 +90,7 @@ question_in name None None None =
     else if bytes_eq name (codes "close") then Some question.Close else None
 question_in name (Some word) None None =
     if bytes_eq name (codes "place") then place_question (kind_in_word word.now)
-    else if bytes_eq name (codes "export") then Some (question.Export word 0) else None
+    else if bytes_eq name (codes "export") && not (selects_output word.now) then Some (question.Export word 0) else None
 question_in name (Some index) (Some out) None =
     if bytes_eq name (codes "entry") then entry_question out (number_in_text index.now) else None
 question_in name (Some first) (Some second) (Some out) =

@@ -5,3 +5,4 @@ pub mod Asked
 pub mod Requests
 pub mod ReadingTask
 pub mod ReadFaults
+pub mod NamedFiles

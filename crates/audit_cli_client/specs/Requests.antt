@@ -9,6 +9,7 @@ use Rattle.audit_cli_connection.specs.declared.fault.RemoteError.{RemoteError}
 use Rattle.audit_cli_connection.specs.declared.fault.RemoteError.TheVariants.{Command}
 use Rattle.audit_cli_connection.specs.Faults.{remote_status, judgment_of, IsNoJudgment}
 use Rattle.audit_cli_connection.specs.ServerCalls.{ServersModel, CommandStreams, a_query, a_sending, a_reading}
+use Rattle.audit_cli_connection.specs.ServerCalls.{NamedFiles, IsUnfitExport, IsUnfitReading}
 use Rattle.audit_cli_witness.specs.Looks.{LooksOnce, LooksToTheEnd}
 use Rattle.audit_cli_client.specs.declared.request.Order.{Order}
 use Rattle.audit_cli_client.specs.declared.request.Order.TheVariants as order
@@ -24,6 +25,19 @@ status_of_done (Err fault) = remote_status fault
 abbrev pub done_after : Result (Unit {0}) RemoteError → Result Status RemoteError
 done_after (Ok done) = Ok ends.Done
 done_after (Err fault) = Err fault
+
+-- what is ordered can't be done with the words for it, or with the files that these name
+abbrev pub IsUnfitOrder : NamedFiles → Order → Type 0
+IsUnfitOrder files (order.Ask socket question seconds) = IsUnfitExport files question
+IsUnfitOrder files (order.Send socket task) = ⊥
+IsUnfitOrder files (order.Watch post every) = ⊥
+IsUnfitOrder files (order.Read task every) = IsUnfitReading files task
+
+-- What makes an argument a bad one: a word that is judged before the socket is opened; or for an export what is at the
+-- path for it; or for a reading the word for kinds, or what is in the file for the first key or the bookmark.
+abbrev pub HasBadArgument : NamedFiles → Request → Type 0
+HasBadArgument files request =
+    HasRefusedWord request ⊎ ((ordered : Order) × IsOrderOf request ordered × IsUnfitOrder files ordered)
 
 module _ {F : Type 0} (servers : ServersModel F) where
   -- What was ordered was done, and nothing else, and this is how it ended.

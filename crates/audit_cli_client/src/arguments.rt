@@ -4,7 +4,7 @@ ghost use Rattle.audit_cli_client.specs.Arguments.{judged_number, seconds_asked,
 ghost use Rattle.audit_cli_client.specs.Arguments.{question_in, question_from, judged_question};
 ghost use Rattle.audit_text.specs.Number.{number_in_text};
 
-use audit_cli_base::{CommandError, proof_request};
+use audit_cli_base::{CommandError, is_standard_output, proof_request};
 use audit_cli_connection::{Evidence, Question};
 use audit_text::{kind_in_word, number_in_text};
 
@@ -18,7 +18,8 @@ pub const MAX_WINDOW: u64 = 1024;
 pub type QuestionWords<'a> = (&'a str, Option<&'a str>, Option<&'a str>, Option<&'a str>);
 
 /// Parses a question, and the index that an export begins at, 0 if absent. If its name or the number of its words is
-/// another, a number has another form, or another question has an index, the error is `BadArgument`. The numbers
+/// another, a number has another form, another question has an index, or an export is to go to standard output, the
+/// error is `BadArgument`. The numbers
 /// themselves are judged by the server.
 pub fn question_asked<'a>(
     words: QuestionWords<'a>,
@@ -63,7 +64,9 @@ fn question_in<'a>(words: QuestionWords<'a>) -> Option<Question<'a>>
             let kind = kind_in_word(kind.as_bytes())?;
             Some(Question::Place(kind))
         }
-        (Some(out), None, None) if name == "export" => Some(Question::Export(out, 0)),
+        (Some(out), None, None) if name == "export" && !is_standard_output(out) => {
+            Some(Question::Export(out, 0))
+        }
         (Some(index), Some(out), None) if name == "entry" => {
             let index = number_in_text(index.as_bytes())?;
             Some(Question::Evidence(Evidence::Entry(index), out))

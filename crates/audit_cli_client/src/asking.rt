@@ -1,5 +1,5 @@
 //! Questions to a server, whose answers are written to files.
-ghost use Rattle.std.specs.Prelude.{◌≡◌, ◌⊎◌, ℕ, List, Option, Ok, Err, IsOk, IfOk, IfErr, OnOk};
+ghost use Rattle.std.specs.Prelude.{◌≡◌, ◌⊎◌, ℕ, List, Option, true, Ok, Err, IsOk, IfOk, IfErr, OnOk};
 ghost use Rattle.std.specs.Io.KnownBytes.{Appends};
 ghost use Rattle.audit_text.specs.NumberedLine.{numbered_line};
 ghost use Rattle.audit_proof.specs.declared.commitment.Commitment.{Commitment};
@@ -8,12 +8,14 @@ ghost use Rattle.audit_wire_ask.specs.declared.putting.AskError.{AskError};
 ghost use Rattle.audit_wire_ask.specs.Failing.{FailsPutting, FailsPuttingOne, FailsExport, IsUnasked};
 ghost use Rattle.audit_wire_ask.specs.PlaceLine.{place_line};
 ghost use Rattle.audit_wire_ask.specs.Putting.{AreGivenEntries};
+ghost use Rattle.audit_cli_base.specs.Arguments.{selects_output};
 ghost use Rattle.audit_cli_connection.specs.declared.fault.RemoteError.{RemoteError};
 ghost use Rattle.audit_cli_connection.specs.Faults.{of_asking};
 ghost use Rattle.audit_cli_client.specs.Asked.{AsksOnly, PrintsAnswer, IsGivenEvidence, FailsEvidence};
 ghost use Rattle.audit_cli_client.specs.StoreStateLine.{store_state_line};
 
 use crate::out::OutFile;
+use crate::seen_files::SeenFiles;
 use crate::store_state_line::put_store_state;
 use audit_cli_base::{
     CommandError, ProofRequest, is_standard_output, write_exported, write_number,
@@ -31,13 +33,13 @@ use audit_wire_ask::{
     place_of_kind, put_entry, put_export, put_increment, put_member, put_place, state_of_store,
 };
 use std::alloc::Global;
-use std::fs::{self, Files};
+use std::fs::Files;
 use std::io::{BufReader, Read, Write};
 use std::time::Clock;
 
 /// Asks a server, writes the answer to its file, and prints its line. If the server has no such entry or count, the
 /// count that it has is noted.
-pub fn ask_socket<F: Files + Dial + Clock, W: Write>(
+pub fn ask_socket<F: SeenFiles + Dial + Clock, W: Write>(
     rt: &F,
     alloc: Global,
     socket: &str,
@@ -59,7 +61,7 @@ pub fn ask_socket<F: Files + Dial + Clock, W: Write>(
 }
 
 /// Asks a question over a connection, puts its answer, and prints its line. Nothing else is asked, whatever happens.
-pub fn answer<F: Files, A: Write, B: Read, W: Write>(
+pub fn answer<F: SeenFiles, A: Write, B: Read, W: Write>(
     rt: &F,
     alloc: Global,
     socket: FileIdentity,
@@ -221,7 +223,7 @@ fn print_evidence<F: Files, W: Write>(
 
 // Writes all entries from the first one on to a temporary file, which replaces `out` once they are accepted. Anything
 // but a regular file couldn't be replaced, and is refused.
-fn export_to<F: Files, A: Write, B: Read>(
+fn export_to<F: SeenFiles, A: Write, B: Read>(
     rt: &F,
     alloc: Global,
     socket: FileIdentity,
@@ -238,7 +240,7 @@ fn export_to<F: Files, A: Write, B: Read>(
         (old new : Option (List ℕ)) × FailsExport (A.contents to.old) (A.contents to.new) (B.remaining from.old)
         (B.remaining from.new) first old new error)) }
 {
-    if is_standard_output(out) || !can_be_replaced(rt, out) {
+    if is_unfit_for_export(rt, out) {
         return Err(AskError::Out(RemoteError::Command(CommandError::BadArgument)));
     }
     let mut file = OutFile::new(rt, alloc, socket, out);
@@ -258,9 +260,11 @@ fn print_export<W: Write>(
     Ok(write_exported(alloc, export.count, export.size, output)?)
 }
 
-fn can_be_replaced<F: Files>(rt: &F, out: &str) -> bool {
-    match fs::metadata(rt, out) {
-        Ok(found) => found.is_file(),
-        Err(_) => true,
-    }
+/// Whether a path can't be that of an export: it selects standard output, or something is there that isn't a regular
+/// file, and couldn't be replaced.
+pub fn is_unfit_for_export<F: SeenFiles>(rt: &F, out: &str) -> bool
+    ensures words { selects_output out.now ≡ true → result ≡ true }
+    ensures only { result ≡ true → (selects_output out.now ≡ true) ⊎ F.is_no_file rt.now out.now }
+{
+    is_standard_output(out) || rt.is_no_file(out)
 }

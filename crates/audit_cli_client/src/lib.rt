@@ -14,10 +14,12 @@ mod read_error;
 mod read_file;
 mod reading;
 mod request;
+mod seen_files;
 mod sending;
 mod store_state_line;
 mod system_servers;
 
 pub use asking::answer;
 pub use request::{Request, run};
+pub use seen_files::SeenFiles;
 pub use system_servers::SystemServers;

@@ -1,10 +1,18 @@
 //! Reading a log on by the bookmark in a file.
+ghost use Rattle.std.specs.Prelude.{◌≡◌, Err, IfErr, IfSome};
+ghost use Rattle.audit_cli_base.specs.declared.fault.CommandError.TheVariants.{BadArgument};
+ghost use Rattle.audit_cli_connection.specs.declared.fault.RemoteError.TheVariants.{Command};
+ghost use Rattle.audit_cli_connection.specs.Faults.{IsNoBadArgument};
+ghost use Rattle.audit_cli_connection.specs.ServerCalls.{AreNoKinds, HasNoBeginning, IsUnfitReading};
+ghost use Rattle.audit_cli_client.specs.NamedFiles.{files_named, HasNoBookmarkAt, IsNoBookmark};
+
 use crate::left_files::remove_left;
 use crate::printed_file::PrintedFile;
 use crate::read_error::{fault_of_reading, fault_of_unseen};
-use audit_cli_base::{CommandError, OutputFile, read_key};
+use crate::seen_files::SeenFiles;
+use audit_cli_base::{CommandError, OutputFile, key_at};
 use audit_cli_connection::{
-    LineEnd, Pace, ReadTask, RemoteError, connect, no_memory, socket_identity,
+    LineEnd, Pace, ReadTask, RemoteError, connect, no_memory, socket_identity, without_words,
 };
 use audit_cli_host::Dial;
 use audit_cli_offline::{Printing, VerifiedEnd, kinds_in_word, write_end_message, write_last_line};
@@ -12,21 +20,21 @@ use audit_cli_read::{BookmarkFile, EventOutlet};
 use audit_cli_witness::{
     Locked, keep_alarm, lock_state, metadata_if_any, remove_made, witnessed_at,
 };
-use audit_disk::{FileIdentity, SystemFile};
+use audit_disk::{FileIdentity, SystemFile, SystemFiles};
 use audit_proof::Commitment;
 use audit_text::{read_input, write_whole};
 use audit_verify::{Bookmark, State, StateError, read_bookmark};
 use audit_wire_ask::FallibleWrite;
 use audit_wire_read::{Outlet, newest_under, read_on};
 use std::alloc::Global;
-use std::fs::{self, Files, Metadata};
+use std::fs::{Files, Metadata};
 use std::io::{BufReader, Read, Write};
 use std::time::{Clock, Duration};
 
 /// Reads a log on from the bookmark in a file, prints its events, and keeps the bookmark after them. Meanwhile the file
 /// with `.lock` after its name is locked, so that one program at a time reads by it. What contradicts the bookmark is
 /// kept beside it.
-pub(crate) fn read_by_file<F: Files + Dial + Clock, W: FallibleWrite, M: Write>(
+pub(crate) fn read_by_file<F: SystemFiles + SeenFiles + Dial + Clock, W: FallibleWrite, M: Write>(
     rt: &F,
     alloc: Global,
     task: ReadTask<'_>,
@@ -35,17 +43,19 @@ pub(crate) fn read_by_file<F: Files + Dial + Clock, W: FallibleWrite, M: Write>(
 ) -> Result<(), RemoteError>
 where
     F::File: SystemFile,
+    ensures { result ≡ Err (Command BadArgument)
+        → IsUnfitReading (files_named F.File.facts F.File.remaining (F.is_no_file rt.now)) task.entry }
 {
     let printing = printing_asked(alloc, task)?;
-    let socket = socket_identity(rt, task.socket)?;
+    let socket = without_words(socket_identity(rt, task.socket))?;
     let name = format!(in alloc; "{}.lock", task.state)?;
-    let locked = lock_reader(rt, &name, task.seconds)?;
+    let locked = without_words(lock_reader(rt, &name, task.seconds))?;
     remove_left(rt, alloc, task.state)?;
     let done = read_alone(rt, alloc, socket, task, &printing, output);
     remove_made(rt, &name);
     drop(locked);
     match done {
-        Ok(read) => print_end(alloc, task, read, output, messages),
+        Ok(read) => without_words(print_end(alloc, task, read, output, messages)),
         Err(RemoteError::NotLed(error, Some(mut found))) => {
             found.is_kept = keep_alarm(rt, alloc, task.state, &found).is_ok();
             Err(RemoteError::NotLed(error, Some(found)))
@@ -64,7 +74,9 @@ struct Reading {
 }
 
 // What is printed, by the words for it.
-fn printing_asked(alloc: Global, task: ReadTask<'_>) -> Result<Printing, RemoteError> {
+fn printing_asked(alloc: Global, task: ReadTask<'_>) -> Result<Printing, RemoteError>
+    ensures { result ≡ Err (Command BadArgument) → AreNoKinds task.entry.kinds }
+{
     let kinds = match task.kinds {
         Some(word) => match kinds_in_word(alloc, word.as_bytes())? {
             Some(kinds) => kinds,
@@ -89,7 +101,7 @@ where
     }
 }
 
-fn read_alone<F: Files + Dial + Clock, W: FallibleWrite>(
+fn read_alone<F: SystemFiles + SeenFiles + Dial + Clock, W: FallibleWrite>(
     rt: &F,
     alloc: Global,
     socket: FileIdentity,
@@ -99,9 +111,27 @@ fn read_alone<F: Files + Dial + Clock, W: FallibleWrite>(
 ) -> Result<Reading, RemoteError>
 where
     F::File: SystemFile,
+    ensures { result ≡ Err (Command BadArgument)
+        → HasNoBeginning (files_named F.File.facts F.File.remaining (F.is_no_file rt.now)) task.entry }
 {
     let found = metadata_if_any(rt, task.state)?;
-    let Bookmark { state, newest } = bookmark_of(rt, alloc, task, found.as_ref())?;
+    let is_new = found.is_none();
+    let mark = bookmark_of(rt, alloc, task, found.as_ref())?;
+    without_words(read_from(rt, alloc, socket, task, mark, is_new, printing, output))
+}
+
+// Reads on from a bookmark. If the file is new, it has none yet.
+fn read_from<F: Files + Dial + Clock, W: FallibleWrite>(
+    rt: &F,
+    alloc: Global,
+    socket: FileIdentity,
+    task: ReadTask<'_>,
+    mark: Bookmark,
+    is_new: bool,
+    printing: &Printing,
+    output: &mut W,
+) -> Result<Reading, RemoteError> {
+    let Bookmark { state, newest } = mark;
     let held = newest.unwrap_or(state.commitment());
     let witnessed = match task.under {
         Some(path) => Some(witnessed_at(rt, alloc, path)?),
@@ -125,7 +155,7 @@ where
     match read_on(alloc, &mut to, &mut from, state, &kept, &mut outlet) {
         Ok(state) => {
             // Of a log without an entry nothing was kept, and the next run has STATE alone.
-            if found.is_none() && state.count() == first {
+            if is_new && state.count() == first {
                 outlet.keep(&state, &kept)?;
             }
             Ok(reading_to(first, &state))
@@ -163,26 +193,42 @@ fn reading_to(first: u64, state: &State) -> Reading {
 
 // The bookmark from which it is read; where there is none, the start of the log with the first key in a file. A pipe or
 // a device isn't opened: that might wait.
-fn bookmark_of<F: Files>(
+fn bookmark_of<F: SystemFiles + SeenFiles>(
     rt: &F,
     alloc: Global,
     task: ReadTask<'_>,
     found: Option<&Metadata>,
-) -> Result<Bookmark, RemoteError> {
+) -> Result<Bookmark, RemoteError>
+where
+    F::File: SystemFile,
+    ensures { result ≡ Err (Command BadArgument)
+        → HasNoBeginning (files_named F.File.facts F.File.remaining (F.is_no_file rt.now)) task.entry }
+{
     match (found, task.first) {
         (Some(found), _) if !found.is_file() => Err(RemoteError::Command(CommandError::File)),
         (None, Some(first)) => {
-            let key = read_key(alloc, &mut fs::open(rt, first)?)?;
+            let key = key_at(rt, alloc, first)?;
             Ok(Bookmark {
                 state: State::first(&key),
                 newest: None,
             })
         }
-        _ => bookmark_in(alloc, &mut fs::open(rt, task.state)?),
+        _ => bookmark_at(rt, alloc, task.state),
     }
 }
 
-fn bookmark_in<R: Read>(alloc: Global, file: &mut R) -> Result<Bookmark, RemoteError> {
+fn bookmark_at<F: SystemFiles>(rt: &F, alloc: Global, path: &str) -> Result<Bookmark, RemoteError>
+where
+    F::File: SystemFile,
+    ensures { result ≡ Err (Command BadArgument) → HasNoBookmarkAt F.File.facts F.File.remaining path.now }
+{
+    let mut file = rt.open_to_read(path)?;
+    bookmark_in(alloc, &mut file)
+}
+
+fn bookmark_in<R: Read>(alloc: Global, file: &mut R) -> Result<Bookmark, RemoteError>
+    ensures { result ≡ Err (Command BadArgument) → IfSome (R.remaining file.old) IsNoBookmark }
+{
     let text = read_input(alloc, file)?;
     match read_bookmark(alloc, &text) {
         Ok(mark) => Ok(mark),

@@ -1,8 +1,10 @@
 //! A log that is read on, by the bookmark in a file.
-ghost use Rattle.std.specs.Prelude.{◌≡◌, List, [], ◌∷◌, Option, Some, false, Result, IfErr, IfSome, OnOk, OnErr};
+ghost use Rattle.std.specs.Prelude.{◌≡◌, List, [], ◌∷◌, Option, Some, false, Result, Err, IfErr, IfSome, OnOk, OnErr};
 ghost use Rattle.audit_cli_connection.specs.declared.fault.RemoteError.{RemoteError};
 ghost use Rattle.audit_cli_connection.specs.Faults.{is_passing_fault};
-ghost use Rattle.audit_cli_connection.specs.ServerCalls.{a_reading, a_rest};
+ghost use Rattle.audit_cli_base.specs.declared.fault.CommandError.TheVariants.{BadArgument};
+ghost use Rattle.audit_cli_connection.specs.declared.fault.RemoteError.TheVariants.{Command};
+ghost use Rattle.audit_cli_connection.specs.ServerCalls.{a_reading, a_rest, IsUnfitReading};
 ghost use Rattle.audit_cli_client.specs.ReadingTask.{ReadsToTheEnd, FollowsReading};
 
 use audit_cli_connection::{ReadTask, RemoteError, Servers, report_passing, report_return};
@@ -20,8 +22,9 @@ pub fn read_for_ever<F: Servers, W: FallibleWrite, M: FallibleWrite>(
     output: &mut W,
     messages: &mut M,
 ) -> Result<(), RemoteError>
-    ensures { ReadsToTheEnd F.calls task.entry every servers.old servers.new (W.contents output.old)
+    ensures read { ReadsToTheEnd F.calls task.entry every servers.old servers.new (W.contents output.old)
         (W.contents output.new) result }
+    ensures bad { result ≡ Err (Command BadArgument) → IsUnfitReading (F.files servers.new) task.entry }
 {
     let mut reported = None;
     for times in 0..u64::MAX {
@@ -48,6 +51,7 @@ fn read_and_pause<F: Servers, W: FallibleWrite, M: FallibleWrite>(
         × F.calls.DidCalls servers.old servers.new
         (a_reading task.entry (W.contents output.old) (W.contents output.new) done ∷ []) × FollowsReading done result) }
     ensures ends { IfErr result (λ fault. is_passing_fault fault ≡ false) }
+    ensures bad { result ≡ Err (Command BadArgument) → IsUnfitReading (F.files servers.new) task.entry }
 {
     let done = servers.read(alloc, task, output, messages);
     let date = servers.date();

@@ -1,5 +1,5 @@
 //! The requests that ask a server, and how they are carried out.
-ghost use Rattle.std.specs.Prelude.{◌≡◌, ◌⊎◌, ℕ, List, [], Err, Some, None, IfOk, IfErr};
+ghost use Rattle.std.specs.Prelude.{◌≡◌, ◌⊎◌, ℕ, List, [], Ok, Err, Some, None, IfOk, IfErr};
 ghost use Rattle.std.specs.Io.KnownBytes.{Appends, Keeps};
 ghost use Rattle.audit_text.specs.declared.fault.LinesError.{LinesError};
 ghost use Rattle.audit_text.specs.LineEvents.{form_asked, long_asked};
@@ -10,6 +10,7 @@ ghost use Rattle.audit_cli_client.specs.Arguments.{AreNoSeconds, IsNoWindow, Has
 ghost use Rattle.audit_cli_client.specs.Arguments.{IsTaskOfWords, IsNoTask, stop_asked, placing_asked};
 ghost use Rattle.audit_cli_client.specs.Arguments.{IsPause, before_asked, seconds_or_default, window_or_default};
 ghost use Rattle.audit_cli_client.specs.Requests.{IsClientRun, EndsOrder, Performs, status_of_done, done_after};
+ghost use Rattle.audit_cli_client.specs.Requests.{HasBadArgument, IsUnfitOrder};
 
 use crate::arguments::{QuestionWords, question_asked, seconds_asked, window_asked};
 use crate::reading::read_for_ever;
@@ -120,6 +121,8 @@ pub fn run<F: Servers, R: Read, W: FallibleWrite, M: FallibleWrite>(
     ensures words { HasRefusedWord request.entry → (result ≡ Status.Usage) ⊎ (result ≡ Status.Device) }
     ensures unwritten { HasRefusedWord request.entry → Keeps (W.contents output.old) (W.contents output.new) }
     ensures unasked { HasRefusedWord request.entry → F.calls.DidCalls servers.old servers.new [] }
+    // It ends so only for such a word, or for what is at a path that a word names.
+    ensures only { result ≡ Status.Usage → HasBadArgument (F.files servers.new) request.entry }
 {
     let done = perform(servers, alloc, request, input, output, messages);
     let judged = print_judgment(done, output);
@@ -234,6 +237,9 @@ fn perform<F: Servers, R: Read, W: FallibleWrite, M: FallibleWrite>(
         (record { input = R.remaining input.old; output = W.contents output.old; messages = M.contents messages.old })
         (record { input = R.remaining input.new; output = W.contents output.new; messages = M.contents messages.new })
         (W.failed output.new) result }
+    ensures only { result ≡ Err (RemoteError.Command CommandError.BadArgument)
+        → HasBadArgument (F.files servers.new) request.entry }
+    ensures status { result ≡ Ok Status.Usage → ⊥ }
 {
     match judge(request) {
         Ok(order) => carry_out(servers, alloc, order, input, output, messages),
@@ -390,10 +396,13 @@ fn carry_out<F: Servers, R: Read, W: FallibleWrite, M: FallibleWrite>(
     output: &mut W,
     messages: &mut M,
 ) -> Result<Status, RemoteError>
-    ensures { EndsOrder F.calls order.entry servers.old servers.new
+    ensures ended { EndsOrder F.calls order.entry servers.old servers.new
         (record { input = R.remaining input.old; output = W.contents output.old; messages = M.contents messages.old })
         (record { input = R.remaining input.new; output = W.contents output.new; messages = M.contents messages.new })
         (W.failed output.new) result }
+    ensures only { result ≡ Err (RemoteError.Command CommandError.BadArgument)
+        → IsUnfitOrder (F.files servers.new) order.entry }
+    ensures status { result ≡ Ok Status.Usage → ⊥ }
 {
     match order {
         Order::Ask {

@@ -1,12 +1,13 @@
 //! Sending events to a server.
-ghost use Rattle.std.specs.Prelude.{◌≡◌, ◌+◌, ◌≤◌, ℕ, None, IfOk, IfErr, OnErr};
+ghost use Rattle.std.specs.Prelude.{◌≡◌, ◌+◌, ◌≤◌, ℕ, None, Ok, IfOk, IfErr, OnErr};
 ghost use Rattle.std.specs.Io.Buffered.{reader_remaining};
 ghost use Rattle.audit_wire_ask.specs.Placing.{PlacesAndSends, FailsPlacing, LogsAndSends, FailsLogging, LogsInPart};
+ghost use Rattle.audit_cli_connection.specs.Faults.{IsNoBadArgument};
 ghost use Rattle.audit_cli_client.specs.Sent.{status_of_sent};
 
 use crate::outage::Outage;
 use audit_cli_base::Status;
-use audit_cli_connection::{Line, LineEnd, Pace, RemoteError, Task, connect};
+use audit_cli_connection::{Line, LineEnd, Pace, RemoteError, Task, connect, without_words};
 use audit_cli_host::Dial;
 use audit_cli_witness::{lacks_feed, open_lines};
 use audit_text::{CutLines, LongLines};
@@ -32,7 +33,9 @@ pub fn send_to_socket<F: Files + Dial + Clock, R: Read, W: Write, M: Write>(
     input: &mut R,
     output: &mut W,
     messages: &mut M,
-) -> Result<Status, RemoteError> {
+) -> Result<Status, RemoteError>
+    ensures { result ≡ Ok Status.Usage → ⊥ }
+{
     let mut keys = match task.keys {
         Some(path) => Some(KeyFile::new(begin_lines(rt, path)?)),
         None => None,
@@ -65,7 +68,9 @@ fn send_on<F: Dial + Clock, R: Read, W: Write, K: KeyLines, M: Write>(
     output: &mut W,
     keys: &mut Option<K>,
     messages: &mut M,
-) -> Result<Status, RemoteError> {
+) -> Result<Status, RemoteError>
+    ensures { result ≡ Ok Status.Usage → ⊥ }
+{
     let mut task = task;
     let mut outage = Outage::within(task.retry);
     let mut total = SendEnd {
@@ -75,7 +80,8 @@ fn send_on<F: Dial + Clock, R: Read, W: Write, K: KeyLines, M: Write>(
         error: None,
     };
     for _ in 0..u64::MAX {
-        match send_once(rt, alloc, socket, task, total.answered, input, output, keys) {
+        let sent = send_once(rt, alloc, socket, task, total.answered, input, output, keys);
+        match without_words(sent) {
             Ok(leg) => {
                 task.placing = placing_of(leg.places);
                 total = with_leg(&total, &leg.end);
@@ -274,7 +280,9 @@ fn report_unsent<M: Write>(
     fault: RemoteError,
     end: &SendEnd,
     messages: &mut M,
-) -> Result<Status, RemoteError> {
+) -> Result<Status, RemoteError>
+    ensures { IsNoBadArgument fault → result ≡ Ok Status.Usage → ⊥ }
+{
     if end.sent <= end.answered {
         return Err(fault);
     }

@@ -1,18 +1,22 @@
 //! The servers that commands ask on a system with files, sockets and a clock.
-ghost use Rattle.audit_cli_connection.specs.ServerCalls.{unknown_servers};
+ghost use Rattle.std.specs.Prelude.{◌≡◌, true};
+ghost use Rattle.audit_cli_connection.specs.ServerCalls.{unknown_servers, IsUnfitExport};
+ghost use Rattle.audit_cli_client.specs.NamedFiles.{files_named};
 
-use crate::asking::ask_socket;
+use crate::asking::{ask_socket, is_unfit_for_export};
 use crate::read_file::read_by_file;
+use crate::seen_files::SeenFiles;
 use crate::sending::send_to_socket;
-use audit_cli_base::Status;
-use audit_cli_connection::{Post, Question, ReadTask, RemoteError, Servers, Task, date_of_now};
+use audit_cli_base::{CommandError, Status};
+use audit_cli_connection::{
+    Post, Question, ReadTask, RemoteError, Servers, Task, date_of_now, without_words,
+};
 use audit_cli_host::Dial;
 use audit_cli_witness::look_by_file;
-use audit_disk::SystemFile;
+use audit_disk::{SystemFile, SystemFiles};
 use audit_wire_ask::{FallibleWrite, Sight};
 use httpdate::HttpDate;
 use std::alloc::Global;
-use std::fs::Files;
 use std::io::{Read, Write};
 use std::thread;
 use std::time::{Clock, Duration};
@@ -30,12 +34,17 @@ impl<'a, F> SystemServers<'a, F> {
     }
 }
 
-/// Nothing is known of the system's servers.
-impl<F: Files + Dial + Clock> Servers for SystemServers<'_, F>
+/// Nothing is known of the system's servers. Of a file that a word names it is known what its calls showed.
+impl<F: SystemFiles + SeenFiles + Dial + Clock> Servers for SystemServers<'_, F>
 where
     F::File: SystemFile,
 {
+    ghost use Rattle.audit_cli_connection.specs.ServerCalls.{unknown_servers};
+    ghost use Rattle.audit_cli_client.specs.NamedFiles.{files_named};
+
     ghost calls = { unknown_servers };
+
+    ghost files = { λ servers. files_named F.File.facts F.File.remaining (F.is_no_file servers.rt.now) };
 
     fn ask<W: Write>(
         &mut self,
@@ -45,7 +54,10 @@ where
         seconds: u64,
         output: &mut W,
     ) -> Result<(), RemoteError> {
-        ask_socket(self.rt, alloc, socket, question, seconds, output)
+        if is_unfit(self.rt, question) {
+            return Err(RemoteError::Command(CommandError::BadArgument));
+        }
+        without_words(ask_socket(self.rt, alloc, socket, question, seconds, output))
     }
 
     fn send<R: Read, W: Write, M: Write>(
@@ -57,11 +69,11 @@ where
         output: &mut W,
         messages: &mut M,
     ) -> Result<Status, RemoteError> {
-        send_to_socket(self.rt, alloc, socket, task, input, output, messages)
+        without_words(send_to_socket(self.rt, alloc, socket, task, input, output, messages))
     }
 
     fn look(&mut self, alloc: Global, post: Post<'_>) -> Result<Sight, RemoteError> {
-        look_by_file(self.rt, alloc, post)
+        without_words(look_by_file(self.rt, alloc, post))
     }
 
     fn read<W: FallibleWrite, M: Write>(
@@ -80,5 +92,18 @@ where
 
     fn date(&self) -> Option<HttpDate> {
         date_of_now(self.rt)
+    }
+}
+
+// Whether a question is for an export to a path that can't be one's. That is judged before the server is asked.
+fn is_unfit<F: SystemFiles + SeenFiles>(rt: &F, question: Question<'_>) -> bool
+where
+    F::File: SystemFile,
+    ensures { result ≡ true
+        → IsUnfitExport (files_named F.File.facts F.File.remaining (F.is_no_file rt.now)) question.entry }
+{
+    match question {
+        Question::Export(out, _) => is_unfit_for_export(rt, out),
+        _ => false,
     }
 }

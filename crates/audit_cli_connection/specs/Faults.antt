@@ -47,6 +47,11 @@ remote_status StateInUse = ends.Device
 remote_status ReaderInUse = ends.Device
 remote_status (NotAcknowledged lines first) = ends.Device
 
+-- not a wrong argument
+abbrev pub IsNoBadArgument : RemoteError → Type 0
+IsNoBadArgument (Command fault) = commands.IsNoWordFault fault
+IsNoBadArgument _ = Unit {0}
+
 -- A later try may succeed: the server isn't there or doesn't answer, or another witness or reader has the file.
 abbrev pub is_passing_fault : RemoteError → Bool
 is_passing_fault (NoConnection kind) = true

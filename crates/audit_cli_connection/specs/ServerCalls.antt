@@ -1,8 +1,12 @@
 -- The calls by which a program asks servers, sends them events, looks at their logs, reads them on and pauses.
-use Rattle.std.specs.Prelude.{ℕ, Option, List, [], ◌++◌, Result}
+use denote.Ref.{Bor}
+use Rattle.std.specs.Prelude.{◌≡◌, ◌⊎◌, ℕ, true, Option, IsSomeAnd, List, [], ◌++◌, Result}
+use Rattle.audit_cli_base.specs.Arguments.{selects_output}
 use Rattle.audit_cli_base.specs.declared.status.Status.{Status}
+use Rattle.audit_cli_offline.specs.KindsWord.{AreKindsInWord}
 use Rattle.audit_wire_ask.specs.declared.watching.Sight.{Sight}
 use Rattle.audit_cli_connection.specs.declared.question.Question.{Question}
+use Rattle.audit_cli_connection.specs.declared.question.Question.TheVariants as question
 use Rattle.audit_cli_connection.specs.declared.fault.RemoteError.{RemoteError}
 use Rattle.audit_cli_connection.specs.declared.read_task.ReadTask.{ReadTask}
 use Rattle.audit_cli_connection.specs.declared.task.Task.{Task}
@@ -42,3 +46,31 @@ unknown_servers = record {
   nothing_called = λ servers. tt;
   more_called = λ old mid new calls later first second. tt;
 }
+
+-- What is known of the files that words name. Each fact is established by a call alone: code that is generic over the
+-- system can have it from nothing else.
+pub record NamedFiles : Type 1 where
+  -- what is at this path isn't a regular file
+  pub is_no_file : List ℕ → Type 0
+  -- a file that was opened at this path, to read, has no key
+  pub has_no_key : List ℕ → Type 0
+  -- a file that was opened at this path, to read, has no bookmark
+  pub has_no_bookmark : List ℕ → Type 0
+
+-- an export is asked for that is to go to standard output, or to something that isn't a regular file
+abbrev pub IsUnfitExport : NamedFiles → Question → Type 0
+IsUnfitExport files (question.Export out first) =
+    (selects_output out.now ≡ true) ⊎ files.is_no_file out.now
+IsUnfitExport files _ = ⊥
+
+-- the word for kinds lists none
+abbrev pub AreNoKinds : Option (Bor (List ℕ)) → Type 0
+AreNoKinds word = IsSomeAnd word (λ given. (kinds : List ℕ) → AreKindsInWord given.now kinds → ⊥)
+
+-- a file has no first key or no bookmark, where reading begins from it
+abbrev pub HasNoBeginning : NamedFiles → ReadTask → Type 0
+HasNoBeginning files task = IsSomeAnd task.first (λ path. files.has_no_key path.now)
+    ⊎ files.has_no_bookmark task.state.now
+
+abbrev pub IsUnfitReading : NamedFiles → ReadTask → Type 0
+IsUnfitReading files task = AreNoKinds task.kinds ⊎ HasNoBeginning files task

@@ -1,8 +1,8 @@
-ghost use Rattle.std.specs.Prelude.{◌≡◌, option_map, IfSome, OnOk, OnErr};
+ghost use Rattle.std.specs.Prelude.{◌≡◌, option_map, IfSome, IfErr, OnOk, OnErr, Ok};
 ghost use Rattle.std.specs.Io.KnownBytes.{Appends};
 ghost use Rattle.audit_text.specs.Writing.{WritesInPart};
 ghost use Rattle.audit_cli_connection.specs.Faults.{no_memory, remote_status, status_of_server, of_sending};
-ghost use Rattle.audit_cli_connection.specs.Faults.{judgment_of, judgment_in, is_passing_fault};
+ghost use Rattle.audit_cli_connection.specs.Faults.{judgment_of, judgment_in, is_passing_fault, IsNoBadArgument};
 ghost use Rattle.audit_cli_connection.specs.Messages.{Says, message_of, message_of_server};
 ghost use Rattle.audit_cli_connection.specs.Messages.{message_not_led, message_not_linked};
 
@@ -290,6 +290,20 @@ impl<T: Drop> From<AllocFailed<T>> for RemoteError {
 
     fn from(_: AllocFailed<T>) -> Self {
         no_memory()
+    }
+}
+
+/// The result of calls in which no word is judged: what fails in them is no wrong argument, but a file.
+pub fn without_words<T>(done: Result<T, RemoteError>) -> Result<T, RemoteError>
+    ensures fault { IfErr result IsNoBadArgument }
+    ensures same { IfErr done IsNoBadArgument → result ≡ done }
+    ensures done { (given : T) → result ≡ Ok given → done ≡ Ok given }
+{
+    match done {
+        Err(RemoteError::Command(CommandError::BadArgument)) => {
+            Err(RemoteError::Command(CommandError::File))
+        }
+        done => done,
     }
 }
 

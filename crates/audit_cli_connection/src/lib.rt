@@ -18,7 +18,7 @@ mod task;
 pub use connection::{connect, socket_identity};
 pub use contradiction::Contradiction;
 pub use dates::{date_of_now, push_date};
-pub use fault::{RemoteError, no_memory};
+pub use fault::{RemoteError, no_memory, without_words};
 pub use line::{Line, LineEnd, Pace};
 pub use passing::{report_passing, report_return};
 pub use post::{Post, Predecessor};

@@ -1,6 +1,11 @@
 //! Systems on which servers are asked.
-ghost use Rattle.std.specs.Prelude.{[], ◌∷◌};
-ghost use Rattle.audit_cli_connection.specs.ServerCalls.{ServersModel, CommandStreams};
+ghost use Rattle.std.specs.Prelude.{◌≡◌, [], ◌∷◌, Ok, Err, IfErr};
+ghost use Rattle.audit_cli_base.specs.declared.fault.CommandError.TheVariants.{BadArgument};
+ghost use Rattle.audit_cli_base.specs.declared.status.Status.TheVariants.{Usage};
+ghost use Rattle.audit_cli_connection.specs.declared.fault.RemoteError.TheVariants.{Command};
+ghost use Rattle.audit_cli_connection.specs.Faults.{IsNoBadArgument};
+ghost use Rattle.audit_cli_connection.specs.ServerCalls.{ServersModel, CommandStreams, NamedFiles};
+ghost use Rattle.audit_cli_connection.specs.ServerCalls.{IsUnfitExport, IsUnfitReading};
 ghost use Rattle.audit_cli_connection.specs.ServerCalls.{a_query, a_sending, a_look, a_reading, a_rest};
 
 use crate::fault::RemoteError;
@@ -20,7 +25,11 @@ pub trait Servers {
     /// What its calls do, and what is known of it.
     ghost calls: { ServersModel Self };
 
-    /// Asks the server at a socket, and prints the answer. The server has this many seconds for each reply.
+    /// What its calls showed of the files that words name.
+    ghost files: { Self → NamedFiles };
+
+    /// Asks the server at a socket, and prints the answer. The server has this many seconds for each reply. The error
+    /// is `BadArgument` only if an export is to go to standard output, or to something that isn't a regular file.
     fn ask<W: Write>(
         &mut self,
         alloc: Global,
@@ -29,10 +38,11 @@ pub trait Servers {
         seconds: u64,
         output: &mut W,
     ) -> Result<(), RemoteError>
-        ensures { calls.DidCalls self.old self.new (a_query socket.now question.entry seconds (W.contents output.old)
-            (W.contents output.new) result ∷ []) };
+        ensures did { calls.DidCalls self.old self.new (a_query socket.now question.entry seconds
+            (W.contents output.old) (W.contents output.new) result ∷ []) }
+        ensures bad { result ≡ Err (Command BadArgument) → IsUnfitExport (files self.new) question.entry };
 
-    /// Sends the events of an input to the server at a socket, and prints its answers.
+    /// Sends the events of an input to the server at a socket, and prints its answers. No argument is called bad.
     fn send<R: Read, W: Write, M: Write>(
         &mut self,
         alloc: Global,
@@ -42,7 +52,7 @@ pub trait Servers {
         output: &mut W,
         messages: &mut M,
     ) -> Result<Status, RemoteError>
-        ensures { calls.DidCalls self.old self.new (a_sending socket.now task.entry
+        ensures did { calls.DidCalls self.old self.new (a_sending socket.now task.entry
             (record {
               input = R.remaining input.old;
               output = W.contents output.old;
@@ -53,13 +63,17 @@ pub trait Servers {
               output = W.contents output.new;
               messages = M.contents messages.new;
             })
-            result ∷ []) };
+            result ∷ []) }
+        ensures bad { IfErr result IsNoBadArgument }
+        ensures status { result ≡ Ok Usage → ⊥ };
 
-    /// Looks at a log as a witness does.
+    /// Looks at a log as a witness does. No argument is called bad.
     fn look(&mut self, alloc: Global, post: Post<'_>) -> Result<Sight, RemoteError>
-        ensures { calls.DidCalls self.old self.new (a_look post.entry result ∷ []) };
+        ensures did { calls.DidCalls self.old self.new (a_look post.entry result ∷ []) }
+        ensures bad { IfErr result IsNoBadArgument };
 
-    /// Reads a log on, prints its events, and keeps the bookmark after them.
+    /// Reads a log on, prints its events, and keeps the bookmark after them. The error is `BadArgument` only if the
+    /// word for kinds lists none, or the file for the first key or the bookmark has none.
     fn read<W: FallibleWrite, M: Write>(
         &mut self,
         alloc: Global,
@@ -67,8 +81,9 @@ pub trait Servers {
         output: &mut W,
         messages: &mut M,
     ) -> Result<(), RemoteError>
-        ensures { calls.DidCalls self.old self.new (a_reading task.entry (W.contents output.old)
-            (W.contents output.new) result ∷ []) };
+        ensures did { calls.DidCalls self.old self.new (a_reading task.entry (W.contents output.old)
+            (W.contents output.new) result ∷ []) }
+        ensures bad { result ≡ Err (Command BadArgument) → IsUnfitReading (files self.new) task.entry };
 
     /// Pauses for this many seconds.
     fn pause(&mut self, seconds: u64)

@@ -4,7 +4,7 @@ ghost use Rattle.std.specs.Prelude.{IfErr, OnOk, OnErr};
 ghost use Rattle.std.specs.Io.KnownBytes.{Appends};
 ghost use Rattle.audit_wire_ask.specs.declared.watching.Sight.{Sight};
 ghost use Rattle.audit_cli_connection.specs.declared.fault.RemoteError.{RemoteError};
-ghost use Rattle.audit_cli_connection.specs.Faults.{is_passing_fault};
+ghost use Rattle.audit_cli_connection.specs.Faults.{is_passing_fault, IsNoBadArgument};
 ghost use Rattle.audit_cli_connection.specs.ServerCalls.{a_look, a_rest};
 ghost use Rattle.audit_cli_witness.specs.Looking.{sight_line, change_line, FollowsLook, PrintsLook, FailsToPrint};
 ghost use Rattle.audit_cli_witness.specs.Looking.{SaysPassing, SaysReturn};
@@ -42,8 +42,10 @@ pub fn watch_once<F: Servers, W: FallibleWrite>(
     post: Post<'_>,
     output: &mut W,
 ) -> Result<(), RemoteError>
-    ensures { LooksOnce F.calls post.entry servers.old servers.new (W.contents output.old) (W.contents output.new)
+    ensures looked { LooksOnce F.calls post.entry servers.old servers.new (W.contents output.old) (W.contents
+        output.new)
         (W.failed output.new) result }
+    ensures bad { IfErr result IsNoBadArgument }
 {
     let looked = servers.look(alloc, post);
     print_look(alloc, looked, post.is_quiet, output)
@@ -56,7 +58,9 @@ fn print_look<W: FallibleWrite>(
     is_quiet: bool,
     output: &mut W,
 ) -> Result<(), RemoteError>
-    ensures { PrintsLook is_quiet looked (W.contents output.old) (W.contents output.new) (W.failed output.new) result }
+    ensures printed { PrintsLook is_quiet looked (W.contents output.old) (W.contents output.new) (W.failed output.new)
+        result }
+    ensures bad { IfErr looked IsNoBadArgument → IfErr result IsNoBadArgument }
 {
     match looked {
         Ok(sight) => print_sight(alloc, sight, is_quiet, output),
@@ -75,8 +79,10 @@ pub fn watch_for_ever<F: Servers, W: FallibleWrite, M: FallibleWrite>(
     output: &mut W,
     messages: &mut M,
 ) -> Result<(), RemoteError>
-    ensures { LooksToTheEnd F.calls post.entry every servers.old servers.new (W.contents output.old)
+    ensures looked { LooksToTheEnd F.calls post.entry every servers.old servers.new (W.contents output.old)
         (W.contents output.new) (W.failed output.new) result }
+    // No fault says that an argument is bad.
+    ensures bad { IfErr result IsNoBadArgument }
 {
     let mut reported = None;
     for looks in 0..u64::MAX {
@@ -105,6 +111,7 @@ fn look_and_pause<F: Servers, W: FallibleWrite, M: FallibleWrite>(
         × FollowsLook post.entry.is_quiet saw (W.contents output.old) (W.contents output.new)
         (W.failed output.new) result) }
     ensures ends { IfErr result (λ fault. is_passing_fault fault ≡ false) }
+    ensures bad { IfErr result IsNoBadArgument }
 {
     match look_again(servers, alloc, post, reported, output, messages) {
         Ok(reported) => {
@@ -129,6 +136,7 @@ fn look_again<F: Servers, W: FallibleWrite, M: FallibleWrite>(
         × FollowsLook post.entry.is_quiet saw (W.contents output.old) (W.contents output.new)
         (W.failed output.new) result }
     ensures ends { IfErr result (λ fault. is_passing_fault fault ≡ false) }
+    ensures bad { IfErr result IsNoBadArgument }
 {
     let looked = servers.look(alloc, post);
     let date = servers.date();
@@ -150,6 +158,7 @@ pub fn follow_look<W: FallibleWrite, M: FallibleWrite>(
     ensures follows { FollowsLook post.entry.is_quiet looked (W.contents output.old) (W.contents output.new)
         (W.failed output.new) result }
     ensures ends { IfErr result (λ fault. is_passing_fault fault ≡ false) }
+    ensures bad { IfErr looked IsNoBadArgument → IfErr result IsNoBadArgument }
     // A passing fault is said unless it was reported. No other fault is said here.
     ensures said { SaysPassing (λ fault. ⟦<Option<RemoteError> as PartialEq>⟧.eq reported (Some fault)) looked
         (M.contents messages.old) (M.contents messages.new) (M.failed messages.new) }

@@ -15,12 +15,12 @@ loop-times-preserved g c =
       readings_more g.F.Servers.calls c.args.task c.args.every _ _ _ _ _ _ _ readings.0 read.0 _ readings.2 read.2 read.3 read.4,
     )
 
-pub returns-in_err-reported : goal.returns-in_err-reported
-returns-in_err-reported g c =
+pub returns-in_err-reported-clause-read : goal.returns-in_err-reported-clause-read
+returns-in_err-reported-clause-read g c =
     let p = err_from_is_err_and c.from_residual.result c.from_residual.ensures.1 in
     let readings = c.loop-times.invariant in
     let read = c.in_err-reported.ensures.last in
     rw (p.1, p.2) (reads_last g.F.Servers.calls c.args.task c.args.every _ _ _ _ _ _ readings.0 read.0 _ readings.2 read.1 read.2)
 
-pub returns : goal.returns
-returns g c = (c.loop-times.invariant.0, c.loop-times.invariant.1 ∙ search rules, c.loop-times.invariant.2)
+pub returns-clause-read : goal.returns-clause-read
+returns-clause-read g c = (c.loop-times.invariant.0, c.loop-times.invariant.1 ∙ search rules, c.loop-times.invariant.2)

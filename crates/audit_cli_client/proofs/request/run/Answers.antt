@@ -1,3 +1,4 @@
+use Rattle.audit_cli_client.proofs.NoBadArguments.{only_bad}
 use Rattle.audit_cli_client.proofs.request.run.Goals as goal
 
 pub returns-clause-carried : goal.returns-clause-carried
@@ -14,3 +15,7 @@ returns-clause-carried g c = record {
   kept = c.flush_and_report-status.ensures.kept;
   status_is = c.flush_and_report-status.ensures.status;
 }
+
+pub returns-clause-only : goal.returns-clause-only
+returns-clause-only g c usage =
+    c.perform-done.ensures.only (only_bad c.flush_and_report-status.result c.perform-done.result c.print_judgment-judged.result c.perform-done.ensures.status c.print_judgment-judged.ensures.other c.print_judgment-judged.ensures.judged c.flush_and_report-status.ensures.status usage)

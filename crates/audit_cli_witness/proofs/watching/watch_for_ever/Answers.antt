@@ -15,8 +15,8 @@ loop-looks-preserved g c =
       looks_more g.F.Servers.calls c.args.post c.args.every _ _ _ _ _ _ _ seen.0 looked.0 _ _ seen.2 looked.2 looked.3 looked.4,
     )
 
-pub returns-in_err-reported : goal.returns-in_err-reported
-returns-in_err-reported g c =
+pub returns-in_err-reported-clause-looked : goal.returns-in_err-reported-clause-looked
+returns-in_err-reported-clause-looked g c =
     let p = err_from_is_err_and c.from_residual.result c.from_residual.ensures.1 in
     let seen = c.loop-looks.invariant in
     let looked = c.in_err-reported.ensures.last in
@@ -31,5 +31,5 @@ returns-in_err-reported g c =
       lasting = c.in_err-reported.ensures.ends;
     })
 
-pub returns : goal.returns
-returns g c = (c.loop-looks.invariant.0, c.loop-looks.invariant.1 ∙ search rules, c.loop-looks.invariant.2)
+pub returns-clause-looked : goal.returns-clause-looked
+returns-clause-looked g c = (c.loop-looks.invariant.0, c.loop-looks.invariant.1 ∙ search rules, c.loop-looks.invariant.2)
