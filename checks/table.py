@@ -25,7 +25,7 @@ CHECKS = entries("checks", [
     ("vectors", "the test vectors of docs/formats.md, by the model, the auditor's programs and the program", "5 s"),
     ("verify-on", "what follows a state has the verdict, events and state that the whole log has", "30 s"),
     ("system", "interaction with the operating system: streams, locks, modes, keys in memory, devices", "1 min"),
-    ("daemon", "a daemon with clients that behave well beside others that don't", "15 s"),
+    ("daemon", "a daemon with clients that behave well beside others that don't", "20 s"),
     ("client", "the commands that ask a server, against servers that lie too; fleet and witness-git", "1 min"),
     ("library", "libauditstore and the Python package: verdicts, frames, clients, handlers, examples", "1 min"),
     ("serve-clients", "`serve` with 16 clients at a time, one of them cut off and one that sends noise", "1 s"),

@@ -18,16 +18,13 @@ The browser is the one named by CHROMIUM, or chromium, or google-chrome; Firefox
 or firefox-esr.
 """
 import os
-import shutil
 import tempfile
 import time
 
 from checks.page import (
     changes, disclosed, events, files, hostile, links, looks, million, receipts, reports, taking, verdicts)
-from checks.page.browsers import Browser
+from checks.page.browsers import Browser, chromium
 from checks.parts.wrong import LeftOut, Usage, told
-
-BROWSERS = "chromium", "chromium-browser", "google-chrome"
 
 
 def options_of(words):
@@ -95,8 +92,7 @@ def main(words):
     if options["--policy"]:
         files.write_policy()
         return 0
-    named = filter(None, [os.environ.get("CHROMIUM"), *BROWSERS])
-    path = next((found for found in map(shutil.which, named) if found), None)
+    path = chromium()
     if path is None:
         raise LeftOut("there is no Chromium")
     for folder in filter(None, (options["--keep"], options["--shots"])):

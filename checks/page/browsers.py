@@ -13,6 +13,14 @@ from checks.parts.files import write
 from checks.parts.program import SECONDS
 from checks.parts.wrong import Wrong
 
+BROWSERS = "chromium", "chromium-browser", "google-chrome"
+
+
+def chromium():
+    """The path of the browser that CHROMIUM names, or of one of these; None if there is none."""
+    named = filter(None, [os.environ.get("CHROMIUM"), *BROWSERS])
+    return next((found for found in map(shutil.which, named) if found), None)
+
 
 class Browser:
     def __init__(self, path):
