@@ -72,6 +72,7 @@ BENCHES = entries("checks.bench", [
     ("sources", "what `send` and `file-feed` send with places, and `send` without", "2 min"),
     ("follow", "lines of a log piped to `append --follow`, and verified", "2 min"),
     ("read", "`read` of a million events, and of what is new after them", "5 min"),
+    ("openings", "an opening of a million events, by turns with another executable's", "2 min"),
     ("disclosing", "`disclose` of one in a thousand of a million events, and `verify`, by turns", "4 min"),
     ("library", "proofs, exports and appends by libauditstore and the Python package", "1 min"),
     ("network", "hosts over TLS, and clients that are more than a daemon's places", "2 min"),
