@@ -179,6 +179,29 @@ def scene_text():
 
 
 @scene
+def scene_sending_again():
+    """With `--retry`, and without places, sending goes on after a loss with the first line that has no answer."""
+    hash, seen = b"\7" * 32, []
+
+    def serve(stream):
+        """The first connection is lost after one of three answers."""
+        index, due = (6, 2) if seen else (5, 1)
+        asked = [read_request(stream) for _ in range(3 if due == 1 else 2)]
+        seen.append(asked)
+        for place, (_, tag, _) in enumerate(asked[:due]):
+            stream.sendall(acknowledgement(tag, index + place, index + place + 1, hash))
+        stream.shutdown(socket.SHUT_RDWR)
+
+    with Server("lost.sock", serve):
+        status, out, _ = run("send", "lost.sock", "--text", "1", "--retry", "60", data=b"a\nb\nc\n")
+    printed = b"".join(b"ack %d %d %s\n" % (index, index + 1, hash.hex().encode()) for index in (5, 6, 7))
+    expect((status, out), (0, printed), "what is sent again")
+    kind = struct.pack(">I", 1)
+    all_three = [(1, tag, kind + text) for tag, text in ((1, b"a"), (2, b"b"), (3, b"c"))]
+    expect(seen, [all_three, all_three[1:]], "what a lost server got, and then its successor")
+
+
+@scene
 def scene_sending_to_liars():
     """Answers that aren't due: what was answered before them is printed, and the rest counted."""
     hash = b"\7" * 32

@@ -71,8 +71,8 @@ static SEND: Form = Form {
         Choice {
             name: "retry",
             value: Some("SECONDS"),
-            help: "With --placed, tries a server that is lost again for 1 to 86400 seconds, and goes on",
-            needs: Some("placed"),
+            help: "Tries a server that is lost again for 1 to 86400 seconds; without --placed an event may be there twice",
+            needs: None,
             excludes: None,
         },
     ],
