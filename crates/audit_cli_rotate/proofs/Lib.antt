@@ -4,3 +4,4 @@ pub mod Held
 pub mod OwnKey
 pub mod Carried
 pub mod PreparedStores
+mod CallFaults

@@ -5,6 +5,7 @@ use Rattle.std.proofs.Common.{◌≡◌, ◌⊎◌, ◌∙◌, ◌-◌, ℕ, Boo
 use Rattle.std.proofs.KnownBytes.{Keeps-refl}
 use Rattle.audit_disk_model.specs.declared.sectors.Sectors as sectors
 use Rattle.audit_disk.specs.FileFacts.{FileFacts}
+use Rattle.audit_disk.specs.declared.file_identity.FileIdentity.{FileIdentity}
 use Rattle.audit_log.specs.declared.header.Header.{Header}
 use Rattle.audit_proof.specs.declared.commitment.Commitment.{Commitment}
 use Rattle.audit_store_commit.specs.IndexData.{IndexData}
@@ -42,7 +43,7 @@ use Rattle.audit_cli_calls.specs.StoreCalls.{StoreCall, StoresModel, an_opening,
 use Rattle.audit_cli_rotate.specs.LinkFile.{HasBytesAt, HasLinkAt, IsJudgingFault, IsLinkNotIn, IsLinkUnread, IsNotKept}
 use Rattle.audit_cli_rotate.specs.PreparedFaults.{of_unread}
 use Rattle.audit_cli_rotate.specs.PreparedStores.{counted_from, AreCounted, IsNoJunction, IsNotCounted, IsLeftUnjoined, IsLinkKept, IsFoundJoined, JoinsCounted, JoinsStores, JoinsPrepared, IsLinkOf, joined_lines}
-use Rattle.audit_cli_rotate.specs.PreparedCarried.{JoinsNext, OpensNext, OpensBoth, IsPreparedDone}
+use Rattle.audit_cli_rotate.specs.PreparedCarried.{JoinsNext, OpensNext, OpensBoth, IsNoOpening, IsPreparedDone}
 use Rattle.audit_cli_rotate.specs.declared.prepared.Prepared.{Prepared}
 use Rattle.audit_cli_rotate.specs.declared.prepared_error.PreparedError.{PreparedError}
 use Rattle.audit_cli_rotate.specs.declared.prepared_error.PreparedError.TheVariants.{Command, NotEmpty, OtherLink, OwnKey}
@@ -169,7 +170,7 @@ module _ {F : Type 0} (facts : F → FileFacts) (remaining : F → Option (List 
   -- or instead of these bytes
   pub others_at : (Failed : Type 0) (path bytes : List ℕ) (file : F) (fault : PreparedError) → (facts file).opened_to_read path → (fault ≡ OtherLink → IfSome (remaining file) (λ found. (INPUT_LIMIT < length found) ⊎ (found ≢ bytes))) → IsJudgingFault fault → IsNotKept facts remaining Failed path bytes fault
   others_at Failed path bytes file OtherLink opened others why = inr (record { file = file; opened = opened; others = others refl })
-  others_at Failed path bytes file (Command cause) opened others why = why
+  others_at Failed path bytes file (Command (Lines cause)) opened others why = tt
   others_at Failed path bytes file _ opened others why = absurd why
 
   module _ (Synced : List ℕ → Type 0) (Failed : Type 0) {D : Type 0} {g : sectors.Ghosts D} {E : Type 0} {h : sectors.Ghosts E} where
@@ -181,7 +182,7 @@ module _ {F : Type 0} (facts : F → FileFacts) (remaining : F → Option (List 
     -- why they weren't joined
     pub no_junction : (path : List ℕ) (counts : List KindCount) (old : Store D g) (next : Store E h) (fault : PreparedError) → (active_header next).count ≡ 0 → IsNoJunction old next fault → IsLeftUnjoined facts remaining Synced Failed path counts old next fault
     no_junction path counts old next OwnKey empty why = (empty, why)
-    no_junction path counts old next (Command cause) empty why = why
+    no_junction path counts old next (Command (Refused error)) empty why = tt
     no_junction path counts old next _ empty why = absurd why
 
     pub not_kept_for : (path : List ℕ) (counts : List KindCount) (old : Store D g) (next : Store E h) (link : LinkData) (fault : PreparedError)
@@ -252,36 +253,36 @@ module _ {F : Type 0} (facts : F → FileFacts) (remaining : F → Option (List 
     written_in_part after path old left next new before written result fault is joins part =
         subst (JoinsPrepared facts remaining Synced Failed after path old left next new before written) (sym is) (inr (joins, part))
 
-  module _ (Synced : List ℕ → Type 0) (Failed : Type 0) {O : Type 0} {E : Type 0} {h : sectors.Ghosts E} (stores : StoresModel O (Store E h)) (At : O → List ℕ → Store E h → Type 0) where
+  module _ (Synced : List ℕ → Type 0) (Failed : Type 0) (LeadsTo : List ℕ → FileIdentity → Type 0) {O : Type 0} {E : Type 0} {h : sectors.Ghosts E} (stores : StoresModel O (Store E h)) (At : O → List ℕ → Store E h → Type 0) where
     -- the second store was opened, and let go
     pub opens_next : (request : Prepared) (was begun ended now : O) (old left next new : Store E h) (before after : Option (List ℕ)) (result : Ending) → At was request.next.now next → stores.DidCalls was begun (an_opening request.next.now (Ok next) ∷ []) → begun ≡ ended → stores.DidCalls ended now (a_letting_go new ∷ [])
-        → JoinsPrepared facts remaining Synced Failed request.after request.link.now old left next new before after result → (between : List (StoreCall (Store E h))) × stores.DidCalls was now between × OpensNext facts remaining Synced Failed stores At request was between old left before after result
+        → JoinsPrepared facts remaining Synced Failed request.after request.link.now old left next new before after result → (between : List (StoreCall (Store E h))) × stores.DidCalls was now between × OpensNext facts remaining Synced Failed LeadsTo stores At request was between old left before after result
     opens_next request was begun ended now old left next new before after result at opens same goes joins =
-        let made : JoinsNext facts remaining Synced Failed stores At request was (an_opening request.next.now (Ok next) ∷ a_letting_go new ∷ []) old left before after result =
+        let made : JoinsNext facts remaining Synced Failed LeadsTo stores At request was (an_opening request.next.now (Ok next) ∷ a_letting_go new ∷ []) old left before after result =
         record { next = next; at = at; new = new; between_is = refl; joins = joins } in (
           an_opening request.next.now (Ok next) ∷ a_letting_go new ∷ [],
           stores.more_called was ended now (an_opening request.next.now (Ok next) ∷ []) (a_letting_go new ∷ []) (subst (λ (o : O). stores.DidCalls was o (an_opening request.next.now (Ok next) ∷ [])) same opens) goes,
           by_result result made,
         )
       where
-        by_result : (ended : Ending) → JoinsNext facts remaining Synced Failed stores At request was (an_opening request.next.now (Ok next) ∷ a_letting_go new ∷ []) old left before after ended
-            → OpensNext facts remaining Synced Failed stores At request was (an_opening request.next.now (Ok next) ∷ a_letting_go new ∷ []) old left before after ended
+        by_result : (ended : Ending) → JoinsNext facts remaining Synced Failed LeadsTo stores At request was (an_opening request.next.now (Ok next) ∷ a_letting_go new ∷ []) old left before after ended
+            → OpensNext facts remaining Synced Failed LeadsTo stores At request was (an_opening request.next.now (Ok next) ∷ a_letting_go new ∷ []) old left before after ended
         by_result (Ok done) joined = joined
         by_result (Err fault) joined = inr joined
 
     -- it couldn't be opened
     pub lacks_next : (request : Prepared) (was now : O) (old : Store E h) (known : Option (List ℕ)) (cause : CommandError) (result : Ending) (fault : PreparedError) → result ≡ Err fault → fault ≡ Command cause → stores.DidCalls was now (an_opening request.next.now (Err cause) ∷ [])
-        → (between : List (StoreCall (Store E h))) × stores.DidCalls was now between × OpensNext facts remaining Synced Failed stores At request was between old old known known result
+        → (between : List (StoreCall (Store E h))) × stores.DidCalls was now between × OpensNext facts remaining Synced Failed LeadsTo stores At request was between old old known known result
     lacks_next request was now old known cause result fault is fault_is did = (
       an_opening request.next.now (Err cause) ∷ [],
       did,
-      subst (OpensNext facts remaining Synced Failed stores At request was (an_opening request.next.now (Err cause) ∷ []) old old known known) (sym is)
+      subst (OpensNext facts remaining Synced Failed LeadsTo stores At request was (an_opening request.next.now (Err cause) ∷ []) old old known known) (sym is)
           (inl (record { cause = cause; fault_is = fault_is; between_is = refl; left_is = refl; unwritten = Keeps-refl known })),
     )
 
     -- both were opened
     pub opens_both : (request : Prepared) (was begun ended now : O) (old left : Store E h) (before after : Option (List ℕ)) (result : Ending) → At was request.old.now old → stores.DidCalls was begun (an_opening request.old.now (Ok old) ∷ []) → stores.DidCalls ended now (a_letting_go left ∷ [])
-        → ((between : List (StoreCall (Store E h))) × stores.DidCalls begun ended between × OpensNext facts remaining Synced Failed stores At request begun between old left before after result) → IsPreparedDone facts remaining Synced Failed stores At request was now before after result
+        → ((between : List (StoreCall (Store E h))) × stores.DidCalls begun ended between × OpensNext facts remaining Synced Failed LeadsTo stores At request begun between old left before after result) → IsPreparedDone facts remaining Synced Failed LeadsTo stores At request was now before after result
     opens_both request was begun ended now old left before after result at opens goes (between, did, next) =
         by_result result (record {
           old = old;
@@ -294,15 +295,19 @@ module _ {F : Type 0} (facts : F → FileFacts) (remaining : F → Option (List 
           next = next;
         })
       where
-        by_result : (ending : Ending) → OpensBoth facts remaining Synced Failed stores At request was now before after ending → IsPreparedDone facts remaining Synced Failed stores At request was now before after ending
+        by_result : (ending : Ending) → OpensBoth facts remaining Synced Failed LeadsTo stores At request was now before after ending → IsPreparedDone facts remaining Synced Failed LeadsTo stores At request was now before after ending
         by_result (Ok done) both = both
         by_result (Err fault) both = inr both
 
     -- none was opened
-    pub opens_none : (request : Prepared) (was : O) (known : Option (List ℕ)) (cause : CommandError) (result : Ending) → result ≡ Err (Command cause) → IsPreparedDone facts remaining Synced Failed stores At request was was known known result
-    opens_none request was known cause result is =
-        subst (IsPreparedDone facts remaining Synced Failed stores At request was was known known) (sym is) (inl (cause, refl, (inl (stores.nothing_called was), Keeps-refl known)))
+    pub opens_none : (request : Prepared) (was : O) (known : Option (List ℕ)) (cause : CommandError) (result : Ending) → result ≡ Err (Command cause) → IsNoOpening facts remaining Synced Failed LeadsTo stores At request cause → IsPreparedDone facts remaining Synced Failed LeadsTo stores At request was was known known result
+    opens_none request was known cause result is why =
+        subst (IsPreparedDone facts remaining Synced Failed LeadsTo stores At request was was known known) (sym is) (inl (cause, refl, (inl (stores.nothing_called was, why), Keeps-refl known)))
 
-    pub lacks_old : (request : Prepared) (was now : O) (known : Option (List ℕ)) (cause : CommandError) (result : Ending) → result ≡ Err (Command cause) → stores.DidCalls was now (an_opening request.old.now (Err cause) ∷ []) → IsPreparedDone facts remaining Synced Failed stores At request was now known known result
+    -- a path couldn't be looked at
+    pub unlooked : (request : Prepared) (was : O) (known : Option (List ℕ)) (cause : CommandError) (result : Ending) → result ≡ Err (Command cause) → (cause ≡ File) × Failed → IsPreparedDone facts remaining Synced Failed LeadsTo stores At request was was known known result
+    unlooked request was known cause result is (file, failed) = opens_none request was known cause result is (subst (IsNoOpening facts remaining Synced Failed LeadsTo stores At request) (sym file) failed)
+
+    pub lacks_old : (request : Prepared) (was now : O) (known : Option (List ℕ)) (cause : CommandError) (result : Ending) → result ≡ Err (Command cause) → stores.DidCalls was now (an_opening request.old.now (Err cause) ∷ []) → IsPreparedDone facts remaining Synced Failed LeadsTo stores At request was now known known result
     lacks_old request was now known cause result is did =
-        subst (IsPreparedDone facts remaining Synced Failed stores At request was now known known) (sym is) (inl (cause, refl, (inr did, Keeps-refl known)))
+        subst (IsPreparedDone facts remaining Synced Failed LeadsTo stores At request was now known known) (sym is) (inl (cause, refl, (inr did, Keeps-refl known)))

@@ -6,9 +6,8 @@ use Rattle.audit_link.specs.Links.{LinkData}
 use Rattle.audit_link.specs.LinkBytes.{SpellsLink}
 use Rattle.audit_store.specs.declared.store_error.StoreError.TheVariants.{Memory}
 use Rattle.audit_text.specs.declared.input.TheConstants.{INPUT_LIMIT}
-use Rattle.audit_cli_base.specs.Faults.{IsNoWordFault}
 use Rattle.audit_cli_base.specs.declared.fault.CommandError.{CommandError}
-use Rattle.audit_cli_base.specs.declared.fault.CommandError.TheVariants.{File, BadProof, Lines, Refused}
+use Rattle.audit_cli_base.specs.declared.fault.CommandError.TheVariants.{BadArgument, File, BadProof, Lines, Refused}
 use Rattle.audit_cli_rotate.specs.declared.prepared_error.PreparedError.{PreparedError}
 use Rattle.audit_cli_rotate.specs.declared.prepared_error.PreparedError.TheVariants.{Command, OtherLink}
 
@@ -20,10 +19,16 @@ IsLinkNotIn known (Lines cause) = Unit {0}
 IsLinkNotIn known (Refused error) = error ≡ Memory
 IsLinkNotIn known _ = ⊥
 
+-- an error of the calls by which files get their names: no wrong argument, and a file fault only if a call failed
+abbrev pub IsCallFault : Type 0 → CommandError → Type 0
+IsCallFault Failed BadArgument = ⊥
+IsCallFault Failed File = Failed
+IsCallFault Failed _ = Unit {0}
+
 -- the errors of judging the bytes of a file
 abbrev pub IsJudgingFault : PreparedError → Type 0
 IsJudgingFault OtherLink = Unit {0}
-IsJudgingFault (Command cause) = IsNoWordFault cause
+IsJudgingFault (Command (Lines cause)) = Unit {0}
 IsJudgingFault _ = ⊥
 
 module _ {F : Type 0} (facts : F → FileFacts) (remaining : F → Option (List ℕ)) where
@@ -62,9 +67,9 @@ module _ {F : Type 0} (facts : F → FileFacts) (remaining : F → Option (List 
   IsLinkUnread Failed path (Refused error) = error ≡ Memory
   IsLinkUnread Failed path _ = ⊥
 
-  -- Why a file doesn't have these bytes: it has others, or a call of the system failed by which it was judged. An error
-  -- of other commands is no wrong argument.
+  -- Why a file doesn't have these bytes: it has others, or a call of the system failed by which it was judged. Of the
+  -- errors of other commands a file fault needs a call that failed, and none is a wrong argument.
   abbrev pub IsNotKept : Type 0 → List ℕ → List ℕ → PreparedError → Type 0
   IsNotKept Failed path bytes OtherLink = Failed ⊎ HasOthersAt path bytes
-  IsNotKept Failed path bytes (Command cause) = IsNoWordFault cause
+  IsNotKept Failed path bytes (Command cause) = IsCallFault Failed cause
   IsNotKept Failed path bytes _ = ⊥

@@ -26,10 +26,9 @@ use Rattle.audit_join.specs.declared.junction.Junction.{Junction}
 use Rattle.audit_text.specs.AckLine.{ack_line}
 use Rattle.audit_text.specs.NumberedLine.{numbered_line}
 use Rattle.audit_text.specs.Writing.{WritesInPart}
-use Rattle.audit_cli_base.specs.Faults.{IsNoWordFault}
 use Rattle.audit_cli_base.specs.declared.fault.CommandError.{CommandError}
 use Rattle.audit_cli_base.specs.declared.fault.CommandError.TheVariants.{Refused}
-use Rattle.audit_cli_rotate.specs.LinkFile.{HasLinkAt, HasBytesAt, HasNoLinkAt, HasOthersAt, IsLinkUnread}
+use Rattle.audit_cli_rotate.specs.LinkFile.{HasLinkAt, HasBytesAt, HasNoLinkAt, HasOthersAt, IsLinkUnread, IsCallFault}
 use Rattle.audit_cli_rotate.specs.PreparedFaults.{of_join}
 use Rattle.audit_cli_rotate.specs.declared.prepared_error.PreparedError.{PreparedError}
 use Rattle.audit_cli_rotate.specs.declared.prepared_error.PreparedError.TheVariants.{Command, OwnKey, NotEmpty}
@@ -61,7 +60,7 @@ module _ {D : Type 0} {g : sectors.Ghosts D} {E : Type 0} {h : sectors.Ghosts E}
   -- or has no room.
   abbrev pub IsNoJunction : Store D g → Store E h → PreparedError → Type 0
   IsNoJunction old next OwnKey = IsJudgedFirst old next true
-  IsNoJunction old next (Command cause) = IsNoWordFault cause
+  IsNoJunction old next (Command (Refused error)) = Unit {0}
   IsNoJunction old next _ = ⊥
 
 module _ {F : Type 0} (facts : F → FileFacts) (remaining : F → Option (List ℕ)) where
@@ -149,12 +148,13 @@ module _ {F : Type 0} (facts : F → FileFacts) (remaining : F → Option (List 
         × IsJunction (active_header next).key (active_header next).last_link counts junction))
         ⊎ IsLinkOf counts (active_header old) (active_header next) link))
 
-    -- Why the two weren't joined while they were only looked at. An error of other commands is no wrong argument.
+    -- Why the two weren't joined while they were only looked at. Of the errors of other commands a file fault needs a
+    -- call that failed, and none is a wrong argument.
     abbrev pub IsLeftUnjoined : List ℕ → List KindCount → Store D g → Store E h → PreparedError → Type 0
     IsLeftUnjoined path counts old next OwnKey = ((active_header next).count ≡ 0) × IsJudgedFirst old next true
     IsLeftUnjoined path counts old next NotEmpty = (0 < (active_header next).count) × LacksLinkOf path counts old next
     IsLeftUnjoined path counts old next OtherLink = IsOtherThanLink path counts old next
-    IsLeftUnjoined path counts old next (Command cause) = IsNoWordFault cause
+    IsLeftUnjoined path counts old next (Command cause) = IsCallFault Failed cause
     IsLeftUnjoined path counts old next _ = ⊥
 
     -- the stores were only looked at

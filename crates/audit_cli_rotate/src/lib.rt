@@ -2,6 +2,7 @@
 #![tactic(auto)]
 
 mod fault;
+mod file_names;
 mod files;
 mod joined;
 pub mod laws;
@@ -16,6 +17,7 @@ mod rotating;
 mod stores;
 
 pub use fault::RotationError;
+pub use file_names::FileNames;
 pub use linking::{link_event, starts_with_link};
 pub use prepared::{Prepared, run_prepared};
 pub use prepared_error::PreparedError;

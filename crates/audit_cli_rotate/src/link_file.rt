@@ -4,26 +4,25 @@ ghost use Rattle.audit_disk.specs.Folder.{folder_of};
 ghost use Rattle.audit_link.specs.Links.{LinkData, link_in};
 ghost use Rattle.audit_link.specs.LinkBytes.{SpellsLink};
 ghost use Rattle.audit_text.specs.declared.input.TheConstants.{INPUT_LIMIT};
-ghost use Rattle.audit_cli_base.specs.Faults.{IsNoWordFault};
 ghost use Rattle.audit_cli_rotate.specs.LinkFile.{HasLinkAt, HasBytesAt, IsJudgingFault, IsLinkNotIn, IsLinkUnread};
-ghost use Rattle.audit_cli_rotate.specs.LinkFile.{IsNotKept};
+ghost use Rattle.audit_cli_rotate.specs.LinkFile.{IsCallFault, IsNotKept};
 
+use crate::file_names::FileNames;
 use crate::files::{Names, drop_leftover, drop_second_name, give_name, temporary_name};
 use crate::prepared_error::PreparedError;
 use audit_base::are_equal;
 use audit_cli_base::CommandError;
-use audit_disk::{FileIdentity, OWNER_ONLY, SystemFile, SystemFiles};
+use audit_disk::{FileIdentity, OWNER_ONLY, SystemFile};
 use audit_link::{Link, LinkError, read_link};
 use audit_store::StoreError;
 use audit_text::{LinesError, read_input};
 use std::alloc::Global;
-use std::fs::{self, OpenFile};
-use std::io::{ErrorKind, Read, Write};
+use std::io::Read;
 use std::path::Path;
 
 /// Sees to it that a file has these bytes, and that its folder was synced: if nothing is at the path, a file is made for
 /// its owner alone. What is there already isn't changed. The error is `OtherLink` if that is anything else.
-pub(crate) fn keep_link<F: SystemFiles>(
+pub(crate) fn keep_link<F: FileNames>(
     rt: &F,
     alloc: Global,
     path: &str,
@@ -32,20 +31,17 @@ pub(crate) fn keep_link<F: SystemFiles>(
 where
     F::File: SystemFile,
     ensures kept { OnOk result (HasBytesAt F.File.facts F.File.remaining (F.synced rt.now) path.now bytes.now) }
-    ensures fault { IfErr result (IsNotKept F.File.facts F.File.remaining (F.failed rt.now) path.now bytes.now) }
+    ensures fault { IfErr result (IsNotKept F.File.facts F.File.remaining (F.failed rt.now ⊎ F.unnamed rt.now) path.now
+        bytes.now) }
 {
-    match rt.symlink_metadata(path) {
-        Ok(_) => {}
-        Err(error) if error.kind() == ErrorKind::NotFound => make_link_file(
-            rt, alloc, path, bytes,
-        )?,
-        Err(error) => return Err(error.into()),
+    if rt.see(path)?.is_none() {
+        make_link_file(rt, alloc, path, bytes)?;
     }
     find_link_file(rt, alloc, path, bytes)
 }
 
 // Makes the file under a temporary name, which is exchanged for its own when it is written and synced.
-fn make_link_file<F: SystemFiles>(
+fn make_link_file<F: FileNames>(
     rt: &F,
     alloc: Global,
     path: &str,
@@ -53,7 +49,7 @@ fn make_link_file<F: SystemFiles>(
 ) -> Result<(), CommandError>
 where
     F::File: SystemFile,
-    ensures { IfErr result IsNoWordFault }
+    ensures { IfErr result (IsCallFault (F.failed rt.now ⊎ F.unnamed rt.now)) }
 {
     let temporary = temporary_name(alloc, path)?;
     drop_leftover(rt, alloc, &temporary)?;
@@ -62,33 +58,35 @@ where
         own: path,
     };
     let mut file = rt.make_file(names.temporary, OWNER_ONLY)?;
-    match write_synced(&mut file, bytes) {
+    match write_synced(rt, &mut file, bytes) {
         // The file is locked until it has its name.
         Ok(identity) => give_name(rt, identity, names),
         Err(fault) => {
-            let _ = fs::remove_file(rt, names.temporary);
+            let _ = rt.remove_name(names.temporary);
             Err(fault)
         }
     }
 }
 
 // Locks a file, writes the bytes and syncs it.
-fn write_synced<F: SystemFile + Write>(
-    file: &mut F,
+fn write_synced<F: FileNames>(
+    rt: &F,
+    file: &mut F::File,
     bytes: &[u8],
 ) -> Result<FileIdentity, CommandError>
-    ensures { IfErr result IsNoWordFault }
+where
+    F::File: SystemFile,
+    ensures { IfErr result (IsCallFault (F.failed rt.now ⊎ F.unnamed rt.now)) }
 {
     if file.try_lock().is_err() {
         return Err(CommandError::InUse);
     }
-    file.write_all(bytes)?;
-    file.sync_all()?;
-    Ok(FileIdentity::of(&file.metadata()?))
+    rt.write_and_sync(file, bytes)?;
+    Ok(FileIdentity::of(&rt.see_open(file)?))
 }
 
 // Finds that a file has these bytes, and syncs its folder, since a run may have been killed before it did.
-fn find_link_file<F: SystemFiles>(
+fn find_link_file<F: FileNames>(
     rt: &F,
     alloc: Global,
     path: &str,
@@ -97,7 +95,8 @@ fn find_link_file<F: SystemFiles>(
 where
     F::File: SystemFile,
     ensures kept { OnOk result (HasBytesAt F.File.facts F.File.remaining (F.synced rt.now) path.now bytes.now) }
-    ensures fault { IfErr result (IsNotKept F.File.facts F.File.remaining (F.failed rt.now) path.now bytes.now) }
+    ensures fault { IfErr result (IsNotKept F.File.facts F.File.remaining (F.failed rt.now ⊎ F.unnamed rt.now) path.now
+        bytes.now) }
 {
     let found = rt.look(path)?;
     // A folder, or what might wait, isn't opened.
@@ -137,15 +136,12 @@ fn judge_found(found: &[u8], bytes: &[u8]) -> Result<(), PreparedError>
 }
 
 /// The link in the file at a path. The error is `BadProof` if the file has none.
-pub(crate) fn link_at<F: SystemFiles>(
-    rt: &F,
-    alloc: Global,
-    path: &str,
-) -> Result<Link, CommandError>
+pub(crate) fn link_at<F: FileNames>(rt: &F, alloc: Global, path: &str) -> Result<Link, CommandError>
 where
     F::File: SystemFile,
     ensures read { IfOk result (λ link. HasLinkAt F.File.facts F.File.remaining path.now (link_in link)) }
-    ensures fault { IfErr result (IsLinkUnread F.File.facts F.File.remaining (F.failed rt.now) path.now) }
+    ensures fault { IfErr result (IsLinkUnread F.File.facts F.File.remaining (F.failed rt.now ⊎ F.unnamed rt.now)
+        path.now) }
 {
     let mut file = rt.open_to_read(path)?;
     link_in_file(alloc, &mut file)
@@ -176,7 +172,7 @@ fn link_of(alloc: Global, bytes: &[u8]) -> Result<Link, CommandError>
 }
 
 // The folder that has the name of what is at a path.
-fn folder_of(path: &str) -> &str
+pub(crate) fn folder_of(path: &str) -> &str
     ensures { result.now ≡ folder_of path.now }
 {
     match Path::new(path).parent() {

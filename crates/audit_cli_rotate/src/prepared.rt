@@ -1,15 +1,16 @@
 //! The request to rotate a log to a store that was prepared, and how it is carried out.
-ghost use Rattle.std.specs.Prelude.{◌≡◌, List};
+ghost use Rattle.std.specs.Prelude.{◌≡◌, ◌⊎◌, List};
 ghost use Rattle.audit_cli_calls.specs.StoreCalls.{StoreCall};
 ghost use Rattle.audit_cli_rotate.specs.PreparedCarried.{prepared_end_status, IsPreparedCarriedOut, IsPreparedDone};
 ghost use Rattle.audit_cli_rotate.specs.PreparedCarried.{OpensNext};
 
+use crate::file_names::FileNames;
 use crate::files::{identity_if_any, is_same_file};
 use crate::joined::join_prepared;
 use crate::prepared_error::PreparedError;
 use audit_cli_base::{CommandError, FileStore, Status, report_flush};
 use audit_cli_calls::{FlushedOutput, Stores};
-use audit_disk::{SystemFile, SystemFiles};
+use audit_disk::SystemFile;
 use audit_disk_model::Sectors;
 use audit_store::Store;
 use std::alloc::Global;
@@ -45,7 +46,7 @@ pub fn run_prepared<F, O, W, M>(
     messages: &mut M,
 ) -> Status
 where
-    F: SystemFiles,
+    F: FileNames,
     F::File: SystemFile,
     O: Stores<FileStore<F::File>>,
     W: FlushedOutput,
@@ -57,9 +58,10 @@ where
     // written; or the stores were only looked at, and `OwnKey`, `NotEmpty`, `OtherLink`, `OtherLog` and the errors of
     // numbers have their cause; or the link is in its file, and what the join did until it failed was done. In each
     // case nothing else was done to a store, and no other was opened.
-    ensures carried { IsPreparedCarriedOut F.File.facts F.File.remaining (F.synced rt.now) (F.failed rt.now) O.calls
-        O.at request.entry stores.old stores.new (W.contents output.old) (W.contents output.new) (W.flushed output.new)
-        (W.unflushed output.new) result }
+    ensures carried { IsPreparedCarriedOut F.File.facts F.File.remaining (F.synced rt.now)
+        (F.failed rt.now ⊎ F.unnamed rt.now) (F.leads_to rt.now) O.calls O.at request.entry stores.old stores.new
+        (W.contents output.old) (W.contents output.new)
+        (W.flushed output.new) (W.unflushed output.new) result }
 {
     let done = perform(rt, stores, alloc, request, output);
     let flushed = output.flush_last();
@@ -89,12 +91,13 @@ fn perform<F, O, W>(
     output: &mut W,
 ) -> Result<(), PreparedError>
 where
-    F: SystemFiles,
+    F: FileNames,
     F::File: SystemFile,
     O: Stores<FileStore<F::File>>,
     W: Write,
-    ensures { IsPreparedDone F.File.facts F.File.remaining (F.synced rt.now) (F.failed rt.now) O.calls O.at
-        request.entry stores.old stores.new (W.contents output.old) (W.contents output.new) result }
+    ensures { IsPreparedDone F.File.facts F.File.remaining (F.synced rt.now) (F.failed rt.now ⊎ F.unnamed rt.now)
+        (F.leads_to rt.now) O.calls O.at request.entry stores.old stores.new (W.contents output.old)
+        (W.contents output.new) result }
 {
     let there = identity_if_any(rt, request.next)?;
     if request.old == request.next || is_same_file(rt, request.old, there) {
@@ -116,14 +119,15 @@ fn open_next<F, D, O, W>(
     output: &mut W,
 ) -> Result<(), PreparedError>
 where
-    F: SystemFiles,
+    F: FileNames,
     F::File: SystemFile,
     D: Sectors + Drop,
     O: Stores<Store<D>>,
     W: Write,
     ensures { (between : List (StoreCall (Store D ⟦<D as Sectors>⟧))) × O.calls.DidCalls stores.old stores.new between
-        × OpensNext F.File.facts F.File.remaining (F.synced rt.now) (F.failed rt.now) O.calls O.at request.entry
-        stores.old between old.old old.new (W.contents output.old) (W.contents output.new) result }
+        × OpensNext F.File.facts F.File.remaining (F.synced rt.now) (F.failed rt.now ⊎ F.unnamed rt.now)
+        (F.leads_to rt.now) O.calls O.at request.entry stores.old between old.old old.new (W.contents output.old)
+        (W.contents output.new) result }
 {
     let mut next = stores.open(alloc, request.next)?.content;
     let done = join_prepared(rt, alloc, old, &mut next, request, output);

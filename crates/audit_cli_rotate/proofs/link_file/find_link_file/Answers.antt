@@ -1,4 +1,4 @@
-use Rattle.std.proofs.Common.{◌∙◌, Err, ap, subst}
+use Rattle.std.proofs.Common.{◌⊎◌, ◌∙◌, Err, ap, subst}
 use Rattle.std.proofs.lemmas.Result.{err_from_is_err_and}
 use Rattle.audit_cli_rotate.proofs.PreparedStores.{others_at}
 use Rattle.audit_cli_rotate.proofs.link_file.find_link_file.Goals as goal
@@ -15,5 +15,5 @@ returns-clause-kept g c = record {
 pub returns-in_err-judge_bytes-clause-fault : goal.returns-in_err-judge_bytes-clause-fault
 returns-in_err-judge_bytes-clause-fault g c =
     let p = err_from_is_err_and c.from_residual-in_err-judge_bytes.result c.from_residual-in_err-judge_bytes.ensures.1 in
-    rw (p.1 ∙ ap Err p.2) (others_at g.F.File.SystemFile.facts _ (g.F.SystemFiles.failed c.args.rt.now) c.args.path.now c.args.bytes.now c.in_ok-file.file c.in_err-judge_bytes.field-0.0 c.in_ok-file.ensures.opened
+    rw (p.1 ∙ ap Err p.2) (others_at g.F.File.SystemFile.facts _ (g.F.SystemFiles.failed c.args.rt.now ⊎ g.F.FileNames.unnamed c.args.rt.now) c.args.path.now c.args.bytes.now c.in_ok-file.file c.in_err-judge_bytes.field-0.0 c.in_ok-file.ensures.opened
     (λ other. c.in_err-judge_bytes.ensures.others (ap Err other)) c.in_err-judge_bytes.ensures.fault)
