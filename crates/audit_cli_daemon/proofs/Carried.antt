@@ -3,7 +3,7 @@ use denote.Ref.{Bor}
 use Rattle.std.specs.Prelude.{OnOk, OnErr, IsOk, IsErr, IfSome, codes}
 use Rattle.std.specs.Result.{result_and}
 use Rattle.std.specs.Io.KnownBytes.{Appends}
-use Rattle.std.proofs.Common.{◌≡◌, ◌∙◌, inl, inr, ℕ, ℤ, Option, None, Result, Ok, Err, List, [], ◌∷◌, sym, ap, subst}
+use Rattle.std.proofs.Common.{◌≡◌, ◌⊎◌, ◌∙◌, inl, inr, ℕ, ℤ, Option, None, Result, Ok, Err, List, [], ◌∷◌, sym, ap, subst}
 use Rattle.std.proofs.KnownBytes.{Appends-trans}
 use Rattle.audit_disk_model.specs.declared.sectors.Sectors as sectors
 use Rattle.audit_store.specs.Store.{active_header}
@@ -16,6 +16,7 @@ use Rattle.audit_cli_base.specs.Mode.{IsMode}
 use Rattle.audit_cli_calls.specs.StoreCalls.{StoresModel, LetsGo, OpensAndLetsGo, an_opening, a_letting_go}
 use Rattle.audit_disk.specs.declared.files.TheConstants.{OWNER_ONLY}
 use Rattle.audit_cli_base.specs.declared.fault.CommandError.{CommandError}
+use Rattle.audit_cli_base.specs.declared.fault.CommandError.TheVariants.{File}
 use Rattle.audit_cli_daemon.specs.declared.arguments.TheConstants.{DEFAULT_IDLE, DEFAULT_RESERVE}
 use Rattle.audit_cli_daemon.specs.declared.request.Request.TheVariants.{Run}
 use Rattle.audit_cli_daemon.specs.declared.request.Settings.{Settings}
@@ -99,7 +100,7 @@ rights_same settings sockets others bound readers sources others_are =
     ∙ ap (λ words. rights_at settings.reader (sources_in (words_of words.now)) others) sources
     ∙ ap (λ (allowed : Rights). rights_at settings.reader (sources_in (words_of settings.writers.now)) allowed) others_are
 
-module _ {D : Type 0} (g : sectors.Ghosts D) {O : Type 0} (stores : StoresModel O (Store D g)) (At : List ℕ → Store D g → Type 0) (facts : SocketFacts) {S C J W Q F T : Type 0} (N : CallModel S) (doors : DoorModel (GaugedDoor (SocketDoor C J W UnixListener Q) F T) S) where
+module _ {D : Type 0} (g : sectors.Ghosts D) {O : Type 0} (stores : StoresModel O (Store D g)) (At : List ℕ → Store D g → Type 0) (facts : SocketFacts) (Failed : Type 0) {S C J W Q F T : Type 0} (N : CallModel S) (doors : DoorModel (GaugedDoor (SocketDoor C J W UnixListener Q) F T) S) where
   -- opened before it was let go
   opens_and_lets_go : (path : List ℕ) (was mid now : O) (opened left : Store D g) → stores.DidCalls was mid (an_opening path (Ok opened) ∷ []) → LetsGo stores mid now left → OpensAndLetsGo stores path was now opened left
   opens_and_lets_go path was mid now opened left first second = stores.more_called was mid now (an_opening path (Ok opened) ∷ []) (a_letting_go left ∷ []) first second
@@ -107,9 +108,13 @@ module _ {D : Type 0} (g : sectors.Ghosts D) {O : Type 0} (stores : StoresModel 
   pub performed : (was mid now : O) (settings : Settings) (sockets : Sockets) (others : Rights) (bound : BoundKinds) (words : Bor (List (Bor (List ℕ)))) (idle reserve backlog mode : ℕ) (opened : Store D g) (before after : Option (List ℕ)) (done : Ending) → sockets.clients ≡ settings.socket → sockets.readers ≡ settings.reader → sockets.sources ≡ settings.writers → words ≡ settings.writers
       → ((kind : ℕ) → is_bound bound kind ≡ has_kind (sources_asked settings) kind) → others ≡ rights_of_others settings.may_close bound
       → number_asked settings.idle DEFAULT_IDLE ≡ Ok idle → number_asked settings.reserve DEFAULT_RESERVE ≡ Ok reserve → backlog_asked settings.backlog ≡ Ok backlog → (settings.socket_mode ≡ None → mode ≡ OWNER_ONLY) → IfSome settings.socket_mode (λ word. IsMode word.now mode) → At settings.file.now opened
-      → stores.DidCalls was mid (an_opening settings.file.now (Ok opened) ∷ []) → OnErr done (EndsEarly (LetsGo stores mid now) opened before after) → OnOk done (ServesBetween N doors (IsDoorFor (rights_served sockets others) (modes_at (rights_served sockets others) mode) (ListenAt facts mode (paths_served sockets)) idle) IsTold (LetsGo stores mid now) (terms_of words reserve) backlog opened before after) → IsDaemonDone g stores At facts N doors settings was now before after done
-  performed was mid now settings sockets others bound words idle reserve backlog mode opened before after (Err fault) clients_are readers_are sources_are words_are bound_are others_are idle_is reserve_is backlog_is owner mode_is at called ended served = inr (opened, at, record { left = ended.left; let_go = opens_and_lets_go settings.file.now was mid now opened ended.left called ended.let_go; kept = ended.kept; part = ended.part })
-  performed was mid now settings sockets others bound words idle reserve backlog mode opened before after (Ok done) clients_are readers_are sources_are words_are bound_are others_are idle_is reserve_is backlog_is owner mode_is at called ended served = record {
+      → stores.DidCalls was mid (an_opening settings.file.now (Ok opened) ∷ []) → OnErr done (EndsEarly (LetsGo stores mid now) opened before after) → OnOk done (ServesBetween N doors (IsDoorFor (rights_served sockets others) (modes_at (rights_served sockets others) mode) (ListenAt facts mode (paths_served sockets)) idle) IsTold (LetsGo stores mid now) (terms_of words reserve) backlog opened before after) → (done ≡ Err File → Failed ⊎ ((descriptors : List ℤ) × ListenAt facts mode (paths_served sockets) descriptors)) → IsDaemonDone g stores At facts Failed N doors settings was now before after done
+  performed was mid now settings sockets others bound words idle reserve backlog mode opened before after (Err fault) clients_are readers_are sources_are words_are bound_are others_are idle_is reserve_is backlog_is owner mode_is at called ended served failed = inr (opened, at, record { left = ended.left; let_go = opens_and_lets_go settings.file.now was mid now opened ended.left called ended.let_go; kept = ended.kept; part = ended.part }, λ file. listening_at (failed (ap Err file)))
+    where
+      listening_at : Failed ⊎ ((descriptors : List ℤ) × ListenAt facts mode (paths_served sockets) descriptors) → Failed ⊎ ((bits : ℕ) × (descriptors : List ℤ) × ListenAt facts bits (paths_asked settings) descriptors)
+      listening_at (inl call) = inl call
+      listening_at (inr (descriptors, there)) = inr (mode, descriptors, subst (λ (paths : List (List ℕ)). ListenAt facts mode paths descriptors) (paths_same settings sockets clients_are readers_are sources_are) there)
+  performed was mid now settings sockets others bound words idle reserve backlog mode opened before after (Ok done) clients_are readers_are sources_are words_are bound_are others_are idle_is reserve_is backlog_is owner mode_is at called ended served failed = record {
     reserve = reserve;
     reserve_is = reserve_is;
     backlog = backlog;
@@ -131,10 +136,10 @@ module _ {D : Type 0} (g : sectors.Ghosts D) {O : Type 0} (stores : StoresModel 
   }
 
   -- an error before a store was opened
-  pub unopened : (was : O) (settings : Settings) (before : Option (List ℕ)) (done : Ending) → IsErr done → IsDaemonDone g stores At facts N doors settings was was before before done
+  pub unopened : (was : O) (settings : Settings) (before : Option (List ℕ)) (done : Ending) → IsErr done → IsDaemonDone g stores At facts Failed N doors settings was was before before done
   unopened was settings before (Ok done) error = absurd (cc error)
   unopened was settings before (Err fault) error = inl (inl (stores.nothing_called was), kept_bytes before)
 
   -- the opening failed with this error
-  pub not_opened : (was now : O) (settings : Settings) (before : Option (List ℕ)) (fault : CommandError) (done : Ending) → done ≡ Err fault → stores.DidCalls was now (an_opening settings.file.now (Err fault) ∷ []) → IsDaemonDone g stores At facts N doors settings was now before before done
-  not_opened was now settings before fault done is called = subst (IsDaemonDone g stores At facts N doors settings was now before before) (sym is) (inl (inr called, kept_bytes before))
+  pub not_opened : (was now : O) (settings : Settings) (before : Option (List ℕ)) (fault : CommandError) (done : Ending) → done ≡ Err fault → stores.DidCalls was now (an_opening settings.file.now (Err fault) ∷ []) → IsDaemonDone g stores At facts Failed N doors settings was now before before done
+  not_opened was now settings before fault done is called = subst (IsDaemonDone g stores At facts Failed N doors settings was now before before) (sym is) (inl (inr called, kept_bytes before))

@@ -1,5 +1,5 @@
 -- What a daemon that ended with an error has written, and done to its store.
-use Rattle.std.specs.Prelude.{OnErr, OnOk, codes}
+use Rattle.std.specs.Prelude.{OnErr, OnOk, IsErr, codes}
 use Rattle.std.specs.Result.{result_and}
 use Rattle.std.specs.Io.KnownBytes.{Appends, Keeps}
 use Rattle.std.proofs.Common.{◌≡◌, ◌∙◌, ℕ, Option, Some, None, Result, Ok, Err, List, [], ◌++◌, append-nil, refl, sym, ap, subst}
@@ -12,7 +12,9 @@ use Rattle.audit_server_model.specs.Serving.{StoreKeepsOn}
 use Rattle.audit_text.specs.NumberedLine.{numbered_line}
 use Rattle.audit_text.specs.Writing.{WritesInPart}
 use Rattle.audit_cli_base.specs.declared.fault.CommandError.{CommandError}
+use Rattle.audit_cli_base.specs.declared.fault.CommandError.TheVariants.{File}
 use Rattle.audit_cli_daemon.specs.Carried.{EndsEarly}
+use Rattle.audit_cli_daemon.specs.Sockets.{IsBindFault}
 use Rattle.audit_cli_daemon.specs.State.{ready_line, stopped_line}
 
 abbrev Ending : Type 0
@@ -93,3 +95,12 @@ ends_early LetGo opened left before mid after (Ok done) (Err fault) count root k
   part = after_whole before mid after (ready_line (active_header opened)) (stopped_line (active_header left)) whole
       (subst (WritesInPart mid after) (ap (λ n. numbered_line (codes "stopped ") n root) count_is ∙ ap (numbered_line (codes "stopped ") (active_header left).count) root_is) stopped);
 }
+
+-- a file fault of making sockets is the fault of a call
+pub bound_by : (Failed : Type 0) (fault : CommandError) → IsBindFault Failed fault → fault ≡ File → Failed
+bound_by Failed fault of_bind file = subst (IsBindFault Failed) file of_bind
+
+-- and so is one of removing them
+pub removed_by : {A E : Type 0} {Failed : Type 0} (removed : Result A E) → OnErr removed Failed → IsErr removed → Failed
+removed_by (Ok done) failed is = absurd (cc is)
+removed_by (Err error) failed is = failed

@@ -5,3 +5,4 @@ pub mod State
 pub mod Carried
 pub mod JudgedSources
 pub mod BoundSources
+mod BindFaults

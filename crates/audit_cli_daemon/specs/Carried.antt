@@ -1,6 +1,6 @@
 -- What running a daemon comes to, apart from its sockets.
 use denote.Ref.{Bor}
-use Rattle.std.specs.Prelude.{◌≡◌, ◌⊎◌, ℕ, Option, None, Result, Ok, Err, List, ◌++◌, IfSome}
+use Rattle.std.specs.Prelude.{◌≡◌, ◌⊎◌, ℕ, ℤ, Option, None, Result, Ok, Err, List, ◌++◌, IfSome}
 use Rattle.std.specs.Io.KnownBytes.{Appends, Keeps}
 use Rattle.audit_disk_model.specs.declared.sectors.Sectors as sectors
 use Rattle.audit_disk.specs.declared.files.TheConstants.{OWNER_ONLY}
@@ -17,6 +17,7 @@ use Rattle.audit_cli_base.specs.Faults.{status_of_end}
 use Rattle.audit_cli_base.specs.declared.status.Status.{Status}
 use Rattle.audit_cli_base.specs.declared.status.Status.TheVariants as ends
 use Rattle.audit_cli_base.specs.declared.fault.CommandError.{CommandError}
+use Rattle.audit_cli_base.specs.declared.fault.CommandError.TheVariants.{File}
 use Rattle.audit_cli_daemon.specs.declared.arguments.TheConstants.{DEFAULT_IDLE, DEFAULT_RESERVE}
 use Rattle.audit_cli_daemon.specs.declared.request.Settings.{Settings}
 use Rattle.mio.specs.declared.net.uds.listener.UnixListener.{UnixListener}
@@ -82,10 +83,11 @@ rights_asked settings bound =
 abbrev pub paths_asked : Settings → List (List ℕ)
 paths_asked settings = paths_at settings.reader (sources_asked settings) settings.socket.now
 
--- `At` says at which path a store was opened, `stores` which calls opened stores and let them go, and `facts` what calls
--- of the system established of sockets.
+-- `At` says at which path a store was opened, `stores` which calls opened stores and let them go, `facts` what calls of
+-- the system established of sockets, and `Failed` that a call failed by which sockets are made.
 module _ {D : Type 0} (g : sectors.Ghosts D) {O : Type 0} (stores : StoresModel O (Store D g))
-    (At : List ℕ → Store D g → Type 0) (facts : SocketFacts) {S C J W Q F T : Type 0} (N : CallModel S)
+    (At : List ℕ → Store D g → Type 0) (facts : SocketFacts) (Failed : Type 0) {S C J W Q F T : Type 0}
+    (N : CallModel S)
     (doors : DoorModel (GaugedDoor (SocketDoor C J W UnixListener Q) F T) S) where
   -- So were they over the store that was opened in the file that was named, with the reserve and the backlog that were
   -- asked for and the kinds of the sources counted, and came in by sockets at the paths, with the rights, the permissions
@@ -111,6 +113,11 @@ module _ {D : Type 0} (g : sectors.Ghosts D) {O : Type 0} (stores : StoresModel 
         (OpensAndLetsGo stores settings.file.now was now opened) (terms_asked settings reserve) backlog opened
         before after
 
+  -- a file fault needs a call that failed, or sockets that listen at the paths
+  abbrev pub HasFileCause : Settings → CommandError → Type 0
+  HasFileCause settings fault = fault ≡ File → Failed
+      ⊎ ((mode : ℕ) × (descriptors : List ℤ) × ListenAt facts mode (paths_asked settings) descriptors)
+
   -- After an error either no store was opened, and nothing was written; or it ended early over the store that was opened
   -- in the file that was named, and nothing else was done to it.
   abbrev pub IsDaemonDone : Settings → O → O → Option (List ℕ) → Option (List ℕ) → Result (Unit {0}) CommandError
@@ -119,7 +126,8 @@ module _ {D : Type 0} (g : sectors.Ghosts D) {O : Type 0} (stores : StoresModel 
   IsDaemonDone settings was now before after (Err fault) =
       (OpensNone stores settings.file.now was now fault × Keeps before after)
       ⊎ ((opened : Store D g) × At settings.file.now opened
-      × EndsEarly (OpensAndLetsGo stores settings.file.now was now opened) opened before after)
+      × EndsEarly (OpensAndLetsGo stores settings.file.now was now opened) opened before after
+      × HasFileCause settings fault)
 
   -- A daemon ran with this result, and the output was then flushed. The program's status is that of the result, or that
   -- of an output that couldn't be flushed.

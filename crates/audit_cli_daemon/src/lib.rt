@@ -6,6 +6,7 @@ mod client_journal;
 mod gauge;
 pub mod laws;
 mod marks;
+mod prompt_sockets;
 mod request;
 mod running;
 mod sockets;
@@ -17,6 +18,7 @@ mod watched_store;
 
 pub use arguments::{DEFAULT_IDLE, DEFAULT_RESERVE, backlog_asked};
 pub use marks::{MARKS, mark_passed};
+pub use prompt_sockets::PromptSockets;
 pub use request::{Request, Settings, run};
 pub use running::serve_until_stopped;
 pub use sources::{Source, source_in};

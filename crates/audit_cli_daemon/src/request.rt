@@ -1,6 +1,6 @@
 //! The requests to run a daemon and to stop it, and how they are carried out.
 ghost use Rattle.std.specs.Prelude.{◌≡◌, ◌⊎◌, ◌≤◌, ℕ, None, Ok, Err, IfSome, IfOk, IfErr, OnOk, OnErr, IsOk, codes};
-ghost use Rattle.std.specs.Prelude.{map, true, false, [], List};
+ghost use Rattle.std.specs.Prelude.{map, true, false, [], List, IsErr, ℤ};
 ghost use denote.Ref.{Bor};
 ghost use Rattle.std.specs.Io.KnownBytes.{Keeps, Appends};
 ghost use Rattle.audit_serve_ready.specs.declared.limits.TheConstants.{MAX_BACKLOG};
@@ -18,9 +18,10 @@ ghost use Rattle.audit_cli_daemon.specs.Gauged.{IsTold};
 ghost use Rattle.audit_serve_passes.specs.declared.bound_kinds.BoundKinds.{BoundKinds};
 ghost use Rattle.audit_serve_passes.specs.Rights.{is_bound};
 ghost use Rattle.audit_cli_daemon.specs.Rights.{rights_of_others, modes_at, IsIdleTime, IsDoorFor};
-ghost use Rattle.audit_cli_daemon.specs.Sources.{has_kind};
+ghost use Rattle.audit_cli_daemon.specs.Sources.{has_kind, words_of, are_no_sources};
+ghost use Rattle.audit_cli_base.specs.declared.fault.CommandError.TheVariants.{File};
 ghost use Rattle.audit_cli_daemon.specs.Carried.{sources_asked, terms_of};
-ghost use Rattle.audit_cli_daemon.specs.Sockets.{rights_served, paths_served, ListenAt};
+ghost use Rattle.audit_cli_daemon.specs.Sockets.{rights_served, paths_served, ListenAt, prompt_sockets, BindFailed};
 ghost use Rattle.audit_cli_daemon.specs.State.{ready_line};
 ghost use Rattle.audit_serve_door.specs.Entrances.{rights_of, rights_of_door, mode_of, modes_of_door, idle_of_door};
 ghost use Rattle.audit_serve_door.specs.Entrances.{descriptor_of, descriptors_of_door};
@@ -35,8 +36,9 @@ ghost use Rattle.audit_server_model.specs.Serving.{StoreKeepsOn};
 use crate::arguments::{DEFAULT_IDLE, DEFAULT_RESERVE, backlog_asked};
 use crate::client_journal::ClientJournal;
 use crate::gauge::{Gauge, GaugedDoor};
+use crate::prompt_sockets::PromptSockets;
 use crate::running::serve_until_stopped;
-use crate::sockets::{Listening, Made, STOP_SUFFIX_LEN, Sockets};
+use crate::sockets::{Listening, Made, STOP_SUFFIX_LEN, Sockets, fault_of};
 use crate::sources::{kinds_bound_by, kinds_of_sources};
 use crate::sparing::Sparing;
 use crate::state_line::write_state;
@@ -54,12 +56,11 @@ use audit_proof::Commitment;
 use audit_serve_door::{Client, ClientDoor, Room, SocketDoor, StopOrders};
 use audit_serve_passes::Rights;
 use audit_serve_ready::{Door, ReadyStream};
-use audit_serve_sockets::SystemSockets;
 use audit_store::{Store, StoreError};
 use std::alloc::Global;
 use std::cell::RefCell;
 use std::fs::Files;
-use std::io::{self, ErrorKind, Write};
+use std::io::{self, Write};
 use std::net::Net;
 use std::os::fd::RawFd;
 use std::time::{Clock, Duration};
@@ -130,7 +131,7 @@ pub fn run<F, O, W, M>(
     messages: &mut M,
 ) -> Status
 where
-    F: SystemFiles + SystemSockets + Dial + Clock,
+    F: SystemFiles + PromptSockets + Dial + Clock,
     F::File: SystemFile,
     O: Stores<FileStore<F::File>>,
     W: FlushedOutput,
@@ -152,7 +153,8 @@ where
     // was written. In both cases nothing else was done to a store.
     ensures carried { (settings : Settings) → request.entry ≡ Request.Run settings
         → IsDaemonCarriedOut ⟦<FileDevice<F::File> as Sectors>⟧ O.calls (O.at stores.old)
-        (F.sockets rt.now) ⟦<Client as ReadyStream>⟧.calls
+        (prompt_sockets (F.sockets rt.now) (F.prompt rt.now))
+        (BindFailed (F.call_failed rt.now) (F.unprompted rt.now) F.File.facts) ⟦<Client as ReadyStream>⟧.calls
         ⟦<DaemonDoor<F, F::File, Sparing<'static, M>> as Door>⟧.calls settings
         stores.old stores.new (W.contents output.old) (W.contents output.new) (W.flushed output.new)
         (W.unflushed output.new) result }
@@ -179,7 +181,7 @@ fn run_daemon<F, O, W, M>(
     messages: &mut M,
 ) -> Status
 where
-    F: SystemFiles + SystemSockets + Clock,
+    F: SystemFiles + PromptSockets + Clock,
     F::File: SystemFile,
     O: Stores<FileStore<F::File>>,
     W: FlushedOutput,
@@ -189,7 +191,8 @@ where
     ensures unwritten { HasBadSetting settings.entry → Keeps (W.contents output.old) (W.contents output.new) }
     ensures unopened { HasBadSetting settings.entry → O.calls.DidCalls stores.old stores.new [] }
     ensures carried { IsDaemonCarriedOut ⟦<FileDevice<F::File> as Sectors>⟧ O.calls (O.at stores.old)
-        (F.sockets rt.now) ⟦<Client as ReadyStream>⟧.calls
+        (prompt_sockets (F.sockets rt.now) (F.prompt rt.now))
+        (BindFailed (F.call_failed rt.now) (F.unprompted rt.now) F.File.facts) ⟦<Client as ReadyStream>⟧.calls
         ⟦<DaemonDoor<F, F::File, Sparing<'static, M>> as Door>⟧.calls settings.entry
         stores.old stores.new (W.contents output.old) (W.contents output.new) (W.flushed output.new)
         (W.unflushed output.new) result }
@@ -211,7 +214,7 @@ fn run_sparing<F, O, W, M>(
     messages: &mut Sparing<'_, M>,
 ) -> Status
 where
-    F: SystemFiles + SystemSockets + Clock,
+    F: SystemFiles + PromptSockets + Clock,
     F::File: SystemFile,
     O: Stores<FileStore<F::File>>,
     W: FlushedOutput,
@@ -221,7 +224,8 @@ where
     ensures unwritten { HasBadSetting settings.entry → Keeps (W.contents output.old) (W.contents output.new) }
     ensures unopened { HasBadSetting settings.entry → O.calls.DidCalls stores.old stores.new [] }
     ensures carried { IsDaemonCarriedOut ⟦<FileDevice<F::File> as Sectors>⟧ O.calls (O.at stores.old)
-        (F.sockets rt.now) ⟦<Client as ReadyStream>⟧.calls
+        (prompt_sockets (F.sockets rt.now) (F.prompt rt.now))
+        (BindFailed (F.call_failed rt.now) (F.unprompted rt.now) F.File.facts) ⟦<Client as ReadyStream>⟧.calls
         ⟦<DaemonDoor<F, F::File, Sparing<'static, M>> as Door>⟧.calls settings.entry
         stores.old stores.new (W.contents output.old) (W.contents output.new) (W.flushed output.new)
         (W.unflushed output.new) result }
@@ -257,7 +261,7 @@ fn perform<F, O, W, M>(
     orders: &mut Option<StopOrders>,
 ) -> Result<(), CommandError>
 where
-    F: SystemFiles + SystemSockets + Clock,
+    F: SystemFiles + PromptSockets + Clock,
     F::File: SystemFile,
     O: Stores<FileStore<F::File>>,
     W: Write,
@@ -267,7 +271,8 @@ where
     ensures unwritten { HasBadSetting settings.entry → Keeps (W.contents output.old) (W.contents output.new) }
     ensures unopened { HasBadSetting settings.entry → O.calls.DidCalls stores.old stores.new [] }
     ensures served { IsDaemonDone ⟦<FileDevice<F::File> as Sectors>⟧ O.calls (O.at stores.old)
-        (F.sockets rt.now) ⟦<Client as ReadyStream>⟧.calls
+        (prompt_sockets (F.sockets rt.now) (F.prompt rt.now))
+        (BindFailed (F.call_failed rt.now) (F.unprompted rt.now) F.File.facts) ⟦<Client as ReadyStream>⟧.calls
         ⟦<DaemonDoor<F, F::File, Sparing<'static, M>> as Door>⟧.calls settings.entry
         stores.old stores.new (W.contents output.old) (W.contents output.new) result }
 {
@@ -291,6 +296,7 @@ fn judge<'a>(settings: Settings<'a>) -> Result<Judged<'a>, CommandError>
     ensures backlog { IfOk result (λ judged. backlog_asked settings.entry.backlog ≡ Ok judged.most) }
     ensures most { IfOk result (λ judged. judged.most ≤ MAX_BACKLOG) }
     ensures sources { IfOk result (λ judged. judged.sources ≡ settings.entry.writers) }
+    ensures words { IfOk result (λ judged. are_no_sources (words_of settings.entry.writers.now) ≡ false) }
     ensures owner { settings.entry.socket_mode ≡ None → IfOk result (λ judged. judged.mode ≡ OWNER_ONLY) }
     ensures mode { IfOk result (λ judged. IfSome settings.entry.socket_mode (λ word. IsMode word.now judged.mode)) }
     ensures others { IfOk result (λ judged. (bound : BoundKinds)
@@ -326,16 +332,6 @@ fn time_of(seconds: u64) -> Option<Duration>
     Some(Duration::from_secs(seconds))
 }
 
-fn fault_of(kind: ErrorKind) -> CommandError
-    ensures { IsNoWordFault result }
-{
-    if kind == ErrorKind::OutOfMemory {
-        CommandError::Refused(StoreError::Memory)
-    } else {
-        CommandError::File
-    }
-}
-
 // Serves the store, and removes the sockets' files at the end. The store stays locked until then.
 fn serve_store<F, D, O, W, M>(
     rt: &F,
@@ -351,23 +347,28 @@ fn serve_store<F, D, O, W, M>(
     orders: &mut Option<StopOrders>,
 ) -> Result<(), CommandError>
 where
-    F: SystemFiles + SystemSockets + Clock,
+    F: SystemFiles + PromptSockets + Clock,
     F::File: SystemFile,
     D: Sectors + Drop,
     O: Stores<Store<D>>,
     W: Write,
     M: Write,
-    requires { judged.most ≤ MAX_BACKLOG }
+    requires most { judged.most ≤ MAX_BACKLOG }
+    requires sources { are_no_sources (words_of sockets.now.sources.now) ≡ false }
     ensures cause { IfErr result IsNoWordFault }
     ensures served { OnOk result (ServesBetween ⟦<Client as ReadyStream>⟧.calls
         ⟦<DaemonDoor<F, F::File, Sparing<'static, M>> as Door>⟧.calls
         (IsDoorFor (rights_served sockets.now judged.entry.rights)
         (modes_at (rights_served sockets.now judged.entry.rights) judged.entry.mode)
-        (ListenAt (F.sockets rt.now) judged.entry.mode (paths_served sockets.now)) judged.entry.idle) IsTold
+        (ListenAt (prompt_sockets (F.sockets rt.now) (F.prompt rt.now)) judged.entry.mode (paths_served sockets.now))
+        judged.entry.idle) IsTold
         (LetsGo O.calls stores.old stores.new) (terms_of judged.entry.sources judged.entry.reserve)
         judged.entry.most store (W.contents output.old) (W.contents output.new)) }
     ensures ended { OnErr result (EndsEarly (LetsGo O.calls stores.old stores.new) store
         (W.contents output.old) (W.contents output.new)) }
+    ensures failed { result ≡ Err File → BindFailed (F.call_failed rt.now) (F.unprompted rt.now) F.File.facts
+        ⊎ ((descriptors : List ℤ) × ListenAt (prompt_sockets (F.sockets rt.now) (F.prompt rt.now)) judged.entry.mode
+        (paths_served sockets.now) descriptors) }
 {
     let shared = RefCell::new(messages);
     let mut made = Made::none(alloc);
@@ -375,7 +376,7 @@ where
         Ok(listening) => serve_listening(
             rt, alloc, store, watch, listening, judged, explains, output, &shared, orders,
         ),
-        Err(error) => (store, Err(fault_of(error.kind()))),
+        Err(fault) => (store, Err(fault)),
     };
     let removed = sockets.remove(rt, made);
     let state = closed(stores, store);
@@ -404,6 +405,7 @@ fn report_stopped<N: Net, W: Write>(
 ) -> Result<(), CommandError>
     ensures cause { IfErr served IsNoWordFault → IfErr result IsNoWordFault }
     ensures served { OnOk result (IsOk served) }
+    ensures failed { result ≡ Err File → (served ≡ Err File) ⊎ IsErr removed }
     ensures kept { OnErr served (Keeps (W.contents output.old) (W.contents output.new)) }
     ensures part { OnErr result (WritesInPart (W.contents output.old) (W.contents output.new)
         (numbered_line (codes "stopped ") state.count state.root)) }
@@ -431,7 +433,7 @@ fn answer_without_room<N: Net>(rt: &N, alloc: Global, orders: &mut Option<StopOr
     }
 }
 
-fn serve_listening<F: SystemFiles + SystemSockets + Clock, D: Sectors + Drop, W: Write, M: Write>(
+fn serve_listening<F: SystemFiles + PromptSockets + Clock, D: Sectors + Drop, W: Write, M: Write>(
     rt: &F,
     alloc: Global,
     store: Store<D>,

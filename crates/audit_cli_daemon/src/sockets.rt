@@ -1,19 +1,24 @@
-ghost use Rattle.std.specs.Prelude.{◌≡◌, ◌++◌, [], ◌∷◌, ℕ, List, map, IfOk, IfSome, OnOk, OnErr, string_bytes};
+ghost use Rattle.std.specs.Prelude.{◌≡◌, ◌⊎◌, ◌++◌, [], ◌∷◌, ℕ, List, map, false, IfOk, IfErr, IfSome, OnOk, OnErr};
+ghost use Rattle.std.specs.Prelude.{string_bytes};
 ghost use Rattle.audit_serve_door.specs.Entrances.{rights_of, mode_of, descriptor_of};
 ghost use Rattle.audit_serve_sockets.specs.Bound.{ListensAt, IsNameGone};
 ghost use Rattle.audit_cli_daemon.specs.Rights.{modes_at, source_rights};
 ghost use Rattle.audit_cli_daemon.specs.Sockets.{rights_served, paths_served, path_of_source, ListenAt, IsRemoved};
-ghost use Rattle.audit_cli_daemon.specs.Sockets.{AreRemoved};
-ghost use Rattle.audit_cli_daemon.specs.Sources.{words_of, sources_in};
+ghost use Rattle.audit_cli_daemon.specs.Sockets.{AreRemoved, BindFailed, IsBindFault, prompt_sockets};
+ghost use Rattle.audit_cli_daemon.specs.Sources.{words_of, sources_in, are_no_sources};
+ghost use Rattle.audit_cli_base.specs.declared.fault.CommandError.TheVariants.{File, Refused};
+ghost use Rattle.audit_store.specs.declared.store_error.StoreError.TheVariants.{Memory};
 
+use crate::prompt_sockets::PromptSockets;
 use crate::sources::source_in;
+use audit_cli_base::CommandError;
 use audit_disk::{OWNER_ONLY, SystemFile};
-use audit_serve_door::{ClientEntrance, Entrance, StopOrders};
+use audit_serve_door::{ClientEntrance, StopOrders};
 use audit_serve_passes::Rights;
 use audit_serve_sockets::{SocketFile, SocketLock, SocketName, SystemSockets};
+use audit_store::StoreError;
 use std::alloc::{AllocError, Global};
 use std::io::{self, ErrorKind};
-use std::os::unix::net::UnixListener;
 
 // What follows a socket's path in the path of the socket for stop orders.
 const STOP_SUFFIX: &str = ".stop";
@@ -105,87 +110,100 @@ impl<'a> Sockets<'a> {
     }
 
     /// Makes the sockets' files, those for clients with this mode. What was made is noted in `made`, whatever happens,
-    /// and has to be removed in the end.
-    pub fn bind<R: SystemSockets>(
+    /// and has to be removed in the end. It fails only if a call failed, or memory was refused.
+    pub fn bind<R: PromptSockets>(
         &self,
         rt: &R,
         alloc: Global,
         mode: u32,
         rights: Rights,
         made: &mut Made<'a, R::File>,
-    ) -> io::Result<Listening>
+    ) -> Result<Listening, CommandError>
     where
         R::File: SystemFile,
+        requires { are_no_sources (words_of self.now.sources.now) ≡ false }
         // Whoever comes by the readers' socket only reads, and whoever comes by a source's appends its kind; the others
         // have these rights.
         ensures rights { IfOk result (λ listening. map rights_of listening.entrances.items
             ≡ rights_served self.now rights) }
         ensures modes { IfOk result (λ listening. map mode_of listening.entrances.items
             ≡ modes_at (rights_served self.now rights) mode) }
-        // Each listens at its own path.
-        ensures listen { IfOk result (λ listening. ListenAt (R.sockets rt.now) mode (paths_served self.now)
-            (map descriptor_of listening.entrances.items)) }
+        // Each listens at its own path, and accepting there doesn't wait.
+        ensures listen { IfOk result (λ listening. ListenAt (prompt_sockets (R.sockets rt.now) (R.prompt rt.now)) mode
+            (paths_served self.now) (map descriptor_of listening.entrances.items)) }
+        ensures fault { IfErr result
+            (IsBindFault (BindFailed (R.call_failed rt.now) (R.unprompted rt.now) R.File.facts)) }
     {
         let clients = open_entrance(rt, alloc, self.clients, mode, rights, &mut made.sockets)?;
         let orders = self.bind_stop(rt, alloc, made)?;
         let mut entrances = Vec::new(alloc);
         if let Some(path) = self.readers {
             let readers = open_entrance(rt, alloc, path, mode, Rights::Read, &mut made.sockets)?;
-            entrances.push(readers)?;
+            push(&mut entrances, readers)?;
         }
         self.bind_sources(rt, alloc, mode, &mut made.sockets, &mut entrances)?;
-        entrances.push(clients)?;
-        Ok(Listening {
-            entrances,
-            orders: StopOrders::new(alloc, orders)?,
-        })
+        push(&mut entrances, clients)?;
+        Ok(Listening { entrances, orders })
     }
 
     // The lock of the clients' socket covers it.
-    fn bind_stop<R: SystemSockets>(
+    fn bind_stop<R: PromptSockets>(
         &self,
         rt: &R,
         alloc: Global,
         made: &mut Made<'a, R::File>,
-    ) -> io::Result<UnixListener>
+    ) -> Result<StopOrders, CommandError>
     where
         R::File: SystemFile,
+        ensures { IfErr result
+            (IsBindFault (BindFailed (R.call_failed rt.now) (R.unprompted rt.now) R.File.facts)) }
     {
         let path = self.stop.as_str();
         let lock = made.sockets.first().map(|clients| &clients.lock);
-        let bound = SocketFile::bind_beside(rt, alloc, path, OWNER_ONLY, lock)?;
+        let bound = match SocketFile::bind_beside(rt, alloc, path, OWNER_ONLY, lock) {
+            Ok(bound) => bound,
+            Err(error) => return Err(fault_of(error.kind())),
+        };
         let (listener, name) = bound.into_parts();
         made.stop = Some(name);
-        Ok(listener)
+        match rt.take_orders(alloc, listener) {
+            Ok(orders) => Ok(orders),
+            Err(error) => Err(fault_of(error.kind())),
+        }
     }
 
     // The words were judged, so each of them asks for a source.
-    fn bind_sources<R: SystemSockets>(
+    fn bind_sources<R: PromptSockets>(
         &self,
         rt: &R,
         alloc: Global,
         mode: u32,
         made: &mut Vec<MadeSocket<'a, R::File>>,
         entrances: &mut Vec<ClientEntrance>,
-    ) -> io::Result<()>
+    ) -> Result<(), CommandError>
     where
         R::File: SystemFile,
+        requires { are_no_sources (words_of self.now.sources.now) ≡ false }
         ensures rights { OnOk result (map rights_of entrances.new.items ≡ map rights_of entrances.old.items
             ++ map source_rights (sources_in (words_of self.now.sources.now))) }
         ensures modes { OnOk result (map mode_of entrances.new.items ≡ map mode_of entrances.old.items
             ++ map (λ source. mode) (sources_in (words_of self.now.sources.now))) }
         ensures listen { OnOk result ((paths : List (List ℕ))
-            → ListenAt (R.sockets rt.now) mode paths (map descriptor_of entrances.old.items)
-            → ListenAt (R.sockets rt.now) mode
+            → ListenAt (prompt_sockets (R.sockets rt.now) (R.prompt rt.now)) mode paths
+            (map descriptor_of entrances.old.items)
+            → ListenAt (prompt_sockets (R.sockets rt.now) (R.prompt rt.now)) mode
             (paths ++ map path_of_source (sources_in (words_of self.now.sources.now)))
             (map descriptor_of entrances.new.items)) }
+        ensures fault { IfErr result
+            (IsBindFault (BindFailed (R.call_failed rt.now) (R.unprompted rt.now) R.File.facts)) }
     {
         for word in self.sources {
             let Some(source) = source_in(word) else {
-                return Err(io::Error::from(ErrorKind::InvalidInput));
+                return Err(CommandError::BadArgument);
             };
             let rights = Rights::Source(source.kind);
-            entrances.push(open_entrance(rt, alloc, source.path, mode, rights, made)?)?;
+            let entrance = open_entrance(rt, alloc, source.path, mode, rights, made)?;
+            push(entrances, entrance)?;
         }
         Ok(())
     }
@@ -223,24 +241,50 @@ where
 }
 
 // Makes the file of a socket, whose clients have these rights, and listens. What was made is noted.
-fn open_entrance<'a, R: SystemSockets>(
+fn open_entrance<'a, R: PromptSockets>(
     rt: &R,
     alloc: Global,
     path: &'a str,
     mode: u32,
     rights: Rights,
     made: &mut Vec<MadeSocket<'a, R::File>>,
-) -> io::Result<ClientEntrance>
+) -> Result<ClientEntrance, CommandError>
 where
     R::File: SystemFile,
     ensures rights { IfOk result (λ entrance. rights_of entrance ≡ rights) }
     ensures mode { IfOk result (λ entrance. mode_of entrance ≡ mode) }
-    ensures listens { IfOk result (λ entrance. ListensAt (R.sockets rt.now) path.now mode (descriptor_of entrance)) }
+    ensures listens { IfOk result (λ entrance. ListensAt (prompt_sockets (R.sockets rt.now) (R.prompt rt.now))
+        path.now mode (descriptor_of entrance)) }
+    ensures fault { IfErr result (IsBindFault (BindFailed (R.call_failed rt.now) (R.unprompted rt.now) R.File.facts)) }
 {
     made.reserve(1)?;
-    let (bound, lock) = SocketFile::bind(rt, alloc, path, mode)?;
+    let (bound, lock) = match SocketFile::bind(rt, alloc, path, mode) {
+        Ok(bound) => bound,
+        Err(error) => return Err(fault_of(error.kind())),
+    };
     let (listener, name) = bound.into_parts();
     let mode = name.mode();
     made.push_reserved(MadeSocket { path, name, lock });
-    Entrance::new(listener, rights, mode)
+    match rt.enter(listener, rights, mode) {
+        Ok(entrance) => Ok(entrance),
+        Err(error) => Err(fault_of(error.kind())),
+    }
+}
+
+// Appends an entrance.
+fn push(entrances: &mut Vec<ClientEntrance>, one: ClientEntrance) -> Result<(), AllocError>
+    ensures items { OnOk result (entrances.new.items ≡ entrances.old.items ++ one ∷ []) }
+{
+    Ok(entrances.push(one)?)
+}
+
+/// The error of a command for one of the system.
+pub(crate) fn fault_of(kind: ErrorKind) -> CommandError
+    ensures { (result ≡ File) ⊎ (result ≡ Refused Memory) }
+{
+    if kind == ErrorKind::OutOfMemory {
+        CommandError::Refused(StoreError::Memory)
+    } else {
+        CommandError::File
+    }
 }

@@ -1,6 +1,6 @@
-use Rattle.std.specs.Prelude.{OnOk, OnErr}
+use Rattle.std.specs.Prelude.{IfErr, OnOk, OnErr}
 use Rattle.std.specs.Io.KnownBytes.{Appends}
-use Rattle.std.proofs.Common.{sym, subst}
+use Rattle.std.proofs.Common.{◌∙◌, ap, inl, inr, sym, subst, rules}
 use Rattle.audit_store.specs.Store.{active_header}
 use Rattle.audit_serve_door.specs.Metered.{metered_calls}
 use Rattle.audit_serve_door.specs.Nonblocking.{nonblocking_calls, unknown_prompt}
@@ -11,21 +11,29 @@ use Rattle.audit_cli_daemon.specs.Gauged.{gauged_calls, watch_of_file, IsTold}
 use Rattle.audit_cli_calls.specs.StoreCalls.{LetsGo}
 use Rattle.audit_cli_daemon.specs.Carried.{ServesAtDoor, terms_of}
 use Rattle.audit_cli_daemon.specs.Rights.{modes_at, IsDoorFor}
-use Rattle.audit_cli_daemon.specs.Sockets.{rights_served, paths_served, ListenAt}
+use Rattle.audit_cli_daemon.specs.Sockets.{rights_served, paths_served, ListenAt, prompt_sockets}
 use Rattle.audit_cli_daemon.specs.State.{ready_line}
 use Rattle.audit_text.specs.Writing.{WritesInPart}
 use Rattle.audit_server_model.specs.Serving.{StoreKeepsOn}
 use Rattle.audit_server_model.proofs.Serving.{kept_none}
+use Rattle.audit_cli_base.specs.Faults.{IsNoWordFault}
+use Rattle.audit_cli_daemon.proofs.BindFaults.{no_word}
 use Rattle.audit_cli_daemon.proofs.Carried.{serves_between, served_there}
-use Rattle.audit_cli_daemon.proofs.Ending.{ends_early, nothing_yet}
+use Rattle.audit_cli_daemon.proofs.Ending.{bound_by, ends_early, nothing_yet, removed_by}
 use Rattle.audit_cli_daemon.proofs.request.serve_store.Goals.{in-Ok, in-Err}
 use Rattle.audit_cli_daemon.proofs.request.serve_store.Goals as goal
+
+pub returns-clause-cause : goal.returns-clause-cause
+returns-clause-cause g c = c.report_stopped.ensures.cause (elim c.match-bind.branch [
+  | in-Ok w ↦ subst (λ both. IfErr both.1 IsNoWordFault) (sym w.store-is) w.serve_listening.ensures.cause
+  | in-Err w ↦ subst (λ both. IfErr both.1 IsNoWordFault) (sym w.store-is) (no_word _ w.in-Err.fault w.in-Err.ensures.fault)
+])
 
 pub returns-clause-served : goal.returns-clause-served
 returns-clause-served g c =
     let N = metered_calls (nonblocking_calls unknown_prompt) in
     let doors = gauged_calls (socket_door_calls unknown_accepting unknown_notes watch_of_file) in
-    let there = ListenAt (g.F.SystemSockets.sockets c.args.rt.now) c.args.judged.mode (paths_served c.args.sockets.now) in
+    let there = ListenAt (prompt_sockets (g.F.SystemSockets.sockets c.args.rt.now) (g.F.PromptSockets.prompt c.args.rt.now)) c.args.judged.mode (paths_served c.args.sockets.now) in
     let opens = IsDoorFor (rights_served c.args.sockets.now c.args.judged.rights) (modes_at (rights_served c.args.sockets.now c.args.judged.rights) c.args.judged.mode) there c.args.judged.idle in
     let begun = g.W.Write.contents c.args.output.now in
     let pair = c.match-bind.store in
@@ -69,3 +77,12 @@ returns-clause-ended g c =
       | in-Err w ↦ subst (λ both. OnOk both.1 (Appends begun (g.W.Write.contents c.match-bind.output) line)) (sym w.store-is) tt
     ])
     c.report_stopped.ensures.kept c.report_stopped.ensures.part c.closed-state.ensures.count c.closed-state.ensures.root c.closed-state.ensures.let_go
+
+pub returns-clause-failed : goal.returns-clause-failed
+returns-clause-failed g c = λ is. elim (c.report_stopped.ensures.failed is) [
+  | inl served ↦ elim c.match-bind.branch [
+    | in-Ok w ↦ inr (_, w.in-Ok.ensures.listen)
+    | in-Err w ↦ inl (bound_by _ w.in-Err.fault (search rules) (cc (sym (ap (λ both. both.1) w.store-is) ∙ served)))
+  ]
+  | inr removed ↦ inl (inl (inl (removed_by c.remove-removed.result c.remove-removed.ensures.failed removed)))
+]

@@ -1,4 +1,4 @@
-use Rattle.std.proofs.Common.{◌≡◌, ◌∙◌, ℕ, ◌+◌, ◌-◌, ◌<◌, ◌≤◌, Some, None, List, [], ◌∷◌, ◌++◌, length, vec_len, vec_capacity, sym, ap, arith}
+use Rattle.std.proofs.Common.{◌∙◌, ℕ, Some, None, List, [], ◌∷◌, ◌++◌, vec_len, vec_capacity, sym, ap, arith}
 use Rattle.std.specs.Prelude.{option_map, take}
 use Rattle.std.proofs.lemmas.List.{append-nil}
 use Rattle.audit_cli_daemon.specs.Sources.{words_of, source_shown, sources_in, kinds_bound}

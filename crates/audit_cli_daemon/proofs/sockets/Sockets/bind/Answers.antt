@@ -3,7 +3,7 @@ use Rattle.std.proofs.lemmas.List.{map-append}
 use Rattle.audit_serve_door.specs.Entrances.{mode_of, descriptor_of}
 use Rattle.audit_cli_daemon.specs.Rights.{rights_of_readers}
 use Rattle.audit_cli_daemon.specs.Sources.{words_of, sources_in}
-use Rattle.audit_cli_daemon.specs.Sockets.{path_of_readers, paths_at, ListenAt}
+use Rattle.audit_cli_daemon.specs.Sockets.{path_of_readers, paths_at, ListenAt, prompt_sockets}
 use Rattle.audit_cli_daemon.proofs.Listening.{listen_last}
 use Rattle.audit_cli_daemon.proofs.JudgedSources.{modes_joined}
 use Rattle.audit_cli_daemon.proofs.sockets.Sockets.bind.Goals.{in-Some+in_ok-readers+in_ok-push, in_default}
@@ -33,7 +33,7 @@ returns-clause-modes g c =
 
 pub returns-clause-listen : goal.returns-clause-listen
 returns-clause-listen g c =
-    let facts = g.R.SystemSockets.sockets c.args.rt.now in
+    let facts = prompt_sockets (g.R.SystemSockets.sockets c.args.rt.now) (g.R.PromptSockets.prompt c.args.rt.now) in
     let mode = c.args.mode in
     let sources = sources_in (words_of c.args.self.now.sources.now) in
     let readers = c.args.self.now.readers in
