@@ -35,8 +35,8 @@ IsUnfitOrder files (order.Read task every) = IsUnfitReading files task
 
 -- What makes an argument a bad one: a word that is judged before the socket is opened; or for an export what is at the
 -- path for it; or for a reading the word for kinds, or what is in the file for the first key or the bookmark.
-abbrev pub HasBadArgument : NamedFiles → Request → Type 0
-HasBadArgument files request =
+abbrev pub HasUnfitArgument : NamedFiles → Request → Type 0
+HasUnfitArgument files request =
     HasRefusedWord request ⊎ ((ordered : Order) × IsOrderOf request ordered × IsUnfitOrder files ordered)
 
 module _ {F : Type 0} (servers : ServersModel F) where

@@ -10,7 +10,7 @@ ghost use Rattle.audit_cli_client.specs.Arguments.{AreNoSeconds, IsNoWindow, Has
 ghost use Rattle.audit_cli_client.specs.Arguments.{IsTaskOfWords, IsNoTask, stop_asked, placing_asked};
 ghost use Rattle.audit_cli_client.specs.Arguments.{IsPause, before_asked, seconds_or_default, window_or_default};
 ghost use Rattle.audit_cli_client.specs.Requests.{IsClientRun, EndsOrder, Performs, status_of_done, done_after};
-ghost use Rattle.audit_cli_client.specs.Requests.{HasBadArgument, IsUnfitOrder};
+ghost use Rattle.audit_cli_client.specs.Requests.{HasUnfitArgument, IsUnfitOrder};
 
 use crate::arguments::{QuestionWords, question_asked, seconds_asked, window_asked};
 use crate::reading::read_for_ever;
@@ -122,7 +122,7 @@ pub fn run<F: Servers, R: Read, W: FallibleWrite, M: FallibleWrite>(
     ensures unwritten { HasRefusedWord request.entry → Keeps (W.contents output.old) (W.contents output.new) }
     ensures unasked { HasRefusedWord request.entry → F.calls.DidCalls servers.old servers.new [] }
     // It ends so only for such a word, or for what is at a path that a word names.
-    ensures only { result ≡ Status.Usage → HasBadArgument (F.files servers.new) request.entry }
+    ensures only { result ≡ Status.Usage → HasUnfitArgument (F.files servers.new) request.entry }
 {
     let done = perform(servers, alloc, request, input, output, messages);
     let judged = print_judgment(done, output);
@@ -238,7 +238,7 @@ fn perform<F: Servers, R: Read, W: FallibleWrite, M: FallibleWrite>(
         (record { input = R.remaining input.new; output = W.contents output.new; messages = M.contents messages.new })
         (W.failed output.new) result }
     ensures only { result ≡ Err (RemoteError.Command CommandError.BadArgument)
-        → HasBadArgument (F.files servers.new) request.entry }
+        → HasUnfitArgument (F.files servers.new) request.entry }
     ensures status { result ≡ Ok Status.Usage → ⊥ }
 {
     match judge(request) {
