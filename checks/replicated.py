@@ -26,7 +26,7 @@ from checks.parts.processes import end_all, start
 from checks.parts.quorums import quorum_of
 from checks.parts.scenes import program_of
 from checks.parts.tools import needs
-from checks.parts.waiting import is_readable, wait_for, wait_listening
+from checks.parts.waiting import is_readable, wait_for, wait_listening, wait_while_growing
 from checks.parts.wrong import expect_true
 
 TOOLS = ["nbdkit", "qemu-nbd", "nbdfuse", "fusermount3"]
@@ -153,7 +153,7 @@ def append_beside(machine, act):
     for client in clients:
         client.start()
     moment = random.randrange(1, CLIENTS * EVENTS * 3 // 4)
-    wait_for(lambda: len(counts) >= moment, "acknowledgement %d" % moment)
+    wait_while_growing(lambda: len(counts) >= moment, lambda: len(counts), "acknowledgement %d" % moment)
     act()
     for client in clients:
         client.join()

@@ -23,7 +23,7 @@ from checks.parts.processes import end_all
 from checks.parts.program import done
 from checks.parts.scenes import program_of
 from checks.parts.tools import needs
-from checks.parts.waiting import wait_for
+from checks.parts.waiting import wait_while_growing
 from checks.parts.wrong import expect
 
 SECONDS = 15
@@ -53,7 +53,7 @@ def measure_relp(count):
     site = Site("site")
     begun = time.time()
     site.write(count // HOSTS)
-    wait_for(lambda: site.daemon.count() >= count, "the last line")
+    wait_while_growing(lambda: site.daemon.count() >= count, site.daemon.count, "the last line")
     print("ten hosts over RELP and TLS: %.0f events a second" % (count / (time.time() - begun)), flush=True)
 
 

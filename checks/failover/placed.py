@@ -10,7 +10,7 @@ from checks.parts import program
 from checks.parts.files import read_text
 from checks.parts.places import tool
 from checks.parts.processes import Service
-from checks.parts.waiting import SECONDS, wait_for
+from checks.parts.waiting import SECONDS, wait_while_growing
 from checks.parts.wrong import expect, expect_true
 
 # Seconds between two lines of a source.
@@ -43,7 +43,7 @@ class Placed(threading.Thread):
         """No line follows. Waits until all are in the log, as far as the source knows."""
         self.is_over.set()
         self.join(SECONDS)
-        wait_for(self.is_done, "the end of the source of kind %d" % self.kind)
+        wait_while_growing(self.is_done, self.place, "the end of the source of kind %d" % self.kind)
 
     def expect_whole(self, held):
         """The events of its kind are its lines."""
@@ -81,6 +81,9 @@ class PlacedSend(Placed):
     def is_done(self):
         return self.process.poll() is not None
 
+    def place(self):
+        return self.answers
+
     def finish(self):
         super().finish()
         self.listener.join(SECONDS)
@@ -113,9 +116,12 @@ class PlacedFeed(Placed):
         return open(self.log, "ab")
 
     def is_done(self):
+        return re.search(" %d idle [0-9a-f]{64}$" % len(self.lines), self.place()) is not None
+
+    def place(self):
         with contextlib.suppress(FileNotFoundError):
-            return re.search(" %d idle [0-9a-f]{64}$" % len(self.lines), read_text(self.kept)) is not None
-        return False
+            return read_text(self.kept)
+        return ""
 
     def end(self):
         self.is_over.set()

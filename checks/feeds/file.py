@@ -13,7 +13,7 @@ from checks.parts.places import tool
 from checks.parts.processes import kill_group
 from checks.parts.scenes import scene
 from checks.parts.tools import needs
-from checks.parts.waiting import SECONDS, wait_for
+from checks.parts.waiting import SECONDS, wait_for, wait_while_growing
 from checks.parts.wrong import expect_true
 
 
@@ -70,12 +70,12 @@ def scene_file():
         log.file.write(b"long " * 10000 + b"\n")
         log.write(1)
 
-        def has_last():
+        def count():
             # A feed that met a killed daemon has ended, as its unit starts it again.
             if feed.process.poll() is not None:
                 feed.start()
-            return log.lines[-1] in daemon.payloads(folder)
-        wait_for(has_last, "the last line")
+            return daemon.read_on()
+        wait_while_growing(lambda: log.lines[-1] in daemon.found, count, "the last line")
     finally:
         feed.kill()
     expect_file_stored(folder, log, daemon)

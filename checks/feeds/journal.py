@@ -114,7 +114,7 @@ def send_messages_under_kills(folder, namespace, daemon, wrapper):
         feed = start()
         messages_to(namespace, last, last + 1)
         text = b'"MESSAGE":"message %d"' % last
-        wait_for(lambda: any(text in payload for payload in daemon.payloads(folder)), "the last message")
+        daemon.wait_for(lambda held: any(text in payload for payload in held), "the last message")
         # The first message after the end of the daemon ends the feed, and it isn't lost: its cursor isn't saved.
         daemon.stop()
         messages_to(namespace, last + 1, last + 2)

@@ -13,7 +13,7 @@ from checks.parts.places import KEY
 from checks.parts.program import done
 from checks.parts.scenes import scene
 from checks.parts.tools import needs
-from checks.parts.waiting import wait_for
+from checks.parts.waiting import wait_for, wait_while_growing
 from checks.parts.wrong import expect, expect_true
 
 # Seconds after which a file that was renamed is finished, and a little more.
@@ -33,7 +33,8 @@ def is_at_rest(lines, kept="position"):
 
 def wait_at_rest(log, kept="position"):
     # Each file that was renamed and not packed takes some seconds.
-    wait_for(lambda: is_at_rest(len(log.lines), kept), "the last of %d lines" % len(log.lines))
+    wait_while_growing(lambda: is_at_rest(len(log.lines), kept), lambda: os.path.exists(kept) and read_text(kept),
+                       "the last of %d lines" % len(log.lines))
 
 
 def expect_lines(found, log):

@@ -14,7 +14,7 @@ from checks.parts.places import KEY
 from checks.parts.program import whole
 from checks.parts.scenes import scene
 from checks.parts.tools import needs
-from checks.parts.waiting import wait_for
+from checks.parts.waiting import wait_for, wait_while_growing
 from checks.parts.wrong import expect_true
 
 
@@ -86,7 +86,8 @@ def scene_reader_into_rsyslog():
                 daemon.start()
             else:
                 rsyslog.restart()
-        wait_for(lambda: len(events_taken(taken)) == len(sent), "the last event")
+        wait_while_growing(lambda: len(events_taken(taken)) == len(sent), lambda: os.path.getsize(taken),
+                           "the last event")
         begun = time.monotonic()
         status, _, err = whole("send", daemon.socket, data=b"event 8 78\n")
         wait_for(lambda: events_taken(taken).get(len(sent)) == {"kind": 8, "text": "x"}, "an event by itself")

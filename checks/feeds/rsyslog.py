@@ -12,7 +12,6 @@ from checks.parts.daemons import FedDaemon
 from checks.parts.processes import Service
 from checks.parts.scenes import scene
 from checks.parts.tools import needs
-from checks.parts.waiting import wait_for
 from checks.parts.wrong import expect_true
 
 
@@ -83,9 +82,8 @@ def scene_rsyslog():
                 daemon.kill()
                 daemon.start()
         last = b"some " + wanted[-1].encode()
-        wait_for(lambda: any(payload.endswith(last) for payload in daemon.payloads(folder)), "the last line")
-        wait_for(lambda: sum(b"ttt" in payload for payload in daemon.payloads(folder)) >= 2,
-                 "a message with a long tag")
+        daemon.wait_for(lambda held: any(payload.endswith(last) for payload in held), "the last line")
+        daemon.wait_for(lambda held: sum(b"ttt" in payload for payload in held) >= 2, "a message with a long tag")
         found = daemon.payloads(folder)
         texts = [payload.decode().split("some ", 1)[1] for payload in found if b"ttt" not in payload]
         expect_cut([payload for payload in found if b"ttt" in payload][-1])

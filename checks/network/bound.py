@@ -4,7 +4,7 @@ import random
 import time
 
 from checks.network.common import certified
-from checks.network.stunnel import FedHost, Tunnel, lines_in, stunnel
+from checks.network.stunnel import FedHost, Tunnel, stunnel, wait_for_last
 from checks.parts import program
 from checks.parts.certificates import Authority
 from checks.parts.configurations import configured
@@ -65,8 +65,7 @@ def scene_bound():
     expect_foreign_refused(folder, authority, logger, hosts)
     for host in hosts:
         host.write(1)
-    wait_for(lambda: {host.wrote[-1] for host in hosts} <= lines_in(logger.daemon, folder),
-             "the last line of each host")
+    wait_for_last(logger.daemon, hosts)
     for host in hosts:
         host.feed.kill()
     logger.daemon.stop()

@@ -67,6 +67,11 @@ class Host:
                 file.write(self.wrote[-1] + "\n")
 
 
+def texts_of(payloads):
+    """What hosts wrote, of what rsyslog made of it."""
+    return [payload.decode().split(" some ", 1)[1] for payload in payloads]
+
+
 class Site:
     """Ten hosts and a collector in front of a daemon."""
 
@@ -90,15 +95,14 @@ class Site:
     def two_hosts(self):
         return [host.process for host in self.hosts[:2]]
 
-    def texts(self):
-        return [payload.decode().split(" some ", 1)[1] for payload in self.daemon.payloads(self.folder)]
-
     def missing_lines(self):
         """What isn't in the store though each host's last line is; and what was acknowledged is kept."""
         self.write(1)
-        wait_for(lambda: {host.wrote[-1] for host in self.hosts} <= set(self.texts()), "the last line of each host")
+        last = {host.wrote[-1] for host in self.hosts}
+        self.daemon.wait_for(lambda found: last <= set(texts_of(found)), "the last line of each host")
         wrote = {line for host in self.hosts for line in host.wrote}
-        found = self.texts()
+        self.daemon.read_on()
+        found = texts_of(self.daemon.found)
         expect_true(set(found) <= wrote, "the store has lines that nobody wrote: %s" % sorted(set(found) - wrote)[:3])
         for process in self.collector, *(host.process for host in self.hosts):
             process.kill()

@@ -98,8 +98,7 @@ def scene_stunnel():
             time.sleep(random.uniform(0, 0.2))
     for host in hosts:
         host.write(1)
-    wait_for(lambda: {host.wrote[-1] for host in hosts} <= lines_in(logger.daemon, folder),
-             "the last line of each host")
+    wait_for_last(logger.daemon, hosts)
     for host in hosts:
         host.feed.kill()
     expect_each_line(hosts, [payload.decode() for payload in logger.daemon.payloads(folder)])
@@ -107,8 +106,9 @@ def scene_stunnel():
     expect_acknowledged_kept(logger.daemon.store, answers, folder)
 
 
-def lines_in(daemon, folder):
-    return {payload.decode() for payload in daemon.payloads(folder)}
+def wait_for_last(daemon, hosts):
+    last = {host.wrote[-1].encode() for host in hosts}
+    daemon.wait_for(last.issubset, "the last line of each host")
 
 
 def watch(socket_path):

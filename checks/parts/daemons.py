@@ -8,7 +8,7 @@ from checks.parts.files import read
 from checks.parts.places import KEY
 from checks.parts.processes import forget, start
 from checks.parts.program import done
-from checks.parts.waiting import doing, is_readable, pressure, wait_listening
+from checks.parts.waiting import doing, is_readable, pressure, wait_listening, wait_while_growing
 from checks.parts.wrong import Wrong, expect, expect_true, short
 
 
@@ -25,7 +25,12 @@ def commitment_of(store):
 def events_in(export, key, commitment):
     """The kinds and payloads of the events of an export, which is verified."""
     lines = [line.split() for line in done("verify", export, key, commitment).splitlines()]
-    return [(int(line[2]), bytes.fromhex(line[3].decode().replace("-", ""))) for line in lines if line[0] == b"event"]
+    return [(int(line[2]), payload_of(line)) for line in lines if line[0] == b"event"]
+
+
+def payload_of(words):
+    """The payload of an event's line."""
+    return bytes.fromhex(words[3].decode().replace("-", ""))
 
 
 def payloads_in(export, commitment, key=KEY):
@@ -100,7 +105,18 @@ class FedDaemon(Daemon):
     def __init__(self, folder, sectors=32768, options=(), **how):
         store = os.path.join(folder, "store")
         done("format", store, str(sectors), KEY)
+        self.read_to, self.found = os.path.join(folder, "read-to"), []
         super().__init__(store, os.path.join(folder, "socket"), *options, **how)
+
+    def read_on(self):
+        """Reads the events that are new. Returns how many there are in all."""
+        said = done("read", self.socket, self.read_to, "--first", KEY).splitlines()
+        self.found += [payload_of(line.split()) for line in said if line.startswith(b"event ")]
+        return len(self.found)
+
+    def wait_for(self, holds, what):
+        """Waits until its payloads are as wanted, as long as some come."""
+        wait_while_growing(lambda: holds(self.found), self.read_on, what)
 
 
 class Serving:

@@ -24,6 +24,19 @@ def wait_for(holds, what, seconds=SECONDS):
     wait_until(holds, what + " never comes", seconds, 0.02)
 
 
+def wait_while_growing(holds, size, what):
+    """Waits for what comes after much else, however slowly that comes on a busy machine, as long as something does. A
+    look takes a processor from what is looked at, so looks take at most half of the time."""
+    seen, end = None, 0
+    while not holds():
+        begun, found = time.monotonic(), size()
+        if found != seen:
+            seen, end = found, time.monotonic() + SECONDS
+        expect_true(time.monotonic() < end, "%s never comes: %s came, and nothing for %d s; %s"
+                    % (what, seen, SECONDS, pressure()))
+        time.sleep(max(0.02, time.monotonic() - begun))
+
+
 def is_socket(path):
     with contextlib.suppress(OSError):
         return stat.S_ISSOCK(os.stat(path).st_mode)

@@ -11,7 +11,7 @@ from checks.parts import program
 from checks.parts.ceph import OSDS, state_of
 from checks.parts.places import tool
 from checks.parts.tools import succeeds
-from checks.parts.waiting import SECONDS, doing, is_readable, pressure, wait_for, wait_listening
+from checks.parts.waiting import doing, is_readable, pressure, wait_for, wait_listening, wait_while_growing
 from checks.parts.wrong import Wrong, expect_true
 from checks.replicated_ceph.common import CLIENTS, EARLY, PATH, acknowledged, commitment, count, good, how
 
@@ -153,13 +153,14 @@ class Clients:
     def wait(self):
         """Waits for a random number of further acknowledgements."""
         moment = len(self.acks()) + random.randint(1, EARLY)
-        wait_for(lambda: len(self.acks()) >= moment, "acknowledgement %d" % moment)
+        self.wait_until(lambda: len(self.acks()) >= moment, "acknowledgement %d" % moment)
+
+    def wait_until(self, holds, what):
+        wait_while_growing(holds, lambda: len(self.acks()), what)
 
     def end(self):
         """The greatest count acknowledged, and the longest time without an acknowledgement."""
-        for client in self.all:
-            client.join(SECONDS)
-            expect_true(not client.is_alive(), "a client never ends")
+        self.wait_until(lambda: not any(client.is_alive() for client in self.all), "the end of a client")
         times = [when for when, _ in self.acks()]
         return max(count for _, count in self.acks()), max(after - before for before, after in zip(times, times[1:]))
 
