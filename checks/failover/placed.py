@@ -4,7 +4,6 @@ import os
 import re
 import subprocess
 import threading
-import time
 
 from checks.parts import program
 from checks.parts.files import read_text

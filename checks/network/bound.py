@@ -14,7 +14,7 @@ from checks.parts.program import done, whole
 from checks.parts.scenes import scene
 from checks.parts.tools import needs
 from checks.parts.waiting import free_port, is_port_taken, wait_for
-from checks.parts.wrong import expect, expect_true
+from checks.parts.wrong import expect
 
 HOSTS = 4
 
