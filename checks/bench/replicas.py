@@ -105,7 +105,7 @@ def devices(of_file, of_replicas):
 def served(device, file):
     """A daemon on a device, once it has opened its log."""
     try:
-        return Daemon(file, "socket")
+        return Daemon(file, "socket", stderr=subprocess.PIPE)
     except Wrong as wrong:
         raise Wrong("%s: %s\n%s" % (device.name, wrong, device.state())) from None
 
