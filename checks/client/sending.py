@@ -193,9 +193,9 @@ def scene_sending_again():
         stream.shutdown(socket.SHUT_RDWR)
 
     with Server("lost.sock", serve):
-        status, out, _ = run("send", "lost.sock", "--text", "1", "--retry", "60", data=b"a\nb\nc\n")
+        status, out, said = program.whole("send", "lost.sock", "--text", "1", "--retry", "60", data=b"a\nb\nc\n")
     printed = b"".join(b"ack %d %d %s\n" % (index, index + 1, hash.hex().encode()) for index in (5, 6, 7))
-    expect((status, out), (0, printed), "what is sent again")
+    expect((status, out, said.splitlines()[:1]), (0, printed, [b"audit: connection ended"]), "what is sent again")
     kind = struct.pack(">I", 1)
     all_three = [(1, tag, kind + text) for tag, text in ((1, b"a"), (2, b"b"), (3, b"c"))]
     expect(seen, [all_three, all_three[1:]], "what a lost server got, and then its successor")
