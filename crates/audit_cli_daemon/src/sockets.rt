@@ -13,7 +13,7 @@ use crate::prompt_sockets::PromptSockets;
 use crate::sources::source_in;
 use audit_cli_base::CommandError;
 use audit_disk::{OWNER_ONLY, SystemFile};
-use audit_serve_door::{ClientEntrance, StopOrders};
+use audit_serve_door::{ClientEntrance, Entrance, StopOrders};
 use audit_serve_passes::Rights;
 use audit_serve_sockets::{SocketFile, SocketLock, SocketName, SystemSockets};
 use audit_store::StoreError;
@@ -265,7 +265,7 @@ where
     let (listener, name) = bound.into_parts();
     let mode = name.mode();
     made.push_reserved(MadeSocket { path, name, lock });
-    match rt.enter(listener, rights, mode) {
+    match Entrance::new(rt, listener, rights, mode) {
         Ok(entrance) => Ok(entrance),
         Err(error) => Err(fault_of(error.kind())),
     }

@@ -1,5 +1,6 @@
 use crate::accepts::{Accepts, Watched};
 use crate::incoming::{Accepted, Incoming};
+use crate::listening::PromptListening;
 use crate::metered::Metered;
 use crate::nonblocking::Nonblocking;
 use crate::prompt::Prompt;
@@ -27,12 +28,14 @@ pub(crate) struct Arrival<S> {
 }
 
 impl Entrance<UnixListener> {
-    ghost use Rattle.std.specs.Prelude.{◌≡◌, IfOk};
+    ghost use Rattle.std.specs.Prelude.{◌≡◌, IfOk, OnOk, OnErr};
     ghost use Rattle.std.specs.Net.Unix.{unix_listener_raw_fd};
     ghost use Rattle.audit_serve_door.specs.Entrances.{rights_of, mode_of, descriptor_of};
 
-    /// Makes an entrance of a socket that listens, whose file has these permission bits.
-    pub fn new(
+    /// Makes an entrance of a socket that listens, whose file has these permission bits. Accepting there doesn't wait.
+    /// It fails only if a call did.
+    pub fn new<P: PromptListening>(
+        rt: &P,
         listener: net::UnixListener,
         rights: Rights,
         mode: u32,
@@ -40,9 +43,11 @@ impl Entrance<UnixListener> {
         ensures rights { IfOk result (λ entrance. rights_of entrance ≡ rights) }
         ensures mode { IfOk result (λ entrance. mode_of entrance ≡ mode) }
         ensures socket { IfOk result (λ entrance. descriptor_of entrance ≡ unix_listener_raw_fd listener) }
+        ensures prompt { OnOk result (P.prompt rt.now (unix_listener_raw_fd listener)) }
+        ensures failed { OnErr result (P.unprompted rt.now) }
     {
         Ok(Entrance {
-            incoming: Incoming::new(listener)?,
+            incoming: Incoming::new(rt, listener)?,
             rights,
             mode,
         })

@@ -1,4 +1,5 @@
 use crate::accepts::{Accepts, Watched};
+use crate::listening::PromptListening;
 use mio::net::UnixListener;
 use mio::{Interest, Registry, Token};
 use std::io::{self, ErrorKind};
@@ -24,16 +25,22 @@ pub(crate) enum Accepted<T> {
 }
 
 impl Incoming<UnixListener> {
-    ghost use Rattle.std.specs.Prelude.{◌≡◌, IfOk};
+    ghost use Rattle.std.specs.Prelude.{◌≡◌, IfOk, OnOk, OnErr};
     ghost use Rattle.std.specs.Net.Unix.{unix_listener_raw_fd};
     ghost use Rattle.mio.specs.Net.{unix_listener_fd};
     ghost use Rattle.audit_serve_door.specs.Entrances.{listener_of};
 
     /// Takes connections from a socket that listens.
-    pub(crate) fn new(listener: net::UnixListener) -> io::Result<Incoming<UnixListener>>
-        ensures { IfOk result (λ incoming. unix_listener_fd (listener_of incoming) ≡ unix_listener_raw_fd listener) }
+    pub(crate) fn new<P: PromptListening>(
+        rt: &P,
+        listener: net::UnixListener,
+    ) -> io::Result<Incoming<UnixListener>>
+        ensures socket { IfOk result (λ incoming. unix_listener_fd (listener_of incoming)
+            ≡ unix_listener_raw_fd listener) }
+        ensures prompt { OnOk result (P.prompt rt.now (unix_listener_raw_fd listener)) }
+        ensures failed { OnErr result (P.unprompted rt.now) }
     {
-        listener.set_nonblocking(true)?;
+        rt.accept_promptly(&listener)?;
         Ok(Incoming {
             listener: UnixListener::from_std(listener),
             may_have_some: true,

@@ -1,5 +1,6 @@
 use crate::incoming::{Accepted, Incoming};
 use crate::limits::MAX_ORDERS;
+use crate::listening::PromptListening;
 use crate::order::{OrderText, STOP_ORDER, order_text};
 use mio::net::UnixStream;
 use mio::{Interest, Registry, Token};
@@ -77,9 +78,13 @@ impl StopOrders {
     ghost use Rattle.audit_serve_door.specs.Finishing.{has_order};
 
     /// Takes orders from a socket that listens.
-    pub fn new(alloc: Global, listener: UnixListener) -> io::Result<StopOrders> {
+    pub fn new<P: PromptListening>(
+        rt: &P,
+        alloc: Global,
+        listener: UnixListener,
+    ) -> io::Result<StopOrders> {
         Ok(StopOrders {
-            incoming: Incoming::new(listener)?,
+            incoming: Incoming::new(rt, listener)?,
             pending: room(alloc)?,
             given: room(alloc)?,
         })

@@ -33,7 +33,7 @@ pub returns-clause-served : goal.returns-clause-served
 returns-clause-served g c =
     let N = metered_calls (nonblocking_calls unknown_prompt) in
     let doors = gauged_calls (socket_door_calls unknown_accepting unknown_notes watch_of_file) in
-    let there = ListenAt (prompt_sockets (g.F.SystemSockets.sockets c.args.rt.now) (g.F.PromptSockets.prompt c.args.rt.now)) c.args.judged.mode (paths_served c.args.sockets.now) in
+    let there = ListenAt (prompt_sockets (g.F.SystemSockets.sockets c.args.rt.now) (g.F.PromptListening.prompt c.args.rt.now)) c.args.judged.mode (paths_served c.args.sockets.now) in
     let opens = IsDoorFor (rights_served c.args.sockets.now c.args.judged.rights) (modes_at (rights_served c.args.sockets.now c.args.judged.rights) c.args.judged.mode) there c.args.judged.idle in
     let begun = g.W.Write.contents c.args.output.now in
     let pair = c.match-bind.store in

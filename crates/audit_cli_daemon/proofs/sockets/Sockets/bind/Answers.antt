@@ -33,7 +33,7 @@ returns-clause-modes g c =
 
 pub returns-clause-listen : goal.returns-clause-listen
 returns-clause-listen g c =
-    let facts = prompt_sockets (g.R.SystemSockets.sockets c.args.rt.now) (g.R.PromptSockets.prompt c.args.rt.now) in
+    let facts = prompt_sockets (g.R.SystemSockets.sockets c.args.rt.now) (g.R.PromptListening.prompt c.args.rt.now) in
     let mode = c.args.mode in
     let sources = sources_in (words_of c.args.self.now.sources.now) in
     let readers = c.args.self.now.readers in

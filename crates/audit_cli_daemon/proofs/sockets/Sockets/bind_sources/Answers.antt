@@ -13,7 +13,7 @@ pub loop-word-init : goal.loop-word-init
 loop-word-init g c = record {
   rights = sym (append-nil (map rights_of c.args.entrances.now.items));
   modes = sym (append-nil (map mode_of c.args.entrances.now.items));
-  listen = λ paths all. subst (λ places. ListenAt (prompt_sockets (g.R.SystemSockets.sockets c.args.rt.now) (g.R.PromptSockets.prompt c.args.rt.now)) c.args.mode places (map descriptor_of c.args.entrances.now.items)) (sym (append-nil paths)) all;
+  listen = λ paths all. subst (λ places. ListenAt (prompt_sockets (g.R.SystemSockets.sockets c.args.rt.now) (g.R.PromptListening.prompt c.args.rt.now)) c.args.mode places (map descriptor_of c.args.entrances.now.items)) (sym (append-nil paths)) all;
 }
 
 pub loop-word-preserved : goal.loop-word-preserved
@@ -26,8 +26,8 @@ loop-word-preserved g c =
     record {
       rights = ap (map rights_of) c.in_ok-push.ensures.items ∙ pushed rights_of source_rights c.args.entrances.now.items c.loop-word.entrances.items c.in_ok-entrance.entrance before _ s c.loop-word.invariant.rights c.in_ok-entrance.ensures.rights more;
       modes = ap (map mode_of) c.in_ok-push.ensures.items ∙ pushed mode_of (λ source. c.args.mode) c.args.entrances.now.items c.loop-word.entrances.items c.in_ok-entrance.entrance before _ s c.loop-word.invariant.modes c.in_ok-entrance.ensures.mode more;
-      listen = λ paths all. subst (λ entrances. ListenAt (prompt_sockets (g.R.SystemSockets.sockets c.args.rt.now) (g.R.PromptSockets.prompt c.args.rt.now)) c.args.mode (paths ++ map path_of_source (sources_in (words_of (take (i + 1) words)))) (map descriptor_of entrances)) (sym c.in_ok-push.ensures.items)
-          (listen_source (prompt_sockets (g.R.SystemSockets.sockets c.args.rt.now) (g.R.PromptSockets.prompt c.args.rt.now)) c.args.mode descriptor_of paths before _ c.loop-word.entrances.items s c.in_ok-entrance.entrance more (c.loop-word.invariant.listen paths all) c.in_ok-entrance.ensures.listens);
+      listen = λ paths all. subst (λ entrances. ListenAt (prompt_sockets (g.R.SystemSockets.sockets c.args.rt.now) (g.R.PromptListening.prompt c.args.rt.now)) c.args.mode (paths ++ map path_of_source (sources_in (words_of (take (i + 1) words)))) (map descriptor_of entrances)) (sym c.in_ok-push.ensures.items)
+          (listen_source (prompt_sockets (g.R.SystemSockets.sockets c.args.rt.now) (g.R.PromptListening.prompt c.args.rt.now)) c.args.mode descriptor_of paths before _ c.loop-word.entrances.items s c.in_ok-entrance.entrance more (c.loop-word.invariant.listen paths all) c.in_ok-entrance.ensures.listens);
     }
 
 pub returns-clause-rights : goal.returns-clause-rights
@@ -40,7 +40,7 @@ returns-clause-modes g c =
 
 pub returns-clause-listen : goal.returns-clause-listen
 returns-clause-listen g c paths all =
-    subst (λ words. ListenAt (prompt_sockets (g.R.SystemSockets.sockets c.args.rt.now) (g.R.PromptSockets.prompt c.args.rt.now)) c.args.mode (paths ++ map path_of_source (sources_in (words_of words))) (map descriptor_of c.loop-word.entrances.items)) (take_all c.loop-word.word-index c.args.self.now.sources.now c.loop-word-test.false) (c.loop-word.invariant.listen paths all)
+    subst (λ words. ListenAt (prompt_sockets (g.R.SystemSockets.sockets c.args.rt.now) (g.R.PromptListening.prompt c.args.rt.now)) c.args.mode (paths ++ map path_of_source (sources_in (words_of words))) (map descriptor_of c.loop-word.entrances.items)) (take_all c.loop-word.word-index c.args.self.now.sources.now c.loop-word-test.false) (c.loop-word.invariant.listen paths all)
 
 -- the words were judged
 pub returns-in_default-clause-fault : goal.returns-in_default-clause-fault

@@ -12,5 +12,5 @@ invariant-loop-word g l =
     record {
       rights : map rights_of l.entrances.items ≡ map rights_of l.fn.entrances.items ++ map source_rights sources;
       modes : map mode_of l.entrances.items ≡ map mode_of l.fn.entrances.items ++ map (λ source. l.fn.mode) sources;
-      listen : (paths : List (List ℕ)) → ListenAt (prompt_sockets (g.R.SystemSockets.sockets l.fn.rt) (g.R.PromptSockets.prompt l.fn.rt)) l.fn.mode paths (map descriptor_of l.fn.entrances.items) → ListenAt (prompt_sockets (g.R.SystemSockets.sockets l.fn.rt) (g.R.PromptSockets.prompt l.fn.rt)) l.fn.mode (paths ++ map path_of_source sources) (map descriptor_of l.entrances.items);
+      listen : (paths : List (List ℕ)) → ListenAt (prompt_sockets (g.R.SystemSockets.sockets l.fn.rt) (g.R.PromptListening.prompt l.fn.rt)) l.fn.mode paths (map descriptor_of l.fn.entrances.items) → ListenAt (prompt_sockets (g.R.SystemSockets.sockets l.fn.rt) (g.R.PromptListening.prompt l.fn.rt)) l.fn.mode (paths ++ map path_of_source sources) (map descriptor_of l.entrances.items);
     }
