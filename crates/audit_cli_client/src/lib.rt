@@ -7,6 +7,7 @@ mod asking;
 mod draft;
 pub mod laws;
 mod left_files;
+mod legs;
 mod out;
 mod outage;
 mod printed_file;

@@ -1,4 +1,8 @@
 //! How long a server that isn't there is tried again.
+ghost use Rattle.std.specs.Prelude.{◌≡◌, IfErr};
+ghost use Rattle.audit_cli_base.specs.declared.fault.CommandError.TheVariants.{File};
+ghost use Rattle.audit_cli_connection.specs.declared.fault.RemoteError.TheVariants.{Command};
+
 use audit_cli_connection::RemoteError;
 use std::io::Write;
 use std::thread;
@@ -27,12 +31,15 @@ impl Outage {
     }
 
     /// Whether there is another try after this fault, before which it pauses. The first fault of an outage is printed.
+    /// It fails only if the clock does.
     pub fn lasts<F: Clock, M: Write>(
         &mut self,
         rt: &F,
         fault: RemoteError,
         messages: &mut M,
-    ) -> Result<bool, RemoteError> {
+    ) -> Result<bool, RemoteError>
+        ensures { IfErr result (λ fault. fault ≡ Command File) }
+    {
         let Some(limit) = self.limit else {
             return Ok(false);
         };

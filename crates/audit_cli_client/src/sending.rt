@@ -1,12 +1,15 @@
 //! Sending events to a server.
-ghost use Rattle.std.specs.Prelude.{◌≡◌, ◌+◌, ◌≤◌, ℕ, None, Ok, IfOk, IfErr, OnErr};
+ghost use Rattle.std.specs.Prelude.{◌≡◌, ◌⊎◌, ◌<◌, None, Ok, IfOk, IfErr, OnErr};
 ghost use Rattle.std.specs.Io.Buffered.{reader_remaining};
 ghost use Rattle.audit_wire_ask.specs.Placing.{PlacesAndSends, FailsPlacing, LogsAndSends, FailsLogging, LogsInPart};
-ghost use Rattle.audit_cli_connection.specs.Faults.{IsNoBadArgument};
-ghost use Rattle.audit_cli_client.specs.Sent.{status_of_sent};
+ghost use Rattle.audit_cli_connection.specs.Faults.{IsNoBadArgument, remote_status};
+ghost use Rattle.audit_cli_base.specs.declared.fault.CommandError.TheVariants.{File};
+ghost use Rattle.audit_cli_connection.specs.declared.fault.RemoteError.TheVariants.{Command};
+ghost use Rattle.audit_cli_client.specs.Sent.{status_of_sent, nothing_sent, with_leg, placing_after, EndsSending};
 
+use crate::legs::{Leg, Legs};
 use crate::outage::Outage;
-use audit_cli_base::Status;
+use audit_cli_base::{CommandError, Status};
 use audit_cli_connection::{Line, LineEnd, Pace, RemoteError, Task, connect, without_words};
 use audit_cli_host::Dial;
 use audit_cli_witness::{lacks_feed, open_lines};
@@ -43,35 +46,34 @@ pub fn send_to_socket<F: Files + Dial + Clock, R: Read, W: Write, M: Write>(
     match task.long {
         LongLines::Refused => {
             let mut lines = KeptInput::new(alloc, input);
-            send_on(
-                rt, alloc, socket, task, &mut lines, output, &mut keys, messages,
-            )
+            let mut legs = SystemLegs::new(rt, alloc, socket, task, &mut lines, output, &mut keys);
+            send_on(rt, task, &mut legs, messages)
         }
         LongLines::Cut => {
             let cut = CutLines::new(alloc, input)?;
             let mut lines = KeptInput::new(alloc, cut);
-            send_on(
-                rt, alloc, socket, task, &mut lines, output, &mut keys, messages,
-            )
+            let mut legs = SystemLegs::new(rt, alloc, socket, task, &mut lines, output, &mut keys);
+            send_on(rt, task, &mut legs, messages)
         }
     }
 }
 
 // Sends over a connection, and if it is lost over another one: the lines that weren't answered again, with the numbers
 // and places that they had, and then the next ones.
-fn send_on<F: Dial + Clock, R: Read, W: Write, K: KeyLines, M: Write>(
-    rt: &F,
-    alloc: Global,
-    socket: &str,
+fn send_on<C: Clock, L: Legs, M: Write>(
+    rt: &C,
     task: Task<'_>,
-    input: &mut KeptInput<R>,
-    output: &mut W,
-    keys: &mut Option<K>,
+    legs: &mut L,
     messages: &mut M,
 ) -> Result<Status, RemoteError>
-    ensures { result ≡ Ok Status.Usage → ⊥ }
+    requires { L.sent legs.old 0 task.placing nothing_sent }
+    ensures usage { result ≡ Ok Status.Usage → ⊥ }
+    // The status is that of all that was sent and answered, over all connections, or of the fault of a further one.
+    ensures ends { IfOk result (EndsSending (L.sent legs.new) (L.broke legs.new)) }
+    // Only a connection or the clock fails, or there were as many tries as are counted.
+    ensures fault { IfErr result (λ fault. L.broke legs.new fault ⊎ (fault ≡ Command File)) }
 {
-    let mut task = task;
+    let mut placing = task.placing;
     let mut outage = Outage::within(task.retry);
     let mut total = SendEnd {
         sent: 0,
@@ -80,10 +82,9 @@ fn send_on<F: Dial + Clock, R: Read, W: Write, K: KeyLines, M: Write>(
         error: None,
     };
     for _ in 0..u64::MAX {
-        let sent = send_once(rt, alloc, socket, task, total.answered, input, output, keys);
-        match without_words(sent) {
+        match legs.send(placing, total.answered) {
             Ok(leg) => {
-                task.placing = placing_of(leg.places);
+                placing = placing_of(leg.places);
                 total = with_leg(&total, &leg.end);
                 if leg.end.answered > 0 {
                     outage.end();
@@ -92,7 +93,7 @@ fn send_on<F: Dial + Clock, R: Read, W: Write, K: KeyLines, M: Write>(
                     return Ok(report_sent(&total, messages));
                 };
                 let left = leg.end.sent.saturating_sub(leg.end.answered);
-                if !input.go_back(leg.unread, left) || !outage.lasts(rt, error.into(), messages)? {
+                if !legs.go_back(leg.unread, left) || !outage.lasts(rt, error.into(), messages)? {
                     return Ok(report_sent(&total, messages));
                 }
             }
@@ -103,7 +104,7 @@ fn send_on<F: Dial + Clock, R: Read, W: Write, K: KeyLines, M: Write>(
             }
         }
     }
-    Ok(report_sent(&total, messages))
+    Err(RemoteError::Command(CommandError::File))
 }
 
 // The loss of a connection after which another one is made, if any: not if sending was to stop at a refusal.
@@ -119,8 +120,7 @@ fn loss_of(task: Task<'_>, total: &SendEnd) -> Option<SendError> {
 
 // The same places, as given.
 fn placing_of(places: Places) -> Placing
-    ensures first { (first : ℕ) → places ≡ Places.From first → result ≡ Placing.From first }
-    ensures any { places ≡ Places.Any → result ≡ Placing.Unplaced }
+    ensures { result ≡ placing_after places }
 {
     match places {
         Places::Any => Placing::Unplaced,
@@ -130,9 +130,7 @@ fn placing_of(places: Places) -> Placing
 
 // What was sent and answered over all connections, with the last one.
 fn with_leg(total: &SendEnd, leg: &SendEnd) -> SendEnd
-    ensures answered { total.now.answered + leg.now.answered ≤ u64.MAX
-        → result.answered ≡ total.now.answered + leg.now.answered }
-    ensures error { result.error ≡ leg.now.error }
+    ensures { result ≡ with_leg total.now leg.now }
 {
     SendEnd {
         sent: total.answered.saturating_add(leg.sent),
@@ -142,13 +140,64 @@ fn with_leg(total: &SendEnd, leg: &SendEnd) -> SendEnd
     }
 }
 
-// How sending over one connection ended.
-#[derive(Clone, Copy)]
-struct Leg {
-    places: Places,
-    end: SendEnd,
-    // How many bytes of the input were read and not taken.
-    unread: usize,
+// The connections of a system over which the lines of an input are sent.
+#[derive(Drop)]
+struct SystemLegs<'a, F, R, W, K> {
+    rt: &'a F,
+    alloc: Global,
+    socket: &'a str,
+    task: Task<'a>,
+    input: &'a mut KeptInput<R>,
+    output: &'a mut W,
+    keys: &'a mut Option<K>,
+}
+
+impl<'a, F, R, W, K> SystemLegs<'a, F, R, W, K> {
+    fn new(
+        rt: &'a F,
+        alloc: Global,
+        socket: &'a str,
+        task: Task<'a>,
+        input: &'a mut KeptInput<R>,
+        output: &'a mut W,
+        keys: &'a mut Option<K>,
+    ) -> SystemLegs<'a, F, R, W, K> {
+        SystemLegs {
+            rt,
+            alloc,
+            socket,
+            task,
+            input,
+            output,
+            keys,
+        }
+    }
+}
+
+// Nothing is known of the system's connections.
+impl<F: Dial + Clock, R: Read, W: Write, K: KeyLines> Legs for SystemLegs<'_, F, R, W, K> {
+    ghost sent = { λ _ _ _ _. Unit {0} };
+
+    ghost broke = { λ _ _. Unit {0} };
+
+    fn send(&mut self, placing: Placing, before: u64) -> Result<Leg, RemoteError> {
+        let mut task = self.task;
+        task.placing = placing;
+        without_words(send_once(
+            self.rt,
+            self.alloc,
+            self.socket,
+            task,
+            before,
+            self.input,
+            self.output,
+            self.keys,
+        ))
+    }
+
+    fn go_back(&mut self, unread: usize, lines: u64) -> bool {
+        self.input.go_back(unread, lines)
+    }
 }
 
 // Sends over one connection, the lines after the first `before`.
@@ -281,7 +330,9 @@ fn report_unsent<M: Write>(
     end: &SendEnd,
     messages: &mut M,
 ) -> Result<Status, RemoteError>
-    ensures { IsNoBadArgument fault → result ≡ Ok Status.Usage → ⊥ }
+    ensures usage { IsNoBadArgument fault → result ≡ Ok Status.Usage → ⊥ }
+    ensures status { IfOk result (λ status. (status ≡ remote_status fault) × (end.now.answered < end.now.sent)) }
+    ensures fault { IfErr result (λ error. error ≡ fault) }
 {
     if end.sent <= end.answered {
         return Err(fault);
