@@ -2,6 +2,7 @@
 ghost use Rattle.std.specs.Prelude.{◌≡◌};
 ghost use Rattle.audit_wire_ask.specs.EntryKeys.{written_file};
 
+use crate::fallible_write::FallibleWrite;
 use crate::key_lines::KeyLines;
 use std::io::{self, Write};
 
@@ -20,21 +21,29 @@ impl<W> KeyFile<W> {
     }
 }
 
-impl<W: Write> KeyLines for KeyFile<W> {
+impl<W: FallibleWrite> KeyLines for KeyFile<W> {
     fn are_kept(&self) -> bool {
         true
     }
 }
 
-/// Its bytes are those of the writer.
-impl<W: Write> Write for KeyFile<W> {
+/// Its bytes are those of the writer, and to flush it is to flush the writer.
+impl<W: FallibleWrite> Write for KeyFile<W> {
+    ghost use Rattle.std.specs.Prelude.{OnOk, OnErr};
+    ghost use Rattle.std.specs.Io.KnownBytes.{Keeps};
+    ghost use Rattle.audit_wire_ask.specs.EntryKeys.{written_file};
+
     ghost contents = { λ keys. W.contents (written_file keys) };
 
     fn write(&mut self, bytes: &[u8]) -> io::Result<usize> {
         self.writer.write(bytes)
     }
 
-    fn flush(&mut self) -> io::Result<()> {
-        self.writer.flush()
+    fn flush(&mut self) -> io::Result<()>
+        ensures kept { Keeps (W.contents (written_file self.old)) (W.contents (written_file self.new)) }
+        ensures flushed { OnOk result (W.flushed (written_file self.new)) }
+        ensures failed { OnErr result (W.failed (written_file self.new)) }
+    {
+        self.writer.flush_text()
     }
 }
