@@ -1,6 +1,6 @@
-"""Verifies an export, from a file and from a pipe, discloses events of it, and serves a session over lines, with less
-and less memory until the executable can't be loaded. Then it asks a store of more than 2^20 events, with little more
-than its index takes.
+"""Verifies an export, from a file and from a pipe, discloses events of it, searches its store with the first key, and
+serves a session over lines, with less and less memory until the executable can't be loaded. Then it asks a store of more
+than 2^20 events, with little more than its index takes.
 
 usage: bin/check memory EXECUTABLE
 
@@ -93,6 +93,22 @@ def disclose_with_less():
     downwards(show, STEP, "reading of a disclosure")
 
 
+def search_with_less():
+    """What is found of the same store is written whole, or OUT stays as it was."""
+    done("prove", "store", "member", str(COUNT - 1), str(COUNT), "proof")
+    words = "salvage", "store", KEY, "found", "--under", commitment_of("store"), "--proof", "proof"
+    line, text = done(*words), read("found")
+    expect(line, b"salvaged %d unbound 0 missing 0 unread 0 shown 1 counted\n" % COUNT, "a search with enough memory")
+
+    def search(limit):
+        write("found", b"old")
+        status = expect_answer(with_limit(limit, *words), line, "of `salvage` with %d KiB" % limit)
+        expect(read("found"), text if status == 0 else b"old", "what is found with %d KiB" % limit)
+        return status
+
+    downwards(search, STEP, "search")
+
+
 def serve_with_less():
     """One line has many requests for the commitment of an empty store, and each gets its reply."""
     done("format", "none", "64", KEY)
@@ -127,6 +143,7 @@ def main(words):
     with folder_of_its_own("memory-"):
         verify_with_less()
         disclose_with_less()
+        search_with_less()
         serve_with_less()
         if program.is_by_rattle() or program.is_unproved():
             return 0

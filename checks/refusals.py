@@ -54,6 +54,7 @@ PLACES = {
     "held <count>:<root>, the store has <count>:<root>": ["bin/check daemon"],
     "line <n>: ..": ["cases/refused_lines"],
     "salvaged <count> <root> damaged <count>": ["bin/check system"],
+    "salvaged <n> unbound <n> missing <n> unread <n> shown <n> counted": ["cases/searched_stores"],
     "not accepted": ["cases/checked_proofs"],
     "not accepted: old half": ["cases/checked_links"],
     "not accepted: new half": ["cases/checked_links"],

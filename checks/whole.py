@@ -164,7 +164,7 @@ def checks_of_rest(program):
         ["statement"], ["model"], ["placed"], ["rooms"], ["diagrams"], ["lengths"], ["feeds", program],
         ["network", program], ["power", program], ["bench", "fleet", program, "8"], ["siem", program],
         ["chain", program], ["rotating", program], ["sealing", program], ["anchors", program], ["metrics", program],
-        ["library", program], ["units", program], ["page"], ["disclosed", program],
+        ["library", program], ["units", program], ["page"], ["disclosed", program], ["salvaged", program],
     ]
 
 

@@ -1,8 +1,8 @@
 # Bash completion for `audit`: `source packaging/completion.bash`.
 _audit() {
     local word=${COMP_WORDS[COMP_CWORD]} before=${COMP_WORDS[COMP_CWORD - 1]} command=${COMP_WORDS[1]}
-    local commands="replay format append close rotate show prove check note export verify disclose serve loop daemon stop send ask watch read help"
-    local valued="--mode --long --expect --reserve --sessions --socket-mode --reader --writer --idle --backlog --window --timeout --every --kind --events --from --save --first --under --receipts --retry --extends --after"
+    local commands="replay format append close rotate show prove check note export salvage verify disclose serve loop daemon stop send ask watch read help"
+    local valued="--mode --long --expect --reserve --sessions --socket-mode --reader --writer --idle --backlog --window --timeout --every --kind --events --from --save --first --under --receipts --retry --extends --after --within --proof"
     local options="--explain --no-progress --help" choices= files= place=0 question= index
     [[ $command = verify || $command = read ]] || valued="$valued --text"
     [[ $command != rotate ]] || valued="$valued --link"
@@ -27,6 +27,7 @@ _audit() {
     verify) options="$options --text --numbers --json --kind --from --save --disclosed" ;;
     disclose) options="$options --kind --events" ;;
     export) options="$options --from --read-only --salvage" ;;
+    salvage) options="$options --proof --under --within" ;;
     serve) options="$options --sessions --socket-mode" ;;
     loop) options="$options --socket-mode" ;;
     daemon) options="$options --reader --writer --allow-close --idle --backlog --reserve --socket-mode --extends" ;;
@@ -42,7 +43,7 @@ _audit() {
         files=1
     elif [[ " $valued " == *" $before "* ]]; then
         case $before in
-        --reader | --save | --first | --under | --receipts | --extends | --link | --after) files=1 ;;
+        --reader | --save | --first | --under | --receipts | --extends | --link | --after | --proof) files=1 ;;
         --long) choices="cut refuse" ;;
         --mode | --socket-mode) choices="600 640 660" ;;
         esac
@@ -50,7 +51,7 @@ _audit() {
         choices=$options
     else
         case $command:$place:$question in
-        format:[02]: | format:2:* | append:0: | close:0: | rotate:[01]: | rotate:3:* | show:0: | check:0: | export:[01]: | \
+        format:[02]: | format:2:* | append:0: | close:0: | rotate:[01]: | rotate:3:* | show:0: | check:0: | export:[01]: | salvage:[0-2]: | \
             verify:[01]: | disclose:[01]: | disclose:3:* | serve:[01]: | loop:[01]: | daemon:[01]: | stop:0: | send:0: | watch:[01]: | watch:2:* | read:[01]: | prove:0: | ask:0: | \
             prove:4:* | ask:2:export | ask:3:entry | ask:4:member | ask:4:increment) files=1 ;;
         prove:1:) choices="member increment" ;;

@@ -1,7 +1,7 @@
 //! What is known of the cause of a file fault, and of what a file is.
 use crate::bytes::Bytes;
 use crate::command::Asked;
-use crate::contents::{Contents, contents_of};
+use crate::contents::{Contents, contents_of, holds_inclusion};
 use crate::heard::Said;
 use crate::noted::unread_note;
 use crate::places::store_of;
@@ -158,6 +158,11 @@ pub(crate) fn explain_contents<F: Files, M: Write>(
     said: Option<Said>,
     messages: &mut M,
 ) -> io::Result<()> {
+    if let Asked::Search(asked) = asked
+        && said == Some(Said::BadProof)
+    {
+        return explain_proofs(rt, alloc, asked.proofs, messages);
+    }
     let (path, wanted) = match asked {
         Asked::Plain(Request::Check { proof, .. }) => (Some(proof), Contents::Proof),
         Asked::Plain(Request::Open(asked)) => (Some(asked.proof), Contents::Proof),
@@ -182,21 +187,37 @@ pub(crate) fn explain_contents<F: Files, M: Write>(
     }
 }
 
+// Prints which of the files of a search holds no inclusion proof.
+fn explain_proofs<F: Files, M: Write>(
+    rt: &F,
+    alloc: Global,
+    proofs: &[&str],
+    messages: &mut M,
+) -> io::Result<()> {
+    for path in proofs {
+        if !holds_inclusion(rt, alloc, path) {
+            return writeln!(messages, "audit: {}: no inclusion proof", Shown(path));
+        }
+    }
+    Ok(())
+}
+
 /// Prints how much of the file of a damaged store was left out, since it is no whole sector.
 pub(crate) fn explain_rest<F: Files, M: Write>(
     rt: &F,
     asked: Asked<'_>,
     messages: &mut M,
 ) -> io::Result<()> {
-    let Asked::Plain(
-        Request::Export {
-            file,
-            access: Access::Salvage,
-            ..
-        },
-    ) = asked
-    else {
-        return Ok(());
+    let file = match asked {
+        Asked::Plain(
+            Request::Export {
+                file,
+                access: Access::Salvage,
+                ..
+            },
+        ) => file,
+        Asked::Search(asked) => asked.file,
+        _ => return Ok(()),
     };
     match fs::metadata(rt, file) {
         Ok(found) if found.is_file() && found.len() % SECTOR_LEN != 0 => {

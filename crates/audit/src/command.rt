@@ -1,5 +1,5 @@
 use crate::forms::{
-    DISCLOSED, EVENTS, EXPLAIN, EXTENDS, NO_PROGRESS, PREPARED, WRITER, command_line,
+    DISCLOSED, EVENTS, EXPLAIN, EXTENDS, NO_PROGRESS, PREPARED, PROOF, WRITER, command_line,
 };
 use crate::noted::NoteRequest;
 use crate::remote_command::remote_request;
@@ -9,6 +9,7 @@ use audit_cli_daemon::{Request as Daemon, Settings};
 use audit_cli_disclosure::{ChoiceWord, Disclosing, Request as Disclosure, Showing};
 use audit_cli_offline::{CheckForm, ReportForm};
 use audit_cli_rotate::{Prepared, Request as Rotation};
+use audit_cli_salvage::Salvaging;
 use audit_cli_serve::Request as Serving;
 use audit_cli_store::{Access, LinkCheck, Opening, Request, ShowForm, Site, Verification};
 use clap::{ArgMatches, Error};
@@ -37,6 +38,8 @@ pub enum Asked<'a> {
     Note(NoteRequest<'a>),
     /// A disclosure that is made, or by which an export is shown.
     Disclosure(Disclosure<'a>),
+    /// A search of a damaged store with its log's first key.
+    Search(Salvaging<'a>),
     /// An append of lines.
     Lines(Lines<'a>),
     /// Closing a log, and beginning a new store with its last commitment.
@@ -94,6 +97,7 @@ fn asked_by<'m, 'a: 'm>(name: &str, given: &'m ArgMatches<'a>) -> Asked<'m> {
         "verify" if given.get_flag(DISCLOSED) => Asked::Disclosure(Disclosure::Show(showing(
             given,
         ))),
+        "salvage" => Asked::Search(search_request(given)),
         "note" => Asked::Note(NoteRequest {
             name: word(given, "NAME"),
             commitment: word(given, "COMMIT"),
@@ -143,6 +147,17 @@ fn prepared<'a>(given: &ArgMatches<'a>) -> Prepared<'a> {
         next: word(given, "NEW"),
         link: word(given, "link"),
         after: given.get_str("after"),
+    }
+}
+
+fn search_request<'m, 'a: 'm>(given: &'m ArgMatches<'a>) -> Salvaging<'m> {
+    Salvaging {
+        file: word(given, "FILE"),
+        key_file: word(given, "KEYFILE"),
+        out: word(given, "OUT"),
+        within: given.get_str("within"),
+        under: given.get_str("under"),
+        proofs: given.get_strs(PROOF).unwrap_or(&[]),
     }
 }
 

@@ -5,6 +5,7 @@ use audit_cli_store::STATE_WORD;
 use audit_disk::SECTOR_SIZE;
 use audit_link::read_link;
 use audit_log::Header;
+use audit_proof::{MemberProof, read_member};
 use audit_text::read_input;
 use audit_verify::{StateError, read_bookmark};
 use std::alloc::Global;
@@ -132,6 +133,18 @@ fn proof_or_link<F: Files>(rt: &F, alloc: Global, path: &str) -> Option<Contents
         return Some(Contents::Proof);
     }
     read_link(alloc, &bytes).is_ok().then_some(Contents::Link)
+}
+
+/// Whether a regular file holds an inclusion proof.
+pub(crate) fn holds_inclusion<F: Files>(rt: &F, alloc: Global, path: &str) -> bool {
+    inclusion_in(rt, alloc, path).is_some()
+}
+
+fn inclusion_in<F: Files>(rt: &F, alloc: Global, path: &str) -> Option<MemberProof> {
+    metadata_of(rt, path)?;
+    let mut file = fs::open(rt, path).ok()?;
+    let bytes = read_input(alloc, &mut file).ok()?;
+    read_member(alloc, &bytes).ok()
 }
 
 // Whether a file of this length may begin with an entry that begins so. Zeros are none.

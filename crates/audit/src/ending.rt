@@ -86,6 +86,10 @@ fn always_explains(asked: Asked<'_>) -> bool {
         | Asked::Remote(_)
         | Asked::Serving(_)
         | Asked::Daemon(_) => true,
-        Asked::Plain(_) | Asked::Lines(_) | Asked::Note(_) | Asked::Disclosure(_) => false,
+        Asked::Plain(_)
+        | Asked::Lines(_)
+        | Asked::Note(_)
+        | Asked::Disclosure(_)
+        | Asked::Search(_) => false,
     }
 }

@@ -23,6 +23,9 @@ pub(crate) fn explain_existing<F: Files, M: Write>(
         Asked::Plain(Request::Export { file, out, .. } | Request::Prove { file, out, .. }) => {
             return explain_output(rt, "OUT", out, (file, "the store"), messages);
         }
+        Asked::Search(asked) => {
+            return explain_output(rt, "OUT", asked.out, (asked.file, "the store"), messages);
+        }
         Asked::Plain(Request::Verify(asked)) => {
             let Some(out) = asked.save else {
                 return Ok(());

@@ -14,6 +14,9 @@ pub const EXPLAIN: &str = "explain";
 /// An option of `daemon` that may be given more than once.
 pub const WRITER: &str = "writer";
 
+/// An option of `salvage` that may be given more than once.
+pub const PROOF: &str = "proof";
+
 /// An option of `rotate`, which then makes no store.
 pub const PREPARED: &str = "prepared";
 
@@ -185,7 +188,7 @@ fn with_value<'a>(alloc: Global, option: &'static Choice) -> Arg<'a> {
         Some(value) => Arg::new(alloc, option.name)
             .long(option.name)
             .value_name(value)
-            .action(if option.name == WRITER {
+            .action(if option.name == WRITER || option.name == PROOF {
                 ArgAction::Append
             } else {
                 ArgAction::Set

@@ -92,6 +92,7 @@ fn commitment_words<'a>(asked: Asked<'a>) -> (Option<&'a str>, Option<&'a str>) 
         Asked::Plain(Request::CheckLink(asked)) => (Some(asked.old), asked.new),
         Asked::Plain(Request::Verify(asked)) => (Some(asked.commitment), None),
         Asked::Note(note) => (Some(note.commitment), None),
+        Asked::Search(asked) => (asked.under, None),
         Asked::Disclosure(Disclosure::Disclose(asked)) => (Some(asked.commitment), None),
         Asked::Disclosure(Disclosure::Show(asked)) => (Some(asked.commitment), None),
         _ => (None, None),
@@ -156,6 +157,10 @@ fn with_first<'a>(asked: Asked<'a>, word: &'a str) -> Asked<'a> {
         Asked::Note(mut note) => {
             note.commitment = word;
             Asked::Note(note)
+        }
+        Asked::Search(mut asked) => {
+            asked.under = Some(word);
+            Asked::Search(asked)
         }
         Asked::Disclosure(Disclosure::Disclose(mut asked)) => {
             asked.commitment = word;

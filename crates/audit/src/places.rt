@@ -10,6 +10,7 @@ use audit_cli_store::Request;
 pub(crate) fn store_of<'a>(asked: Asked<'a>) -> Option<&'a str> {
     match asked {
         Asked::Plain(request) => store_of_plain(request),
+        Asked::Search(asked) => Some(asked.file),
         Asked::Lines(lines) => Some(lines.file),
         Asked::Rotation(rotation) => Some(rotation.old),
         Asked::Prepared(asked) => Some(asked.old),
@@ -44,6 +45,7 @@ pub(crate) fn key_file_of<'a>(asked: Asked<'a>) -> Option<&'a str> {
         Asked::Plain(Request::Format { key_file, .. }) => Some(key_file),
         Asked::Plain(Request::Verify(asked)) => Some(asked.start),
         Asked::Disclosure(Disclosure::Disclose(asked)) => Some(asked.start),
+        Asked::Search(asked) => Some(asked.key_file),
         Asked::Rotation(rotation) => Some(rotation.key_file),
         Asked::Remote(Remote::Read { state, first, .. }) => Some(first.unwrap_or(state)),
         _ => None,

@@ -14,6 +14,7 @@ use audit_cli_host::{Dial, Extent, Notes, Subject};
 use audit_cli_note::write_note;
 use audit_cli_offline::ReportForm;
 use audit_cli_rotate::{Prepared, Request as Rotation};
+use audit_cli_salvage::Salvaging;
 use audit_cli_serve::Request as Serving;
 use audit_cli_store::Request;
 use audit_cli_terminal::Screen;
@@ -172,7 +173,10 @@ fn only_answers(asked: Asked<'_>) -> bool {
     match asked {
         Asked::Plain(Request::Format { .. } | Request::Close { .. }) => false,
         Asked::Plain(Request::Verify(asked)) => asked.save.is_none(),
-        Asked::Plain(_) | Asked::Note(_) | Asked::Disclosure(Disclosure::Show(_)) => true,
+        Asked::Plain(_)
+        | Asked::Note(_)
+        | Asked::Disclosure(Disclosure::Show(_))
+        | Asked::Search(_) => true,
         Asked::Remote(Remote::Ask { question, .. }) => question.0 != "close",
         _ => false,
     }
@@ -197,6 +201,7 @@ where
         Asked::Plain(request) => answer(rt, alloc, request, input, output, messages),
         Asked::Note(request) => note(alloc, request, output, messages),
         Asked::Disclosure(request) => disclose(rt, alloc, request, output, messages),
+        Asked::Search(request) => search(rt, alloc, request, output, messages),
         Asked::Lines(request) => append(rt, alloc, request, older, input, output, messages),
         Asked::Rotation(request) => rotate(rt, alloc, request, output, messages),
         Asked::Prepared(request) => rotate_prepared(rt, alloc, request, output, messages),
@@ -248,6 +253,20 @@ where
 {
     let mut files = SystemAuditorFiles::new(rt);
     audit_cli_disclosure::run(&mut files, alloc, request, output, messages)
+}
+
+#[inline(never)]
+fn search<F: SystemFiles, W: Write, M: Write>(
+    rt: &F,
+    alloc: Global,
+    request: Salvaging<'_>,
+    output: &mut W,
+    messages: &mut M,
+) -> Status
+where
+    F::File: SystemFile,
+{
+    audit_cli_salvage::run(rt, alloc, request, output, messages)
 }
 
 #[inline(never)]
@@ -381,6 +400,7 @@ fn show_progress(asked: Asked<'_>, notes: &Notes<'_>) {
             | Request::Prove { file, .. }
             | Request::Export { file, .. },
         ) => notes.show_progress(notes.subject_of(file), Extent::Store),
+        Asked::Search(asked) => notes.show_progress(notes.subject_of(asked.file), Extent::Store),
         Asked::Lines(lines) => {
             let extent = if lines.follows {
                 Extent::Opening

@@ -305,9 +305,55 @@ static EXPORT: Form = Form {
     ],
 };
 
+static SALVAGE: Form = Form {
+    name: "salvage",
+    about: "Searches a damaged store with the first key, and writes every event that it still finds",
+    after: None,
+    words: &[
+        Word {
+            name: "FILE",
+            help: "The file of the store, which is only read",
+            is_required: true,
+        },
+        Word {
+            name: "KEYFILE",
+            help: "The file with the log's first key",
+            is_required: true,
+        },
+        Word {
+            name: "OUT",
+            help: "The file for the events, which is replaced; - for standard output",
+            is_required: true,
+        },
+    ],
+    options: &[
+        Choice {
+            name: "within",
+            value: Some("N"),
+            help: "Finds what is behind a hole of at most N entries (65536)",
+            needs: None,
+            excludes: None,
+        },
+        Choice {
+            name: "under",
+            value: Some("COMMIT"),
+            help: "The commitment under which the proofs are accepted, as COUNT:ROOT, or @FILE with a note",
+            needs: None,
+            excludes: None,
+        },
+        Choice {
+            name: "proof",
+            value: Some("PROOF"),
+            help: "A file with an inclusion proof of an entry; may be given more than once",
+            needs: Some("under"),
+            excludes: None,
+        },
+    ],
+};
+
 /// The commands that make a store, append to it, and answer from it.
-pub(crate) fn store_forms() -> [&'static Form; 8] {
+pub(crate) fn store_forms() -> [&'static Form; 9] {
     [
-        &REPLAY, &FORMAT, &APPEND, &ROTATE, &CLOSE, &SHOW, &PROVE, &EXPORT,
+        &REPLAY, &FORMAT, &APPEND, &ROTATE, &CLOSE, &SHOW, &PROVE, &EXPORT, &SALVAGE,
     ]
 }

@@ -5,6 +5,7 @@ use audit_cli_append::Request as Lines;
 use audit_cli_client::Request as Remote;
 use audit_cli_daemon::{Request as Daemon, Settings, source_in};
 use audit_cli_disclosure::{ChoiceWord, Request as Disclosure};
+use audit_cli_salvage::Salvaging;
 use audit_cli_serve::Request as Serving;
 use audit_cli_store::{Request, Site};
 use audit_log::{MAX_SECTORS, MIN_SECTORS};
@@ -12,10 +13,15 @@ use audit_serve_passes::BoundKinds;
 use audit_text::Shown;
 use std::fmt::{self, Display, Formatter};
 
-// The bounds of numbers of seconds, of lines that are sent ahead, of sessions in a round, and of bytes for a client.
+// The bounds of numbers of seconds, of entries of a hole, of lines that are sent ahead, of sessions in a round, and of bytes for a client.
 const SECONDS: Form<'static> = Form::Number {
     least: 1,
     most: 86_400,
+};
+
+const HOLE: Form<'static> = Form::Number {
+    least: 1,
+    most: u64::MAX,
 };
 
 const WINDOW: Form<'static> = Form::Number {
@@ -67,6 +73,7 @@ pub(crate) fn wrong_word<'a>(asked: Asked<'a>) -> Option<Wrong<'a>> {
             Form::Commitment,
         )),
         Asked::Disclosure(request) => wrong_in_disclosure(request),
+        Asked::Search(asked) => wrong_in_search(asked),
         Asked::Lines(lines) => wrong_in_lines(lines),
         Asked::Rotation(rotation) => judge("SECTORS", Some(rotation.sectors), SECTORS),
         Asked::Prepared(_) => None,
@@ -147,6 +154,10 @@ fn wrong_in_disclosure<'a>(request: Disclosure<'a>) -> Option<Wrong<'a>> {
         }
         Disclosure::Show(asked) => judge("COMMIT", Some(asked.commitment), Form::Commitment),
     }
+}
+
+fn wrong_in_search<'a>(asked: Salvaging<'a>) -> Option<Wrong<'a>> {
+    judge("--within", asked.within, HOLE).or(judge("--under", asked.under, Form::Commitment))
 }
 
 /// The numbers of a proof that has another form, by their names.
