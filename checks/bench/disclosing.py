@@ -18,6 +18,8 @@ from checks.parts.scenes import program_of
 
 EVENTS = 1_000_000
 ONE_IN = 1000
+# An input of an append has at most 16 MiB.
+AT_ONCE = 100_000
 TURNS = 5
 
 
@@ -29,16 +31,17 @@ def seconds(*words):
     return after.ru_utime + after.ru_stime - before.ru_utime - before.ru_stime
 
 
-def lines_of(events):
+def lines_of(numbers):
     """One in a thousand is of another kind."""
-    return b"".join(b"event %d %064x\n" % (7 if number % ONE_IN == 0 else 1, number) for number in range(events))
+    return b"".join(b"event %d %064x\n" % (7 if number % ONE_IN == 0 else 1, number) for number in numbers)
 
 
 def measure(folder, events):
     store, export, out = (os.path.join(folder, name) for name in ("store", "export", "out"))
     done("format", store, str(events + 3), KEY)
     fill(store, events + 3)
-    done("append", store, data=lines_of(events), seconds=3600)
+    for first in range(0, events, AT_ONCE):
+        done("append", store, data=lines_of(range(first, min(first + AT_ONCE, events))), seconds=3600)
     committed = commitment_of(store)
     done("export", store, export, seconds=3600)
     ways = {"verify": ("verify", export, KEY, committed),
