@@ -7,6 +7,8 @@ mod base;
 #[cfg(test)]
 mod chain;
 #[cfg(test)]
+mod lanes;
+#[cfg(test)]
 mod mac;
 #[cfg(test)]
 mod proof;

@@ -1,0 +1,3 @@
+pub mod LaneLemmas
+pub mod ChMaj
+pub mod Growing
