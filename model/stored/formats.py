@@ -75,6 +75,19 @@ def mac():
         yield text("key_of_%d" % length, lambda length=length: python_hmac(bytes([length]) * length, b"audit"))
 
 
+SHA_256 = [("none", b"", "the Secure Hash Algorithm Validation System's short messages, length 0"),
+           ("abc", b"abc", "the examples of FIPS 180-4, one block"),
+           ("two_blocks", b"abcdbcdecdefdefgefghfghighijhijkijkljklmklmnlmnomnopnopq", "the examples of FIPS 180-4, two blocks"),
+           ("long", b"abcdefghbcdefghicdefghijdefghijkefghijklfghijklmghijklmnhijklmnoijklmnopjklmnopqklmnopqrlmnopqrsmnopqrst"
+            b"nopqrstu", "the examples of FIPS 180-4, a longer message")]
+
+
+def lanes():
+    """Published digests, which Python's own module makes too."""
+    for case, message, source in SHA_256:
+        yield outside(case, lambda message=message: hashlib.sha256(message).digest(), source)
+
+
 LONGEST = 32696
 
 
@@ -109,4 +122,5 @@ def chain():
 
 TESTS = "crates/audit_test_format/src/"
 FILES = {TESTS + "proof.rt": proof, TESTS + "proof/proof_bytes.rt": proof_bytes, TESTS + "tree.rt": tree, TESTS + "mac.rt": mac,
+         TESTS + "lanes.rt": lanes,
          TESTS + "chain.rt": chain}
