@@ -13,7 +13,8 @@ use Rattle.audit_cli_salvage.specs.Searched.{CountsUnreadSteps}
 use Rattle.audit_cli_salvage.specs.declared.proofs.ProvedLeaf.{ProvedLeaf}
 use Rattle.audit_cli_salvage.specs.declared.salvage.Salvage.{Salvage}
 
--- how many entries are looked for at most: as many as the headers state, or otherwise as many as the device has room for
+-- how many entries are looked for at most: as many as the headers state, or otherwise as many as the device has room
+-- for
 abbrev pub most_entries : Option ℕ → ℕ → ℕ
 most_entries (Some count) size = count
 most_entries None size = min size MAX_COUNT

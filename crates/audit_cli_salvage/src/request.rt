@@ -156,8 +156,8 @@ struct Search<'a, D> {
     proofs: &'a [ProvedLeaf],
 }
 
-// Writes what a search finds: to the command's output if `out` is standard output, and otherwise to a file for its owner
-// alone, which replaces the one there once all of it is written. The file with this identity isn't replaced.
+// Writes what a search finds: to the command's output if `out` is standard output, and otherwise to a file for its
+// owner alone, which replaces the one there once all of it is written. The file with this identity isn't replaced.
 fn write_to<F: Files, D: Sectors, W: Write>(
     rt: &F,
     search: Search<'_, D>,
@@ -165,8 +165,9 @@ fn write_to<F: Files, D: Sectors, W: Write>(
     out: &str,
     output: &mut W,
 ) -> Result<Salvage, CommandError>
-    ensures written { IfOk result (WritesTo (WritesSearchOf (D.view search.entry.disk.now) search.entry.first_key search.entry.beyond
-        search.entry.proofs.now) (selects_output out.now) (W.contents output.old) (W.contents output.new)) }
+    ensures written { IfOk result (WritesTo (WritesSearchOf (D.view search.entry.disk.now) search.entry.first_key
+        search.entry.beyond search.entry.proofs.now) (selects_output out.now) (W.contents output.old)
+        (W.contents output.new)) }
     ensures words { IfErr result IsNoWordFault }
 {
     if is_standard_output(out) {
@@ -190,7 +191,8 @@ fn write_buffered<D: Sectors, W: Write>(
     file: &mut W,
 ) -> Result<Salvage, CommandError>
     ensures written { IfOk result (λ salvage. (empty : Option (List ℕ)) × (full : Option (List ℕ))
-        × WritesSearchOf (D.view search.entry.disk.now) search.entry.first_key search.entry.beyond search.entry.proofs.now empty full salvage) }
+        × WritesSearchOf (D.view search.entry.disk.now) search.entry.first_key search.entry.beyond
+        search.entry.proofs.now empty full salvage) }
     ensures words { IfErr result IsNoWordFault }
 {
     let Ok(mut buffered) = BufWriter::with_capacity(search.alloc, FILE_ROOM, file) else {
@@ -205,8 +207,8 @@ fn write_search<D: Sectors, W: Write>(
     search: Search<'_, D>,
     writer: &mut W,
 ) -> Result<Salvage, CommandError>
-    ensures written { IfOk result (WritesSearchOf (D.view search.entry.disk.now) search.entry.first_key search.entry.beyond
-        search.entry.proofs.now (W.contents writer.old) (W.contents writer.new)) }
+    ensures written { IfOk result (WritesSearchOf (D.view search.entry.disk.now) search.entry.first_key
+        search.entry.beyond search.entry.proofs.now (W.contents writer.old) (W.contents writer.new)) }
     ensures words { IfErr result IsNoWordFault }
 {
     let Search {
