@@ -1,4 +1,5 @@
 """Lines of a log by a real rsyslogd, which is restarted and killed, as is the daemon."""
+import glob
 import os
 import random
 import re
@@ -9,10 +10,15 @@ from checks.parts import program
 from checks.parts.answers import expect_acknowledged_kept, kept_answers
 from checks.parts.configurations import configured, sending
 from checks.parts.daemons import FedDaemon
+from checks.parts.files import read, write
 from checks.parts.processes import Service
 from checks.parts.scenes import scene
 from checks.parts.tools import needs
-from checks.parts.wrong import expect_true
+from checks.parts.waiting import wait_for
+from checks.parts.wrong import expect, expect_true
+
+# More than what a queue of rsyslog holds that has no size of its own.
+WAITING = 1010
 
 
 def rsyslog_config(folder, daemon, wrapper, log):
@@ -95,3 +101,31 @@ def scene_rsyslog():
     expect_true(not missing, "%d lines of %d are missing: %s .." % (len(missing), len(wanted), missing[:3]))
     daemon.stop()
     expect_acknowledged_kept(daemon.store, answers, folder)
+
+
+@scene
+def scene_rsyslog_waiting():
+    """A daemon is away, and more messages wait for it than a queue of rsyslog holds without a size of its own: none is
+    dropped."""
+    needs("rsyslogd", "sed")
+    folder = os.getcwd()
+    daemon, log = FedDaemon(folder), os.path.join(folder, "some.log")
+    config = rsyslog_config(folder, daemon, program.PATH, log)
+    # Nothing is killed but the daemon, so no message has to be synced.
+    text = read(config).replace(b'queue.syncQueueFiles="on"', b"").replace(b'queue.checkpointInterval="1"', b"")
+    write(config, text)
+    rsyslog = rsyslogd_of(folder, config)
+    daemon.kill()
+    wanted = ["line %d." % number for number in range(WAITING)]
+    with open(log, "w") as file:
+        file.writelines(line + "\n" for line in wanted)
+    try:
+        wait_for(lambda: sum(read(path).count(b"+pszRawMsg:") for path in glob.glob("work/audit.0*")) >= WAITING,
+                 "a message in the queue", 60)
+        daemon.start()
+        daemon.wait_for(lambda held: held and held[-1].endswith(wanted[-1].encode()), "the last line")
+    finally:
+        rsyslog.kill()
+    texts = [payload.decode().split("some ", 1)[1] for payload in daemon.payloads(folder)]
+    daemon.stop()
+    expect(list(dict.fromkeys(texts)), wanted, "the lines that waited")
