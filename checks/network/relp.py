@@ -17,6 +17,9 @@ from checks.parts.tools import needs
 from checks.parts.waiting import free_port, is_port_taken, wait_for
 from checks.parts.wrong import LeftOut, expect_true
 
+# After how many seconds hosts of which nothing came write another line.
+BEAT = 5
+
 
 def rsyslogd(folder, name, text):
     """A real rsyslogd with this configuration."""
@@ -95,20 +98,40 @@ class Site:
     def two_hosts(self):
         return [host.process for host in self.hosts[:2]]
 
+    def write_until_later_ones_come(self, counts):
+        """Hosts write on until of each a line is in the store after as many. An rsyslogd that was killed may lose the
+        first message that it takes afterwards, and may have one more in its queue than it counts: then the newest waits
+        for the next."""
+        wrote_at = time.monotonic()
+
+        def came(found):
+            nonlocal wrote_at
+            texts = set(texts_of(found))
+            away = [host for host, count in zip(self.hosts, counts) if texts.isdisjoint(host.wrote[count:])]
+            if away and time.monotonic() > wrote_at + BEAT:
+                wrote_at = time.monotonic()
+                for host in away:
+                    host.write(1)
+            return not away
+
+        for host in self.hosts:
+            host.write(1)
+        self.daemon.wait_for(came, "a later line of each host")
+
     def missing_lines(self):
-        """What isn't in the store though each host's last line is; and what was acknowledged is kept."""
+        """What isn't in the store of what hosts wrote, though later lines are; and what was acknowledged is kept."""
         self.write(1)
-        last = {host.wrote[-1] for host in self.hosts}
-        self.daemon.wait_for(lambda found: last <= set(texts_of(found)), "the last line of each host")
         wrote = {line for host in self.hosts for line in host.wrote}
+        self.write_until_later_ones_come([len(host.wrote) for host in self.hosts])
         self.daemon.read_on()
-        found = texts_of(self.daemon.found)
-        expect_true(set(found) <= wrote, "the store has lines that nobody wrote: %s" % sorted(set(found) - wrote)[:3])
+        found = set(texts_of(self.daemon.found))
+        unknown = found.difference(*(host.wrote for host in self.hosts))
+        expect_true(not unknown, "the store has lines that nobody wrote: %s" % sorted(unknown)[:3])
         for process in self.collector, *(host.process for host in self.hosts):
             process.kill()
         self.daemon.stop()
         expect_acknowledged_kept(self.daemon.store, self.answers, self.folder)
-        return sorted(wrote - set(found)), len(wrote)
+        return sorted(wrote - found), len(wrote)
 
 
 @scene
