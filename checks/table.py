@@ -76,9 +76,9 @@ BENCHES = entries("checks.bench", [
     ("openings", "an opening of a million events, by turns with another executable's", "2 min"),
     ("disclosing", "`disclose` of one in a thousand of a million events, and `verify`, by turns", "4 min"),
     ("library", "proofs, exports and appends by libauditstore and the Python package", "1 min"),
-    ("network", "hosts over TLS, and clients that are more than a daemon's places", "2 min"),
-    ("replicas", "a store on Ceph and on an NBD quorum beside one in a file: rates, attaching, openings", "5 min"),
-    ("fleet", "200 stores on one machine: daemons, looks, metrics, rotations", "3 min"),
+    ("network", "hosts over TLS, and clients that are more than a daemon's places", "1 min"),
+    ("replicas", "a store on Ceph and on an NBD quorum beside one in a file: rates, attaching, openings", "over 20 min"),
+    ("fleet", "200 stores on one machine: daemons, looks, metrics, rotations", "20 s"),
     ("peers", "durable appends and verification beside SQLite, journald, rsyslogd and Go's tlog", "2 min"),
 ])
 
