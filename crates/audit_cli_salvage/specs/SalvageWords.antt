@@ -18,7 +18,8 @@ use Rattle.audit_cli_salvage.specs.declared.proofs.ProvedLeaf.{ProvedLeaf}
 use Rattle.audit_cli_salvage.specs.declared.words.Salvaging.{Salvaging}
 use Rattle.audit_cli_salvage.specs.declared.words.TheConstants.{WITHIN}
 
--- how many indices are tried after the least one, if a hole may have so many entries, at least one
+-- The number of indices that are tried after the least one, given the number of entries that a hole may have. A hole
+-- of no entries is a bad argument.
 abbrev pub beyond_of : Result ℕ CommandError → Result ℕ CommandError
 beyond_of (Ok within) = if nat_eq within 0 then Err BadArgument else Ok (within - 1)
 beyond_of (Err fault) = Err fault

@@ -21,7 +21,7 @@ unread_steps [] = 0
 unread_steps (unread ∷ steps) = unread_steps steps + 1
 unread_steps (_ ∷ steps) = unread_steps steps
 
--- Each of them cost the device a failure, and nothing else did.
+-- Each of them cost the device a failure. If there are none, no failure was counted.
 pub record CountsUnreadSteps (old new : ℕ) (steps : List SearchData) : Type 0 where
   pub each : min (old + unread_steps steps) last_count ≤ new
   pub calm : unread_steps steps ≡ 0 → new ≡ old
@@ -53,7 +53,7 @@ pub record WritesSearchInPart (view : View) (failures : ℕ) (first_key : List �
 abbrev pub IsWriteFault : CommandError → Type 0
 IsWriteFault fault = (fault ≡ Lines Write) ⊎ (fault ≡ Refused store.Memory)
 
--- so many steps were taken at least, and their text was written
+-- A search is under way: some of its steps were taken, and their text was written.
 pub record IsSearching (view : View) (failures : ℕ) (first_key : List ℕ) (reach : Reach) (proofs : List ProvedLeaf)
     (searcher : Searcher) (totals : Totals) (old now : Option (List ℕ)) : Type 0 where
   pub steps : List SearchData
