@@ -13,7 +13,8 @@ use audit_serve_passes::BoundKinds;
 use audit_text::Shown;
 use std::fmt::{self, Display, Formatter};
 
-// The bounds of numbers of seconds, of entries of a hole, of lines that are sent ahead, of sessions in a round, and of bytes for a client.
+// The bounds of numbers of seconds, of entries of a hole, of lines that are sent ahead, of sessions in a round, and of
+// bytes for a client.
 const SECONDS: Form<'static> = Form::Number {
     least: 1,
     most: 86_400,
