@@ -1,3 +1,3 @@
 pub mod LaneLemmas
 pub mod ChMaj
-pub mod Growing
+pub mod Filling

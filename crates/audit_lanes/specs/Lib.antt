@@ -1,2 +1,3 @@
 pub mod Lanes
-pub mod Hashers
+pub mod States
+pub mod Messages

@@ -1,103 +1,90 @@
-//! The calls: four digests at once if the messages have the same length, otherwise one after another.
+//! The calls: four digests at once, or one after another where that takes less time.
 
-ghost use Rattle.std.specs.Prelude.{◌≡◌, ◌↔◌, IsTrue, List, [], ◌∷◌, ◌++◌, length, map};
+ghost use Rattle.std.specs.Prelude.{◌≡◌, ◌<◌, ℕ, List, [], ◌∷◌, ◌++◌, IfSome, map, slice_index};
 ghost use Rattle.std.specs.Simd.Lanes.{zip2};
 ghost use Rattle.sha2.specs.Sha256.{sha256};
+ghost use Rattle.audit_lanes.specs.Lanes.{of_four};
+ghost use Rattle.audit_lanes.specs.Messages.{block_count};
 
-use crate::hashers::Hashers;
-use sha2::{Digest, Sha256};
+use crate::message::Message;
+use crate::messages::Messages;
+use crate::text::Text;
 
-/// Returns the SHA-256 of each of four messages. Messages of the same length are hashed side by side, others one after
-/// another.
+/// Returns the SHA-256 of each of four messages. They are hashed side by side if that takes less time than one after
+/// another, so if they have about as many blocks.
 pub fn sha256_four(messages: [&[u8]; 4]) -> [[u8; 32]; 4]
     ensures { result ≡ map (λ message. sha256 message.now) messages.entry }
 {
-    let [a, b, c, d] = messages;
-    if have_same_length(a, b, c, d) {
-        hash_four(a, b, c, d)
-    } else {
-        [
-            Sha256::digest(a),
-            Sha256::digest(b),
-            Sha256::digest(c),
-            Sha256::digest(d),
-        ]
-    }
+    let none: &[u8] = &[];
+    sha256_four_joined(none, [none, none, none, none], messages)
 }
 
 /// Returns the SHA-256 of each of four messages in three pieces: a prefix that they share, and two of their own. They
-/// are hashed side by side if the first pieces have the same length and the second pieces too, and otherwise one after
-/// another.
+/// are hashed side by side if that takes less time than one after another, so if they have about as many blocks.
 pub fn sha256_four_joined(prefix: &[u8], firsts: [&[u8]; 4], seconds: [&[u8]; 4]) -> [[u8; 32]; 4]
     ensures { result
         ≡ zip2 (λ first second. sha256 (prefix.now ++ first.now ++ second.now)) firsts.entry seconds.entry }
 {
     let [a, b, c, d] = firsts;
     let [e, f, g, h] = seconds;
-    if have_same_length(a, b, c, d) && have_same_length(e, f, g, h) {
-        hash_four_joined(prefix, a, b, c, d, e, f, g, h)
-    } else {
-        [
-            hash_joined(prefix, a, e),
-            hash_joined(prefix, b, f),
-            hash_joined(prefix, c, g),
-            hash_joined(prefix, d, h),
-        ]
+    digests_of(
+        text_of(prefix, a, e),
+        text_of(prefix, b, f),
+        text_of(prefix, c, g),
+        text_of(prefix, d, h),
+    )
+}
+
+fn text_of<'a>(prefix: &'a [u8], first: &'a [u8], second: &'a [u8]) -> Text<'a>
+    ensures { result ≡ prefix.now ++ first.now ++ second.now }
+{
+    Text {
+        prefix,
+        first,
+        second,
     }
 }
 
-fn have_same_length(a: &[u8], b: &[u8], c: &[u8], d: &[u8]) -> bool
-    ensures { IsTrue result
-        ↔ (length b.now ≡ length a.now) × (length c.now ≡ length a.now) × (length d.now ≡ length a.now) }
+fn digests_of(a: Text<'_>, b: Text<'_>, c: Text<'_>, d: Text<'_>) -> [[u8; 32]; 4]
+    ensures { result ≡ sha256 a.entry ∷ sha256 b.entry ∷ sha256 c.entry ∷ sha256 d.entry ∷ [] }
 {
-    b.len() == a.len() && c.len() == a.len() && d.len() == a.len()
+    match counts_of(&a, &b, &c, &d) {
+        Some(counts) if are_balanced(&counts) => digests_in_lanes(a, b, c, d, &counts),
+        _ => [a.digest(), b.digest(), c.digest(), d.digest()],
+    }
 }
 
-fn hash_four(a: &[u8], b: &[u8], c: &[u8], d: &[u8]) -> [[u8; 32]; 4]
-    requires second { length b.now ≡ length a.now }
-    requires third { length c.now ≡ length a.now }
-    requires fourth { length d.now ≡ length a.now }
-    ensures { result ≡ sha256 a.now ∷ sha256 b.now ∷ sha256 c.now ∷ sha256 d.now ∷ [] }
+// How many blocks each message has with its padding.
+fn counts_of(a: &Text<'_>, b: &Text<'_>, c: &Text<'_>, d: &Text<'_>) -> Option<[usize; 4]>
+    ensures { IfSome result (λ counts. (k : ℕ) → k < 4
+        → slice_index counts k ≡ block_count (of_four a.now b.now c.now d.now k)) }
 {
-    let mut hashers = Hashers::new();
-    hashers.update(a, b, c, d);
-    hashers.finalize()
+    Some([a.blocks()?, b.blocks()?, c.blocks()?, d.blocks()?])
 }
 
-fn hash_four_joined(
-    prefix: &[u8],
-    a: &[u8],
-    b: &[u8],
-    c: &[u8],
-    d: &[u8],
-    e: &[u8],
-    f: &[u8],
-    g: &[u8],
-    h: &[u8],
+// Whether lanes save time: a block in four lanes takes as long as two by `sha2`.
+fn are_balanced(counts: &[usize; 4]) -> bool {
+    let [a, b, c, d] = *counts;
+    let most = a.max(b).max(c.max(d));
+    let sum = a.saturating_add(b).saturating_add(c).saturating_add(d);
+    sum / 2 >= most
+}
+
+fn digests_in_lanes(
+    a: Text<'_>,
+    b: Text<'_>,
+    c: Text<'_>,
+    d: Text<'_>,
+    counts: &[usize; 4],
 ) -> [[u8; 32]; 4]
-    requires second { length b.now ≡ length a.now }
-    requires third { length c.now ≡ length a.now }
-    requires fourth { length d.now ≡ length a.now }
-    requires sixth { length f.now ≡ length e.now }
-    requires seventh { length g.now ≡ length e.now }
-    requires eighth { length h.now ≡ length e.now }
-    ensures { result
-        ≡ sha256 (prefix.now ++ a.now ++ e.now) ∷ sha256 (prefix.now ++ b.now ++ f.now)
-        ∷ sha256 (prefix.now ++ c.now ++ g.now) ∷ sha256 (prefix.now ++ d.now ++ h.now) ∷ [] }
+    requires { (k : ℕ) → k < 4 → slice_index counts.now k ≡ block_count (of_four a b c d k) }
+    ensures { result ≡ sha256 a.entry ∷ sha256 b.entry ∷ sha256 c.entry ∷ sha256 d.entry ∷ [] }
 {
-    let mut hashers = Hashers::new();
-    hashers.update(prefix, prefix, prefix, prefix);
-    hashers.update(a, b, c, d);
-    hashers.update(e, f, g, h);
-    hashers.finalize()
-}
-
-fn hash_joined(prefix: &[u8], first: &[u8], second: &[u8]) -> [u8; 32]
-    ensures { result ≡ sha256 (prefix.now ++ first.now ++ second.now) }
-{
-    let mut hasher = Sha256::new();
-    hasher.update(prefix);
-    hasher.update(first);
-    hasher.update(second);
-    hasher.finalize()
+    let messages = Messages {
+        first: Message::new(a),
+        second: Message::new(b),
+        third: Message::new(c),
+        fourth: Message::new(d),
+    };
+    messages.digests(counts)
 }

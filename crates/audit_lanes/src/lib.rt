@@ -13,8 +13,12 @@
 
 mod compress;
 mod four;
-mod hashers;
 mod lanes;
+mod message;
+mod messages;
+mod padding;
 mod round;
+mod states;
+mod text;
 
 pub use four::{sha256_four, sha256_four_joined};

@@ -123,7 +123,7 @@ fn piece_by(bytes: &[u8; LONGEST], bits: u64, len: Option<usize>) -> &[u8] {
 fn random_quadruples(rt: HostRuntime) {
     let bytes = bytes_from(6);
     let mut state = 1;
-    for round in 0..20_000u32 {
+    for round in 0..100_000u32 {
         let a = advance(state);
         let b = advance(a);
         let c = advance(b);

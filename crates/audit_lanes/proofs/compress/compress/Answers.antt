@@ -1,6 +1,6 @@
 use Rattle.std.proofs.Common.{◌≡◌, ap, ◌*◌, ◌∙◌, arith}
 use Rattle.sha2.specs.Sha256.{add_state, compress, rounds, schedule}
-use Rattle.audit_lanes.specs.Hashers.{hash_in_lane}
+use Rattle.audit_lanes.specs.States.{hash_in_lane}
 use Rattle.audit_lanes.specs.Lanes.{of_four}
 use Rattle.audit_lanes.proofs.compress.compress.Goals as goal
 

@@ -1,6 +1,6 @@
 use Rattle.std.proofs.Common.{ℕ, ◌<◌, ◌*◌}
 use Rattle.sha2.specs.Sha256.{IsRoundsAt}
-use Rattle.audit_lanes.specs.Hashers.{hash_in_lane}
+use Rattle.audit_lanes.specs.States.{hash_in_lane}
 use Rattle.audit_lanes.specs.Lanes.{lane, of_four}
 use Rattle.audit_lanes.proofs.compress.compress.Given as goal
 
