@@ -11,6 +11,8 @@
 //! ```
 #![tactic(auto)]
 
+mod four;
 mod mac;
 
+pub use four::hmac_sha256_four;
 pub use mac::{BLOCK_LEN, MAC_LEN, Mac, hmac_sha256};

@@ -12,10 +12,11 @@ pub const BLOCK_LEN: usize = 64;
 /// The length of an HMAC-SHA-256 in bytes, the same as a digest's.
 pub const MAC_LEN: usize = HASH_LEN;
 
-// The bytes ipad and opad of RFC 2104, section 2.
-const INNER_PAD: u8 = 0x36;
+/// The byte ipad of RFC 2104, section 2.
+pub(crate) const INNER_PAD: u8 = 0x36;
 
-const OUTER_PAD: u8 = 0x5c;
+/// The byte opad.
+pub(crate) const OUTER_PAD: u8 = 0x5c;
 
 /// An incremental HMAC-SHA-256 (RFC 2104). The key may have any length, and the text arrives in pieces of any length.
 /// No call fails or allocates.
@@ -77,8 +78,8 @@ fn digest_after(block: &[u8; BLOCK_LEN], text: &[u8]) -> [u8; HASH_LEN]
     hasher.finalize()
 }
 
-// The key as one block: a key longer than a block is replaced by its digest, and the rest is zeros.
-fn padded_key(key: &[u8]) -> [u8; BLOCK_LEN]
+/// The key as one block: a key longer than a block is replaced by its digest, and the rest is zeros.
+pub(crate) fn padded_key(key: &[u8]) -> [u8; BLOCK_LEN]
     ensures { result ≡ key_block key.now }
 {
     if key.len() > BLOCK_LEN {
@@ -110,7 +111,8 @@ fn write_front(block: &mut [u8], bytes: &[u8])
     block[..bytes.len()].copy_from_slice(bytes);
 }
 
-fn masked(block: &[u8; BLOCK_LEN], pad: u8) -> [u8; BLOCK_LEN]
+/// The block with each byte xored with a pad.
+pub(crate) fn masked(block: &[u8; BLOCK_LEN], pad: u8) -> [u8; BLOCK_LEN]
     ensures { result ≡ map (λ byte. bit_xor byte pad) block.now }
 {
     let mut masked = *block;
