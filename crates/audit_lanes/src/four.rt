@@ -35,6 +35,26 @@ pub fn sha256_four_joined(prefix: &[u8], firsts: [&[u8]; 4], seconds: [&[u8]; 4]
     )
 }
 
+/// Returns the SHA-256 of each of four messages in three pieces of their own, as [`sha256_four_joined`] does.
+pub fn sha256_four_in_pieces(
+    firsts: [&[u8]; 4],
+    seconds: [&[u8]; 4],
+    thirds: [&[u8]; 4],
+) -> [[u8; 32]; 4]
+    ensures { result ≡ zip2 (λ front third. sha256 (front ++ third.now))
+        (zip2 (λ first second. first.now ++ second.now) firsts.entry seconds.entry) thirds.entry }
+{
+    let [a, b, c, d] = firsts;
+    let [e, f, g, h] = seconds;
+    let [i, j, k, l] = thirds;
+    digests_of(
+        text_of(a, e, i),
+        text_of(b, f, j),
+        text_of(c, g, k),
+        text_of(d, h, l),
+    )
+}
+
 fn text_of<'a>(prefix: &'a [u8], first: &'a [u8], second: &'a [u8]) -> Text<'a>
     ensures { result ≡ prefix.now ++ first.now ++ second.now }
 {

@@ -21,4 +21,4 @@ mod round;
 mod states;
 mod text;
 
-pub use four::{sha256_four, sha256_four_joined};
+pub use four::{sha256_four, sha256_four_in_pieces, sha256_four_joined};
