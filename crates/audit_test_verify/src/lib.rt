@@ -2,6 +2,8 @@
 #![tactic(auto)]
 
 #[cfg(test)]
+mod fours;
+#[cfg(test)]
 mod pieces;
 #[cfg(test)]
 mod tests;
