@@ -12,14 +12,17 @@ use Rattle.audit_store.specs.Store.{is_broken, Holds}
 use Rattle.audit_store.specs.declared.store_error.StoreError.{StoreError}
 use Rattle.audit_store.specs.declared.store_error.StoreError.TheVariants.{NotAStore, DamagedHeader, HeadersDisagree, DamagedLog, BatchTooLarge, Full, NoSuchVersion, Worn, Broken, Device, Memory, Closed, BadSize, ReservedKind}
 use Rattle.audit_server_commit.specs.declared.committer.Committer.{Committer}
-use Rattle.audit_server_commit.specs.Flush.{IsFlush}
-use Rattle.audit_server_commit.specs.Committer.{store_of, state_of}
+use Rattle.audit_server_commit.specs.Flush.{FlushOutcome, IsFlush}
+use Rattle.audit_server_commit.specs.Committer.{store_of, outputs_of, state_of}
 use Rattle.audit_server_commit.specs.Durable.{IsDurable}
 use Rattle.audit_serve_passes.specs.Steps.{StepData, a_piece, an_end, a_flush, IsPartOf}
 use Rattle.audit_serve_passes.specs.Core.{GoesBy, no_bytes}
 use Rattle.audit_server_model.specs.Sessions.{SessionData, no_session, sessions_run, arrivals_by_piece, arrivals_run}
 use Rattle.audit_server_model.specs.Serving.{CoreData, IsDurablyServed}
 use Rattle.audit_server_model.proofs.Serving.{put_back_none, durably_none, durably_more}
+use Rattle.audit_server_model.proofs.Taking.{nothing_taken}
+use Rattle.audit_server.specs.Running.{AddsReplies}
+use Rattle.audit_server.proofs.Replies.{flush_adds_any, arrival_ends, piece_ends}
 use Rattle.audit_server.specs.declared.step.Step.{Step}
 use Rattle.audit_server.specs.declared.feed_fault.FeedFault.{FeedFault}
 use Rattle.audit_server.specs.declared.server_core.Core.{Core}
@@ -71,10 +74,14 @@ module _ {D : Type 0} {g : sectors.Ghosts D} where
   -- some steps were done, by a core that wasn't broken
   durably_by : {steps : List StepData} (old new : CoreData D g) → is_broken (store_of old.committer) ≡ false → new.sessions ≡ sessions_run steps old.sessions
       → ((origin : Origin) (events : List EventData) → Holds (store_of old.committer) origin events → (after : List EventData)
-      × IsDurable origin (store_of old.committer) (store_of new.committer) (state_of old.committer events) (state_of new.committer after) (appends_among (arrivals_run steps old.sessions))) → IsDurablyServed old new steps no_bytes
-  durably_by {steps = steps} old new sound sessions durable = record {
+      × IsDurable origin (store_of old.committer) (store_of new.committer) (state_of old.committer events) (state_of new.committer after) (appends_among (arrivals_run steps old.sessions))) → AddsReplies old.committer new.committer → IsDurablyServed old new steps no_bytes
+  durably_by {steps = steps} old new sound sessions durable added = record {
     sessions = sessions;
     broken = λ broken. absurd (false≢true (sym sound ∙ broken));
+    spares = λ stops. (
+      (added.3 stops).0,
+      record { sent = added.0; none = (added.3 stops).1; outputs = nothing_taken no_bytes (outputs_of new.committer) (λ k. refl) ∙ added.2 },
+    );
     durable = λ origin events holds.
         let one = durable origin events holds in (
           one.0,
@@ -84,7 +91,7 @@ module _ {D : Type 0} {g : sectors.Ghosts D} where
   }
 
   pub done_durably : {steps : List StepData} (old new : Core D g) → IsSound old → HasDone steps old new → IsDurablyServed (data_of old) (data_of new) steps no_bytes
-  done_durably old new sound done = durably_by (data_of old) (data_of new) sound done.sessions (λ origin events holds. let one = done.advances origin events holds in (one.0, one.1.durable))
+  done_durably old new sound done = durably_by (data_of old) (data_of new) sound done.sessions (λ origin events holds. let one = done.advances origin events holds in (one.0, one.1.durable)) done.replies
 
   -- ---- one step
 
@@ -98,22 +105,22 @@ module _ {D : Type 0} {g : sectors.Ghosts D} where
         one.0,
         subst (λ (arrived : List Append). IsDurable origin (store_of (committer_of old)) (store_of (committer_of new)) (state_of (committer_of old) events) (state_of (committer_of new) one.0) arrived)
             (ap appends_among (sym (append-nil (arrivals_by_piece k front (session_of k old))))) one.1.durable,
-      )))
+      )) (piece_ends k piece old new fault end))
 
   pub end_durably : (k : ℕ) (old new : Core D g) (result : Result (Unit {0}) StoreError) → EndOutcome k old new result → IsSound old → IsDurablyServed (data_of old) (data_of new) (whole_done (an_end k) result) no_bytes
   end_durably k old new (Ok done) end sound = done_durably old new sound (end_done k old new (Ok done) end sound)
   end_durably k old new (Err error) end sound =
       durably_by (data_of old) (data_of new) sound (end.only ∙ ap (slice_set (sessions_of old) k) end.ended.session ∙ set-get_or (sessions_of old) k no_session) (λ origin events holds.
       let one = end.ended.frame.refused origin events holds in
-      (one.0, one.1.durable))
+      (one.0, one.1.durable)) (arrival_ends _ (committer_of old) (committer_of new) error end.ended.frame.end)
 
   pub flush_durably : (old new : CoreData D g) (result : Result (Unit {0}) StoreError) → new.sessions ≡ old.sessions
-      → ((origin : Origin) (events : List EventData) → Holds (store_of old.committer) origin events → (after : List EventData) × IsFlush origin old.committer new.committer events after result) → is_broken (store_of old.committer) ≡ false
+      → ((origin : Origin) (events : List EventData) → Holds (store_of old.committer) origin events → (after : List EventData) × IsFlush origin old.committer new.committer events after result) → FlushOutcome old.committer new.committer result → is_broken (store_of old.committer) ≡ false
       → IsDurablyServed old new (whole_done a_flush result) no_bytes
-  flush_durably old new (Ok done) sessions flush sound =
-      durably_by old new sound sessions (λ origin events holds. let one = flush origin events holds in (one.0, one.1.durable))
-  flush_durably old new (Err error) sessions flush sound =
-      durably_by old new sound sessions (λ origin events holds. let one = flush origin events holds in (one.0, one.1.durable))
+  flush_durably old new (Ok done) sessions flush end sound =
+      durably_by old new sound sessions (λ origin events holds. let one = flush origin events holds in (one.0, one.1.durable)) (flush_adds_any old.committer new.committer (Ok done) end)
+  flush_durably old new (Err error) sessions flush end sound =
+      durably_by old new sound sessions (λ origin events holds. let one = flush origin events holds in (one.0, one.1.durable)) (flush_adds_any old.committer new.committer (Err error) end)
 
   -- ---- consecutive steps
 

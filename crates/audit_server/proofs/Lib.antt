@@ -20,3 +20,4 @@ pub mod Quiet
 pub mod NextRequests
 pub mod Receipts
 pub mod PlacedSources
+pub mod Sparing

@@ -4,13 +4,14 @@ use Rattle.audit_disk_model.specs.declared.sectors.Sectors as sectors
 use Rattle.audit_server_commit.specs.GroupCommit.{ServerState}
 use Rattle.audit_server_commit.specs.Arrivals.{appends_among}
 use Rattle.audit_store.specs.Store.{is_broken}
-use Rattle.audit_server_commit.specs.Committer.{store_of, state_of}
+use Rattle.audit_server_commit.specs.Committer.{store_of, outputs_of, state_of}
 use Rattle.audit_server_commit.specs.Durable.{IsDurable}
 use Rattle.audit_serve_passes.specs.Steps.{StepData}
 use Rattle.audit_serve_passes.specs.Core.{no_bytes}
 use Rattle.audit_server_model.specs.Sessions.{arrivals_run}
 use Rattle.audit_server_model.specs.Serving.{HasServed}
 use Rattle.audit_server_model.proofs.Serving.{put_back_none}
+use Rattle.audit_server_model.proofs.Taking.{nothing_taken}
 use Rattle.audit_server.specs.declared.server_core.Core.{Core}
 use Rattle.audit_server.specs.Core.{committer_of, sessions_of, data_of, is_core_broken, IsSound, IsCoreUntouched, HasDone}
 
@@ -24,6 +25,11 @@ module _ {D : Type 0} {g : sectors.Ghosts D} where
     sound = λ sound. done.sound;
     broken = λ broken. absurd (not_broken broken);
     failures = done.failures;
+    spares = λ stops.
+        let added = done.replies in (
+          (added.3 stops).0,
+          record { sent = added.0; none = (added.3 stops).1; outputs = nothing_taken no_bytes (outputs_of (committer_of new)) (λ k. refl) ∙ added.2 },
+        );
     serves = λ origin events holds.
         let one = done.advances origin events holds in (
           one.0,

@@ -4,7 +4,9 @@ use Rattle.audit_disk_model.specs.declared.sectors.Sectors as sectors
 use Rattle.audit_chain.specs.Event.{EventData}
 use Rattle.audit_store_commit.specs.Origin.{Origin}
 use Rattle.audit_server_commit.specs.Waiting.{Append, nothing_waits}
+use Rattle.std.specs.List.{AllByRecursion}
 use Rattle.audit_server_commit.specs.Replies.{Sent, all_delivered, AreWhole}
+use Rattle.audit_server_commit.specs.Fitting.{TellsNoFull}
 use Rattle.audit_server_commit.specs.GroupCommit.{ServerState}
 use Rattle.audit_server_commit.specs.Arrivals.{Arrival, appends_among, all_entered}
 use Rattle.audit_store.specs.Store.{device, is_broken, Holds}
@@ -12,7 +14,7 @@ use Rattle.audit_store.specs.declared.store_error.StoreError.{StoreError}
 use Rattle.audit_store.specs.declared.store_error.StoreError.TheVariants.{Memory}
 use Rattle.audit_server_commit.specs.declared.committer.Committer.{Committer}
 use Rattle.audit_server_commit.specs.Faultless.{IsFaultless}
-use Rattle.audit_server_commit.specs.Committer.{store_of, waiting_of, outputs_of, state_of}
+use Rattle.audit_server_commit.specs.Committer.{store_of, waiting_of, outputs_of, stops_of, state_of}
 use Rattle.audit_server_commit.specs.Durable.{IsDurable}
 use Rattle.audit_server_commit.specs.Entering.{HasEntered, IsLeftByFlush}
 
@@ -23,9 +25,14 @@ module _ {D : Type 0} {g : sectors.Ghosts D} where
   HaveEntered (arrival ∷ arrivals) old new = (mid : Committer D g) × HasEntered arrival old mid
       × HaveEntered arrivals mid new
 
+  -- who stops when it is full goes on so, and none of these replies is the refusal `Full`
+  abbrev pub SparesFull : List Sent → Committer D g → Committer D g → Type 0
+  SparesFull sent old new = stops_of old ≡ true → (stops_of new ≡ true) × AllByRecursion TellsNoFull sent
+
   -- on any device: whole replies, which can be read back, were appended to the outputs
   abbrev pub AddsReplies : Committer D g → Committer D g → Type 0
   AddsReplies old new = (sent : List Sent) × AreWhole sent × (outputs_of new ≡ all_delivered (outputs_of old) sent)
+      × SparesFull sent old new
 
   -- On any device: a device fault broke the store in a commit. What waited is dropped, and the outputs lose nothing.
   pub record IsBrokenByDevice (old new : Committer D g) : Type 0 where

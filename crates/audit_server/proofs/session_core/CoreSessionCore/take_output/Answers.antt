@@ -8,4 +8,4 @@ use Rattle.audit_server.proofs.session_core.CoreSessionCore.take_output.Goals as
 pub returns-clause-did : goal.returns-clause-did
 returns-clause-did g c =
     subst (λ (bytes : List ℕ). HasServed (data_of c.args.self.now) (data_of c.take_output.new.self) [] (bytes_for c.args.session bytes)) (sym c.take_output.ensures.taken)
-    (served_taken (data_of c.args.self.now) (data_of c.take_output.new.self) c.args.session c.take_output.ensures.store c.take_output.ensures.reserve c.take_output.ensures.counted c.take_output.ensures.waiting c.take_output.ensures.sessions c.take_output.ensures.emptied)
+    (served_taken (data_of c.args.self.now) (data_of c.take_output.new.self) c.args.session c.take_output.ensures.store c.take_output.ensures.reserve c.take_output.ensures.counted c.take_output.ensures.stops c.take_output.ensures.waiting c.take_output.ensures.sessions c.take_output.ensures.emptied)
