@@ -242,3 +242,21 @@ module _ {C D S : Type 0} (M : CoreModel C) (N : CallModel S) (E : DoorModel D S
     pub places : List (SlotData S)
     pub are : AreRounds rounds was door old core before places
     pub ends : EndsServing rounds door now core new places after
+
+-- ---- after a refusal
+
+module _ {C D S : Type 0} (M : CoreModel C) (N : CallModel S) (E : DoorModel D S) where
+  -- What waited was answered: the core flushed, and replies left if the door let them. Then what was kept was written,
+  -- if the door let it.
+  pub record AnswersWaiting (was now : D) (old new : C) (before after : List (SlotData S)) : Type 0 where
+    pub flushed : C
+    pub flush : M.DidSteps old flushed (a_flush ∷ []) no_bytes
+    pub leaves : Bool
+    pub begun : D
+    pub released : E.DidCalls was begun (a_release leaves ∷ [])
+    pub taken : ℕ → List ℕ
+    pub writes : ℕ → List StreamCall
+    pub was_written : Bool
+    pub between : List (SlotData S)
+    pub writing : IsWriting M N E 0 leaves was_written flushed new taken writes before between
+    pub written : IsWritten N E begun now between after

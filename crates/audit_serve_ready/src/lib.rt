@@ -9,6 +9,7 @@
 //! [`SessionCore`]: audit_serve_passes::SessionCore
 #![tactic(auto)]
 
+mod answering;
 mod backlog;
 mod clients;
 mod departure;
@@ -27,6 +28,7 @@ mod slot;
 mod turns;
 mod unread;
 
+pub use answering::answer_waiting;
 pub use departure::Departure;
 pub use door::Door;
 pub use limits::{DEFAULT_BACKLOG, MAX_ASKED, MAX_BACKLOG, MAX_READ};
