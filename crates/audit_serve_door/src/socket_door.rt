@@ -89,6 +89,9 @@ where
     S: Prompt + Watched + Drop,
 {
     ghost use Rattle.std.specs.Prelude.{◌≡◌, ◌⊎◌, [], ◌∷◌, map, true, false, not, ◌||◌, IfOk, IfSome, IfNone, IsSome};
+    ghost use Rattle.std.specs.Prelude.{Some, None};
+    ghost use Rattle.std.specs.declared.time.Instant.{Instant};
+    ghost use Rattle.audit_serve_door.specs.Finishing.{IsFinishingTime};
     ghost use Rattle.audit_serve_ready.specs.declared.departure.Departure.TheVariants.{Memory};
     ghost use Rattle.audit_serve_door.specs.Entrances.{rights_of, rights_of_door, idle_of_door};
     ghost use Rattle.audit_serve_door.specs.Entrances.{mode_of, modes_of_door, socket_of, sockets_of_door};
@@ -184,6 +187,17 @@ where
         ensures { result ≡ was_told self.entry.now }
     {
         self.orders.has_come()
+    }
+
+    /// Begins the time in which clients may take their replies, as an order to stop does, unless it has begun. From now on
+    /// a pause lets nobody in, and says to stop once that time is over.
+    pub fn begin_end(&mut self)
+        ensures begun { (flags_of self.old).0 ≡ None → (now : Instant) × IsFinishingTime now (flags_of self.new).0 }
+        ensures kept { (last : Instant) → (flags_of self.old).0 ≡ Some last → (flags_of self.new).0 ≡ Some last }
+        ensures noted { (flags_of self.new).1 ≡ (flags_of self.old).1 }
+    {
+        let ending = finish(self.until, self.now);
+        self.until = ending.0;
     }
 
     /// Closes the door, and returns the orders to stop, which are to be answered, and the journal.
