@@ -2,7 +2,7 @@
 _audit() {
     local word=${COMP_WORDS[COMP_CWORD]} before=${COMP_WORDS[COMP_CWORD - 1]} command=${COMP_WORDS[1]}
     local commands="replay format append close rotate show prove check note export salvage verify disclose serve loop daemon stop send ask watch read help"
-    local valued="--mode --long --expect --reserve --sessions --socket-mode --reader --writer --idle --backlog --window --timeout --every --kind --events --from --save --first --under --receipts --retry --extends --after --within --proof"
+    local valued="--mode --long --expect --reserve --until-free --sessions --socket-mode --reader --writer --idle --backlog --window --timeout --every --kind --events --from --save --first --under --receipts --retry --extends --after --within --proof"
     local options="--explain --no-progress --help" choices= files= place=0 question= index
     [[ $command = verify || $command = read ]] || valued="$valued --text"
     [[ $command != rotate ]] || valued="$valued --link"
@@ -30,7 +30,7 @@ _audit() {
     salvage) options="$options --proof --under --within" ;;
     serve) options="$options --sessions --socket-mode" ;;
     loop) options="$options --socket-mode" ;;
-    daemon) options="$options --reader --writer --allow-close --idle --backlog --reserve --socket-mode --extends" ;;
+    daemon) options="$options --reader --writer --allow-close --idle --backlog --reserve --until-free --socket-mode --extends" ;;
     send) options="$options --text --long --window --until-refused --placed --from --receipts --retry --timeout" ;;
     ask) options="$options --from --timeout" ;;
     watch) options="$options --every --timeout --quiet --after" ;;

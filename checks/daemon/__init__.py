@@ -1,8 +1,8 @@
 """Runs `audit daemon` with clients that behave well and clients that don't: how it begins and ends, who may do what,
 that nobody waits for a client that is idle, half done, greedy or gone, and that what a client was told is in the store,
 however the daemon ends. Replies to placed appends are the model's; sources and `send --receipts` are killed with the
-daemon; each receipt of a run opens its event, as the program, the auditor's and the page say; and a store that a
-witness's file doesn't lead to isn't served.
+daemon; each receipt of a run opens its event, as the program, the auditor's and the page say; a store that a
+witness's file doesn't lead to isn't served; and one that is full ends its daemon, if that is asked for.
 
 usage: bin/check daemon EXECUTABLE [--long] [SCENE ..]
 
@@ -14,11 +14,11 @@ and a client asks for more than two million commitments.
 import signal
 
 from checks.daemon import (
-    bad_clients, extending, lives, memory, opened, placed, places, receipts, replaced, rights, saying, sources, states)
+    bad_clients, extending, filling, lives, memory, opened, placed, places, receipts, replaced, rights, saying, sources, states)
 from checks.parts.scenes import play_in_rooms, scenes_in, words_of
 
 SCENES = scenes_in(states, saying, lives, rights, bad_clients, places, memory, replaced, sources, placed, receipts,
-                   opened, extending)
+                   opened, extending, filling)
 
 
 def main(words):

@@ -50,7 +50,7 @@ def a_daemon_begins_and_ends(room):
     expect(room.payloads(store)[3:], [b"one"], "the store after a daemon")
     expect(room.run("stop", daemon.socket), FILE_FAULT, "stop without a daemon")
     for words in (["--idle", "x"], ["--idle", "-1"], ["--backlog", "67108865"], ["--backlog", ""], ["--reserve", "-1"],
-                  ["--socket-mode", "700"]):
+                  ["--until-free", "x"], ["--socket-mode", "700"]):
         expect(room.run("daemon", "nothing", daemon.socket, *words)[0], 2, " ".join(words))
     expect(room.run("daemon", room.path("nothing"), daemon.socket), FILE_FAULT, "a daemon without a store")
     write(room.path("file"), b"a file")

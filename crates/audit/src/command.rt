@@ -182,6 +182,7 @@ fn settings<'m, 'a: 'm>(given: &'m ArgMatches<'a>) -> Settings<'m> {
         idle: given.get_str("idle"),
         backlog: given.get_str("backlog"),
         reserve: given.get_str("reserve"),
+        until_free: given.get_str("until-free"),
         socket_mode: given.get_str("socket-mode"),
     }
 }

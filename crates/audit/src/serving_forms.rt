@@ -139,6 +139,13 @@ static DAEMON: Form = Form {
             excludes: None,
         },
         Choice {
+            name: "until-free",
+            value: Some("N"),
+            help: "Ends at the first event that would leave fewer than N sectors free, and doesn't answer it",
+            needs: None,
+            excludes: None,
+        },
+        Choice {
             name: "socket-mode",
             value: Some("MODE"),
             help: "The permissions of the sockets, 600 to 677 in octal digits [default: 600]",

@@ -278,6 +278,7 @@ fn wrong_in_settings<'a>(settings: Settings<'a>) -> Option<Wrong<'a>> {
         .or(wrong_in_sources(settings.writers))
         .or(judge("--idle", settings.idle, Form::ANY))
         .or(judge("--reserve", settings.reserve, Form::ANY))
+        .or(judge("--until-free", settings.until_free, Form::ANY))
         .or(judge("--backlog", settings.backlog, BACKLOG))
         .or(judge("--socket-mode", settings.socket_mode, Form::Mode))
 }

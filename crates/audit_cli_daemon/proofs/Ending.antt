@@ -1,6 +1,5 @@
 -- What a daemon that ended with an error has written, and done to its store.
-use Rattle.std.specs.Prelude.{OnErr, OnOk, IsErr, codes}
-use Rattle.std.specs.Result.{result_and}
+use Rattle.std.specs.Prelude.{OnErr, OnOk, IfOk, IsErr}
 use Rattle.std.specs.Io.KnownBytes.{Appends, Keeps}
 use Rattle.std.proofs.Common.{◌≡◌, ◌∙◌, ℕ, Option, Some, None, Result, Ok, Err, List, [], ◌++◌, append-nil, refl, sym, ap, subst}
 use Rattle.std.proofs.KnownBytes.{Appends-trans}
@@ -15,7 +14,9 @@ use Rattle.audit_cli_base.specs.declared.fault.CommandError.{CommandError}
 use Rattle.audit_cli_base.specs.declared.fault.CommandError.TheVariants.{File}
 use Rattle.audit_cli_daemon.specs.Carried.{EndsEarly}
 use Rattle.audit_cli_daemon.specs.Sockets.{IsBindFault}
-use Rattle.audit_cli_daemon.specs.State.{ready_line, stopped_line}
+use Rattle.audit_cli_daemon.specs.declared.end.End.{End}
+use Rattle.audit_cli_daemon.specs.declared.end.End.TheVariants.{Stopped, Full}
+use Rattle.audit_cli_daemon.specs.State.{ready_line, word_of, end_in, closing_line}
 
 abbrev Ending : Type 0
 Ending = Result (Unit {0}) CommandError
@@ -63,37 +64,40 @@ kept_after (Some bytes) (Some held) (Some last) text appended kept = kept ∙ ap
 part_kept : (old mid new : Option (List ℕ)) (text : List ℕ) → WritesInPart old mid text → Keeps mid new → WritesInPart old new text
 part_kept old mid new text part kept = record { written = part.written; rest = part.rest; split = part.split; appended = kept_after old mid new part.written part.appended kept }
 
-pub on_error : (P : Type 0) (done : Ending) → P → OnErr done P
+pub on_error : {T : Type 0} (P : Type 0) (done : Result T CommandError) → P → OnErr done P
 on_error P (Ok done) holds = tt
 on_error P (Err fault) holds = holds
 
-pub whole_of : (old new : Option (List ℕ)) (text : List ℕ) (done : Ending) → OnOk done (Appends old new text) → OnOk done (WritesInPart old new text)
+pub whole_of : {T : Type 0} (old new : Option (List ℕ)) (text : List ℕ) (done : Result T CommandError) → OnOk done (Appends old new text) → OnOk done (WritesInPart old new text)
 whole_of old new text (Ok done) appended = all_written old new text appended
 whole_of old new text (Err fault) appended = tt
 
--- of two results, whichever is the error
-pub part_of_both : (P : Type 0) (first other : Ending) → OnErr first P → OnOk first P → OnErr (result_and first other) P
-part_of_both P (Err fault) other failed done = failed
-part_of_both P (Ok first) (Err fault) failed done = done
-part_of_both P (Ok first) (Ok second) failed done = tt
+-- of a result and another one after it, whichever is the error
+pub part_of_both : (P : Type 0) (first result : Result End CommandError) → OnErr first P → OnOk first P → OnErr result P
+part_of_both P (Err fault) result failed done = on_error P result failed
+part_of_both P (Ok end) result failed done = on_error P result done
 
-pub ends_early : {D : Type 0} {g : sectors.Ghosts D} (LetGo : Store D g → Type 0) (opened left : Store D g) (before mid after : Option (List ℕ)) (served result : Ending) (count : ℕ) (root : List ℕ) → StoreKeepsOn opened left
-    → OnErr served (WritesInPart before mid (ready_line (active_header opened))) → OnOk served (Appends before mid (ready_line (active_header opened)))
-    → OnErr served (Keeps mid after) → OnErr result (WritesInPart mid after (numbered_line (codes "stopped ") count root)) → count ≡ (active_header left).count → root ≡ (active_header left).root
-    → LetGo left → OnErr result (EndsEarly LetGo opened before after)
-ends_early LetGo opened left before mid after served (Ok done) count root keeps part whole kept stopped count_is root_is gone = tt
-ends_early LetGo opened left before mid after (Err cause) (Err fault) count root keeps part whole kept stopped count_is root_is gone = record {
+pub ends_early : {D : Type 0} {g : sectors.Ghosts D} (LetGo : Store D g → Type 0) (Asked : Type 0) (opened left : Store D g) (before mid after : Option (List ℕ)) (served : Result End CommandError) (result : Ending) (count : ℕ) (root : List ℕ) → StoreKeepsOn opened left
+    → OnErr served (WritesInPart before mid (ready_line (active_header opened))) → OnOk served (Appends before mid (ready_line (active_header opened))) → IfOk served (λ end. end ≡ Full → Asked)
+    → OnErr served (Keeps mid after) → OnErr result (WritesInPart mid after (numbered_line (word_of (end_in served)) count root)) → count ≡ (active_header left).count → root ≡ (active_header left).root
+    → LetGo left → OnErr result (EndsEarly LetGo Asked opened before after)
+ends_early LetGo Asked opened left before mid after served (Ok done) count root keeps part whole asked kept stopped count_is root_is gone = tt
+ends_early LetGo Asked opened left before mid after (Err cause) (Err fault) count root keeps part whole asked kept stopped count_is root_is gone = record {
   left = left;
   let_go = gone;
   kept = keeps;
-  part = of_longer before after (ready_line (active_header opened)) (stopped_line (active_header left)) (part_kept before mid after (ready_line (active_header opened)) part kept);
+  end = Stopped;
+  asked = λ is. absurd (cc is);
+  part = of_longer before after (ready_line (active_header opened)) (closing_line Stopped (active_header left)) (part_kept before mid after (ready_line (active_header opened)) part kept);
 }
-ends_early LetGo opened left before mid after (Ok done) (Err fault) count root keeps part whole kept stopped count_is root_is gone = record {
+ends_early LetGo Asked opened left before mid after (Ok end) (Err fault) count root keeps part whole asked kept stopped count_is root_is gone = record {
   left = left;
   let_go = gone;
   kept = keeps;
-  part = after_whole before mid after (ready_line (active_header opened)) (stopped_line (active_header left)) whole
-      (subst (WritesInPart mid after) (ap (λ n. numbered_line (codes "stopped ") n root) count_is ∙ ap (numbered_line (codes "stopped ") (active_header left).count) root_is) stopped);
+  end = end;
+  asked = asked;
+  part = after_whole before mid after (ready_line (active_header opened)) (closing_line end (active_header left)) whole
+      (subst (WritesInPart mid after) (ap (λ n. numbered_line (word_of end) n root) count_is ∙ ap (numbered_line (word_of end) (active_header left).count) root_is) stopped);
 }
 
 -- a file fault of making sockets is the fault of a call

@@ -1,12 +1,13 @@
 -- What running a daemon comes to, apart from its sockets.
 use denote.Ref.{Bor}
-use Rattle.std.specs.Prelude.{◌≡◌, ◌⊎◌, ℕ, ℤ, Option, None, Result, Ok, Err, List, ◌++◌, IfSome}
+use Rattle.std.specs.Prelude.{◌≡◌, ◌≢◌, ◌⊎◌, ◌≤◌, ℕ, ℤ, Option, None, Result, Ok, Err, List, ◌++◌, IfSome}
 use Rattle.std.specs.Io.KnownBytes.{Appends, Keeps}
 use Rattle.audit_disk_model.specs.declared.sectors.Sectors as sectors
 use Rattle.audit_disk.specs.declared.files.TheConstants.{OWNER_ONLY}
 use Rattle.audit_store.specs.Store.{active_header}
 use Rattle.audit_store.specs.declared.store.Store.{Store}
 use Rattle.audit_text.specs.Writing.{WritesInPart}
+use Rattle.audit_server_commit.specs.Committing.{free_after}
 use Rattle.audit_server_model.specs.Serving.{StoreKeepsOn}
 use Rattle.audit_serve_passes.specs.Streams.{CallModel}
 use Rattle.audit_serve_ready.specs.Door.{DoorModel}
@@ -31,37 +32,50 @@ use Rattle.audit_serve_passes.specs.declared.rights.Rights.{Rights}
 use Rattle.audit_serve_passes.specs.Rights.{is_bound}
 use Rattle.audit_server.specs.NewCore.{CoreTerms}
 use Rattle.audit_cli_daemon.specs.Sources.{SourceData, words_of, sources_in, has_kind, kinds_bound}
-use Rattle.audit_cli_daemon.specs.Running.{ServesStore}
+use Rattle.audit_cli_daemon.specs.declared.end.End.{End}
+use Rattle.audit_cli_daemon.specs.declared.end.End.TheVariants.{Stopped, Full}
+use Rattle.audit_cli_daemon.specs.Running.{ServesStoreTo}
 use Rattle.audit_cli_daemon.specs.Sockets.{paths_at, ListenAt}
-use Rattle.audit_cli_daemon.specs.State.{ready_line, stopped_line}
-use Rattle.audit_cli_daemon.specs.Words.{backlog_asked}
+use Rattle.audit_cli_daemon.specs.State.{ready_line, closing_line}
+use Rattle.audit_cli_daemon.specs.Words.{backlog_asked, free_asked, free_kept}
+
+-- the door came to such an end; or the last event found no space, but the reserve is free
+abbrev pub ComesToEnd : {D E : Type 0} {g : sectors.Ghosts D} → (E → Type 0) → End → ℕ → E → Store D g → Type 0
+ComesToEnd Ends Stopped reserve now left = Ends now
+ComesToEnd Ends Full reserve now left = reserve ≤ free_after (active_header left)
 
 module _ {D : Type 0} {g : sectors.Ghosts D} {S E : Type 0} (N : CallModel S) (doors : DoorModel E S)
     (Opens Ends : E → Type 0) where
   -- clients that came in by such a door were served over a store, with these terms and this backlog, up to such an end
-  pub record ServesAtDoor (terms : CoreTerms) (backlog : ℕ) (opened left : Store D g) : Type 0 where
+  pub record ServesAtDoor (reserve : ℕ) (terms : CoreTerms) (backlog : ℕ) (end : End) (opened left : Store D g)
+      : Type 0 where
     pub was : E
     pub opens : Opens was
     pub now : E
-    pub ends : Ends now
-    pub served : ServesStore N doors terms backlog was now opened left
+    pub ends : ComesToEnd Ends end reserve now left
+    pub served : ServesStoreTo N doors end terms backlog was now opened left
 
-  -- The store's state was written before the first and after the last of them, and it was let go as they left it.
-  pub record ServesBetween (LetGo : Store D g → Type 0) (terms : CoreTerms) (backlog : ℕ) (opened : Store D g)
-      (before after : Option (List ℕ)) : Type 0 where
+  -- The store's state was written before the first and after the last of them, and it was let go as they left it. It
+  -- isn't served until it is full unless that was asked for.
+  pub record ServesBetween (LetGo : Store D g → Type 0) (Asked : Type 0) (reserve : ℕ) (terms : CoreTerms)
+      (backlog : ℕ) (opened : Store D g) (before after : Option (List ℕ)) : Type 0 where
     pub left : Store D g
     pub let_go : LetGo left
-    pub served : ServesAtDoor terms backlog opened left
-    pub lines : Appends before after (ready_line (active_header opened) ++ stopped_line (active_header left))
+    pub end : End
+    pub asked : end ≡ Full → Asked
+    pub served : ServesAtDoor reserve terms backlog end opened left
+    pub lines : Appends before after (ready_line (active_header opened) ++ closing_line end (active_header left))
 
 -- It ended with an error over this store, which was let go with the events that it had, and maybe more; a prefix of the
 -- lines about its first and its last state was written.
-pub record EndsEarly {D : Type 0} {g : sectors.Ghosts D} (LetGo : Store D g → Type 0) (opened : Store D g)
-    (before after : Option (List ℕ)) : Type 0 where
+pub record EndsEarly {D : Type 0} {g : sectors.Ghosts D} (LetGo : Store D g → Type 0) (Asked : Type 0)
+    (opened : Store D g) (before after : Option (List ℕ)) : Type 0 where
   pub left : Store D g
   pub let_go : LetGo left
   pub kept : StoreKeepsOn opened left
-  pub part : WritesInPart before after (ready_line (active_header opened) ++ stopped_line (active_header left))
+  pub end : End
+  pub asked : end ≡ Full → Asked
+  pub part : WritesInPart before after (ready_line (active_header opened) ++ closing_line end (active_header left))
 
 -- the sources that the words of a command ask for
 abbrev pub sources_asked : Settings → List SourceData
@@ -73,6 +87,10 @@ terms_of words reserve = record { reserve = reserve; counted = kinds_bound (sour
 
 abbrev pub terms_asked : Settings → ℕ → CoreTerms
 terms_asked settings reserve = terms_of settings.writers reserve
+
+-- the store is to be served until it is full
+abbrev pub AsksUntilFull : Settings → Type 0
+AsksUntilFull settings = settings.until_free ≢ None
 
 -- the rights at its sockets
 abbrev pub rights_asked : Settings → BoundKinds → List Rights
@@ -91,11 +109,14 @@ module _ {D : Type 0} (g : sectors.Ghosts D) {O : Type 0} (stores : StoresModel 
     (doors : DoorModel (GaugedDoor (SocketDoor C J W UnixListener Q) F T) S) where
   -- So were they over the store that was opened in the file that was named, with the reserve and the backlog that were
   -- asked for and the kinds of the sources counted, and came in by sockets at the paths, with the rights, the permissions
-  -- and the time for idle clients that were asked for, until the order to stop came. Nothing else was done to the store,
-  -- and none was opened besides.
+  -- and the time for idle clients that were asked for, until the order to stop came, or, if that was asked for, until
+  -- the sectors that were to stay free were all that was. Nothing else was done to the store, and none was opened
+  -- besides.
   pub record ServesClientsAsked (settings : Settings) (was now : O) (before after : Option (List ℕ)) : Type 0 where
     pub reserve : ℕ
     pub reserve_is : number_asked settings.reserve DEFAULT_RESERVE ≡ Ok reserve
+    pub until : Option ℕ
+    pub until_is : free_asked settings.until_free ≡ Ok until
     pub backlog : ℕ
     pub backlog_is : backlog_asked settings.backlog ≡ Ok backlog
     pub idle : ℕ
@@ -110,8 +131,8 @@ module _ {D : Type 0} (g : sectors.Ghosts D) {O : Type 0} (stores : StoresModel 
     pub served : ServesBetween N doors
         (IsDoorFor (rights_asked settings bound) (modes_at (rights_asked settings bound) mode)
         (ListenAt facts mode (paths_asked settings)) idle) IsTold
-        (OpensAndLetsGo stores settings.file.now was now opened) (terms_asked settings reserve) backlog opened
-        before after
+        (OpensAndLetsGo stores settings.file.now was now opened) (AsksUntilFull settings) reserve
+        (terms_asked settings (free_kept reserve until)) backlog opened before after
 
   -- a file fault needs a call that failed, or sockets that listen at the paths
   abbrev pub HasFileCause : Settings → CommandError → Type 0
@@ -126,7 +147,7 @@ module _ {D : Type 0} (g : sectors.Ghosts D) {O : Type 0} (stores : StoresModel 
   IsDaemonDone settings was now before after (Err fault) =
       (OpensNone stores settings.file.now was now fault × Keeps before after)
       ⊎ ((opened : Store D g) × At settings.file.now opened
-      × EndsEarly (OpensAndLetsGo stores settings.file.now was now opened) opened before after
+      × EndsEarly (OpensAndLetsGo stores settings.file.now was now opened) (AsksUntilFull settings) opened before after
       × HasFileCause settings fault)
 
   -- A daemon ran with this result, and the output was then flushed. The program's status is that of the result, or that

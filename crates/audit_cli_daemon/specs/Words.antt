@@ -23,6 +23,20 @@ abbrev pub backlog_asked : Option (Bor (List ℕ)) → Result ℕ CommandError
 backlog_asked None = Ok DEFAULT_BACKLOG
 backlog_asked (Some word) = bytes_judged (number_in_text word.now)
 
+-- a number of sectors, if there is a word
+abbrev pub free_judged : Option ℕ → Result (Option ℕ) CommandError
+free_judged None = Err BadArgument
+free_judged (Some sectors) = Ok (Some sectors)
+
+abbrev pub free_asked : Option (Bor (List ℕ)) → Result (Option ℕ) CommandError
+free_asked None = Ok None
+free_asked (Some word) = free_judged (number_in_text word.now)
+
+-- how many sectors events leave: the reserve, and those until which the store is served
+abbrev pub free_kept : ℕ → Option ℕ → ℕ
+free_kept reserve None = reserve
+free_kept reserve (Some sectors) = if nat_le reserve sectors then sectors else reserve
+
 -- there is a word for the readers' socket, and it is no socket's path
 abbrev pub IsNoReader : Option (Bor (List ℕ)) → Type 0
 IsNoReader None = ⊥
@@ -38,8 +52,9 @@ HasBadSetting settings =
     (number_asked settings.idle DEFAULT_IDLE ≡ Err BadArgument)
     ⊎ ((number_asked settings.reserve DEFAULT_RESERVE ≡ Err BadArgument)
     ⊎ ((backlog_asked settings.backlog ≡ Err BadArgument)
+    ⊎ ((free_asked settings.until_free ≡ Err BadArgument)
     ⊎ (IsNoMode settings.socket_mode ⊎ (HasNoSocket settings
-    ⊎ (are_no_sources (words_of settings.writers.now) ≡ true)))))
+    ⊎ (are_no_sources (words_of settings.writers.now) ≡ true))))))
 
 abbrev pub HasBadWord : Request → Type 0
 HasBadWord (Run settings) = HasBadSetting settings

@@ -1,7 +1,7 @@
 //! Arguments that are judged here rather than by the parser of the command line.
 ghost use Rattle.std.specs.Prelude.{◌≡◌, ◌≤◌, IfOk, IfErr};
 ghost use Rattle.audit_serve_ready.specs.declared.limits.TheConstants.{MAX_BACKLOG};
-ghost use Rattle.audit_cli_daemon.specs.Words.{backlog_asked};
+ghost use Rattle.audit_cli_daemon.specs.Words.{backlog_asked, free_asked, free_kept};
 
 use audit_cli_base::CommandError;
 use audit_serve_ready::{DEFAULT_BACKLOG, MAX_BACKLOG};
@@ -26,5 +26,30 @@ pub fn backlog_asked(word: Option<&str>) -> Result<usize, CommandError>
     match number_in_text(word.as_bytes()) {
         Some(bytes) if bytes <= MAX_BACKLOG as u64 => Ok(bytes as usize),
         _ => Err(CommandError::BadArgument),
+    }
+}
+
+/// Returns the number of sectors that a word asks to stay free, if there is a word: a number in at most 20 decimal
+/// digits. The only error is `BadArgument`.
+pub(crate) fn free_asked(word: Option<&str>) -> Result<Option<u64>, CommandError>
+    ensures asked { result ≡ free_asked word.entry }
+    ensures fault { IfErr result (λ fault. fault ≡ CommandError.BadArgument) }
+{
+    let Some(word) = word else {
+        return Ok(None);
+    };
+    match number_in_text(word.as_bytes()) {
+        Some(sectors) => Ok(Some(sectors)),
+        None => Err(CommandError::BadArgument),
+    }
+}
+
+/// How many sectors events leave: the reserve, or more if more are to stay free.
+pub(crate) fn free_kept(reserve: u64, until_free: Option<u64>) -> u64
+    ensures { result ≡ free_kept reserve until_free }
+{
+    match until_free {
+        Some(sectors) if reserve <= sectors => sectors,
+        _ => reserve,
     }
 }

@@ -1,4 +1,5 @@
 //! A look at how full a store is while it is served.
+use crate::ending_door::EndingDoor;
 use crate::marks::mark_passed;
 use audit_serve_ready::{Departure, Door, Newcomer, Next};
 use audit_text::Shown;
@@ -126,6 +127,12 @@ impl<'n, 'a, 'b, E, F: Drop, M> GaugedDoor<'n, 'a, 'b, E, F, M> {
         ensures { result ≡ self.entry.door }
     {
         self.door
+    }
+}
+
+impl<E: EndingDoor, F: Drop, M> EndingDoor for GaugedDoor<'_, '_, '_, E, F, M> {
+    fn begin_end(&mut self) {
+        self.door.begin_end()
     }
 }
 

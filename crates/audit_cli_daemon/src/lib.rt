@@ -3,6 +3,8 @@
 
 mod arguments;
 mod client_journal;
+mod end;
+mod ending_door;
 mod gauge;
 pub mod laws;
 mod marks;
@@ -17,6 +19,8 @@ mod stopping;
 mod watched_store;
 
 pub use arguments::{DEFAULT_IDLE, DEFAULT_RESERVE, backlog_asked};
+pub use end::End;
+pub use ending_door::EndingDoor;
 pub use marks::{MARKS, mark_passed};
 pub use prompt_sockets::PromptSockets;
 pub use request::{Request, Settings, run};

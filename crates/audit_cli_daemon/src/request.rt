@@ -1,5 +1,5 @@
 //! The requests to run a daemon and to stop it, and how they are carried out.
-ghost use Rattle.std.specs.Prelude.{◌≡◌, ◌⊎◌, ◌≤◌, ℕ, None, Ok, Err, IfSome, IfOk, IfErr, OnOk, OnErr, IsOk, codes};
+ghost use Rattle.std.specs.Prelude.{◌≡◌, ◌≢◌, ◌⊎◌, ◌≤◌, ℕ, Option, None, Ok, Err, IfSome, IfOk, IfErr, OnOk, OnErr, IsOk};
 ghost use Rattle.std.specs.Prelude.{map, true, false, [], List, IsErr, ℤ};
 ghost use denote.Ref.{Bor};
 ghost use Rattle.std.specs.Io.KnownBytes.{Keeps, Appends};
@@ -11,7 +11,7 @@ ghost use Rattle.audit_cli_calls.specs.StoreCalls.{LetsGo};
 ghost use Rattle.audit_cli_daemon.specs.declared.request.Settings.{Settings};
 ghost use Rattle.audit_disk.specs.declared.files.TheConstants.{OWNER_ONLY};
 ghost use Rattle.audit_cli_daemon.specs.declared.arguments.TheConstants.{DEFAULT_IDLE, DEFAULT_RESERVE};
-ghost use Rattle.audit_cli_daemon.specs.Words.{HasBadSetting, HasBadWord, backlog_asked};
+ghost use Rattle.audit_cli_daemon.specs.Words.{HasBadSetting, HasBadWord, backlog_asked, free_asked, free_kept};
 ghost use Rattle.audit_cli_daemon.specs.Carried.{ServesAtDoor, ServesBetween, EndsEarly, IsDaemonDone};
 ghost use Rattle.audit_cli_daemon.specs.Carried.{IsDaemonCarriedOut};
 ghost use Rattle.audit_cli_daemon.specs.Gauged.{IsTold};
@@ -22,19 +22,22 @@ ghost use Rattle.audit_cli_daemon.specs.Sources.{has_kind, words_of, are_no_sour
 ghost use Rattle.audit_cli_base.specs.declared.fault.CommandError.TheVariants.{File};
 ghost use Rattle.audit_cli_daemon.specs.Carried.{sources_asked, terms_of};
 ghost use Rattle.audit_cli_daemon.specs.Sockets.{rights_served, paths_served, ListenAt, prompt_sockets, BindFailed};
-ghost use Rattle.audit_cli_daemon.specs.State.{ready_line};
+ghost use Rattle.audit_cli_daemon.specs.State.{ready_line, word_of, end_in};
 ghost use Rattle.audit_serve_door.specs.Entrances.{rights_of, rights_of_door, mode_of, modes_of_door, idle_of_door};
 ghost use Rattle.audit_serve_door.specs.Entrances.{descriptor_of, descriptors_of_door};
 ghost use Rattle.audit_serve_door.specs.Comings.{who_waits, places_of, was_told, is_replaced, has_failed};
 ghost use Rattle.audit_serve_door.specs.Idle.{IsVacant};
 ghost use Rattle.audit_serve_door.specs.Waits.{NobodyWaits};
 ghost use Rattle.audit_store.specs.Store.{active_header};
+ghost use Rattle.audit_server_commit.specs.Committing.{free_after};
 ghost use Rattle.audit_text.specs.NumberedLine.{numbered_line};
 ghost use Rattle.audit_text.specs.Writing.{WritesInPart};
 ghost use Rattle.audit_server_model.specs.Serving.{StoreKeepsOn};
 
-use crate::arguments::{DEFAULT_IDLE, DEFAULT_RESERVE, backlog_asked};
+use crate::arguments::{DEFAULT_IDLE, DEFAULT_RESERVE, backlog_asked, free_asked, free_kept};
 use crate::client_journal::ClientJournal;
+use crate::end::{End, word_of};
+use crate::ending_door::EndingDoor;
 use crate::gauge::{Gauge, GaugedDoor};
 use crate::prompt_sockets::PromptSockets;
 use crate::running::serve_until_stopped;
@@ -53,7 +56,7 @@ use audit_cli_host::Dial;
 use audit_disk::{SystemFile, SystemFiles};
 use audit_disk_model::Sectors;
 use audit_proof::Commitment;
-use audit_serve_door::{Client, ClientDoor, Room, SocketDoor, StopOrders};
+use audit_serve_door::{Client, ClientDoor, Journal, Room, SocketDoor, StopOrders, Watch};
 use audit_serve_passes::Rights;
 use audit_serve_ready::{Door, ReadyStream};
 use audit_store::{Store, StoreError};
@@ -100,6 +103,9 @@ pub struct Settings<'a> {
     pub backlog: Option<&'a str>,
     /// How many sectors stay free after the log, so that it can still be closed.
     pub reserve: Option<&'a str>,
+    /// If there is a word, the daemon ends at the first event that wouldn't leave that many sectors free, or the reserve,
+    /// and answers all before it, and not that one.
+    pub until_free: Option<&'a str>,
     /// The permissions of the sockets' files, in three octal digits. Without this word only their owner has access.
     pub socket_mode: Option<&'a str>,
 }
@@ -110,6 +116,9 @@ struct Judged<'a> {
     // In seconds; 0 is for ever.
     idle: u64,
     reserve: u64,
+    // How many sectors events leave: the reserve at least.
+    kept: u64,
+    stops_when_full: bool,
     most: usize,
     mode: u32,
     rights: Rights,
@@ -293,6 +302,9 @@ fn judge<'a>(settings: Settings<'a>) -> Result<Judged<'a>, CommandError>
     ensures fault { IfErr result (λ _. HasBadSetting settings.entry) }
     ensures idle { IfOk result (λ judged. number_asked settings.entry.idle DEFAULT_IDLE ≡ Ok judged.idle) }
     ensures reserve { IfOk result (λ judged. number_asked settings.entry.reserve DEFAULT_RESERVE ≡ Ok judged.reserve) }
+    ensures kept { IfOk result (λ judged. (until : Option ℕ) × (free_asked settings.entry.until_free ≡ Ok until)
+        × (judged.kept ≡ free_kept judged.reserve until)) }
+    ensures stops { IfOk result (λ judged. judged.stops_when_full ≡ true → settings.entry.until_free ≢ None) }
     ensures backlog { IfOk result (λ judged. backlog_asked settings.entry.backlog ≡ Ok judged.most) }
     ensures most { IfOk result (λ judged. judged.most ≤ MAX_BACKLOG) }
     ensures sources { IfOk result (λ judged. judged.sources ≡ settings.entry.writers) }
@@ -308,9 +320,13 @@ fn judge<'a>(settings: Settings<'a>) -> Result<Judged<'a>, CommandError>
         socket_path_asked(path, 0)?;
     }
     let bound = kinds_bound_by(settings.writers)?;
+    let reserve = number_asked(settings.reserve, DEFAULT_RESERVE)?;
+    let until_free = free_asked(settings.until_free)?;
     Ok(Judged {
         idle: number_asked(settings.idle, DEFAULT_IDLE)?,
-        reserve: number_asked(settings.reserve, DEFAULT_RESERVE)?,
+        reserve,
+        kept: free_kept(reserve, until_free),
+        stops_when_full: settings.until_free.is_some(),
         most: backlog_asked(settings.backlog)?,
         mode: socket_mode_asked(settings.socket_mode)?,
         rights: if settings.may_close {
@@ -362,10 +378,11 @@ where
         (modes_at (rights_served sockets.now judged.entry.rights) judged.entry.mode)
         (ListenAt (prompt_sockets (F.sockets rt.now) (F.prompt rt.now)) judged.entry.mode (paths_served sockets.now))
         judged.entry.idle) IsTold
-        (LetsGo O.calls stores.old stores.new) (terms_of judged.entry.sources judged.entry.reserve)
-        judged.entry.most store (W.contents output.old) (W.contents output.new)) }
-    ensures ended { OnErr result (EndsEarly (LetsGo O.calls stores.old stores.new) store
-        (W.contents output.old) (W.contents output.new)) }
+        (LetsGo O.calls stores.old stores.new) (judged.entry.stops_when_full ≡ true) judged.entry.reserve
+        (terms_of judged.entry.sources judged.entry.kept) judged.entry.most store (W.contents output.old)
+        (W.contents output.new)) }
+    ensures ended { OnErr result (EndsEarly (LetsGo O.calls stores.old stores.new)
+        (judged.entry.stops_when_full ≡ true) store (W.contents output.old) (W.contents output.new)) }
     ensures failed { result ≡ Err File → BindFailed (F.call_failed rt.now) (F.unprompted rt.now) F.File.facts
         ⊎ ((descriptors : List ℤ) × ListenAt (prompt_sockets (F.sockets rt.now) (F.prompt rt.now)) judged.entry.mode
         (paths_served sockets.now) descriptors) }
@@ -397,7 +414,7 @@ fn closed<D: Sectors, O: Stores<Store<D>>>(stores: &mut O, store: Store<D>) -> C
 fn report_stopped<N: Net, W: Write>(
     rt: &N,
     alloc: Global,
-    served: Result<(), CommandError>,
+    served: Result<End, CommandError>,
     removed: io::Result<()>,
     state: Commitment,
     output: &mut W,
@@ -408,14 +425,14 @@ fn report_stopped<N: Net, W: Write>(
     ensures failed { result ≡ Err File → (served ≡ Err File) ⊎ IsErr removed }
     ensures kept { OnErr served (Keeps (W.contents output.old) (W.contents output.new)) }
     ensures part { OnErr result (WritesInPart (W.contents output.old) (W.contents output.new)
-        (numbered_line (codes "stopped ") state.count state.root)) }
+        (numbered_line (word_of (end_in served)) state.count state.root)) }
     ensures written { OnOk result (Appends (W.contents output.old) (W.contents output.new)
-        (numbered_line (codes "stopped ") state.count state.root)) }
+        (numbered_line (word_of (end_in served)) state.count state.root)) }
 {
-    served?;
+    let end = served?;
     removed?;
     answer_without_room(rt, alloc, orders);
-    write_state(alloc, b"stopped ", &state, output)
+    write_state(alloc, word_of(end), &state, output)
 }
 
 // Whoever ordered the daemon to stop doesn't wait for the reader of its output longer than a second: then the orders
@@ -444,7 +461,7 @@ fn serve_listening<F: SystemFiles + PromptSockets + Clock, D: Sectors + Drop, W:
     output: &mut W,
     messages: &RefCell<&mut M>,
     orders: &mut Option<StopOrders>,
-) -> (Store<D>, Result<(), CommandError>)
+) -> (Store<D>, Result<End, CommandError>)
 where
     F::File: SystemFile,
     requires { judged.most ≤ MAX_BACKLOG }
@@ -454,13 +471,14 @@ where
         (ready_line (active_header store))) }
     ensures ready { OnOk result.1 (Appends (W.contents output.old) (W.contents output.new)
         (ready_line (active_header store))) }
-    ensures served { OnOk result.1 (ServesAtDoor ⟦<Client as ReadyStream>⟧.calls
+    ensures served { IfOk result.1 (λ end. ServesAtDoor ⟦<Client as ReadyStream>⟧.calls
         ⟦<DaemonDoor<F, F::File, M> as Door>⟧.calls (IsDoorFor (map rights_of listening.entrances.items)
         (map mode_of listening.entrances.items)
         (λ descriptors. descriptors ≡ map descriptor_of listening.entrances.items) judged.entry.idle) IsTold
-        (terms_of judged.entry.sources judged.entry.reserve) judged.entry.most store result.0) }
+        judged.entry.reserve (terms_of judged.entry.sources judged.entry.kept) judged.entry.most end store result.0) }
+    ensures asked { IfOk result.1 (λ end. end ≡ End.Full → judged.entry.stops_when_full ≡ true) }
 {
-    let gauge = gauge_of(&watch, judged.reserve, messages);
+    let gauge = gauge_of(&watch, judged.kept, messages);
     let journal = ClientJournal::new(messages, explains);
     let watch = WatchedStore::new(watch);
     let door = match open_door(rt, alloc, listening, time_of(judged.idle), journal, watch) {
@@ -474,14 +492,50 @@ where
     let (store, served) = serve_until_stopped(
         alloc,
         store,
-        judged.reserve,
+        judged.kept,
         &kinds,
+        judged.stops_when_full,
         judged.most,
         &mut gauged,
         output,
     );
-    let closed = close_door(gauged.into_door(), orders);
-    (store, served.and(closed))
+    let closed = close_door(gauged.into_door(), orders, end_in(&served));
+    let end = end_of(served, closed, has_reserve(&store, judged.reserve));
+    (store, end)
+}
+
+// Whether so many sectors are free after the log.
+fn has_reserve<D: Sectors>(store: &Store<D>, reserve: u64) -> bool
+    ensures { result ≡ true → reserve ≤ free_after (active_header store.now) }
+{
+    store.sectors() - store.end() >= reserve
+}
+
+// The end that is reported, unless serving failed.
+fn end_in(served: &Result<End, CommandError>) -> End
+    ensures { result ≡ end_in served.now }
+{
+    match served {
+        Ok(end) => *end,
+        Err(_) => End::Stopped,
+    }
+}
+
+// A store that was full before the reserve was free is a fault.
+fn end_of(
+    served: Result<End, CommandError>,
+    closed: Result<(), CommandError>,
+    is_spared: bool,
+) -> Result<End, CommandError>
+    ensures cause { IfErr served IsNoWordFault → IfErr closed IsNoWordFault → IfErr result IsNoWordFault }
+    ensures end { IfOk result (λ end. (served ≡ Ok end) × IsOk closed × (end ≡ End.Full → is_spared ≡ true)) }
+{
+    let reached = served?;
+    closed?;
+    if reached == End::Full && !is_spared {
+        return Err(CommandError::Refused(StoreError::Full));
+    }
+    Ok(reached)
 }
 
 // A gauge of the store, for the sectors beside the reserve. There is none if its file can't be opened once more.
@@ -515,6 +569,12 @@ type ServedDoor<'a, 'b, 'c, F, M> = ClientDoor<
     WatchedStore<'a, F>,
 >;
 
+impl<F: Clock, J: Journal + Drop, W: Watch + Drop> EndingDoor for ClientDoor<'_, F, J, W> {
+    fn begin_end(&mut self) {
+        SocketDoor::begin_end(self)
+    }
+}
+
 fn open_door<'a, 'b, 'c, F: Files + Net + Clock, M: Write>(
     rt: &'a F,
     alloc: Global,
@@ -542,13 +602,14 @@ fn open_door<'a, 'b, 'c, F: Files + Net + Clock, M: Write>(
 }
 
 // Takes the orders to stop, which are answered last, and prints what clients did. A store that isn't in its place is a
-// fault, and so is a door that failed, or an end that nobody ordered.
+// fault, and so is a door that failed, or an end that nobody ordered while there was space.
 fn close_door<F: Files + Clock, M: Write>(
     mut door: ServedDoor<'_, '_, '_, F, M>,
     orders: &mut Option<StopOrders>,
+    end: End,
 ) -> Result<(), CommandError>
     ensures cause { IfErr result IsNoWordFault }
-    ensures told { OnOk result (was_told door.entry ≡ true) }
+    ensures told { OnOk result (end ≡ End.Stopped → was_told door.entry ≡ true) }
 {
     let was_told = door.was_told();
     let is_replaced = door.is_replaced();
@@ -558,7 +619,7 @@ fn close_door<F: Files + Clock, M: Write>(
     journal.print_counts();
     if is_replaced {
         Err(CommandError::Replaced)
-    } else if has_failed || !was_told {
+    } else if has_failed || end == End::Stopped && !was_told {
         Err(CommandError::File)
     } else {
         Ok(())

@@ -1,6 +1,6 @@
-use Rattle.std.specs.Prelude.{IfErr, OnOk, OnErr}
+use Rattle.std.specs.Prelude.{IfOk, IfErr, OnOk, OnErr}
 use Rattle.std.specs.Io.KnownBytes.{Appends}
-use Rattle.std.proofs.Common.{◌∙◌, ap, inl, inr, sym, subst, rules}
+use Rattle.std.proofs.Common.{◌≡◌, ◌∙◌, true, ap, inl, inr, sym, subst, rules}
 use Rattle.audit_store.specs.Store.{active_header}
 use Rattle.audit_serve_door.specs.Metered.{metered_calls}
 use Rattle.audit_serve_door.specs.Nonblocking.{nonblocking_calls, unknown_prompt}
@@ -12,6 +12,7 @@ use Rattle.audit_cli_calls.specs.StoreCalls.{LetsGo}
 use Rattle.audit_cli_daemon.specs.Carried.{ServesAtDoor, terms_of}
 use Rattle.audit_cli_daemon.specs.Rights.{modes_at, IsDoorFor}
 use Rattle.audit_cli_daemon.specs.Sockets.{rights_served, paths_served, ListenAt, prompt_sockets}
+use Rattle.audit_cli_daemon.specs.declared.end.End.TheVariants.{Full}
 use Rattle.audit_cli_daemon.specs.State.{ready_line}
 use Rattle.audit_text.specs.Writing.{WritesInPart}
 use Rattle.audit_server_model.specs.Serving.{StoreKeepsOn}
@@ -37,18 +38,22 @@ returns-clause-served g c =
     let opens = IsDoorFor (rights_served c.args.sockets.now c.args.judged.rights) (modes_at (rights_served c.args.sockets.now c.args.judged.rights) c.args.judged.mode) there c.args.judged.idle in
     let begun = g.W.Write.contents c.args.output.now in
     let pair = c.match-bind.store in
-    serves_between N doors opens IsTold (LetsGo g.O.Stores.calls c.args.stores.now c.closed-state.new.stores) (terms_of c.args.judged.sources c.args.judged.reserve) c.args.judged.most c.args.store pair.0 begun (g.W.Write.contents c.match-bind.output) (g.W.Write.contents c.report_stopped.new.output) pair.1 c.report_stopped.result c.closed-state.result.count c.closed-state.result.root
+    serves_between N doors opens IsTold (LetsGo g.O.Stores.calls c.args.stores.now c.closed-state.new.stores) (c.args.judged.stops_when_full ≡ true) c.args.judged.reserve (terms_of c.args.judged.sources c.args.judged.kept) c.args.judged.most c.args.store pair.0 begun (g.W.Write.contents c.match-bind.output) (g.W.Write.contents c.report_stopped.new.output) pair.1 c.report_stopped.result c.closed-state.result.count c.closed-state.result.root
     (elim c.match-bind.branch [
-      | in-Ok w ↦ (
-        subst (λ both. OnOk both.1 (Appends begun (g.W.Write.contents c.match-bind.output) (ready_line (active_header c.args.store)))) (sym w.store-is)
-            (subst (λ output. OnOk w.serve_listening.result.1 (Appends begun (g.W.Write.contents output) (ready_line (active_header c.args.store)))) (sym w.output-is) w.serve_listening.ensures.ready),
-        subst (λ both. OnOk both.1 (ServesAtDoor N doors opens IsTold (terms_of c.args.judged.sources c.args.judged.reserve) c.args.judged.most c.args.store both.0)) (sym w.store-is)
-            (served_there N doors IsTold _ _ _ _ _ there c.args.judged.idle (terms_of c.args.judged.sources c.args.judged.reserve) c.args.judged.most c.args.store w.serve_listening.result.0 w.serve_listening.result.1 w.in-Ok.ensures.rights w.in-Ok.ensures.modes w.in-Ok.ensures.listen w.serve_listening.ensures.served),
-      )
-      | in-Err w ↦ (
-        subst (λ both. OnOk both.1 (Appends begun (g.W.Write.contents c.match-bind.output) (ready_line (active_header c.args.store)))) (sym w.store-is) tt,
-        subst (λ both. OnOk both.1 (ServesAtDoor N doors opens IsTold (terms_of c.args.judged.sources c.args.judged.reserve) c.args.judged.most c.args.store both.0)) (sym w.store-is) tt,
-      )
+      | in-Ok w ↦
+          subst (λ both. OnOk both.1 (Appends begun (g.W.Write.contents c.match-bind.output) (ready_line (active_header c.args.store)))) (sym w.store-is)
+          (subst (λ output. OnOk w.serve_listening.result.1 (Appends begun (g.W.Write.contents output) (ready_line (active_header c.args.store)))) (sym w.output-is) w.serve_listening.ensures.ready)
+      | in-Err w ↦ subst (λ both. OnOk both.1 (Appends begun (g.W.Write.contents c.match-bind.output) (ready_line (active_header c.args.store)))) (sym w.store-is) tt
+    ])
+    (elim c.match-bind.branch [
+      | in-Ok w ↦
+          subst (λ both. IfOk both.1 (λ end. ServesAtDoor N doors opens IsTold c.args.judged.reserve (terms_of c.args.judged.sources c.args.judged.kept) c.args.judged.most end c.args.store both.0)) (sym w.store-is)
+          (served_there N doors IsTold _ _ _ _ _ there c.args.judged.idle c.args.judged.reserve (terms_of c.args.judged.sources c.args.judged.kept) c.args.judged.most c.args.store w.serve_listening.result.0 w.serve_listening.result.1 w.in-Ok.ensures.rights w.in-Ok.ensures.modes w.in-Ok.ensures.listen w.serve_listening.ensures.served)
+      | in-Err w ↦ subst (λ both. IfOk both.1 (λ end. ServesAtDoor N doors opens IsTold c.args.judged.reserve (terms_of c.args.judged.sources c.args.judged.kept) c.args.judged.most end c.args.store both.0)) (sym w.store-is) tt
+    ])
+    (elim c.match-bind.branch [
+      | in-Ok w ↦ subst (λ both. IfOk both.1 (λ end. end ≡ Full → c.args.judged.stops_when_full ≡ true)) (sym w.store-is) w.serve_listening.ensures.asked
+      | in-Err w ↦ subst (λ both. IfOk both.1 (λ end. end ≡ Full → c.args.judged.stops_when_full ≡ true)) (sym w.store-is) tt
     ])
     c.report_stopped.ensures.served c.report_stopped.ensures.written c.closed-state.ensures.count c.closed-state.ensures.root c.closed-state.ensures.let_go
 
@@ -57,7 +62,7 @@ returns-clause-ended g c =
     let begun = g.W.Write.contents c.args.output.now in
     let line = ready_line (active_header c.args.store) in
     let pair = c.match-bind.store in
-    ends_early (LetsGo g.O.Stores.calls c.args.stores.now c.closed-state.new.stores) c.args.store pair.0 begun (g.W.Write.contents c.match-bind.output) (g.W.Write.contents c.report_stopped.new.output) pair.1 c.report_stopped.result c.closed-state.result.count c.closed-state.result.root
+    ends_early (LetsGo g.O.Stores.calls c.args.stores.now c.closed-state.new.stores) (c.args.judged.stops_when_full ≡ true) c.args.store pair.0 begun (g.W.Write.contents c.match-bind.output) (g.W.Write.contents c.report_stopped.new.output) pair.1 c.report_stopped.result c.closed-state.result.count c.closed-state.result.root
     (elim c.match-bind.branch [
       | in-Ok w ↦ subst (λ both. StoreKeepsOn c.args.store both.0) (sym w.store-is) w.serve_listening.ensures.kept
       | in-Err w ↦ subst (λ both. StoreKeepsOn c.args.store both.0) (sym w.store-is) (kept_none c.args.store)
@@ -75,6 +80,10 @@ returns-clause-ended g c =
           subst (λ both. OnOk both.1 (Appends begun (g.W.Write.contents c.match-bind.output) line)) (sym w.store-is)
           (subst (λ output. OnOk w.serve_listening.result.1 (Appends begun (g.W.Write.contents output) line)) (sym w.output-is) w.serve_listening.ensures.ready)
       | in-Err w ↦ subst (λ both. OnOk both.1 (Appends begun (g.W.Write.contents c.match-bind.output) line)) (sym w.store-is) tt
+    ])
+    (elim c.match-bind.branch [
+      | in-Ok w ↦ subst (λ both. IfOk both.1 (λ end. end ≡ Full → c.args.judged.stops_when_full ≡ true)) (sym w.store-is) w.serve_listening.ensures.asked
+      | in-Err w ↦ subst (λ both. IfOk both.1 (λ end. end ≡ Full → c.args.judged.stops_when_full ≡ true)) (sym w.store-is) tt
     ])
     c.report_stopped.ensures.kept c.report_stopped.ensures.part c.closed-state.ensures.count c.closed-state.ensures.root c.closed-state.ensures.let_go
 
