@@ -1,9 +1,11 @@
 -- The time in which clients may take their replies after the order to stop.
-use Rattle.std.specs.Prelude.{◌≡◌, ◌⊎◌, ◌+◌, ◌≤◌, Bool, true, Option, Some, None, nat_lt, length}
+use Rattle.std.specs.Prelude.{◌≡◌, ◌⊎◌, ◌+◌, ◌≤◌, ℤ, Bool, true, Option, Some, None, nat_lt, length}
 use Rattle.std.specs.Time.{instant_nanos, FitsClock}
 use Rattle.std.specs.declared.time.Instant.{Instant}
+use Rattle.mio.specs.Net.{unix_listener_fd}
 use Rattle.audit_serve_ready.specs.declared.next.Next.{Next}
 use Rattle.audit_serve_ready.specs.declared.next.Next.TheVariants as next
+use Rattle.audit_serve_door.specs.Entrances.{listener_of}
 use Rattle.audit_serve_door.specs.declared.stop_orders.StopOrders.{StopOrders}
 
 -- It lasts five seconds, unless the clock ends before.
@@ -18,6 +20,10 @@ IsOver now last = instant_nanos last ≤ instant_nanos now
 -- the order to stop has come
 abbrev pub has_order : StopOrders → Bool
 has_order orders = nat_lt 0 (length orders.given.items)
+
+-- the descriptor of the socket on which orders come
+abbrev pub descriptor_of_orders : StopOrders → ℤ
+descriptor_of_orders orders = unix_listener_fd (listener_of orders.incoming)
 
 -- What a pause says. It ends serving if what is served was found out of its place, if the system's readiness or clock
 -- failed, or by an order. Then that time begins, which nothing changes; and as long as it isn't over, and nothing of

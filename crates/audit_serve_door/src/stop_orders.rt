@@ -74,15 +74,22 @@ pub struct StopOrders {
 }
 
 impl StopOrders {
-    ghost use Rattle.std.specs.Prelude.{◌≡◌};
-    ghost use Rattle.audit_serve_door.specs.Finishing.{has_order};
+    ghost use Rattle.std.specs.Prelude.{◌≡◌, ◌⊎◌, IfOk, IfErr, OnOk};
+    ghost use Rattle.std.specs.IoError.{error_kind};
+    ghost use Rattle.std.specs.Net.Unix.{unix_listener_raw_fd};
+    ghost use Rattle.audit_serve_door.specs.Finishing.{has_order, descriptor_of_orders};
 
-    /// Takes orders from a socket that listens.
+    /// Takes orders from a socket that listens. Accepting there doesn't wait. It fails only if that call did, or, with
+    /// `OutOfMemory`, if memory is refused.
     pub fn new<P: PromptListening>(
         rt: &P,
         alloc: Global,
         listener: UnixListener,
-    ) -> io::Result<StopOrders> {
+    ) -> io::Result<StopOrders>
+        ensures socket { IfOk result (λ orders. descriptor_of_orders orders ≡ unix_listener_raw_fd listener) }
+        ensures prompt { OnOk result (P.prompt rt.now (unix_listener_raw_fd listener)) }
+        ensures failed { IfErr result (λ error. P.unprompted rt.now ⊎ (error_kind error ≡ ErrorKind.OutOfMemory)) }
+    {
         Ok(StopOrders {
             incoming: Incoming::new(rt, listener)?,
             pending: room(alloc)?,
