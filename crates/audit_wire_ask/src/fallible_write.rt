@@ -1,6 +1,7 @@
 //! Writers whose failed calls are facts.
 ghost use Rattle.std.specs.Prelude.{◌≡◌, IfErr, OnOk, OnErr};
-ghost use Rattle.std.specs.Io.KnownBytes.{Appends, Keeps};
+ghost use Rattle.std.specs.Io.{WritesAtMost};
+ghost use Rattle.std.specs.Io.KnownBytes.{Appends, Keeps, WriteAppends};
 ghost use Rattle.audit_wire_ask.specs.Exporting.{WritesFront};
 ghost use Rattle.audit_wire_ask.specs.Failing.{IsLost};
 ghost use Rattle.audit_text.specs.Writing.{WritesInPart};
@@ -18,6 +19,12 @@ pub trait FallibleWrite: Write {
 
     /// The last call was a flush, and it succeeded.
     ghost flushed: { Self → Type 0 };
+
+    /// Writes once, as `Write::write` does.
+    fn write_once(&mut self, bytes: &[u8]) -> io::Result<usize>
+        ensures bound { WritesAtMost result bytes.now }
+        ensures bytes { WriteAppends (Self.contents self.old) (Self.contents self.new) result bytes.now }
+        ensures failed { OnErr result (failed self.new) };
 
     /// Writes a whole text, as `write_whole` does. After an error a prefix of it was written, and not all.
     fn write_text(&mut self, text: &[u8]) -> Result<(), LinesError>
@@ -45,6 +52,10 @@ impl<W: Write> FallibleWrite for W {
     ghost failed = { λ _. Unit {0} };
 
     ghost flushed = { λ _. Unit {0} };
+
+    fn write_once(&mut self, bytes: &[u8]) -> io::Result<usize> {
+        self.write(bytes)
+    }
 
     fn write_text(&mut self, text: &[u8]) -> Result<(), LinesError> {
         match send_rest(self, text) {

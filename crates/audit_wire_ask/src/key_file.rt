@@ -27,16 +27,22 @@ impl<W: FallibleWrite> KeyLines for KeyFile<W> {
     }
 }
 
-/// Its bytes are those of the writer, and to flush it is to flush the writer.
+/// Its bytes are those of the writer. To write to it is to write to the writer, and to flush it is to flush the writer.
 impl<W: FallibleWrite> Write for KeyFile<W> {
     ghost use Rattle.std.specs.Prelude.{OnOk, OnErr};
-    ghost use Rattle.std.specs.Io.KnownBytes.{Keeps};
+    ghost use Rattle.std.specs.Io.{WritesAtMost};
+    ghost use Rattle.std.specs.Io.KnownBytes.{Keeps, WriteAppends};
     ghost use Rattle.audit_wire_ask.specs.EntryKeys.{written_file};
 
     ghost contents = { λ keys. W.contents (written_file keys) };
 
-    fn write(&mut self, bytes: &[u8]) -> io::Result<usize> {
-        self.writer.write(bytes)
+    fn write(&mut self, bytes: &[u8]) -> io::Result<usize>
+        ensures bound { WritesAtMost result bytes.now }
+        ensures bytes { WriteAppends (W.contents (written_file self.old)) (W.contents (written_file self.new))
+            result bytes.now }
+        ensures failed { OnErr result (W.failed (written_file self.new)) }
+    {
+        self.writer.write_once(bytes)
     }
 
     fn flush(&mut self) -> io::Result<()>
