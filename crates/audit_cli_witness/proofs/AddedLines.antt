@@ -1,17 +1,17 @@
 -- A line that is added to the file of a witness is read as the commitment that was added.
-use Rattle.std.specs.Prelude.{nat_le, nat_lt, codes, slice_index}
+use Rattle.std.specs.Prelude.{nat_le, nat_lt}
 use Rattle.std.specs.Fmt.{decimal}
-use Rattle.std.specs.Char.{digit_value, is_ascii_digit}
+use Rattle.std.specs.Char.{is_ascii_digit}
 use Rattle.std.specs.List.{AllByRecursion, list_all, before_first, after_first, position_or_len}
 use Rattle.std.specs.Result.{result_ok}
 use Rattle.std.specs.Str.Parse.{AllDigits, digits_value}
-use Rattle.std.proofs.Common.{◌≡◌, ◌∙◌, ℕ, suc, ◌+◌, ◌/◌, ◌%◌, ◌<◌, ◌≤◌, ◌^◌, ◌==◌, Bool, true, false, cond, not, ◌&&◌, Option, Some, Result, Ok, List, [], ◌∷◌, ◌++◌, length, take, drop, refl, sym, ap, subst, arith, append_assoc, lit<}
-use Rattle.std.proofs.lemmas.Bool.{and_parts, not-true, eqb-true, ne_eqb, cond-true, cond-false, le-leb, lt-ltb}
+use Rattle.std.proofs.Common.{◌≡◌, ◌∙◌, ℕ, suc, ◌+◌, ◌/◌, ◌%◌, ◌<◌, ◌^◌, ◌==◌, Bool, true, false, cond, not, ◌&&◌, Option, Some, List, [], ◌∷◌, ◌++◌, length, take, drop, refl, sym, ap, subst, arith, append_assoc, lit<}
+use Rattle.std.proofs.lemmas.Bool.{not-true, ne_eqb, cond-true, cond-false, le-leb, lt-ltb}
 use Rattle.std.proofs.lemmas.Option.{none-some}
 use Rattle.std.proofs.lemmas.Fmt.{decimal_is_IsNumeral, length-decimal-le}
 use Rattle.std.proofs.lemmas.Str.Parse.{digit_from_value}
-use Rattle.std.proofs.Math.Seq.{take-append_seam, drop-append_seam, drop-append-add}
-use Rattle.hex.specs.Hex.{encode_lower, encode_with, lower_digits, hex_digit_value, decode_sized}
+use Rattle.std.proofs.Math.Seq.{take-append_seam, drop-append-add}
+use Rattle.hex.specs.Hex.{encode_lower, encode_with, hex_digit_value, decode_sized}
 use Rattle.hex.proofs.HexLemmas.{IsDigits-lower_digits, decode_sized-encode_lower}
 use Rattle.audit_base.specs.Bytes.{AreBytes}
 use Rattle.audit_base.specs.declared.limits.TheConstants.{HASH_LEN}

@@ -1,11 +1,11 @@
 -- The lines of a witness's file, read one after another.
-use Rattle.std.specs.Prelude.{◌<◌, ◌≤◌, ◌+◌, ◌-◌, ◌⊎◌, map, not, true, false, Bool, Some, None, Option, Result, Ok, Err, IfOk, slice_get, IfSome}
+use Rattle.std.specs.Prelude.{◌<◌, ◌≤◌, ◌+◌, ◌-◌, map, not, true, false, Bool, Some, None, Option, Result, Ok, Err, IfErr, IfOk, slice_get, IfSome}
 use Rattle.std.specs.List.{position_or_len, before_first, after_first}
 use Rattle.std.proofs.Common.{◌≡◌, ◌∙◌, inl, inr, ℕ, suc, List, [], ◌∷◌, ◌++◌, length, take, drop, get_or, append_assoc, append-nil, length-append, sym, ap, subst, refl, arith}
 use Rattle.audit_wire_ask.specs.Keeping.{last_kept}
 use Rattle.std.proofs.lemmas.Bool.{eqb-true}
 use Rattle.std.proofs.lemmas.Option.{none-some}
-use Rattle.std.proofs.lemmas.List.{map-append, length-map, length-take, length-take-le, length-drop, take_all, take-append-drop, append_cancel_right}
+use Rattle.std.proofs.lemmas.List.{map-append, length-take, length-take-le, length-drop, take_all, take-append-drop, append_cancel_right}
 use Rattle.std.proofs.lemmas.List.Sums.{split_at_first, passes_at_first, fails_before_first}
 use Rattle.std.proofs.Math.Seq.{take-append_seam}
 use Rattle.audit_proof.specs.declared.commitment.Commitment.{Commitment}
@@ -14,7 +14,7 @@ use Rattle.audit_text.proofs.FirstLine.{first_of_lines}
 use Rattle.audit_cli_offline.specs.CommitmentWord.{commitment_in_word}
 use Rattle.audit_cli_connection.specs.declared.fault.RemoteError.{RemoteError}
 use Rattle.audit_cli_witness.specs.declared.state_lines.Tail.{Tail}
-use Rattle.audit_cli_witness.specs.State.{AreLinesOf, ReadsLastLine, ReadsTail, HoldsLines, HoldsState, IsCutOffAfter, IsStored, lacks_feed, line_after, commitment_word, onto_kept, kept_in_lines, kept_in}
+use Rattle.audit_cli_witness.specs.State.{HasReadCause, AreLinesOf, ReadsLastLine, ReadsTail, HoldsLines, HoldsState, IsCutOffAfter, IsStored, lacks_feed, line_after, commitment_word, onto_kept, kept_in_lines, kept_in}
 use Rattle.audit_cli_witness.proofs.AddedLines.{no_lines, after_whole, line_added, word_read}
 
 -- whole lines of these commitments were read, and the rest remains
@@ -326,3 +326,13 @@ last_place (only ∷ []) = refl
 last_place (first ∷ second ∷ later) =
     let place : length (first ∷ second ∷ later) - 1 ≡ suc (length (second ∷ later) - 1) = omega arith in
     ap (slice_get (first ∷ second ∷ later)) place ∙ last_place (second ∷ later)
+
+-- an error of lines is one of the file that they are in
+pub from_lines : (Failed : Type 0) (fault : RemoteError) → HasReadCause ⊥ fault → HasReadCause Failed fault
+from_lines Failed fault (inl (inl none)) = absurd none
+from_lines Failed fault (inl (inr memory)) = inl (inr memory)
+from_lines Failed fault (inr line) = inr line
+
+pub errors_from_lines : {A : Type 0} (Failed : Type 0) (result : Result A RemoteError) → IfErr result (HasReadCause ⊥) → IfErr result (HasReadCause Failed)
+errors_from_lines Failed (Ok tail) lines = tt
+errors_from_lines Failed (Err fault) lines = from_lines Failed fault lines

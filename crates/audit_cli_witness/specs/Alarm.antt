@@ -1,5 +1,5 @@
 -- What is kept of a server that contradicts a witness.
-use Rattle.std.specs.Prelude.{◌≡◌, ℕ, Bool, true, false, Option, Some, None, List, [], ◌∷◌, ◌++◌, codes}
+use Rattle.std.specs.Prelude.{ℕ, Bool, true, false, Option, Some, List, [], ◌∷◌, ◌++◌, codes}
 use Rattle.httpdate.specs.declared.date.HttpDate.{HttpDate as Date}
 use Rattle.audit_proof.specs.declared.commitment.Commitment.{Commitment}
 use Rattle.audit_text.specs.Lines.{line_feed}

@@ -6,9 +6,22 @@ use Rattle.hex.specs.Hex.{encode_lower}
 use Rattle.audit_base.specs.Bytes.{AreBytes}
 use Rattle.audit_base.specs.declared.limits.TheConstants.{HASH_LEN}
 use Rattle.audit_text.specs.Lines.{lines_of, line_feed}
+use Rattle.audit_text.specs.declared.fault.LinesError.TheVariants.{Memory}
 use Rattle.audit_proof.specs.declared.commitment.Commitment.{Commitment}
+use Rattle.audit_cli_base.specs.declared.fault.CommandError.TheVariants.{Lines}
+use Rattle.audit_cli_connection.specs.Faults.{no_memory}
+use Rattle.audit_cli_connection.specs.declared.fault.RemoteError.{RemoteError}
+use Rattle.audit_cli_connection.specs.declared.fault.RemoteError.TheVariants.{Command, BadStateLine}
 use Rattle.audit_cli_offline.specs.CommitmentWord.{commitment_in_word}
 use Rattle.audit_cli_witness.specs.declared.state_lines.Tail.{Tail}
+
+-- an error of the file has a cause: a call failed, as `Failed` says, or memory was refused
+abbrev pub HasStateCause : Type 0 → RemoteError → Type 0
+HasStateCause Failed fault = Failed ⊎ ((fault ≡ no_memory) ⊎ (fault ≡ Command (Lines Memory)))
+
+-- so has one of reading it, or it is about a line
+abbrev pub HasReadCause : Type 0 → RemoteError → Type 0
+HasReadCause Failed fault = HasStateCause Failed fault ⊎ ((line : ℕ) × (fault ≡ BadStateLine line))
 
 -- COUNT:ROOT
 abbrev pub commitment_word : Commitment → List ℕ

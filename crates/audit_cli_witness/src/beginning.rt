@@ -53,6 +53,9 @@ pub fn begin_after<K: Kept<Error = RemoteError>>(
         × (K.kept kept.new ≡ K.kept kept.old ++ start ∷ [])) }
     ensures part { OnErr result ((K.kept kept.new ≡ K.kept kept.old) ⊎ ((start : Commitment)
         × IsLinkedStart old.now link.now start × (K.kept kept.new ≡ K.kept kept.old ++ start ∷ []))) }
+    // A link that isn't accepted has its own error.
+    ensures fault { IfErr result (λ fault. IsUnlinked old.now link.now fault
+        ⊎ ((start : Commitment) × IsLinkedStart old.now link.now start)) }
 {
     let start = linked_start(alloc, old, link)?;
     kept.add(&start)

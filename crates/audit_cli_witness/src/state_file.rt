@@ -1,8 +1,8 @@
 //! The file of a witness: a line for each commitment that it saw, the newest last.
-ghost use Rattle.std.specs.Prelude.{◌≡◌, ◌⊎◌, ◌∷◌, ◌++◌, [], ◌-◌, ℕ, List, Some, length, take};
-ghost use Rattle.std.specs.Prelude.{IfOk, IfSome, OnOk, OnErr};
+ghost use Rattle.std.specs.Prelude.{◌≡◌, ◌⊎◌, ◌∷◌, ◌++◌, [], ◌+◌, ◌-◌, ◌^◌, ◌≤◌, ℕ, List, Some, length, take};
+ghost use Rattle.std.specs.Prelude.{IfOk, IfErr, IfSome, OnOk, OnErr};
 ghost use Rattle.audit_wire_ask.specs.Keeping.{last_kept};
-ghost use Rattle.audit_cli_witness.specs.State.{HoldsState, IsStored, kept_in, line_after};
+ghost use Rattle.audit_cli_witness.specs.State.{HoldsState, IsStored, kept_in, line_after, HasStateCause, HasReadCause};
 
 use crate::state_lines::{Tail, line_after, tail_in};
 use crate::state_text::StateText;
@@ -33,15 +33,19 @@ pub struct StateFile<T: StateText> {
 
 impl<T: StateText> StateFile<T> {
     /// Reads the end of an open file, which the caller has locked. The newest commitment is that of its last line, but
-    /// for one that was cut off.
+    /// for one that was cut off. It fails only if a call of the file did, memory was refused, or a line isn't one.
     pub fn read(alloc: Global, file: T) -> Result<StateFile<T>, RemoteError>
         ensures kept { IfOk result (λ state. T.text state.file ≡ T.text file) }
         ensures newest { IfOk result (λ state. (bytes : List ℕ) → T.text file ≡ Some bytes
             → last_kept (kept_in bytes) ≡ last_kept state.kept.items) }
+        ensures failed { IfErr result (HasReadCause ((last : T) × T.failed last)) }
     {
         let mut file = file;
         let size = file.length()?;
-        let tail = tail_of(alloc, &mut file, size)?;
+        let tail = match tail_of(alloc, &mut file, size) {
+            Ok(tail) => tail,
+            Err(fault) => return Err(fault),
+        };
         Ok(StateFile {
             alloc,
             file,
@@ -61,13 +65,18 @@ impl<T: StateText> Kept for StateFile<T> {
         self.kept.last().copied()
     }
 
-    // The line goes after the others, in place of one that was cut off.
+    // The line goes after the others, in place of one that was cut off. It is added exactly if the call succeeds that puts
+    // and syncs it, which it is unless memory was refused, or the file would have 2^64 bytes.
     fn add(&mut self, seen: &Commitment) -> Result<(), RemoteError>
         ensures done { OnOk result (self.new.kept.items ≡ self.old.kept.items ++ seen.now ∷ []) }
         ensures part { OnErr result ((self.new.kept.items ≡ self.old.kept.items)
             ⊎ (self.new.kept.items ≡ self.old.kept.items ++ seen.now ∷ [])) }
         ensures written { OnOk result (IfSome (T.text self.old.file) (λ bytes. T.text self.new.file
             ≡ Some (take self.old.end bytes ++ line_after self.old.lacks_feed seen.now))) }
+        ensures synced { OnOk result (T.synced self.new.file self.old.end
+            (line_after self.old.lacks_feed seen.now)) }
+        ensures failed { IfErr result (λ fault. HasStateCause (T.failed self.new.file) fault
+            ⊎ (2 ^ 64 ≤ self.old.end + length (line_after self.old.lacks_feed seen.now))) }
     {
         let seen = stored(seen.count, seen.root);
         let line = line_after(self.alloc, self.lacks_feed, &seen)?;
@@ -96,6 +105,7 @@ fn tail_of<T: StateText>(alloc: Global, file: &mut T, size: u64) -> Result<Tail,
     ensures kept { T.text file.new ≡ T.text file.old }
     ensures read { IfOk result (λ tail. IfSome (T.text file.old) (λ bytes. size ≡ length bytes
         → HoldsState bytes tail.kept.items (size - tail.torn) tail.lacks_feed)) }
+    ensures failed { IfErr result (HasReadCause (T.failed file.new)) }
 {
     let start = size.saturating_sub(TAIL_LEN);
     let text = file.read_from(alloc, start)?;
@@ -116,7 +126,8 @@ fn tail_of<T: StateText>(alloc: Global, file: &mut T, size: u64) -> Result<Tail,
 
 // The fault of a line that isn't one of a witness: the number of the line, which is counted from a place on.
 fn bad_line<T: StateText>(file: &mut T, before: u64, line: u64) -> RemoteError
-    ensures { T.text file.new ≡ T.text file.old }
+    ensures kept { T.text file.new ≡ T.text file.old }
+    ensures failed { HasReadCause (T.failed file.new) result }
 {
     match file.feeds_before(before) {
         Ok(lines) => RemoteError::BadStateLine(lines.saturating_add(line)),

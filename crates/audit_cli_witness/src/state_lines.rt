@@ -1,6 +1,6 @@
 //! The lines at the end of a witness's file: a commitment each, the newest last.
-ghost use Rattle.std.specs.Prelude.{◌≡◌, ◌++◌, codes, true, IfOk, OnOk};
-ghost use Rattle.audit_cli_witness.specs.State.{ReadsTail, ReadsLastLine, IsBegunWith, IsTorn};
+ghost use Rattle.std.specs.Prelude.{◌≡◌, ◌++◌, codes, true, IfOk, IfErr, OnOk};
+ghost use Rattle.audit_cli_witness.specs.State.{ReadsTail, ReadsLastLine, IsBegunWith, IsTorn, HasReadCause};
 ghost use Rattle.audit_cli_witness.specs.State.{commitment_word, line_after};
 
 use audit_cli_connection::RemoteError;
@@ -26,7 +26,8 @@ pub struct Tail {
 /// Reads the end of a witness's file, from the start of a line on. The first line that isn't one of a witness is
 /// `BadStateLine`, with its number in this text; only the last may be cut off.
 pub fn tail_in(alloc: Global, text: &[u8]) -> Result<Tail, RemoteError>
-    ensures { IfOk result (ReadsTail text.now) }
+    ensures read { IfOk result (ReadsTail text.now) }
+    ensures failed { IfErr result (HasReadCause ⊥) }
 {
     let mut kept = Vec::new(alloc);
     let mut rest = text;
@@ -50,7 +51,8 @@ pub fn tail_in(alloc: Global, text: &[u8]) -> Result<Tail, RemoteError>
 
 // Reads a last line without a line feed, after those of which the commitments are kept.
 fn last_in(alloc: Global, kept: Vec<Commitment>, line: &[u8]) -> Result<Tail, RemoteError>
-    ensures { IfOk result (ReadsLastLine kept.items line.now) }
+    ensures read { IfOk result (ReadsLastLine kept.items line.now) }
+    ensures failed { IfErr result (HasReadCause ⊥) }
 {
     let mut kept = kept;
     if let Some(last) = commitment_in_word(line) {

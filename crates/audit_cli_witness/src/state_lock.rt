@@ -1,4 +1,6 @@
 //! Opening the file of a witness for one look at a time.
+ghost use Rattle.std.specs.Prelude.{◌≡◌, true, Ok, IfOk};
+
 use audit_cli_base::CommandError;
 use audit_cli_connection::RemoteError;
 use audit_cli_host::retry_time;
@@ -28,6 +30,8 @@ pub fn lock_state<R: Files + Clock>(
 ) -> Result<Locked<R::File>, RemoteError>
 where
     R::File: SystemFile,
+    // It was locked by a call that nothing else can be taken for.
+    ensures { IfOk result (λ locked. (R.File.facts locked.file).locked) }
 {
     let begun = Instant::now(rt)?;
     for _ in 0..u64::MAX {
@@ -82,7 +86,9 @@ pub fn metadata_if_any<R: Files>(rt: &R, path: &str) -> io::Result<Option<Metada
     }
 }
 
-fn takes_lock<F: SystemFile>(file: &F) -> io::Result<bool> {
+fn takes_lock<F: SystemFile>(file: &F) -> io::Result<bool>
+    ensures { result ≡ Ok true → (F.facts file.now).locked }
+{
     match file.try_lock() {
         Ok(()) => Ok(true),
         Err(TryLockError::WouldBlock) => Ok(false),

@@ -1,6 +1,7 @@
 //! The bytes of a witness's file.
 ghost use Rattle.std.specs.Prelude.{◌≡◌, ◌⊎◌, ◌++◌, Option, Some, None, List, ℕ, length, take, drop};
-ghost use Rattle.std.specs.Prelude.{IfOk, IfSome, OnOk, OnErr};
+ghost use Rattle.std.specs.Prelude.{IfOk, IfErr, IfSome, OnOk, OnErr};
+ghost use Rattle.audit_cli_witness.specs.State.{HasStateCause};
 
 use crate::state_lock::sync_folder;
 use audit_cli_connection::RemoteError;
@@ -12,24 +13,33 @@ use std::io::{self, Read, Seek, SeekFrom, Write};
 // How many bytes are read at a time to number the lines before them.
 const PIECE_LEN: usize = 1 << 12;
 
-/// The bytes of a witness's file.
+/// The bytes of a witness's file. That a call failed, and that bytes were put and synced, are facts of the calls alone.
 pub trait StateText: Drop {
     /// The bytes, where they are known.
     ghost text: { Self → Option (List ℕ) };
 
+    /// The last call failed.
+    ghost failed: { Self → Type 0 };
+
+    /// The last call put these bytes in place of those from this place on, and synced them.
+    ghost synced: { Self → ℕ → List ℕ → Type 0 };
+
     /// Returns their number.
     fn length(&mut self) -> io::Result<u64>
         ensures kept { text self.new ≡ text self.old }
-        ensures found { IfOk result (λ number. IfSome (text self.old) (λ bytes. number ≡ length bytes)) };
+        ensures found { IfOk result (λ number. IfSome (text self.old) (λ bytes. number ≡ length bytes)) }
+        ensures failed { OnErr result (failed self.new) };
 
     /// Reads all bytes from a place on.
     fn read_from(&mut self, alloc: Global, start: u64) -> Result<Vec<u8>, RemoteError>
         ensures kept { text self.new ≡ text self.old }
-        ensures read { IfOk result (λ rest. IfSome (text self.old) (λ bytes. rest.items ≡ drop start bytes)) };
+        ensures read { IfOk result (λ rest. IfSome (text self.old) (λ bytes. rest.items ≡ drop start bytes)) }
+        ensures failed { IfErr result (HasStateCause (failed self.new)) };
 
     /// Returns how many line feeds are among the first bytes.
     fn feeds_before(&mut self, place: u64) -> io::Result<u64>
-        ensures { text self.new ≡ text self.old };
+        ensures kept { text self.new ≡ text self.old }
+        ensures failed { OnErr result (failed self.new) };
 
     /// Puts bytes in place of those from a place on, and syncs them. After an error they are as before, or cut off
     /// there, or unknown.
@@ -38,7 +48,9 @@ pub trait StateText: Drop {
             (λ old. text self.new ≡ Some (take start old ++ bytes.now))) }
         ensures part { OnErr result (IfSome (text self.old) (λ old. (text self.new ≡ Some old)
             ⊎ ((text self.new ≡ Some (take start old)) ⊎ (text self.new ≡ None)))) }
-        ensures unknown { text self.old ≡ None → text self.new ≡ None };
+        ensures unknown { text self.old ≡ None → text self.new ≡ None }
+        ensures synced { OnOk result (synced self.new start bytes.now) }
+        ensures failed { OnErr result (failed self.new) };
 }
 
 /// A file of the operating system, open and locked. Nothing is known of its bytes.
@@ -54,6 +66,10 @@ pub struct StateAt<'a, R: Files> {
 
 impl<R: Files> StateText for StateAt<'_, R> {
     ghost text = { λ _. None };
+
+    ghost failed = { λ _. Unit {0} };
+
+    ghost synced = { λ _ _ _. Unit {0} };
 
     fn length(&mut self) -> io::Result<u64> {
         self.file.seek(SeekFrom::End(0))

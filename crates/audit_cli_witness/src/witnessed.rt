@@ -1,7 +1,7 @@
 //! The newest commitment in the file of a witness, which is only read.
-ghost use Rattle.std.specs.Prelude.{◌≡◌, ℕ, Some, List, IfOk};
+ghost use Rattle.std.specs.Prelude.{◌≡◌, ℕ, Some, List, IfOk, IfErr};
 ghost use Rattle.audit_wire_ask.specs.Keeping.{last_kept};
-ghost use Rattle.audit_cli_witness.specs.State.{kept_in};
+ghost use Rattle.audit_cli_witness.specs.State.{kept_in, HasReadCause};
 
 use crate::state_file::StateFile;
 use crate::state_text::{StateAt, StateText};
@@ -34,6 +34,7 @@ pub fn witnessed_at<F: Files>(
 pub fn witnessed_in<T: StateText>(alloc: Global, file: T) -> Result<Commitment, RemoteError>
     ensures newest { IfOk result (λ newest. (bytes : List ℕ) → T.text file ≡ Some bytes
         → last_kept (kept_in bytes) ≡ Some newest) }
+    ensures failed { IfErr result (HasReadCause ((last : T) × T.failed last)) }
 {
     let kept = StateFile::read(alloc, file)?;
     match kept.newest() {

@@ -1,4 +1,4 @@
-use Rattle.std.proofs.Common.{◌∙◌, ◌++◌, List, [], ◌∷◌, ap, sym, append_assoc}
+use Rattle.std.proofs.Common.{◌∙◌, ◌++◌, [], ◌∷◌, ap, append_assoc}
 use Rattle.audit_cli_witness.proofs.state_lines.is_torn.Goals as goal
 
 pub loop-preserved : goal.loop-preserved

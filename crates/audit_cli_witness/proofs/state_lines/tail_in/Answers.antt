@@ -16,11 +16,11 @@ loop-rest-preserved c =
           (one_line_more c.args.text.now c.loop-rest.kept.items c.in-Some.commitment c.loop-rest.rest.now c.split_at_first.result.0.now c.split_at_first.result.1.now c.loop-rest.invariant.read (omega (arith, some)) cut c.if-line-rest.false (sym c.in-Some.ensures));
     }
 
-pub returns-then-line-rest : goal.returns-then-line-rest
-returns-then-line-rest c =
+pub returns-then-line-rest-clause-read : goal.returns-then-line-rest-clause-read
+returns-then-line-rest-clause-read c =
     let some = eqb-false _ _ (sym c.loop-rest-test.ensures) in
     let cut : IsCutInLines c.loop-rest.rest.now c.split_at_first.result.0.now c.split_at_first.result.1.now = record { first = c.split_at_first.ensures.before; after = c.split_at_first.ensures.after } in
-    last_read_if c.args.text.now c.loop-rest.kept.items c.loop-rest.rest.now c.split_at_first.result.0.now c.split_at_first.result.1.now c.last_in.result c.loop-rest.invariant.read (omega (arith, some)) cut c.if-line-rest.true c.last_in.ensures
+    last_read_if c.args.text.now c.loop-rest.kept.items c.loop-rest.rest.now c.split_at_first.result.0.now c.split_at_first.result.1.now c.last_in.result c.loop-rest.invariant.read (omega (arith, some)) cut c.if-line-rest.true c.last_in.ensures.read
 
-pub returns : goal.returns
-returns c = all_lines_read c.args.text.now c.loop-rest.kept.items c.loop-rest.rest.now c.loop-rest.invariant.read (eqb-true _ _ (sym c.loop-rest-test.ensures))
+pub returns-clause-read : goal.returns-clause-read
+returns-clause-read c = all_lines_read c.args.text.now c.loop-rest.kept.items c.loop-rest.rest.now c.loop-rest.invariant.read (eqb-true _ _ (sym c.loop-rest-test.ensures))

@@ -1,6 +1,4 @@
-use Rattle.std.proofs.Common.{◌≡◌, ◌∙◌, ◌+◌, ◌++◌, List, [], ◌∷◌, length, rules, arith, ap, sym, subst}
-use Rattle.audit_proof.specs.declared.commitment.Commitment.{Commitment}
-use Rattle.audit_cli_witness.specs.State.{IsStored, HoldsState}
+use Rattle.std.proofs.Common.{◌≡◌, ◌∙◌, ◌+◌, ◌++◌, [], ◌∷◌, length, rules}
 use Rattle.audit_cli_witness.proofs.StateLines.{added_known}
 use Rattle.audit_cli_witness.proofs.state_file.StateFileKept.add.Goals as goal
 
