@@ -7,3 +7,4 @@ pub mod Carried
 pub mod Gauged
 pub mod Rights
 pub mod Sockets
+pub mod Stopping

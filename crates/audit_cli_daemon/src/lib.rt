@@ -28,3 +28,4 @@ pub use running::serve_until_stopped;
 pub use sources::{Source, source_in};
 pub use sparing::Sparing;
 pub use state_line::write_state;
+pub use stopping::StopCalls;

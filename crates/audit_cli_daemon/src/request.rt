@@ -1,6 +1,6 @@
 //! The requests to run a daemon and to stop it, and how they are carried out.
 ghost use Rattle.std.specs.Prelude.{◌≡◌, ◌≢◌, ◌⊎◌, ◌≤◌, ℕ, Option, None, Ok, Err, IfSome, IfOk, IfErr, OnOk, OnErr, IsOk};
-ghost use Rattle.std.specs.Prelude.{map, true, false, [], List, IsErr, ℤ};
+ghost use Rattle.std.specs.Prelude.{map, true, false, [], List, IsErr, ℤ, Result};
 ghost use denote.Ref.{Bor};
 ghost use Rattle.std.specs.Io.KnownBytes.{Keeps, Appends};
 ghost use Rattle.audit_serve_ready.specs.declared.limits.TheConstants.{MAX_BACKLOG};
@@ -23,6 +23,9 @@ ghost use Rattle.audit_cli_base.specs.declared.fault.CommandError.TheVariants.{F
 ghost use Rattle.audit_cli_daemon.specs.Carried.{sources_asked, terms_of};
 ghost use Rattle.audit_cli_daemon.specs.Sockets.{rights_served, paths_served, ListenAt, prompt_sockets, BindFailed};
 ghost use Rattle.audit_cli_daemon.specs.State.{ready_line, word_of, end_in};
+ghost use Rattle.audit_cli_daemon.specs.Stopping.{IsOrdered, status_ordered};
+ghost use Rattle.audit_cli_base.specs.declared.status.Status.{Status};
+ghost use Rattle.audit_cli_base.specs.declared.fault.CommandError.{CommandError};
 ghost use Rattle.audit_serve_door.specs.Entrances.{rights_of, rights_of_door, mode_of, modes_of_door, idle_of_door};
 ghost use Rattle.audit_serve_door.specs.Entrances.{descriptor_of, descriptors_of_door};
 ghost use Rattle.audit_serve_door.specs.Comings.{who_waits, places_of, was_told, is_replaced, has_failed};
@@ -45,14 +48,13 @@ use crate::sockets::{Listening, Made, STOP_SUFFIX_LEN, Sockets, fault_of};
 use crate::sources::{kinds_bound_by, kinds_of_sources};
 use crate::sparing::Sparing;
 use crate::state_line::write_state;
-use crate::stopping::stop;
+use crate::stopping::{StopCalls, stop};
 use crate::watched_store::WatchedStore;
 use audit_cli_base::{
     CommandError, FileDevice, FileStore, Opened, Status, StoreWatch, number_asked, report,
     report_end, socket_mode_asked, socket_path_asked,
 };
 use audit_cli_calls::{FlushedOutput, Stores};
-use audit_cli_host::Dial;
 use audit_disk::{SystemFile, SystemFiles};
 use audit_disk_model::Sectors;
 use audit_proof::Commitment;
@@ -140,7 +142,7 @@ pub fn run<F, O, W, M>(
     messages: &mut M,
 ) -> Status
 where
-    F: SystemFiles + PromptSockets + Dial + Clock,
+    F: SystemFiles + PromptSockets + StopCalls + Clock,
     F::File: SystemFile,
     O: Stores<FileStore<F::File>>,
     W: FlushedOutput,
@@ -155,6 +157,10 @@ where
     // To stop one no store is opened.
     ensures stops { (socket : Bor (List ℕ)) → request.entry ≡ Request.Stop socket
         → O.calls.DidCalls stores.old stores.new [] }
+    // The status is then the one that the daemon answered, or that of a fault that has a cause.
+    ensures ordered { (socket : Bor (List ℕ)) → request.entry ≡ Request.Stop socket
+        → (done : Result Status CommandError) × IsOrdered (F.answered rt.now) (F.unanswered rt.now) socket.now done
+        × (result ≡ status_ordered done) }
     // The status is that of the result, or the output couldn't be flushed. On success clients were served over the store
     // that was opened in the file that was named, with the reserve and the backlog that were asked for and the kinds of
     // the sources counted, until the order to stop came, and its first and last state were written. After an error no

@@ -1,6 +1,7 @@
 ghost use Rattle.std.specs.Prelude.{◌≡◌, ◌⊎◌, ◌++◌, [], ◌∷◌, ℕ, List, map, false, IfOk, IfErr, IfSome, OnOk, OnErr};
-ghost use Rattle.std.specs.Prelude.{string_bytes};
+ghost use Rattle.std.specs.Prelude.{string_bytes, codes};
 ghost use Rattle.audit_serve_door.specs.Entrances.{rights_of, mode_of, descriptor_of};
+ghost use Rattle.audit_serve_door.specs.Finishing.{descriptor_of_orders};
 ghost use Rattle.audit_serve_sockets.specs.Bound.{ListensAt, IsNameGone};
 ghost use Rattle.audit_cli_daemon.specs.Rights.{modes_at, source_rights};
 ghost use Rattle.audit_cli_daemon.specs.Sockets.{rights_served, paths_served, path_of_source, ListenAt, IsRemoved};
@@ -62,7 +63,9 @@ pub struct Made<'a, F> {
 }
 
 /// The path of the socket for stop orders, which is beside the clients' socket.
-pub fn stop_path(alloc: Global, socket: &str) -> Result<String, AllocError> {
+pub fn stop_path(alloc: Global, socket: &str) -> Result<String, AllocError>
+    ensures { IfOk result (λ path. string_bytes path ≡ socket.now ++ codes ".stop") }
+{
     format!(in alloc; "{socket}{STOP_SUFFIX}")
 }
 
@@ -100,6 +103,7 @@ impl<'a> Sockets<'a> {
         ensures clients { IfOk result (λ sockets. sockets.clients ≡ clients.entry) }
         ensures readers { IfOk result (λ sockets. sockets.readers ≡ readers.entry) }
         ensures sources { IfOk result (λ sockets. sockets.sources ≡ sources.entry) }
+        ensures stop { IfOk result (λ sockets. string_bytes sockets.stop ≡ clients.now ++ codes ".stop") }
     {
         Ok(Sockets {
             clients,
@@ -131,6 +135,9 @@ impl<'a> Sockets<'a> {
         // Each listens at its own path, and accepting there doesn't wait.
         ensures listen { IfOk result (λ listening. ListenAt (prompt_sockets (R.sockets rt.now) (R.prompt rt.now)) mode
             (paths_served self.now) (map descriptor_of listening.entrances.items)) }
+        // So does the socket on which orders to stop come, at the path beside that of the clients, for the owner alone.
+        ensures stop { IfOk result (λ listening. ListensAt (prompt_sockets (R.sockets rt.now) (R.prompt rt.now))
+            (string_bytes self.now.stop) OWNER_ONLY (descriptor_of_orders listening.orders)) }
         ensures fault { IfErr result
             (IsBindFault (BindFailed (R.call_failed rt.now) (R.unprompted rt.now) R.File.facts)) }
     {
@@ -155,7 +162,9 @@ impl<'a> Sockets<'a> {
     ) -> Result<StopOrders, CommandError>
     where
         R::File: SystemFile,
-        ensures { IfErr result
+        ensures listens { IfOk result (λ orders. ListensAt (prompt_sockets (R.sockets rt.now) (R.prompt rt.now))
+            (string_bytes self.now.stop) OWNER_ONLY (descriptor_of_orders orders)) }
+        ensures fault { IfErr result
             (IsBindFault (BindFailed (R.call_failed rt.now) (R.unprompted rt.now) R.File.facts)) }
     {
         let path = self.stop.as_str();
@@ -166,7 +175,7 @@ impl<'a> Sockets<'a> {
         };
         let (listener, name) = bound.into_parts();
         made.stop = Some(name);
-        match rt.take_orders(alloc, listener) {
+        match StopOrders::new(rt, alloc, listener) {
             Ok(orders) => Ok(orders),
             Err(error) => Err(fault_of(error.kind())),
         }
@@ -280,7 +289,8 @@ fn push(entrances: &mut Vec<ClientEntrance>, one: ClientEntrance) -> Result<(), 
 
 /// The error of a command for one of the system.
 pub(crate) fn fault_of(kind: ErrorKind) -> CommandError
-    ensures { (result ≡ File) ⊎ (result ≡ Refused Memory) }
+    ensures fault { (result ≡ File) ⊎ (result ≡ Refused Memory) }
+    ensures memory { kind ≡ ErrorKind.OutOfMemory → result ≡ Refused Memory }
 {
     if kind == ErrorKind::OutOfMemory {
         CommandError::Refused(StoreError::Memory)
