@@ -510,7 +510,7 @@ where
     (store, end)
 }
 
-// Whether so many sectors are free after the log.
+// Returns whether the reserve is still free after the log.
 fn has_reserve<D: Sectors>(store: &Store<D>, reserve: u64) -> bool
     ensures { result ≡ true → reserve ≤ free_after (active_header store.now) }
 {

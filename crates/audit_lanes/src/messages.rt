@@ -19,7 +19,7 @@ pub(crate) struct Messages<'a> {
 }
 
 impl<'a> Messages<'a> {
-    /// Returns the digest of each message, of which so many blocks are left.
+    /// Returns the digest of each message. `counts` has the number of blocks that are left of it.
     pub(crate) fn digests(mut self, counts: &[usize; 4]) -> [[u8; 32]; 4]
         requires some { (k : ℕ) → k < 4 → 1 ≤ slice_index counts.now k }
         requires whole { (k : ℕ) → k < 4 → 64 * slice_index counts.now k ≤ length (message_in_lane self k) }
