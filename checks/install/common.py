@@ -12,7 +12,7 @@ UNITS = """alarm@.service anchor@.service anchor@.timer daemon@.service failover
 mark@.service mark@.timer metrics@.service metrics@.timer read@.service rotate@.service rotate@.timer tail@.service
 watch@.service watch@.timer""".split()
 TOOLS = """witness-git fleet metrics journal-feed file-feed failover fence-ceph send-confirming into-sqlite verify-chain
-format-sealed anchor anchor-check mark event-times rotate-log audit-log""".split()
+format-sealed anchor anchor-check mark event-times rotate-log rotate-full audit-log""".split()
 FILES = """rsyslog.conf rsyslog-read.conf rsyslog-collect.conf rsyslog-forward.conf stunnel-logger.conf
 stunnel-host.conf device.conf failover.conf rbd.device rbd-exclusive.py feed.py anchors.py links.py shown.sh metrics.rules.yml""".split()
 PROGRAMS = "bundle.py bundle_check.py check_proof.py disclosure.py history.py read_export.py state.py".split()

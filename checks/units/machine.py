@@ -144,6 +144,14 @@ class Machine:
         return subprocess.run(["nsenter", "-t", str(self.first), "-a", *words], input=data, capture_output=True,
                               timeout=seconds)
 
+    def begun(self, *words, data=b""):
+        """A process that runs there, with all of its input."""
+        began = subprocess.Popen(["nsenter", "-t", str(self.first), "-a", *words], stdin=subprocess.PIPE,
+                                 stdout=subprocess.DEVNULL, stderr=subprocess.PIPE)
+        began.stdin.write(data)
+        began.stdin.close()
+        return began
+
     def out(self, *words):
         return self.run(*words).stdout
 
