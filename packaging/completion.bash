@@ -20,7 +20,7 @@ _audit() {
     case $command in
     format) options="$options --mode --in-place --erase" ;;
     append) options="$options --text --follow --long --expect --reserve --extends" ;;
-    rotate) options="$options --prepared --link --after" ;;
+    rotate) options="$options --prepared --link --after --extends" ;;
     show) options="$options --free --read-only --header" ;;
     prove) options="$options --read-only" ;;
     check) options="$options --print --key --text --json --link" ;;

@@ -1,5 +1,5 @@
-"""Stores that are opened only if their log extends what a witness saw: `daemon` and `append` with `--extends STATE`.
-Every store and every commitment is the model's."""
+"""Stores that are opened only if their log extends what a witness saw: `daemon`, `append` and `rotate` with `--extends
+STATE`. Every store and every commitment is the model's."""
 import os
 import random
 import re
@@ -72,13 +72,28 @@ def other_log(held, own):
     return 1, b"", b"audit: other log\n" + line
 
 
+def rotations_of(room, store):
+    """The words of both ways to let a log go on, in a new store and in one that is prepared."""
+    key, prepared = room.path("next.key"), room.path("prepared")
+    if not os.path.exists(prepared):
+        write(key, b"%064d\n" % 7)
+        room.done("format", prepared, "10", key)
+    return (["rotate", store, room.path("new"), "10", key],
+            ["rotate", store, prepared, "--prepared", "--link", room.path("link")])
+
+
 def expect_refused(room, store, kept, wanted, what):
-    """No command opens the store, and none writes to it."""
+    """No command opens the store, and none writes to it, or makes another file."""
     before, socket = (read(store), os.stat(store).st_mtime_ns), room.path("socket")
-    for words in (["daemon", store, socket], ["append", store], ["append", store, "--follow", "--text", "1"]):
+    commands = (["daemon", store, socket], ["append", store], ["append", store, "--follow", "--text", "1"],
+                *rotations_of(room, store))
+    prepared = read(room.path("prepared"))
+    for words in commands:
         expect(room.run(*words, "--extends", kept, given=b"event 1 -\n"), wanted, "%s: %s" % (words[0], what))
         expect((read(store), os.stat(store).st_mtime_ns), before, "the store after %s: %s" % (words[0], what))
-    expect_true(not os.path.lexists(socket), "a daemon leaves a socket: " + what)
+    expect(read(room.path("prepared")), prepared, "the prepared store: " + what)
+    for name in ("socket", "new", "new.rotate.tmp", "link", "link.rotate.tmp"):
+        expect_true(not os.path.lexists(room.path(name)), "a command leaves %s: %s" % (name, what))
 
 
 def expect_served(room, store, kept, count, what):
@@ -120,6 +135,22 @@ def a_log_that_went_on_is_served(room):
     expect_served(room, put(room, at_rest(whole)), kept, 40, "a last line without its end")
     kept = state(room, word(whole, 33), last=word(log(50, "other")).encode()[:20])
     expect_served(room, put(room, at_rest(whole)), kept, 40, "a last line that was cut off")
+
+
+@scene
+def a_log_that_went_on_is_rotated(room):
+    """A log that extends STATE is closed and goes on; so it does where the same words are given again, since the closed
+    log extends STATE too. Of the next store, which is another log, STATE says nothing."""
+    whole = log(40)
+    kept = state(room, word(whole, 7), word(whole, 33))
+    store = put(room, at_rest(whole))
+    for words, lines in zip(rotations_of(room, store), ((b"formatted 10", b"ack 0 1 "), (b"ack 0 2 ",))):
+        put(room, at_rest(whole))
+        said = room.done(*words, "--extends", kept)
+        first, *others = said.splitlines()
+        expect_true(first.startswith(b"closed 41 "), "a rotation: %r" % said)
+        expect([line.startswith(one) for line, one in zip(others, lines, strict=True)], [True] * len(lines), "its lines")
+        expect(room.done(*words, "--extends", kept), said, "the same words again")
 
 
 @scene

@@ -78,10 +78,10 @@ pub fn request_of<'m, 'a: 'm>(matches: &'m ArgMatches<'a>) -> CommandLine<'m> {
     }
 }
 
-// The file of a witness that a command names, if it opens a store to append to it.
+// The file of a witness that a command names, if it opens a store to append to it, or to close its log.
 fn extends_asked<'a>(name: &str, given: &ArgMatches<'a>) -> Option<&'a str> {
     match name {
-        "append" | "daemon" => given.get_str(EXTENDS),
+        "append" | "daemon" | "rotate" => given.get_str(EXTENDS),
         _ => None,
     }
 }

@@ -203,8 +203,8 @@ where
         Asked::Disclosure(request) => disclose(rt, alloc, request, output, messages),
         Asked::Search(request) => search(rt, alloc, request, output, messages),
         Asked::Lines(request) => append(rt, alloc, request, older, input, output, messages),
-        Asked::Rotation(request) => rotate(rt, alloc, request, output, messages),
-        Asked::Prepared(request) => rotate_prepared(rt, alloc, request, output, messages),
+        Asked::Rotation(request) => rotate(rt, alloc, request, older, output, messages),
+        Asked::Prepared(request) => rotate_prepared(rt, alloc, request, older, output, messages),
         Asked::Remote(request) => ask(rt, alloc, request, input, output, messages),
         Asked::Serving(request) => serve(rt, alloc, request, input, output, messages),
         Asked::Daemon(request) => attend(rt, alloc, request, older, explains, output, messages),
@@ -291,13 +291,14 @@ fn rotate<F: SystemFiles, W: Write, M: Write>(
     rt: &F,
     alloc: Global,
     request: Rotation<'_>,
+    older: Option<Commitment>,
     output: &mut W,
     messages: &mut M,
 ) -> Status
 where
     F::File: SystemFile,
 {
-    let mut stores = SystemStores::new(rt);
+    let mut stores = SystemStores::extending(rt, older);
     audit_cli_rotate::run(rt, &mut stores, alloc, request, output, messages)
 }
 
@@ -306,13 +307,14 @@ fn rotate_prepared<F: SystemFiles, W: Write, M: Write>(
     rt: &F,
     alloc: Global,
     request: Prepared<'_>,
+    older: Option<Commitment>,
     output: &mut W,
     messages: &mut M,
 ) -> Status
 where
     F::File: SystemFile,
 {
-    let mut stores = SystemStores::new(rt);
+    let mut stores = SystemStores::extending(rt, older);
     audit_cli_rotate::run_prepared(rt, &mut stores, alloc, request, output, messages)
 }
 

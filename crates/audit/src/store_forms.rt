@@ -175,6 +175,13 @@ static ROTATE: Form = Form {
             needs: Some(PREPARED),
             excludes: None,
         },
+        Choice {
+            name: EXTENDS,
+            value: Some("STATE"),
+            help: "Only if OLD's log extends the newest commitment in the file of a witness; else nothing is changed",
+            needs: None,
+            excludes: None,
+        },
     ],
 };
 

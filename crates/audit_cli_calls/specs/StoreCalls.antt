@@ -61,6 +61,6 @@ module _ {O S : Type 0} (stores : StoresModel O S) where
       stores.DidCalls was now [] ⊎ stores.DidCalls was now (an_opening path (Err fault) ∷ [])
 
 module _ {R : Type 0} where
-  -- the commitment that the logs of a system's stores have to extend, if they have to
+  -- the commitment that the log of the next store has to extend, if it has to
   abbrev pub commitment_to_extend : SystemStores R → Option Commitment
   commitment_to_extend stores = stores.older

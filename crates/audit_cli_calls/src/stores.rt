@@ -48,7 +48,8 @@ pub trait NewStores<S, D: Sectors>: Stores<S> {
         ensures made { IfOk result (λ opened. made_at path.now sectors opened.content) };
 }
 
-/// The stores in the files of a system. If a commitment is given, only a store whose log extends it is opened.
+/// The stores in the files of a system. If a commitment is given, the first store is opened only if its log extends it:
+/// what a command opens besides is another log.
 #[derive(Drop)]
 pub struct SystemStores<'a, F> {
     rt: &'a F,
@@ -66,7 +67,7 @@ impl<'a, F> SystemStores<'a, F> {
         SystemStores { rt, older: None }
     }
 
-    /// Those of this system whose logs extend a commitment, if one is given.
+    /// Those of this system, of which the first one's log extends a commitment, if one is given.
     pub fn extending(rt: &'a F, older: Option<Commitment>) -> SystemStores<'a, F>
         ensures { commitment_to_extend result ≡ older }
     {
@@ -74,8 +75,8 @@ impl<'a, F> SystemStores<'a, F> {
     }
 }
 
-/// Each call is the system's. Of a store that was opened its file's path, content and events are known, and that its log
-/// extends the commitment that was given.
+/// Each call is the system's. Of a store that was opened its file's path, content and events are known, and of the first
+/// one that its log extends the commitment that was given.
 impl<F: SystemFiles> Stores<FileStore<F::File>> for SystemStores<'_, F>
 where
     F::File: SystemFile,
@@ -93,7 +94,9 @@ where
         alloc: Global,
         path: &str,
     ) -> Result<Opened<FileStore<F::File>>, CommandError> {
-        open_store_extending(self.rt, alloc, path, self.older)
+        let older = self.older;
+        self.older = None;
+        open_store_extending(self.rt, alloc, path, older)
     }
 
     fn let_go(&mut self, store: FileStore<F::File>) {}
