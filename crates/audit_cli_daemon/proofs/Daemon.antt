@@ -19,7 +19,6 @@ use Rattle.audit_server.specs.CoreModel.{core_model, refuses_after}
 use Rattle.audit_serve_ready.specs.Slot.{SlotData, vacant, kept_of}
 use Rattle.audit_serve_ready.specs.Door.{DoorModel}
 use Rattle.audit_serve_ready.specs.Clients.{ClientChange, a_pass, a_coming, a_refusal, a_going, next_first, AreChanges, StopsServing}
-use Rattle.audit_server.specs.NewCore.{CoreTerms, IsNewCore}
 use Rattle.audit_server.proofs.Keeping.{kept_served, kept_stopped}
 use Rattle.audit_cli_base.specs.declared.fault.CommandError.{CommandError}
 use Rattle.audit_cli_base.specs.Faults.{IsUnwritten, IsNoWordFault}
@@ -27,7 +26,7 @@ use Rattle.audit_cli_daemon.specs.State.{ready_line}
 use Rattle.audit_serve_ready.specs.Rounds.{IsWriting, AnswersWaiting}
 use Rattle.audit_cli_daemon.specs.declared.end.End.{End}
 use Rattle.audit_cli_daemon.specs.declared.end.End.TheVariants.{Stopped, Full}
-use Rattle.audit_cli_daemon.specs.Running.{no_clients, IsServedBy, EndsForSpace, IsFilledBy, IsServedTo, EndsByRefusal, FailsToAnswer, EndsServingBy, ServesStoreTo, StopsDaemon}
+use Rattle.audit_cli_daemon.specs.Running.{DaemonTerms, IsDaemonCore, no_clients, IsServedBy, EndsForSpace, IsFilledBy, IsServedTo, EndsByRefusal, FailsToAnswer, EndsServingBy, ServesStoreTo, StopsDaemon}
 
 same_at : {A : Type 0} (one : A) (count k : ℕ) → get_or (replicate count one) k one ≡ one
 same_at one zero k = refl
@@ -70,7 +69,7 @@ module _ {D : Type 0} {g : sectors.Ghosts D} {S : Type 0} (N : CallModel S) (bac
   kept_when_stopped : (old new : Store D g) (core last : Core D g) (after : List (SlotData S)) (fault : CommandError) → store_in core ≡ old → new ≡ store_in last → EndsByRefusal N backlog core last no_clients after fault → StoreKeepsOn old new
   kept_when_stopped old new core last after fault made left stopped = kept_by_core old new core last made left (kept_stopped N backlog 0 core last no_clients after stopped.2)
 
-  store_stopped : (terms : CoreTerms) (old new : Store D g) (written later : Option (List ℕ)) (core last : Core D g) (after : List (SlotData S)) (fault : CommandError) → IsNewCore terms old core → new ≡ store_in last
+  store_stopped : (terms : DaemonTerms) (old new : Store D g) (written later : Option (List ℕ)) (core last : Core D g) (after : List (SlotData S)) (fault : CommandError) → IsDaemonCore terms old core → new ≡ store_in last
       → Appends written later (ready_line (active_header old)) → EndsByRefusal N backlog core last no_clients after fault → StopsDaemon N terms backlog old new written later fault
   store_stopped terms old new written later core last after fault made left line stopped = inr (inl (
     stopped.0,
@@ -82,7 +81,7 @@ module _ {D : Type 0} {g : sectors.Ghosts D} {S : Type 0} (N : CallModel S) (bac
       left = left;
       after = after;
       stopped = stopped.2;
-      refused = subst (IsRefusedAs stopped.0 old) (sym left) (subst (λ (store : Store D g). IsRefusedAs stopped.0 store (store_in last)) made.store_is (refused_whole stopped.0 core last no_clients after stopped.2));
+      refused = subst (IsRefusedAs stopped.0 old) (sym left) (subst (λ (store : Store D g). IsRefusedAs stopped.0 store (store_in last)) made.new.store_is (refused_whole stopped.0 core last no_clients after stopped.2));
     },
     line,
   ))
@@ -101,8 +100,8 @@ module _ {D : Type 0} {g : sectors.Ghosts D} {S : Type 0} (N : CallModel S) (bac
       kept_then (store_in mid) (store_in answered.flushed) (store_in new) (durably_keeps (data_of mid) (data_of answered.flushed) (served_durably (data_of mid) (data_of answered.flushed) answered.flush))
       (kept_written doors answered.leaves answered.was_written answered.taken answered.writes answered.flushed new between answered.between answered.writing)
 
-  kept_filled : {E : Type 0} (doors : DoorModel E S) (now : E) (old new : Core D g) (before after : List (SlotData S)) → IsFilledBy N doors backlog now old new before after → StoreKeepsOn (store_in old) (store_in new)
-  kept_filled doors now old new before after filled =
+  kept_filled : {E : Type 0} (doors : DoorModel E S) (InEnd : E → Type 0) (now : E) (old new : Core D g) (before after : List (SlotData S)) → IsFilledBy N doors InEnd backlog now old new before after → StoreKeepsOn (store_in old) (store_in new)
+  kept_filled doors InEnd now old new before after filled =
       kept_then (store_in old) (store_in filled.mid) (store_in new) (kept_for_space old filled.mid before filled.between filled.ends) (kept_answered doors filled.begun now filled.mid new filled.between after filled.answered)
 
   kept_failing : (old new : Core D g) (before : List (SlotData S)) (fault : CommandError) → FailsToAnswer N backlog old new before fault → StoreKeepsOn (store_in old) (store_in new)
@@ -110,40 +109,40 @@ module _ {D : Type 0} {g : sectors.Ghosts D} {S : Type 0} (N : CallModel S) (bac
       kept_then (store_in old) (store_in fails.mid) (store_in new) (kept_for_space old fails.mid before fails.between fails.ends) (durably_keeps (data_of fails.mid) (data_of new) fails.went.2)
 
   -- a new core owes nothing, and where nobody is nothing is kept
-  new_owes : (terms : CoreTerms) (old : Store D g) (core : Core D g) → IsNewCore terms old core → OwesNothing core_model SESSIONS core
+  new_owes : (terms : DaemonTerms) (old : Store D g) (core : Core D g) → IsDaemonCore terms old core → OwesNothing core_model SESSIONS core
   new_owes terms old core made = λ k below.
-      core_model.owed_idle core k made.waiting ∙ ap length (ap (λ (outputs : List (List ℕ)). get_or outputs k []) made.outputs ∙ same_at [] SESSIONS k)
+      core_model.owed_idle core k made.new.waiting ∙ ap length (ap (λ (outputs : List (List ℕ)). get_or outputs k []) made.new.outputs ∙ same_at [] SESSIONS k)
 
-  vacant_within : (terms : CoreTerms) (old : Store D g) (core : Core D g) → IsNewCore terms old core → AreWithinBacklog {S = S} core_model backlog core no_clients
+  vacant_within : (terms : DaemonTerms) (old : Store D g) (core : Core D g) → IsDaemonCore terms old core → AreWithinBacklog {S = S} core_model backlog core no_clients
   vacant_within terms old core made = λ k below.
       inl (omega (arith, new_owes terms old core made k below, ap (λ (slot : SlotData S). length (kept_of slot)) (same_at vacant SESSIONS k)))
 
   -- What a daemon came to, whose core was new and whose places had no clients. It stops when it is full, or doesn't.
-  module _ (terms : CoreTerms) (stops : Bool) (old new : Store D g) (core last : Core D g) (before after : List (SlotData S)) (vacant : before ≡ no_clients) (made : IsNewCore terms old core) (stopping : stops_of (committer_of core) ≡ stops) (left : new ≡ store_in last) where
+  module _ (terms : DaemonTerms) (stops : Bool) (old new : Store D g) (core last : Core D g) (before after : List (SlotData S)) (vacant : before ≡ no_clients) (made : IsDaemonCore terms old core) (stopping : stops_of (committer_of core) ≡ stops) (left : new ≡ store_in last) where
     served_by : {E : Type 0} (doors : DoorModel E S) (was now : E) → IsServedBy N doors backlog was now core last before after → IsServedBy N doors backlog was now core last no_clients after
     served_by doors was now served = subst (λ (slots : List (SlotData S)). IsServedBy N doors backlog was now core last slots after) vacant served
 
     stopped_by : (fault : CommandError) → EndsByRefusal N backlog core last before after fault → EndsByRefusal N backlog core last no_clients after fault
     stopped_by fault stopped = subst (λ (slots : List (SlotData S)). EndsByRefusal N backlog core last slots after fault) vacant stopped
 
-    pub kept_either : {E : Type 0} (doors : DoorModel E S) (was now : E) (result : Result End CommandError) → IfOk result (λ end. IsServedTo N doors end backlog was now core last before after) → IfErr result (EndsServingBy N backlog stops core last before after) → StoreKeepsOn old new
-    kept_either doors was now (Ok Stopped) served stopped = kept_when_served doors was now old new core last after made.store_is left (served_by doors was now served)
-    kept_either doors was now (Ok Full) served stopped = kept_by_core old new core last made.store_is left (kept_filled doors now core last before after served)
-    kept_either doors was now (Err fault) served (inl stopped) = kept_when_stopped old new core last after fault made.store_is left (stopped_by fault stopped)
-    kept_either doors was now (Err fault) served (inr fails) = kept_by_core old new core last made.store_is left (kept_failing core last before fault fails.1)
+    pub kept_either : {E : Type 0} (doors : DoorModel E S) (InEnd : E → Type 0) (was now : E) (result : Result End CommandError) → IfOk result (λ end. IsServedTo N doors InEnd end backlog was now core last before after) → IfErr result (EndsServingBy N backlog stops core last before after) → StoreKeepsOn old new
+    kept_either doors InEnd was now (Ok Stopped) served stopped = kept_when_served doors was now old new core last after made.new.store_is left (served_by doors was now served)
+    kept_either doors InEnd was now (Ok Full) served stopped = kept_by_core old new core last made.new.store_is left (kept_filled doors InEnd now core last before after served)
+    kept_either doors InEnd was now (Err fault) served (inl stopped) = kept_when_stopped old new core last after fault made.new.store_is left (stopped_by fault stopped)
+    kept_either doors InEnd was now (Err fault) served (inr fails) = kept_by_core old new core last made.new.store_is left (kept_failing core last before fault fails.1)
 
-    pub store_served : {E : Type 0} (doors : DoorModel E S) (was now : E) (result : Result End CommandError) → IfOk result (λ end. IsServedTo N doors end backlog was now core last before after) → IfOk result (λ end. end ≡ Full → stops ≡ true) → IfOk result (λ end. ServesStoreTo N doors end terms backlog was now old new)
-    store_served doors was now (Ok Stopped) served asked = record { core = core; made = made; last = last; left = left; after = after; served = served_by doors was now served; within = (served_by doors was now served).within (new_owes terms old core made) (vacant_within terms old core made) }
-    store_served doors was now (Ok Full) served asked = record {
+    pub store_served : {E : Type 0} (doors : DoorModel E S) (InEnd : E → Type 0) (was now : E) (result : Result End CommandError) → IfOk result (λ end. IsServedTo N doors InEnd end backlog was now core last before after) → IfOk result (λ end. end ≡ Full → stops ≡ true) → IfOk result (λ end. ServesStoreTo N doors InEnd end terms backlog was now old new)
+    store_served doors InEnd was now (Ok Stopped) served asked = record { core = core; made = made; last = last; left = left; after = after; served = served_by doors was now served; within = (served_by doors was now served).within (new_owes terms old core made) (vacant_within terms old core made) }
+    store_served doors InEnd was now (Ok Full) served asked = record {
       core = core;
       made = made;
       stops = stopping ∙ asked refl;
       last = last;
       left = left;
       after = after;
-      filled = subst (λ (slots : List (SlotData S)). IsFilledBy N doors backlog now core last slots after) vacant served;
+      filled = subst (λ (slots : List (SlotData S)). IsFilledBy N doors InEnd backlog now core last slots after) vacant served;
     }
-    store_served doors was now (Err fault) served asked = tt
+    store_served doors InEnd was now (Err fault) served asked = tt
 
     pub daemon_stopped : (written later : Option (List ℕ)) (result : Result End CommandError) → Appends written later (ready_line (active_header old)) → IfErr result (EndsServingBy N backlog stops core last before after)
         → IfErr result (StopsDaemon N terms backlog old new written later)
@@ -180,7 +179,7 @@ unwritten_no_word : (before after : Option (List ℕ)) (fault : CommandError) �
 unwritten_no_word before after fault (inl is) = subst IsNoWordFault (sym is) tt
 unwritten_no_word before after fault (inr both) = subst IsNoWordFault (sym both.0) tt
 
-pub stops_no_word : {D : Type 0} {g : sectors.Ghosts D} {S : Type 0} (N : CallModel S) (terms : CoreTerms) (backlog : ℕ) (old new : Store D g) (before after : Option (List ℕ)) (result : Result End CommandError) → IfErr result (StopsDaemon N terms backlog old new before after) → IfErr result IsNoWordFault
+pub stops_no_word : {D : Type 0} {g : sectors.Ghosts D} {S : Type 0} (N : CallModel S) (terms : DaemonTerms) (backlog : ℕ) (old new : Store D g) (before after : Option (List ℕ)) (result : Result End CommandError) → IfErr result (StopsDaemon N terms backlog old new before after) → IfErr result IsNoWordFault
 stops_no_word N terms backlog old new before after (Ok end) stops = tt
 stops_no_word N terms backlog old new before after (Err fault) (inl unwritten) = unwritten_no_word before after fault unwritten.1
 stops_no_word N terms backlog old new before after (Err fault) (inr (inl stopped)) = subst IsNoWordFault (sym stopped.1) tt

@@ -1,6 +1,7 @@
 -- What running a daemon comes to, apart from its sockets.
 use denote.Ref.{Bor}
-use Rattle.std.specs.Prelude.{◌≡◌, ◌≢◌, ◌⊎◌, ◌≤◌, ℕ, ℤ, Option, None, Result, Ok, Err, List, ◌++◌, IfSome}
+use Rattle.std.specs.Prelude.{◌≡◌, ◌≢◌, ◌⊎◌, ◌≤◌, ℕ, ℤ, Bool, Option, None, Result, Ok, Err, List, ◌++◌, IfSome}
+use Rattle.std.specs.Prelude.{is_some}
 use Rattle.std.specs.Io.KnownBytes.{Appends, Keeps}
 use Rattle.audit_disk_model.specs.declared.sectors.Sectors as sectors
 use Rattle.audit_disk.specs.declared.files.TheConstants.{OWNER_ONLY}
@@ -25,16 +26,15 @@ use Rattle.mio.specs.declared.net.uds.listener.UnixListener.{UnixListener}
 use Rattle.audit_serve_door.specs.declared.socket_door.SocketDoor.{SocketDoor}
 use Rattle.audit_serve_sockets.specs.Bound.{SocketFacts}
 use Rattle.audit_cli_daemon.specs.declared.gauge.GaugedDoor.{GaugedDoor}
-use Rattle.audit_cli_daemon.specs.Gauged.{IsTold}
+use Rattle.audit_cli_daemon.specs.Gauged.{IsTold, IsEnding}
 use Rattle.audit_cli_daemon.specs.Rights.{rights_at, rights_of_others, modes_at, IsDoorFor}
 use Rattle.audit_serve_passes.specs.declared.bound_kinds.BoundKinds.{BoundKinds}
 use Rattle.audit_serve_passes.specs.declared.rights.Rights.{Rights}
 use Rattle.audit_serve_passes.specs.Rights.{is_bound}
-use Rattle.audit_server.specs.NewCore.{CoreTerms}
 use Rattle.audit_cli_daemon.specs.Sources.{SourceData, words_of, sources_in, has_kind, kinds_bound}
 use Rattle.audit_cli_daemon.specs.declared.end.End.{End}
 use Rattle.audit_cli_daemon.specs.declared.end.End.TheVariants.{Stopped, Full}
-use Rattle.audit_cli_daemon.specs.Running.{ServesStoreTo}
+use Rattle.audit_cli_daemon.specs.Running.{DaemonTerms, ServesStoreTo}
 use Rattle.audit_cli_daemon.specs.Sockets.{paths_at, ListenAt}
 use Rattle.audit_cli_daemon.specs.State.{ready_line, closing_line}
 use Rattle.audit_cli_daemon.specs.Words.{backlog_asked, free_asked, free_kept}
@@ -45,19 +45,19 @@ ComesToEnd Ends Stopped reserve now left = Ends now
 ComesToEnd Ends Full reserve now left = reserve ≤ free_after (active_header left)
 
 module _ {D : Type 0} {g : sectors.Ghosts D} {S E : Type 0} (N : CallModel S) (doors : DoorModel E S)
-    (Opens Ends : E → Type 0) where
+    (InEnd Opens Ends : E → Type 0) where
   -- clients that came in by such a door were served over a store, with these terms and this backlog, up to such an end
-  pub record ServesAtDoor (reserve : ℕ) (terms : CoreTerms) (backlog : ℕ) (end : End) (opened left : Store D g)
+  pub record ServesAtDoor (reserve : ℕ) (terms : DaemonTerms) (backlog : ℕ) (end : End) (opened left : Store D g)
       : Type 0 where
     pub was : E
     pub opens : Opens was
     pub now : E
     pub ends : ComesToEnd Ends end reserve now left
-    pub served : ServesStoreTo N doors end terms backlog was now opened left
+    pub served : ServesStoreTo N doors InEnd end terms backlog was now opened left
 
   -- The store's state was written before the first and after the last of them, and it was let go as they left it. It
   -- isn't served until it is full unless that was asked for.
-  pub record ServesBetween (LetGo : Store D g → Type 0) (Asked : Type 0) (reserve : ℕ) (terms : CoreTerms)
+  pub record ServesBetween (LetGo : Store D g → Type 0) (Asked : Type 0) (reserve : ℕ) (terms : DaemonTerms)
       (backlog : ℕ) (opened : Store D g) (before after : Option (List ℕ)) : Type 0 where
     pub left : Store D g
     pub let_go : LetGo left
@@ -82,11 +82,16 @@ abbrev pub sources_asked : Settings → List SourceData
 sources_asked settings = sources_in (words_of settings.writers.now)
 
 -- what its core is made with: the kinds of the sources are counted
-abbrev pub terms_of : Bor (List (Bor (List ℕ))) → ℕ → CoreTerms
-terms_of words reserve = record { reserve = reserve; counted = kinds_bound (sources_in (words_of words.now)) }
+abbrev pub terms_of : Bor (List (Bor (List ℕ))) → ℕ → Bool → DaemonTerms
+terms_of words reserve stops =
+    record {
+      core = record { reserve = reserve; counted = kinds_bound (sources_in (words_of words.now)) };
+      stops = stops;
+    }
 
-abbrev pub terms_asked : Settings → ℕ → CoreTerms
-terms_asked settings reserve = terms_of settings.writers reserve
+-- it stops when it is full exactly if that is asked for
+abbrev pub terms_asked : Settings → ℕ → DaemonTerms
+terms_asked settings reserve = terms_of settings.writers reserve (is_some settings.until_free)
 
 -- the store is to be served until it is full
 abbrev pub AsksUntilFull : Settings → Type 0
@@ -128,7 +133,7 @@ module _ {D : Type 0} (g : sectors.Ghosts D) {O : Type 0} (stores : StoresModel 
     pub at : At settings.file.now opened
     pub bound : BoundKinds
     pub bound_are : (kind : ℕ) → is_bound bound kind ≡ has_kind (sources_asked settings) kind
-    pub served : ServesBetween N doors
+    pub served : ServesBetween N doors IsEnding
         (IsDoorFor (rights_asked settings bound) (modes_at (rights_asked settings bound) mode)
         (ListenAt facts mode (paths_asked settings)) idle) IsTold
         (OpensAndLetsGo stores settings.file.now was now opened) (AsksUntilFull settings) reserve

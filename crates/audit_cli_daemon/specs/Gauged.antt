@@ -1,7 +1,9 @@
 -- A door behind which a gauge is read: its calls are those of the door.
-use Rattle.std.specs.Prelude.{◌≡◌, true}
+use Rattle.std.specs.Prelude.{◌≡◌, ◌⊎◌, true, Some}
+use Rattle.std.specs.declared.time.Instant.{Instant}
 use Rattle.audit_serve_ready.specs.Door.{DoorModel}
-use Rattle.audit_serve_door.specs.Comings.{was_told}
+use Rattle.audit_serve_door.specs.Comings.{was_told, flags_of}
+use Rattle.audit_serve_door.specs.Finishing.{IsFinishingTime}
 use Rattle.audit_serve_door.specs.declared.socket_door.SocketDoor.{SocketDoor}
 use Rattle.audit_cli_daemon.specs.declared.gauge.GaugedDoor.{GaugedDoor}
 
@@ -16,6 +18,15 @@ gauged_calls N = record {
 -- at the door behind which it is read, the order to stop has come
 abbrev pub IsTold : {C J W L S F M : Type 0} → GaugedDoor (SocketDoor C J W L S) F M → Type 0
 IsTold gauged = was_told gauged.door ≡ true
+
+-- The end of the door has begun: the time is set when it is over, or it began when the clock was too late for one.
+abbrev pub HasBegunEnd : {C J W L S : Type 0} → SocketDoor C J W L S → Type 0
+HasBegunEnd door = ((last : Instant) × ((flags_of door).0 ≡ Some last))
+    ⊎ ((now : Instant) × IsFinishingTime now (flags_of door).0)
+
+-- the end of the door behind which it is read has begun
+abbrev pub IsEnding : {C J W L S F M : Type 0} → GaugedDoor (SocketDoor C J W L S) F M → Type 0
+IsEnding gauged = HasBegunEnd gauged.door
 
 -- nothing is known of a look at the store's file
 abbrev pub watch_of_file : {W : Type 0} → W → Type 0

@@ -29,6 +29,17 @@ use Rattle.audit_cli_daemon.specs.declared.end.End.{End}
 use Rattle.audit_cli_daemon.specs.declared.end.End.TheVariants.{Stopped, Full}
 use Rattle.audit_cli_daemon.specs.State.{ready_line}
 
+-- what a daemon's core is made with, and whether it stops when it is full
+pub record DaemonTerms : Type 0 where
+  pub core : CoreTerms
+  pub stops : Bool
+
+-- a new core over the store, with these terms
+pub record IsDaemonCore {D : Type 0} {g : sectors.Ghosts D} (terms : DaemonTerms) (store : Store D g) (core : Core D g)
+    : Type 0 where
+  pub new : IsNewCore terms.core store core
+  pub stops : stops_of (committer_of core) ≡ terms.stops
+
 -- no place has a client
 abbrev pub no_clients : {S : Type 0} → List (SlotData S)
 no_clients = replicate SESSIONS vacant
@@ -50,9 +61,9 @@ module _ {D : Type 0} {g : sectors.Ghosts D} {E S : Type 0} (N : CallModel S) (d
     pub finished : WritesOn N between after
 
   -- the same by a new core over the store, with these terms and this backlog
-  pub record ServesStore (terms : CoreTerms) (backlog : ℕ) (was now : E) (old new : Store D g) : Type 0 where
+  pub record ServesStore (terms : DaemonTerms) (backlog : ℕ) (was now : E) (old new : Store D g) : Type 0 where
     pub core : Core D g
-    pub made : IsNewCore terms old core
+    pub made : IsDaemonCore terms old core
     pub last : Core D g
     pub left : new ≡ store_of (committer_of last)
     pub after : List (SlotData S)
@@ -66,13 +77,16 @@ module _ {D : Type 0} {g : sectors.Ghosts D} {S : Type 0} (N : CallModel S) wher
     pub stopped : StopsServing core_model N backlog (λ first later. Refuses first later Memory) 0 old new before after
     pub full : is_full_of (committer_of new) ≡ true
 
-module _ {D : Type 0} {g : sectors.Ghosts D} {E S : Type 0} (N : CallModel S) (doors : DoorModel E S) where
-  -- Then what waited was answered.
+-- `InEnd` says of a door that its end has begun.
+module _ {D : Type 0} {g : sectors.Ghosts D} {E S : Type 0} (N : CallModel S) (doors : DoorModel E S)
+    (InEnd : E → Type 0) where
+  -- Then the door's end began, and what waited was answered.
   pub record IsFilledBy (backlog : ℕ) (now : E) (old new : Core D g) (before after : List (SlotData S)) : Type 0 where
     pub mid : Core D g
     pub between : List (SlotData S)
     pub ends : EndsForSpace N backlog old mid before between
     pub begun : E
+    pub in_end : InEnd begun
     pub answered : AnswersWaiting core_model N doors begun now mid new between after
 
   -- what serving came to, by its end
@@ -81,16 +95,16 @@ module _ {D : Type 0} {g : sectors.Ghosts D} {E S : Type 0} (N : CallModel S) (d
   IsServedTo Full backlog was now old new before after = IsFilledBy backlog now old new before after
 
   -- the same by a new core over the store, with these terms and this backlog, that answers nobody with `Full`
-  pub record FillsStore (terms : CoreTerms) (backlog : ℕ) (now : E) (old new : Store D g) : Type 0 where
+  pub record FillsStore (terms : DaemonTerms) (backlog : ℕ) (now : E) (old new : Store D g) : Type 0 where
     pub core : Core D g
-    pub made : IsNewCore terms old core
+    pub made : IsDaemonCore terms old core
     pub stops : stops_of (committer_of core) ≡ true
     pub last : Core D g
     pub left : new ≡ store_of (committer_of last)
     pub after : List (SlotData S)
     pub filled : IsFilledBy backlog now core last no_clients after
 
-  abbrev pub ServesStoreTo : End → CoreTerms → ℕ → E → E → Store D g → Store D g → Type 0
+  abbrev pub ServesStoreTo : End → DaemonTerms → ℕ → E → E → Store D g → Store D g → Type 0
   ServesStoreTo Stopped terms backlog was now old new = ServesStore N doors terms backlog was now old new
   ServesStoreTo Full terms backlog was now old new = FillsStore terms backlog now old new
 
@@ -119,9 +133,9 @@ module _ {D : Type 0} {g : sectors.Ghosts D} {S : Type 0} (N : CallModel S) wher
 
   -- A new core over the store, with these terms and this backlog, served clients up to the pass in which it refused a
   -- step.
-  pub record StopsStore (terms : CoreTerms) (backlog : ℕ) (error : StoreError) (old new : Store D g) : Type 0 where
+  pub record StopsStore (terms : DaemonTerms) (backlog : ℕ) (error : StoreError) (old new : Store D g) : Type 0 where
     pub core : Core D g
-    pub made : IsNewCore terms old core
+    pub made : IsDaemonCore terms old core
     pub last : Core D g
     pub left : new ≡ store_of (committer_of last)
     pub after : List (SlotData S)
@@ -130,9 +144,9 @@ module _ {D : Type 0} {g : sectors.Ghosts D} {S : Type 0} (N : CallModel S) wher
     pub refused : IsRefusedAs error old new
 
   -- the same by a new core over the store, with these terms, that stops when it is full
-  pub record FailsStore (terms : CoreTerms) (backlog : ℕ) (fault : CommandError) (old new : Store D g) : Type 0 where
+  pub record FailsStore (terms : DaemonTerms) (backlog : ℕ) (fault : CommandError) (old new : Store D g) : Type 0 where
     pub core : Core D g
-    pub made : IsNewCore terms old core
+    pub made : IsDaemonCore terms old core
     pub stops : stops_of (committer_of core) ≡ true
     pub last : Core D g
     pub left : new ≡ store_of (committer_of last)
@@ -140,7 +154,7 @@ module _ {D : Type 0} {g : sectors.Ghosts D} {S : Type 0} (N : CallModel S) wher
 
   -- Why the clients weren't served to the end: the first line wasn't written, or memory was refused before it; or the
   -- core refused a step, or the flush after it was full.
-  abbrev pub StopsDaemon : CoreTerms → ℕ → Store D g → Store D g → Option (List ℕ) → Option (List ℕ) → CommandError
+  abbrev pub StopsDaemon : DaemonTerms → ℕ → Store D g → Store D g → Option (List ℕ) → Option (List ℕ) → CommandError
       → Type 0
   StopsDaemon terms backlog old new before after fault =
       ((new ≡ old) × IsUnwritten before after fault)

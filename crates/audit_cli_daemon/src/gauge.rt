@@ -131,6 +131,8 @@ impl<'n, 'a, 'b, E, F: Drop, M> GaugedDoor<'n, 'a, 'b, E, F, M> {
 }
 
 impl<E: EndingDoor, F: Drop, M> EndingDoor for GaugedDoor<'_, '_, '_, E, F, M> {
+    ghost ending = { λ gauged. E.ending gauged.door };
+
     fn begin_end(&mut self) {
         self.door.begin_end()
     }

@@ -1,6 +1,6 @@
 //! The requests to run a daemon and to stop it, and how they are carried out.
 ghost use Rattle.std.specs.Prelude.{◌≡◌, ◌≢◌, ◌⊎◌, ◌≤◌, ℕ, Option, None, Ok, Err, IfSome, IfOk, IfErr, OnOk, OnErr, IsOk};
-ghost use Rattle.std.specs.Prelude.{map, true, false, [], List, IsErr, ℤ, Result};
+ghost use Rattle.std.specs.Prelude.{map, true, false, [], List, IsErr, ℤ, Result, is_some};
 ghost use denote.Ref.{Bor};
 ghost use Rattle.std.specs.Io.KnownBytes.{Keeps, Appends};
 ghost use Rattle.audit_serve_ready.specs.declared.limits.TheConstants.{MAX_BACKLOG};
@@ -14,7 +14,7 @@ ghost use Rattle.audit_cli_daemon.specs.declared.arguments.TheConstants.{DEFAULT
 ghost use Rattle.audit_cli_daemon.specs.Words.{HasBadSetting, HasBadWord, backlog_asked, free_asked, free_kept};
 ghost use Rattle.audit_cli_daemon.specs.Carried.{ServesAtDoor, ServesBetween, EndsEarly, IsDaemonDone};
 ghost use Rattle.audit_cli_daemon.specs.Carried.{IsDaemonCarriedOut};
-ghost use Rattle.audit_cli_daemon.specs.Gauged.{IsTold};
+ghost use Rattle.audit_cli_daemon.specs.Gauged.{IsTold, IsEnding};
 ghost use Rattle.audit_serve_passes.specs.declared.bound_kinds.BoundKinds.{BoundKinds};
 ghost use Rattle.audit_serve_passes.specs.Rights.{is_bound};
 ghost use Rattle.audit_cli_daemon.specs.Rights.{rights_of_others, modes_at, IsIdleTime, IsDoorFor};
@@ -310,7 +310,7 @@ fn judge<'a>(settings: Settings<'a>) -> Result<Judged<'a>, CommandError>
     ensures reserve { IfOk result (λ judged. number_asked settings.entry.reserve DEFAULT_RESERVE ≡ Ok judged.reserve) }
     ensures kept { IfOk result (λ judged. (until : Option ℕ) × (free_asked settings.entry.until_free ≡ Ok until)
         × (judged.kept ≡ free_kept judged.reserve until)) }
-    ensures stops { IfOk result (λ judged. judged.stops_when_full ≡ true → settings.entry.until_free ≢ None) }
+    ensures stops { IfOk result (λ judged. judged.stops_when_full ≡ is_some settings.entry.until_free) }
     ensures backlog { IfOk result (λ judged. backlog_asked settings.entry.backlog ≡ Ok judged.most) }
     ensures most { IfOk result (λ judged. judged.most ≤ MAX_BACKLOG) }
     ensures sources { IfOk result (λ judged. judged.sources ≡ settings.entry.writers) }
@@ -379,14 +379,14 @@ where
     requires sources { are_no_sources (words_of sockets.now.sources.now) ≡ false }
     ensures cause { IfErr result IsNoWordFault }
     ensures served { OnOk result (ServesBetween ⟦<Client as ReadyStream>⟧.calls
-        ⟦<DaemonDoor<F, F::File, Sparing<'static, M>> as Door>⟧.calls
+        ⟦<DaemonDoor<F, F::File, Sparing<'static, M>> as Door>⟧.calls IsEnding
         (IsDoorFor (rights_served sockets.now judged.entry.rights)
         (modes_at (rights_served sockets.now judged.entry.rights) judged.entry.mode)
         (ListenAt (prompt_sockets (F.sockets rt.now) (F.prompt rt.now)) judged.entry.mode (paths_served sockets.now))
         judged.entry.idle) IsTold
         (LetsGo O.calls stores.old stores.new) (judged.entry.stops_when_full ≡ true) judged.entry.reserve
-        (terms_of judged.entry.sources judged.entry.kept) judged.entry.most store (W.contents output.old)
-        (W.contents output.new)) }
+        (terms_of judged.entry.sources judged.entry.kept judged.entry.stops_when_full) judged.entry.most store
+        (W.contents output.old) (W.contents output.new)) }
     ensures ended { OnErr result (EndsEarly (LetsGo O.calls stores.old stores.new)
         (judged.entry.stops_when_full ≡ true) store (W.contents output.old) (W.contents output.new)) }
     ensures failed { result ≡ Err File → BindFailed (F.call_failed rt.now) (F.unprompted rt.now) F.File.facts
@@ -478,10 +478,11 @@ where
     ensures ready { OnOk result.1 (Appends (W.contents output.old) (W.contents output.new)
         (ready_line (active_header store))) }
     ensures served { IfOk result.1 (λ end. ServesAtDoor ⟦<Client as ReadyStream>⟧.calls
-        ⟦<DaemonDoor<F, F::File, M> as Door>⟧.calls (IsDoorFor (map rights_of listening.entrances.items)
-        (map mode_of listening.entrances.items)
+        ⟦<DaemonDoor<F, F::File, M> as Door>⟧.calls IsEnding
+        (IsDoorFor (map rights_of listening.entrances.items) (map mode_of listening.entrances.items)
         (λ descriptors. descriptors ≡ map descriptor_of listening.entrances.items) judged.entry.idle) IsTold
-        judged.entry.reserve (terms_of judged.entry.sources judged.entry.kept) judged.entry.most end store result.0) }
+        judged.entry.reserve (terms_of judged.entry.sources judged.entry.kept judged.entry.stops_when_full)
+        judged.entry.most end store result.0) }
     ensures asked { IfOk result.1 (λ end. end ≡ End.Full → judged.entry.stops_when_full ≡ true) }
 {
     let gauge = gauge_of(&watch, judged.kept, messages);
@@ -576,6 +577,10 @@ type ServedDoor<'a, 'b, 'c, F, M> = ClientDoor<
 >;
 
 impl<F: Clock, J: Journal + Drop, W: Watch + Drop> EndingDoor for ClientDoor<'_, F, J, W> {
+    ghost use Rattle.audit_cli_daemon.specs.Gauged.{HasBegunEnd};
+
+    ghost ending = { HasBegunEnd };
+
     fn begin_end(&mut self) {
         SocketDoor::begin_end(self)
     }

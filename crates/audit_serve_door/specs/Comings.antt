@@ -26,6 +26,7 @@ use Rattle.audit_serve_door.specs.declared.entrance.Arrival.{Arrival}
 use Rattle.audit_serve_door.specs.declared.entrance.Entrance.{Entrance}
 use Rattle.audit_serve_door.specs.declared.metered.Metered.{Metered}
 use Rattle.audit_serve_door.specs.declared.nonblocking.Nonblocking.{Nonblocking}
+use Rattle.audit_serve_door.specs.declared.stop_orders.StopOrders.{StopOrders}
 use Rattle.audit_serve_door.specs.declared.waiting.Waiting.{Waiting}
 use Rattle.audit_serve_door.specs.declared.socket_door.SocketDoor.{SocketDoor}
 use Rattle.audit_serve_door.specs.Waits.{heard_at, NoArrival, Passes, IsTakenOut, ChangesWaiters}
@@ -80,6 +81,13 @@ candidates_at waiting places = candidates_for (has_reader waiting) (has_other wa
 
 abbrev pub candidates_of : {C J W L S : Type 0} → SocketDoor C J W L S → Candidates
 candidates_of door = candidates_at door.waiting door.places
+
+-- the orders to stop that came to a door, and what it has noted of its clients
+abbrev pub orders_of : {C J W L S : Type 0} → SocketDoor C J W L S → StopOrders
+orders_of door = door.orders
+
+abbrev pub journal_of : {C J W L S : Type 0} → SocketDoor C J W L S → J
+journal_of door = door.journal
 
 -- the order to stop has come at a door
 abbrev pub was_told : {C J W L S : Type 0} → SocketDoor C J W L S → Bool

@@ -99,7 +99,7 @@ where
     ghost use Rattle.audit_serve_door.specs.Waits.{NobodyWaits, NoArrival, Passes, ChangesWaiters};
     ghost use Rattle.audit_serve_door.specs.Comings.{IsClientOf, Receives, KeepsWaiters, who_waits, places_of};
     ghost use Rattle.audit_serve_door.specs.Comings.{candidates_of, was_told, watch_of, is_replaced, has_failed};
-    ghost use Rattle.audit_serve_door.specs.Comings.{flags_of};
+    ghost use Rattle.audit_serve_door.specs.Comings.{flags_of, orders_of, journal_of};
     ghost use Rattle.audit_serve_passes.specs.Rights.{only_reads};
     ghost use Rattle.audit_serve_door.specs.Idle.{seated, vacated, ChoosesDue, IsVacant};
 
@@ -200,8 +200,11 @@ where
         self.until = ending.0;
     }
 
-    /// Closes the door, and returns the orders to stop, which are to be answered, and the journal.
-    pub fn close(self) -> (StopOrders, J) {
+    /// Closes the door, and returns its orders to stop, which are to be answered, and its journal.
+    pub fn close(self) -> (StopOrders, J)
+        ensures orders { result.0 ≡ orders_of self.entry }
+        ensures journal { result.1 ≡ journal_of self.entry }
+    {
         (self.orders, self.journal)
     }
 

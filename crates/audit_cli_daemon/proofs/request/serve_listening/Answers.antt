@@ -11,7 +11,7 @@ use Rattle.audit_serve_door.specs.Waits.{NobodyWaits}
 use Rattle.audit_cli_daemon.specs.Carried.{terms_of}
 use Rattle.audit_cli_daemon.specs.declared.end.End.TheVariants.{Stopped}
 use Rattle.audit_cli_daemon.specs.Running.{ServesStoreTo}
-use Rattle.audit_cli_daemon.specs.Gauged.{gauged_calls, watch_of_file, IsTold}
+use Rattle.audit_cli_daemon.specs.Gauged.{gauged_calls, watch_of_file, IsTold, IsEnding}
 use Rattle.audit_cli_daemon.specs.Rights.{IsIdleTime, IsDoorFor}
 use Rattle.audit_cli_daemon.proofs.Carried.{serves_at_door, end_asked}
 use Rattle.audit_cli_daemon.proofs.Daemon.{stops_no_word}
@@ -37,9 +37,9 @@ returns-clause-served g c =
       works = ap (λ door. has_failed door) c.new-gauged.ensures ∙ c.in-Ok.ensures.works;
       vacant = subst (λ door. IsVacant (idle_of_door door) (places_of door)) (sym c.new-gauged.ensures) (subst (λ idle. IsVacant idle (places_of c.in-Ok.door)) (sym c.in-Ok.ensures.idle) c.in-Ok.ensures.vacant);
     } in
-    serves_at_door N doors opens IsTold c.args.judged.reserve (terms_of c.args.judged.sources c.args.judged.kept) c.args.judged.most c.new-gauged.result c.serve_until_stopped-store.new.door c.args.store c.serve_until_stopped-store.result.0 c.serve_until_stopped-store.result.1 c.has_reserve.result first
+    serves_at_door N doors IsEnding opens IsTold c.args.judged.reserve (terms_of c.args.judged.sources c.args.judged.kept c.args.judged.stops_when_full) c.args.judged.most c.new-gauged.result c.serve_until_stopped-store.new.door c.args.store c.serve_until_stopped-store.result.0 c.serve_until_stopped-store.result.1 c.has_reserve.result first
     c.has_reserve.ensures
-    (subst (λ (counted : List ℕ). IfOk c.serve_until_stopped-store.result.1 (λ end. ServesStoreTo N doors end (record { reserve = c.args.judged.kept; counted = counted }) c.args.judged.most c.new-gauged.result c.serve_until_stopped-store.new.door c.args.store c.serve_until_stopped-store.result.0)) (c.deref.ensures.value ∙ c.in-Ok-kinds_of_sources.ensures)
+    (subst (λ (counted : List ℕ). IfOk c.serve_until_stopped-store.result.1 (λ end. ServesStoreTo N doors IsEnding end (record { core = record { reserve = c.args.judged.kept; counted = counted }; stops = c.args.judged.stops_when_full }) c.args.judged.most c.new-gauged.result c.serve_until_stopped-store.new.door c.args.store c.serve_until_stopped-store.result.0)) (c.deref.ensures.value ∙ c.in-Ok-kinds_of_sources.ensures)
     c.serve_until_stopped-store.ensures.served)
     c.close_door-closed.result c.end_of-end.result
     (subst (λ door. OnOk c.close_door-closed.result (end_in c.serve_until_stopped-store.result.1 ≡ Stopped → was_told door ≡ true)) c.into_door.ensures
@@ -62,6 +62,6 @@ returns-clause-part g c =
 pub returns-clause-cause : goal.returns-clause-cause
 returns-clause-cause g c =
     c.end_of-end.ensures.cause
-    (stops_no_word (metered_calls (nonblocking_calls unknown_prompt)) (record { reserve = c.args.judged.kept; counted = c.deref.result.now }) c.args.judged.most c.args.store c.serve_until_stopped-store.result.0 (g.W.Write.contents c.args.output.now) (g.W.Write.contents c.serve_until_stopped-store.new.writer)
+    (stops_no_word (metered_calls (nonblocking_calls unknown_prompt)) (record { core = record { reserve = c.args.judged.kept; counted = c.deref.result.now }; stops = c.args.judged.stops_when_full }) c.args.judged.most c.args.store c.serve_until_stopped-store.result.0 (g.W.Write.contents c.args.output.now) (g.W.Write.contents c.serve_until_stopped-store.new.writer)
     c.serve_until_stopped-store.result.1 c.serve_until_stopped-store.ensures.fault)
     c.close_door-closed.ensures.cause

@@ -7,7 +7,7 @@ use Rattle.audit_serve_door.specs.Nonblocking.{nonblocking_calls, unknown_prompt
 use Rattle.audit_serve_door.specs.Accepting.{unknown_accepting}
 use Rattle.audit_serve_door.specs.Notes.{unknown_notes}
 use Rattle.audit_serve_door.specs.Comings.{socket_door_calls}
-use Rattle.audit_cli_daemon.specs.Gauged.{gauged_calls, watch_of_file, IsTold}
+use Rattle.audit_cli_daemon.specs.Gauged.{gauged_calls, watch_of_file, IsTold, IsEnding}
 use Rattle.audit_cli_calls.specs.StoreCalls.{LetsGo}
 use Rattle.audit_cli_daemon.specs.Carried.{ServesAtDoor, terms_of}
 use Rattle.audit_cli_daemon.specs.Rights.{modes_at, IsDoorFor}
@@ -38,7 +38,7 @@ returns-clause-served g c =
     let opens = IsDoorFor (rights_served c.args.sockets.now c.args.judged.rights) (modes_at (rights_served c.args.sockets.now c.args.judged.rights) c.args.judged.mode) there c.args.judged.idle in
     let begun = g.W.Write.contents c.args.output.now in
     let pair = c.match-bind.store in
-    serves_between N doors opens IsTold (LetsGo g.O.Stores.calls c.args.stores.now c.closed-state.new.stores) (c.args.judged.stops_when_full ≡ true) c.args.judged.reserve (terms_of c.args.judged.sources c.args.judged.kept) c.args.judged.most c.args.store pair.0 begun (g.W.Write.contents c.match-bind.output) (g.W.Write.contents c.report_stopped.new.output) pair.1 c.report_stopped.result c.closed-state.result.count c.closed-state.result.root
+    serves_between N doors IsEnding opens IsTold (LetsGo g.O.Stores.calls c.args.stores.now c.closed-state.new.stores) (c.args.judged.stops_when_full ≡ true) c.args.judged.reserve (terms_of c.args.judged.sources c.args.judged.kept c.args.judged.stops_when_full) c.args.judged.most c.args.store pair.0 begun (g.W.Write.contents c.match-bind.output) (g.W.Write.contents c.report_stopped.new.output) pair.1 c.report_stopped.result c.closed-state.result.count c.closed-state.result.root
     (elim c.match-bind.branch [
       | in-Ok w ↦
           subst (λ both. OnOk both.1 (Appends begun (g.W.Write.contents c.match-bind.output) (ready_line (active_header c.args.store)))) (sym w.store-is)
@@ -47,9 +47,9 @@ returns-clause-served g c =
     ])
     (elim c.match-bind.branch [
       | in-Ok w ↦
-          subst (λ both. IfOk both.1 (λ end. ServesAtDoor N doors opens IsTold c.args.judged.reserve (terms_of c.args.judged.sources c.args.judged.kept) c.args.judged.most end c.args.store both.0)) (sym w.store-is)
-          (served_there N doors IsTold _ _ _ _ _ there c.args.judged.idle c.args.judged.reserve (terms_of c.args.judged.sources c.args.judged.kept) c.args.judged.most c.args.store w.serve_listening.result.0 w.serve_listening.result.1 w.in-Ok.ensures.rights w.in-Ok.ensures.modes w.in-Ok.ensures.listen w.serve_listening.ensures.served)
-      | in-Err w ↦ subst (λ both. IfOk both.1 (λ end. ServesAtDoor N doors opens IsTold c.args.judged.reserve (terms_of c.args.judged.sources c.args.judged.kept) c.args.judged.most end c.args.store both.0)) (sym w.store-is) tt
+          subst (λ both. IfOk both.1 (λ end. ServesAtDoor N doors IsEnding opens IsTold c.args.judged.reserve (terms_of c.args.judged.sources c.args.judged.kept c.args.judged.stops_when_full) c.args.judged.most end c.args.store both.0)) (sym w.store-is)
+          (served_there N doors IsEnding IsTold _ _ _ _ _ there c.args.judged.idle c.args.judged.reserve (terms_of c.args.judged.sources c.args.judged.kept c.args.judged.stops_when_full) c.args.judged.most c.args.store w.serve_listening.result.0 w.serve_listening.result.1 w.in-Ok.ensures.rights w.in-Ok.ensures.modes w.in-Ok.ensures.listen w.serve_listening.ensures.served)
+      | in-Err w ↦ subst (λ both. IfOk both.1 (λ end. ServesAtDoor N doors IsEnding opens IsTold c.args.judged.reserve (terms_of c.args.judged.sources c.args.judged.kept c.args.judged.stops_when_full) c.args.judged.most end c.args.store both.0)) (sym w.store-is) tt
     ])
     (elim c.match-bind.branch [
       | in-Ok w ↦ subst (λ both. IfOk both.1 (λ end. end ≡ Full → c.args.judged.stops_when_full ≡ true)) (sym w.store-is) w.serve_listening.ensures.asked

@@ -37,6 +37,7 @@ returns-in-Ok-answer_waiting-clause-served g c = record {
   between = c.serve_clients.new.slots;
   ends = for_space g.E.Stream.ReadyStream.calls c.args.most c.in-Err-Memory.field-0 c.args.core.now c.serve_clients.new.core c.args.slots.now c.serve_clients.new.slots (cc) c.in-Err-Memory.ensures.stopped (sym c.is_full.ensures ∙ c.if-is_full.true);
   begun = c.begin_end.new.self;
+  in_end = c.begin_end.ensures;
   answered = c.in-Ok-answer_waiting.ensures.answered;
 }
 

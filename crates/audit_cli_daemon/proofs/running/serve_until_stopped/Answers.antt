@@ -3,9 +3,8 @@ use Rattle.std.specs.Prelude.{codes}
 use Rattle.std.specs.Io.KnownBytes.{Appends}
 use Rattle.audit_text.specs.NumberedLine.{numbered_line}
 use Rattle.audit_store.specs.Store.{active_header}
-use Rattle.audit_server.specs.NewCore.{IsNewCore}
 use Rattle.audit_cli_daemon.specs.State.{ready_line}
-use Rattle.audit_cli_daemon.specs.Running.{no_clients}
+use Rattle.audit_cli_daemon.specs.Running.{IsDaemonCore, no_clients}
 use Rattle.audit_cli_daemon.proofs.Daemon.{kept_same, kept_either, store_served, end_unasked, daemon_stopped, whatever_came, keeps_same}
 use Rattle.audit_cli_daemon.proofs.Ending.{on_error, all_written}
 use Rattle.audit_cli_daemon.proofs.running.serve_until_stopped.Goals as goal
@@ -26,10 +25,10 @@ returns-in-Err-write_state-clause-fault g c = inl (c.into_store.ensures ∙ c.in
 
 pub returns-clause-kept : goal.returns-clause-kept
 returns-clause-kept g c =
-    let made : IsNewCore (record { reserve = c.args.reserve; counted = c.args.kinds.now }) c.args.store c.in-Ok-new_core.core = record { store_is = c.in-Ok-new_core.ensures.store; reserve_is = c.in-Ok-new_core.ensures.reserve; counted_is = c.in-Ok-new_core.ensures.counted; waiting = c.in-Ok-new_core.ensures.waiting; outputs = c.in-Ok-new_core.ensures.outputs; sessions = c.in-Ok-new_core.ensures.sessions } in
+    let made : IsDaemonCore (record { core = record { reserve = c.args.reserve; counted = c.args.kinds.now }; stops = c.args.stops_when_full }) c.args.store c.in-Ok-new_core.core = record { new = record { store_is = c.in-Ok-new_core.ensures.store; reserve_is = c.in-Ok-new_core.ensures.reserve; counted_is = c.in-Ok-new_core.ensures.counted; waiting = c.in-Ok-new_core.ensures.waiting; outputs = c.in-Ok-new_core.ensures.outputs; sessions = c.in-Ok-new_core.ensures.sessions }; stops = c.in-Ok-new_core.ensures.stops } in
     let vacant : c.deref_mut.result.now ≡ no_clients = search rules in
-    kept_either g.E.Stream.ReadyStream.calls c.args.most (record { reserve = c.args.reserve; counted = c.args.kinds.now }) c.args.stops_when_full c.args.store c.into_store-2.result c.in-Ok-new_core.core c.serve_slots-served.new.core c.deref_mut.result.now c.serve_slots-served.new.slots vacant made c.in-Ok-new_core.ensures.stops c.into_store-2.ensures
-    g.E.Door.calls c.args.door.now c.serve_slots-served.new.door c.serve_slots-served.result c.serve_slots-served.ensures.served c.serve_slots-served.ensures.stopped
+    kept_either g.E.Stream.ReadyStream.calls c.args.most (record { core = record { reserve = c.args.reserve; counted = c.args.kinds.now }; stops = c.args.stops_when_full }) c.args.stops_when_full c.args.store c.into_store-2.result c.in-Ok-new_core.core c.serve_slots-served.new.core c.deref_mut.result.now c.serve_slots-served.new.slots vacant made c.in-Ok-new_core.ensures.stops c.into_store-2.ensures
+    g.E.Door.calls g.E.EndingDoor.ending c.args.door.now c.serve_slots-served.new.door c.serve_slots-served.result c.serve_slots-served.ensures.served c.serve_slots-served.ensures.stopped
 
 pub returns-clause-ready : goal.returns-clause-ready
 returns-clause-ready g c =
@@ -40,21 +39,21 @@ returns-clause-ready g c =
 
 pub returns-clause-served : goal.returns-clause-served
 returns-clause-served g c =
-    let made : IsNewCore (record { reserve = c.args.reserve; counted = c.args.kinds.now }) c.args.store c.in-Ok-new_core.core = record { store_is = c.in-Ok-new_core.ensures.store; reserve_is = c.in-Ok-new_core.ensures.reserve; counted_is = c.in-Ok-new_core.ensures.counted; waiting = c.in-Ok-new_core.ensures.waiting; outputs = c.in-Ok-new_core.ensures.outputs; sessions = c.in-Ok-new_core.ensures.sessions } in
+    let made : IsDaemonCore (record { core = record { reserve = c.args.reserve; counted = c.args.kinds.now }; stops = c.args.stops_when_full }) c.args.store c.in-Ok-new_core.core = record { new = record { store_is = c.in-Ok-new_core.ensures.store; reserve_is = c.in-Ok-new_core.ensures.reserve; counted_is = c.in-Ok-new_core.ensures.counted; waiting = c.in-Ok-new_core.ensures.waiting; outputs = c.in-Ok-new_core.ensures.outputs; sessions = c.in-Ok-new_core.ensures.sessions }; stops = c.in-Ok-new_core.ensures.stops } in
     let vacant : c.deref_mut.result.now ≡ no_clients = search rules in
-    store_served g.E.Stream.ReadyStream.calls c.args.most (record { reserve = c.args.reserve; counted = c.args.kinds.now }) c.args.stops_when_full c.args.store c.into_store-2.result c.in-Ok-new_core.core c.serve_slots-served.new.core c.deref_mut.result.now c.serve_slots-served.new.slots vacant made c.in-Ok-new_core.ensures.stops c.into_store-2.ensures
-    g.E.Door.calls c.args.door.now c.serve_slots-served.new.door c.serve_slots-served.result c.serve_slots-served.ensures.served c.serve_slots-served.ensures.asked
+    store_served g.E.Stream.ReadyStream.calls c.args.most (record { core = record { reserve = c.args.reserve; counted = c.args.kinds.now }; stops = c.args.stops_when_full }) c.args.stops_when_full c.args.store c.into_store-2.result c.in-Ok-new_core.core c.serve_slots-served.new.core c.deref_mut.result.now c.serve_slots-served.new.slots vacant made c.in-Ok-new_core.ensures.stops c.into_store-2.ensures
+    g.E.Door.calls g.E.EndingDoor.ending c.args.door.now c.serve_slots-served.new.door c.serve_slots-served.result c.serve_slots-served.ensures.served c.serve_slots-served.ensures.asked
 
 pub returns-clause-fault : goal.returns-clause-fault
 returns-clause-fault g c =
-    let made : IsNewCore (record { reserve = c.args.reserve; counted = c.args.kinds.now }) c.args.store c.in-Ok-new_core.core = record { store_is = c.in-Ok-new_core.ensures.store; reserve_is = c.in-Ok-new_core.ensures.reserve; counted_is = c.in-Ok-new_core.ensures.counted; waiting = c.in-Ok-new_core.ensures.waiting; outputs = c.in-Ok-new_core.ensures.outputs; sessions = c.in-Ok-new_core.ensures.sessions } in
+    let made : IsDaemonCore (record { core = record { reserve = c.args.reserve; counted = c.args.kinds.now }; stops = c.args.stops_when_full }) c.args.store c.in-Ok-new_core.core = record { new = record { store_is = c.in-Ok-new_core.ensures.store; reserve_is = c.in-Ok-new_core.ensures.reserve; counted_is = c.in-Ok-new_core.ensures.counted; waiting = c.in-Ok-new_core.ensures.waiting; outputs = c.in-Ok-new_core.ensures.outputs; sessions = c.in-Ok-new_core.ensures.sessions }; stops = c.in-Ok-new_core.ensures.stops } in
     let vacant : c.deref_mut.result.now ≡ no_clients = search rules in
     let line : Appends (g.W.Write.contents c.args.writer.now) (g.W.Write.contents c.write_state.new.writer) (ready_line (active_header c.args.store)) =
     subst (Appends (g.W.Write.contents c.args.writer.now) (g.W.Write.contents c.write_state.new.writer))
     (ap (λ count. numbered_line (codes "ready ") count c.commitment-begun.result.root) c.commitment-begun.ensures.count
     ∙ ap (λ root. numbered_line (codes "ready ") (active_header c.args.store).count root) c.commitment-begun.ensures.root)
     c.in_default-write_state.ensures.written in
-    daemon_stopped g.E.Stream.ReadyStream.calls c.args.most (record { reserve = c.args.reserve; counted = c.args.kinds.now }) c.args.stops_when_full c.args.store c.into_store-2.result c.in-Ok-new_core.core c.serve_slots-served.new.core c.deref_mut.result.now c.serve_slots-served.new.slots vacant made c.in-Ok-new_core.ensures.stops c.into_store-2.ensures
+    daemon_stopped g.E.Stream.ReadyStream.calls c.args.most (record { core = record { reserve = c.args.reserve; counted = c.args.kinds.now }; stops = c.args.stops_when_full }) c.args.stops_when_full c.args.store c.into_store-2.result c.in-Ok-new_core.core c.serve_slots-served.new.core c.deref_mut.result.now c.serve_slots-served.new.slots vacant made c.in-Ok-new_core.ensures.stops c.into_store-2.ensures
     (g.W.Write.contents c.args.writer.now) (g.W.Write.contents c.write_state.new.writer) c.serve_slots-served.result line c.serve_slots-served.ensures.stopped
 
 pub returns-clause-part : goal.returns-clause-part
