@@ -157,12 +157,12 @@ module _ {E : Type 0} (h : sectors.Ghosts E) (Made : List ℕ → ℕ → E → 
   }
 
   -- a rotation to a device that was made for it
-  pub makes_named : {O L : Type 0} (stores : StoresModel O (Store D g)) (items : L → List ℕ) (temporary first_key : List ℕ) (sectors : ℕ) (was now : O) (old left : Store D g) (disk : E) (result : Result L RotationError) → stores.DidCalls was now (a_making temporary sectors (Ok tt) ∷ []) → Made temporary sectors disk → (h.view disk).size ≡ sectors
-      → IfOk result (λ lines. (new : Store E h) × RotationOutcome (h.view disk) first_key old left (Some []) (Some (items lines)) (Ok new))
-      → IfOk result (λ lines. (between : List (StoreCall (Store D g))) × stores.DidCalls was now between × IsMaking temporary sectors between × MakesRotated h Made temporary first_key sectors old left (Some []) (Some (items lines)))
-  makes_named stores items temporary first_key sectors was now old left disk (Err fault) did made size rotated = tt
-  makes_named stores items temporary first_key sectors was now old left disk (Ok lines) did made size (new, outcome) =
-      (a_making temporary sectors (Ok tt) ∷ [], did, refl, record { disk = disk; made = made; size = size; new = new; rotated = outcome })
+  pub makes_named : {O L : Type 0} (stores : StoresModel O (Store D g)) (items : L → List ℕ) (Named : Type 0) (temporary first_key : List ℕ) (sectors : ℕ) (was now : O) (old left : Store D g) (disk : E) (result : Result L RotationError) → stores.DidCalls was now (a_making temporary sectors (Ok tt) ∷ []) → Made temporary sectors disk → (h.view disk).size ≡ sectors
+      → OnOk result Named → IfOk result (λ lines. (new : Store E h) × RotationOutcome (h.view disk) first_key old left (Some []) (Some (items lines)) (Ok new))
+      → IfOk result (λ lines. (between : List (StoreCall (Store D g))) × stores.DidCalls was now between × IsMaking temporary sectors between × Named × MakesRotated h Made temporary first_key sectors old left (Some []) (Some (items lines)))
+  makes_named stores items Named temporary first_key sectors was now old left disk (Err fault) did made size named rotated = tt
+  makes_named stores items Named temporary first_key sectors was now old left disk (Ok lines) did made size named (new, outcome) =
+      (a_making temporary sectors (Ok tt) ∷ [], did, refl, named, record { disk = disk; made = made; size = size; new = new; rotated = outcome })
 
 -- whatever the result is
 pub on_ok : {P : Type 0} (result : Ending) → P → OnOk result P
@@ -175,12 +175,12 @@ if_err P (Err fault) holds = inr holds
 
 -- ---- both
 
-module _ {F : Type 0} (facts : F → FileFacts) (positioned : F → PositionedView) {E : Type 0} (h : sectors.Ghosts E) (Made : List ℕ → ℕ → E → Type 0) where
+module _ {F : Type 0} (facts : F → FileFacts) (positioned : F → PositionedView) {E : Type 0} (h : sectors.Ghosts E) (Made : List ℕ → ℕ → E → Type 0) (Named : List ℕ → List ℕ → Type 0) where
   module _ {D : Type 0} {g : sectors.Ghosts D} {O : Type 0} (stores : StoresModel O (Store D g)) where
     -- the calls between opening a store and letting it go, and what was done
     abbrev RotatesBy : (path first_key : List ℕ) (sectors : ℕ) (was now : O) (old left : Store D g) (before after : Option (List ℕ)) (result : Ending) → Type 0
     RotatesBy path first_key sectors was now old left before after result =
-        (between : List (StoreCall (Store D g))) × stores.DidCalls was now between × RotatesTo facts positioned h Made path first_key sectors between old left before after result
+        (between : List (StoreCall (Store D g))) × stores.DidCalls was now between × RotatesTo facts positioned h Made Named path first_key sectors between old left before after result
 
     -- a store that was found
     pub finds_by : (path first_key : List ℕ) (sectors : ℕ) (was : O) (old : Store D g) (before after : Option (List ℕ)) → FindsRotated facts positioned h path first_key sectors (active_header old) before after → RotatesBy path first_key sectors was was old old before after (Ok tt)
@@ -197,20 +197,21 @@ module _ {F : Type 0} (facts : F → FileFacts) (positioned : F → PositionedVi
 
     -- the lines were written
     pub makes_by : (path first_key : List ℕ) (sectors : ℕ) (was now : O) (old left : Store D g) (before after : Option (List ℕ)) (temporary lines written : List ℕ) → temporary ≡ temporary_name path → written ≡ lines → Appends before after written
-        → ((between : List (StoreCall (Store D g))) × stores.DidCalls was now between × IsMaking temporary sectors between × MakesRotated h Made temporary first_key sectors old left (Some []) (Some lines)) → RotatesBy path first_key sectors was now old left before after (Ok tt)
-    makes_by path first_key sectors was now old left before after temporary lines written name same appends (between, did, is, made) = (
+        → ((between : List (StoreCall (Store D g))) × stores.DidCalls was now between × IsMaking temporary sectors between × Named temporary path × MakesRotated h Made temporary first_key sectors old left (Some []) (Some lines)) → RotatesBy path first_key sectors was now old left before after (Ok tt)
+    makes_by path first_key sectors was now old left before after temporary lines written name same appends (between, did, is, named, made) = (
       between,
       did,
       inl (
         subst (λ (at : List ℕ). IsMaking at sectors between) name is,
+        subst (λ (at : List ℕ). Named at path) name named,
         made_printed h Made (temporary_name path) first_key sectors old left before after lines written same appends (subst (λ (at : List ℕ). MakesRotated h Made at first_key sectors old left (Some []) (Some lines)) name made),
       ),
     )
 
     -- or a prefix of them was
     pub makes_in_part : (path first_key : List ℕ) (sectors : ℕ) (was now : O) (old left : Store D g) (before after : Option (List ℕ)) (result : Ending) (fault : RotationError) (temporary lines written : List ℕ) → result ≡ Err fault → temporary ≡ temporary_name path → written ≡ lines → WritesInPart before after written
-        → ((between : List (StoreCall (Store D g))) × stores.DidCalls was now between × IsMaking temporary sectors between × MakesRotated h Made temporary first_key sectors old left (Some []) (Some lines)) → RotatesBy path first_key sectors was now old left before after result
-    makes_in_part path first_key sectors was now old left before after result fault temporary lines written is name same part (between, did, making, made) = subst (RotatesBy path first_key sectors was now old left before after) (sym is) (
+        → ((between : List (StoreCall (Store D g))) × stores.DidCalls was now between × IsMaking temporary sectors between × Named temporary path × MakesRotated h Made temporary first_key sectors old left (Some []) (Some lines)) → RotatesBy path first_key sectors was now old left before after result
+    makes_in_part path first_key sectors was now old left before after result fault temporary lines written is name same part (between, did, making, named, made) = subst (RotatesBy path first_key sectors was now old left before after) (sym is) (
       between,
       did,
       inl (
@@ -234,7 +235,7 @@ module _ {F : Type 0} (facts : F → FileFacts) (positioned : F → PositionedVi
 
   module _ {O : Type 0} (stores : StoresModel O (Store E h)) (At : List ℕ → Store E h → Type 0) where
     pub rotated_at : (from to first_key : List ℕ) (sectors : ℕ) (was begun ended now : O) (opened left : Store E h) (before after : Option (List ℕ)) (result : Ending) → At from opened → stores.DidCalls was begun (an_opening from (Ok opened) ∷ []) → stores.DidCalls ended now (a_letting_go left ∷ [])
-        → ((between : List (StoreCall (Store E h))) × stores.DidCalls begun ended between × RotatesTo facts positioned h Made to first_key sectors between opened left before after result) → RotatesOpened facts positioned h Made stores At from to first_key sectors was now before after result
+        → ((between : List (StoreCall (Store E h))) × stores.DidCalls begun ended between × RotatesTo facts positioned h Made Named to first_key sectors between opened left before after result) → RotatesOpened facts positioned h Made Named stores At from to first_key sectors was now before after result
     rotated_at from to first_key sectors was begun ended now opened left before after result at opens goes (between, did, rotated) = record {
       opened = opened;
       at = at;
@@ -245,18 +246,18 @@ module _ {F : Type 0} (facts : F → FileFacts) (positioned : F → PositionedVi
     }
 
     pub performed : (remaining : F → Option (List ℕ)) (request : Request) (first_key : List ℕ) (sectors : ℕ) (was now : O) (before after : Option (List ℕ)) (result : Ending) → sectors_asked request.sectors.now ≡ Ok sectors → IsKeyAt facts remaining request.key_file.now first_key
-        → OnOk result (RotatesOpened facts positioned h Made stores At request.old.now request.new.now first_key sectors was now before after result)
-        → IfErr result (λ fault. IsNotOpened stores request.old.now was now before after fault ⊎ RotatesOpened facts positioned h Made stores At request.old.now request.new.now first_key sectors was now before after result)
-        → IsRotationDone facts positioned remaining h Made stores At request was now before after result
+        → OnOk result (RotatesOpened facts positioned h Made Named stores At request.old.now request.new.now first_key sectors was now before after result)
+        → IfErr result (λ fault. IsNotOpened stores request.old.now was now before after fault ⊎ RotatesOpened facts positioned h Made Named stores At request.old.now request.new.now first_key sectors was now before after result)
+        → IsRotationDone facts positioned remaining h Made Named stores At request was now before after result
     performed remaining request first_key sectors was now before after (Ok done) asked key rotates stopped = record { sectors = sectors; sectors_are = asked; first_key = first_key; key_is = key; rotates = rotates }
     performed remaining request first_key sectors was now before after (Err fault) asked key rotates (inl unopened) = inl unopened
     performed remaining request first_key sectors was now before after (Err fault) asked key rotates (inr stopped) = inr (record { sectors = sectors; sectors_are = asked; first_key = first_key; key_is = key; rotates = stopped })
 
     -- words that are refused open no store
     pub unasked : (remaining : F → Option (List ℕ)) (request : Request) (was : O) (known : Option (List ℕ)) (cause : CommandError) (result : Ending) → result ≡ Err (Command cause)
-        → IsRotationDone facts positioned remaining h Made stores At request was was known known result
+        → IsRotationDone facts positioned remaining h Made Named stores At request was was known known result
     unasked remaining request was known cause result is =
-        subst (λ (ended : Ending). IsRotationDone facts positioned remaining h Made stores At request was was known known ended) (sym is)
+        subst (λ (ended : Ending). IsRotationDone facts positioned remaining h Made Named stores At request was was known known ended) (sym is)
         (inl (cause, refl, (inl (stores.nothing_called was), kept_bytes known)))
 
 -- no store was opened

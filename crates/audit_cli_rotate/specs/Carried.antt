@@ -20,10 +20,11 @@ abbrev pub rotation_end_status : Result (Unit {0}) RotationError → Status
 rotation_end_status (Ok done) = ends.Done
 rotation_end_status (Err fault) = rotation_status fault
 
--- `At` says at which path a store was opened, `Made` at which path a device was made, and `stores` by which calls.
+-- `At` says at which path a store was opened, `Made` at which path a device was made, and `stores` by which
+-- calls; `Named` says that a file got its name.
 module _ {F : Type 0} (facts : F → FileFacts) (positioned : F → PositionedView)
     (remaining : F → Option (List ℕ)) {E : Type 0} (h : sectors.Ghosts E) (Made : List ℕ → ℕ → E → Type 0)
-    {O : Type 0} (stores : StoresModel O (Store E h)) (At : List ℕ → Store E h → Type 0) where
+    (Named : List ℕ → List ℕ → Type 0) {O : Type 0} (stores : StoresModel O (Store E h)) (At : List ℕ → Store E h → Type 0) where
   -- The store in the old file was opened and its log was rotated, with this result, to a store in the new one of the
   -- size and with the first key that were asked for.
   pub record RotatesAsked (request : Request) (was now : O) (before after : Option (List ℕ))
@@ -32,7 +33,7 @@ module _ {F : Type 0} (facts : F → FileFacts) (positioned : F → PositionedVi
     pub sectors_are : sectors_asked request.sectors.now ≡ Ok sectors
     pub first_key : List ℕ
     pub key_is : IsKeyAt facts remaining request.key_file.now first_key
-    pub rotates : RotatesOpened facts positioned h Made stores At request.old.now request.new.now first_key sectors
+    pub rotates : RotatesOpened facts positioned h Made Named stores At request.old.now request.new.now first_key sectors
         was now before after result
 
   -- With success it was; after an error it may be that no store was opened, and nothing was written.

@@ -4,6 +4,7 @@ use Rattle.std.specs.Io.KnownBytes.{Keeps}
 use Rattle.audit_disk_model.specs.View.{View}
 use Rattle.audit_disk_model.specs.declared.sectors.Sectors as sectors
 use Rattle.audit_disk.specs.FileFacts.{FileFacts}
+use Rattle.audit_disk.specs.Folder.{folder_of}
 use Rattle.audit_disk.specs.Positioned.{PositionedView}
 use Rattle.audit_disk.specs.SectorSource.{source_of}
 use Rattle.audit_log.specs.declared.header.Header.{Header}
@@ -105,17 +106,21 @@ module _ {S : Type 0} where
       ⊎ ((cause : CommandError) × (fault ≡ Command cause)
       × (between ≡ a_making temporary sectors (Err cause) ∷ []))
 
--- ---- both
+-- The file at the first path was given the second one for its name, and the folder of that was synced.
+abbrev pub IsNamed : (List ℕ → List ℕ → Type 0) → (List ℕ → Type 0) → List ℕ → List ℕ → Type 0
+IsNamed Named Synced path name = Named path name × Synced (folder_of name)
+
+-- ---- both. `Named` says that the file at the first path was given the second one for its name, for good.
 
 module _ {F : Type 0} (facts : F → FileFacts) (positioned : F → PositionedView) {E : Type 0}
-    (h : sectors.Ghosts E) (Made : List ℕ → ℕ → E → Type 0) where
+    (h : sectors.Ghosts E) (Made : List ℕ → ℕ → E → Type 0) (Named : List ℕ → List ℕ → Type 0) where
   module _ {D : Type 0} {g : sectors.Ghosts D} {S : Type 0} where
-    -- A log was rotated to a store that was made; or that was found, and nothing has changed. After an error a store was
+    -- A log was rotated to a store that was made and got its name; or that was found, and nothing has changed. After an error a store was
     -- begun, and the rotation to it ended; or the old store is as it was.
     abbrev pub RotatesTo : List ℕ → List ℕ → ℕ → List (StoreCall S) → Store D g → Store D g → Option (List ℕ)
         → Option (List ℕ) → Result (Unit {0}) RotationError → Type 0
     RotatesTo path first_key sectors between old left before after (Ok done) =
-        (IsMaking (temporary_name path) sectors between
+        (IsMaking (temporary_name path) sectors between × Named (temporary_name path) path
         × MakesRotated h Made (temporary_name path) first_key sectors old left before after)
         ⊎ ((between ≡ []) × (left ≡ old)
         × FindsRotated facts positioned h path first_key sectors (active_header old) before after)

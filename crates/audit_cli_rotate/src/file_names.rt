@@ -1,13 +1,13 @@
 //! The calls by which files are written whole and get their names.
-ghost use Rattle.std.specs.Prelude.{◌≡◌, ℕ, List, Ok, Some, OnErr};
+ghost use Rattle.std.specs.Prelude.{◌≡◌, ℕ, List, Ok, Some, OnErr, OnOk};
 ghost use Rattle.audit_disk.specs.declared.file_identity.FileIdentity.{FileIdentity};
 
 use audit_disk::{FileIdentity, SystemFile, SystemFiles};
 use std::fs::{self, Metadata, OpenFile};
 use std::io::{self, ErrorKind, Write};
 
-/// The calls by which files are written whole and get their names. That one failed is a fact, and so is which file is
-/// at a path: code that is generic over the system can have them from a call alone. Every system of files has them.
+/// The calls by which files are written whole and get their names. That one failed is a fact, and so are which file is
+/// at a path, and that a file was given a name: code that is generic over the system can have them from a call alone. Every system of files has them.
 pub trait FileNames: SystemFiles
 where
     Self::File: SystemFile,
@@ -17,6 +17,9 @@ where
 
     /// A path leads to the file with this identity.
     ghost leads_to: { Self → List ℕ → FileIdentity → Type 0 };
+
+    /// The file at the first path was given the second one as a name.
+    ghost named: { Self → List ℕ → List ℕ → Type 0 };
 
     /// The identity of what a path leads to, if anything is there.
     fn identity_at(&self, path: &str) -> io::Result<Option<FileIdentity>>
@@ -37,11 +40,13 @@ where
 
     /// Gives a file a further name.
     fn name(&self, path: &str, further: &str) -> io::Result<()>
-        ensures { OnErr result (unnamed self.now) };
+        ensures named { OnOk result (named self.now path.now further.now) }
+        ensures failed { OnErr result (unnamed self.now) };
 
     /// Gives a file another name.
     fn name_again(&self, path: &str, other: &str) -> io::Result<()>
-        ensures { OnErr result (unnamed self.now) };
+        ensures named { OnOk result (named self.now path.now other.now) }
+        ensures failed { OnErr result (unnamed self.now) };
 
     /// Takes a name away.
     fn remove_name(&self, path: &str) -> io::Result<()>
@@ -55,6 +60,8 @@ where
     ghost unnamed = { λ _. Unit {0} };
 
     ghost leads_to = { λ _ _ _. Unit {0} };
+
+    ghost named = { λ _ _ _. Unit {0} };
 
     fn identity_at(&self, path: &str) -> io::Result<Option<FileIdentity>> {
         Ok(

@@ -5,14 +5,16 @@ ghost use Rattle.audit_cli_base.specs.declared.fault.CommandError.{CommandError}
 ghost use Rattle.audit_cli_base.specs.Arguments.{sectors_asked};
 ghost use Rattle.audit_cli_base.specs.Faults.{status_of};
 ghost use Rattle.audit_cli_rotate.specs.Carried.{rotation_end_status, IsRotationDone, IsRotationCarriedOut};
+ghost use Rattle.audit_cli_rotate.specs.Files.{IsNamed};
 
 use crate::fault::RotationError;
+use crate::file_names::FileNames;
 use crate::files::rotate_file;
 use audit_cli_base::{
     CommandError, FileDevice, FileStore, Status, key_at, report_flush, sectors_asked,
 };
 use audit_cli_calls::{FlushedOutput, NewStores};
-use audit_disk::{SystemFile, SystemFiles};
+use audit_disk::SystemFile;
 use audit_disk_model::Sectors;
 use std::alloc::Global;
 use std::fs::Files;
@@ -31,8 +33,9 @@ pub struct Request<'a> {
     pub key_file: &'a str,
 }
 
-/// Carries out a request over the stores of a system, `stores`, which are those of `rt`. Lines that begin with `audit: ` are written to `messages`, all others to `output`, which is
-/// flushed at the end. Returns the status with which the program exits.
+/// Carries out a request over the stores of a system, `stores`, which are those of `rt`. Lines that begin with `audit: `
+/// are written to `messages`, all others to `output`, which is flushed at the end. Returns the status with which the
+/// program exits.
 ///
 /// A run that was interrupted is continued by another one with the same words: what is done is found, and not done
 /// twice.
@@ -45,7 +48,7 @@ pub fn run<F, O, W, M>(
     messages: &mut M,
 ) -> Status
 where
-    F: SystemFiles,
+    F: FileNames,
     F::File: SystemFile,
     O: NewStores<FileStore<F::File>, FileDevice<F::File>>,
     W: FlushedOutput,
@@ -65,7 +68,8 @@ where
     // so, and nothing or a prefix of the lines of that rotation was written. In each case nothing else was done to a
     // store, and no other device was made.
     ensures carried { IsRotationCarriedOut F.File.facts F.File.positioned F.File.remaining
-        ⟦<FileDevice<F::File> as Sectors>⟧ O.made_at O.calls (O.at stores.old) request.entry stores.old stores.new
+        ⟦<FileDevice<F::File> as Sectors>⟧ O.made_at (IsNamed (F.named rt.now) (F.synced rt.now)) O.calls
+        (O.at stores.old) request.entry stores.old stores.new
         (W.contents output.old) (W.contents output.new) (W.flushed output.new) (W.unflushed output.new) result }
 {
     let done = perform(rt, stores, alloc, request, output);
@@ -96,7 +100,7 @@ fn perform<F, O, W>(
     output: &mut W,
 ) -> Result<(), RotationError>
 where
-    F: SystemFiles,
+    F: FileNames,
     F::File: SystemFile,
     O: NewStores<FileStore<F::File>, FileDevice<F::File>>,
     W: Write,
@@ -107,7 +111,8 @@ where
     ensures unopened { (fault : CommandError) → sectors_asked request.entry.sectors.now ≡ Err fault
         → O.calls.DidCalls stores.old stores.new [] }
     ensures rotated { IsRotationDone F.File.facts F.File.positioned F.File.remaining
-        ⟦<FileDevice<F::File> as Sectors>⟧ O.made_at O.calls (O.at stores.old) request.entry stores.old stores.new
+        ⟦<FileDevice<F::File> as Sectors>⟧ O.made_at (IsNamed (F.named rt.now) (F.synced rt.now)) O.calls
+        (O.at stores.old) request.entry stores.old stores.new
         (W.contents output.old) (W.contents output.new) result }
 {
     let sectors = sectors_asked(request.sectors)?;
