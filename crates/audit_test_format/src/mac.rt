@@ -1,7 +1,7 @@
-use audit_mac::{Mac, hmac_sha256};
+use audit_mac::{Mac, hmac_sha256, hmac_sha256_four};
 use std::process::Abort;
 
-/// Asserts that the text has this HMAC under the key, fed whole and byte by byte.
+/// Asserts that the text has this HMAC under the key, fed whole, byte by byte, and in each of four lanes.
 fn expect_mac(rt: &impl Abort, key: &[u8], text: &[u8], expected: [u8; 32]) {
     assert_eq!(rt; hmac_sha256(key, text), expected);
     let mut mac = Mac::new(key);
@@ -9,6 +9,7 @@ fn expect_mac(rt: &impl Abort, key: &[u8], text: &[u8], expected: [u8; 32]) {
         mac.update(&[*byte]);
     }
     assert_eq!(rt; mac.finish(), expected);
+    assert_eq!(rt; hmac_sha256_four([key; 4], [text; 4]), [expected; 4]);
 }
 
 #[test]
