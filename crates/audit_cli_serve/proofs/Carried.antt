@@ -4,7 +4,7 @@ use denote.Ref.{Bor}
 use Rattle.std.specs.List.{flat_map}
 use Rattle.std.specs.Prelude.{IfErr, OnOk, OnErr, IsOk, IsErr, IfSome}
 use Rattle.std.specs.Io.KnownBytes.{Appends, Keeps}
-use Rattle.std.proofs.Common.{◌≡◌, ◌⊎◌, ◌∙◌, inl, inr, ℕ, ◌+◌, Bool, true, false, Option, Some, None, Result, Ok, Err, List, [], ◌∷◌, ◌++◌, length, append-nil, ap, refl, sym, subst}
+use Rattle.std.proofs.Common.{◌≡◌, ◌⊎◌, ◌∙◌, inl, inr, ℕ, ◌≤◌, ◌+◌, ◌^◌, Bool, true, false, Option, Some, None, Result, Ok, Err, List, [], ◌∷◌, ◌++◌, length, append-nil, ap, refl, sym, subst}
 use Rattle.audit_disk_model.specs.declared.sectors.Sectors as sectors
 use Rattle.audit_store.specs.declared.store.Store.{Store}
 use Rattle.audit_serve_passes.specs.Steps.{StepData}
@@ -17,15 +17,19 @@ use Rattle.audit_serve_sockets.specs.Looping.{AreLinePasses, IsWholeLoop}
 use Rattle.audit_serve_sockets.specs.declared.link.Link.{Link}
 use Rattle.audit_cli_base.specs.Mode.{IsMode}
 use Rattle.audit_cli_base.specs.Watched.{after_reference}
+use Rattle.audit_text.specs.declared.fault.LinesError.{LinesError}
+use Rattle.audit_text.specs.declared.fault.LinesError.TheVariants.{Read, Write}
 use Rattle.audit_disk.specs.declared.files.TheConstants.{OWNER_ONLY}
-use Rattle.audit_cli_base.specs.declared.fault.CommandError.TheVariants.{File, Replaced}
+use Rattle.audit_cli_base.specs.declared.fault.CommandError.TheVariants.{File, Lines, Replaced}
 use Rattle.audit_cli_serve.specs.Arguments.{rounds_asked, sessions_wanted}
 use Rattle.audit_cli_base.specs.declared.fault.CommandError.{CommandError}
 use Rattle.audit_cli_calls.specs.StoreCalls.{StoresModel, an_opening, a_letting_go}
 use Rattle.audit_server_model.specs.Serving.{StoreKeepsOn}
-use Rattle.audit_cli_serve.specs.Carried.{IsServingDone, IsUnopened, IsLoopStopped, KeepsOpened, LoopsAt, LoopsToBad, LosesLoop, LoopsOpened, LoopStopsOpened, ServesAt, ServesWithLines, IsStoppedWith, ServesOpened, StopsOpened}
+use Rattle.audit_cli_serve.specs.Carried.{FailedCalls, HasFailed, IsServingDone, IsUnopened, IsLoopStopped, KeepsOpened, LoopsAt, LoopsThroughAll, LoopsToBad, LosesLoop, LoopsOpened, LoopStopsOpened, ServesAt, ServesWithLines, IsStoppedWith, ServesOpened, StopsOpened}
 use Rattle.audit_cli_serve.specs.Rounds.{round_lines, AreCutOff}
 use Rattle.audit_cli_serve.specs.Served.{CutsFrameOver, LoopsOver, LoopReachesOver, ServesRounds, StopsLoop, StopsRounds}
+use Rattle.audit_cli_serve.specs.WatchedLines.{LineFailed}
+use Rattle.audit_cli_serve.specs.declared.watched_lines.WatchedLines.{WatchedLines}
 use Rattle.audit_cli_serve.specs.declared.fault.ServingError.{ServingError}
 use Rattle.audit_cli_serve.specs.declared.fault.ServingError.TheVariants.{Command, BadFrameLine}
 use Rattle.audit_cli_serve.specs.declared.request.Request.{Request}
@@ -81,6 +85,27 @@ pub failed_after : (Failed : Type 0) (replaced : Bool) (served watched : Ending)
 failed_after Failed true served watched failed is not file = absurd (cc (is refl))
 failed_after Failed false served watched failed is not file = failed (sym (not refl) ∙ file)
 
+-- once the socket's file was removed: a fault of lines is that of serving, and the store was in its place
+line_fault : (replaced : Bool) (served watched : Ending) (fault : ServingError) (cause : LinesError) → (replaced ≡ true → watched ≡ Err (Command Replaced)) → (replaced ≡ false → watched ≡ served) → (watched ≡ Err fault) ⊎ (fault ≡ Command File) → fault ≡ Command (Lines cause)
+    → (replaced ≡ false) × (served ≡ Err (Command (Lines cause)))
+line_fault replaced served watched fault cause is not (inr file) line = let two : Command File ≡ Command (Lines cause) = sym file ∙ line in absurd (cc two)
+line_fault true served watched fault cause is not (inl same) line = let two : Command Replaced ≡ Command (Lines cause) = cc (sym (is refl) ∙ same ∙ ap Err line) in absurd (cc two)
+line_fault false served watched fault cause is not (inl same) line = (refl, sym (not refl) ∙ same ∙ ap Err line)
+
+pub line_failed_after : (Failed : Type 0) (replaced : Bool) (served watched result : Ending) (cause : LinesError) → (replaced ≡ false → served ≡ Err (Command (Lines cause)) → Failed) → (replaced ≡ true → watched ≡ Err (Command Replaced)) → (replaced ≡ false → watched ≡ served)
+    → IfErr result (λ fault. (watched ≡ Err fault) ⊎ (fault ≡ Command File)) → result ≡ Err (Command (Lines cause)) → Failed
+line_failed_after Failed replaced served watched (Ok done) cause failed is not ends line = absurd (cc line)
+line_failed_after Failed replaced served watched (Err fault) cause failed is not ends line = let at = line_fault replaced served watched fault cause is not ends (cc line) in failed at.0 at.1
+
+-- a call of the output failed, if the store was in its place
+pub output_failed : {F W : Type 0} (Unwritten : W → Type 0) (watched : WatchedLines F W) → LineFailed Unwritten watched → watched.is_replaced ≡ false → HasFailed Unwritten
+output_failed Unwritten watched (inl gone) in_place = let two : true ≡ false = sym gone ∙ in_place in absurd (cc two)
+output_failed Unwritten watched (inr failed) in_place = (watched.output.now, failed)
+
+pub input_failed : {R B : Type 0} (Unread : R → Type 0) (input : R) → Unread input ⊎ B → HasFailed Unread ⊎ B
+input_failed Unread input (inl failed) = inl (input, failed)
+input_failed Unread input (inr other) = inr other
+
 -- one that couldn't be removed is the fault of a call
 pub removed_by : {A E : Type 0} (Failed : Type 0) (removed : Result A E) → OnErr removed Failed → IsErr removed → Failed
 removed_by Failed (Ok done) failed is = absurd (cc is)
@@ -88,13 +113,20 @@ removed_by Failed (Err error) failed is = failed
 
 module _ {D : Type 0} {g : sectors.Ghosts D} where
   -- why a loop ended with an error, once it was looked whether the store was in its place and the socket's file was removed
-  pub loop_stopped_after : (Failed Lost : Type 0) (replaced : Bool) (input before mid after : Option (List ℕ)) (opened left : Store D g) (served watched result : Ending) → after ≡ mid → IfErr served (StopsLoop opened left)
+  pub loop_stopped_after : (Failed : FailedCalls) (Lost : Type 0) (replaced : Bool) (input before mid after : Option (List ℕ)) (opened left : Store D g) (served watched result : Ending) → after ≡ mid → IfErr served (StopsLoop opened left)
       → (left ≡ opened) ⊎ LoopReachesOver opened left input → ((number : ℕ) → served ≡ Err (BadFrameLine number) → LoopsToBad number input before mid opened left)
+      → (served ≡ Err (Command (Lines Read)) → Failed.of_input ⊎ LoopsThroughAll before mid opened left) → (replaced ≡ false → served ≡ Err (Command (Lines Write)) → Failed.of_output)
       → (replaced ≡ true → watched ≡ Err (Command Replaced)) → (replaced ≡ false → watched ≡ served)
-      → IfErr result (λ fault. (watched ≡ Err fault) ⊎ (fault ≡ Command File)) → (result ≡ Err (Command File) → Failed ⊎ Lost) → IfErr result (IsLoopStopped Failed Lost input before after opened left)
-  loop_stopped_after Failed Lost replaced input before mid after opened left served watched (Ok done) same_output stops reached bad is not ends failed = tt
-  loop_stopped_after Failed Lost replaced input before mid after opened left served watched (Err fault) same_output stops reached bad is not ends failed =
-      record { why = by ends; cause = λ file. failed (ap Err file); reached = reached; bad = λ number line. bad_by number line ends }
+      → IfErr result (λ fault. (watched ≡ Err fault) ⊎ (fault ≡ Command File)) → (result ≡ Err (Command File) → Failed.of_system ⊎ Lost) → IfErr result (IsLoopStopped Failed Lost input before after opened left)
+  loop_stopped_after Failed Lost replaced input before mid after opened left served watched (Ok done) same_output stops reached bad unread unwritten is not ends failed = tt
+  loop_stopped_after Failed Lost replaced input before mid after opened left served watched (Err fault) same_output stops reached bad unread unwritten is not ends failed = record {
+    why = by ends;
+    cause = λ file. failed (ap Err file);
+    unread = λ line. subst (λ (known : Option (List ℕ)). Failed.of_input ⊎ LoopsThroughAll before known opened left) (sym same_output) (unread (line_fault replaced served watched fault Read is not ends line).1);
+    unwritten = λ line. let at = line_fault replaced served watched fault Write is not ends line in unwritten at.0 at.1;
+    reached = reached;
+    bad = λ number line. bad_by number line ends;
+  }
     where
       watched_by : (replaced : Bool) → IsWatched replaced served watched → watched ≡ Err fault → (fault ≡ Command Replaced) ⊎ StopsLoop opened left fault
       watched_by true gone same = inl (cc (sym same ∙ gone))
@@ -119,6 +151,11 @@ module _ {D : Type 0} {g : sectors.Ghosts D} where
 
   pub bad_at : (input before after : Option (List ℕ)) (opened left : Store D g) (number : ℕ) → (lines : List (List ℕ)) × (length lines + 1 ≡ number) × LoopsOver opened left before after (AreLinePasses lines) × IfSome input (SpellsUpToBad lines) → LoopsToBad number input before after opened left
   bad_at input before after opened left number (lines, count, looped, spelled) = record { lines = lines; count = count; looped = looped; spelled = spelled }
+
+  -- there were as many lines as are counted
+  pub through_all : {A : Type 0} (before after : Option (List ℕ)) (opened left : Store D g) → A ⊎ ((lines : List (List ℕ)) × (2 ^ 64 ≤ length lines + 2) × LoopsOver opened left before after (AreLinePasses lines)) → A ⊎ LoopsThroughAll before after opened left
+  through_all before after opened left (inl failed) = inl failed
+  through_all before after opened left (inr (lines, all, looped)) = inr (record { lines = lines; all = all; looped = looped })
 
   -- the same bytes of the input
   pub reached_by : (opened left : Store D g) (known input : Option (List ℕ)) → (left ≡ opened) ⊎ LoopReachesOver opened left known → known ≡ input → (left ≡ opened) ⊎ LoopReachesOver opened left input
@@ -159,6 +196,10 @@ module _ {D : Type 0} {g : sectors.Ghosts D} where
   bad_plain : (number : ℕ) (one other : GName) (input was old new end : Option (List ℕ)) (opened left : Store D g) → was ≡ after_reference one old → (one ≡ other → end ≡ new) → LoopsToBad number input was (after_reference other new) opened left → LoopsToBad number input old end opened left
   bad_plain number one other input was old new end opened left is same bad = record { lines = bad.lines; count = bad.count; looped = over_plain one other was old new end opened left is same bad.looped; spelled = bad.spelled }
 
+  all_plain : {A : Type 0} (one other : GName) (was old new end : Option (List ℕ)) (opened left : Store D g) → was ≡ after_reference one old → (one ≡ other → end ≡ new) → A ⊎ LoopsThroughAll was (after_reference other new) opened left → A ⊎ LoopsThroughAll old end opened left
+  all_plain one other was old new end opened left is same (inl failed) = inl failed
+  all_plain one other was old new end opened left is same (inr through) = inr (record { lines = through.lines; all = through.all; looped = over_plain one other was old new end opened left is same through.looped })
+
   -- a store that was opened and let go
   pub keeps_opened : {O : Type 0} (stores : StoresModel O (Store D g)) (At : List ℕ → Store D g → Type 0) (path : List ℕ) (first mid last : O) (opened left : Store D g) → At path opened → stores.DidCalls first mid (an_opening path (Ok opened) ∷ []) → stores.DidCalls mid last (a_letting_go left ∷ []) → StoreKeepsOn opened left → KeepsOpened g stores At path first last opened left
   keeps_opened stores At path first mid last opened left at opens goes kept = record { at = at; calls = stores.more_called first mid last (an_opening path (Ok opened) ∷ []) (a_letting_go left ∷ []) opens goes; kept = kept }
@@ -169,14 +210,21 @@ module _ {D : Type 0} {g : sectors.Ghosts D} where
   loops_opened stores At Bound Connects path socket mode first last one other input was old new end opened left (Ok done) kept is same looped bound connects =
       record { opened = opened; left = left; kept = kept; bound = bound.0; listens = bound.1; connects = connects; looped = loops_plain one other input was old new end opened left is same looped }
 
-  pub loops_stopped : {O : Type 0} (stores : StoresModel O (Store D g)) (At : List ℕ → Store D g → Type 0) (Failed : Type 0) (Lost : Store D g → Store D g → Type 0) (path : List ℕ) (first last : O) (one other : GName) (input was old new end : Option (List ℕ)) (opened left : Store D g) (done : Ending) → KeepsOpened g stores At path first last opened left → was ≡ after_reference one old → (one ≡ other → end ≡ new)
+  pub loops_stopped : {O : Type 0} (stores : StoresModel O (Store D g)) (At : List ℕ → Store D g → Type 0) (Failed : FailedCalls) (Lost : Store D g → Store D g → Type 0) (path : List ℕ) (first last : O) (one other : GName) (input was old new end : Option (List ℕ)) (opened left : Store D g) (done : Ending) → KeepsOpened g stores At path first last opened left → was ≡ after_reference one old → (one ≡ other → end ≡ new)
       → IfErr done (IsLoopStopped Failed (Lost opened left) input was (after_reference other new) opened left) → IfErr done (λ fault. IsUnopened stores path first last old end fault ⊎ LoopStopsOpened g stores At Failed Lost path first last input old end fault)
   loops_stopped stores At Failed Lost path first last one other input was old new end opened left (Ok done) kept is same stopped = tt
   loops_stopped stores At Failed Lost path first last one other input was old new end opened left (Err fault) kept is same stopped = inr (record {
     opened = opened;
     left = left;
     kept = kept;
-    stopped = record { why = stopped.why; cause = stopped.cause; reached = stopped.reached; bad = λ number line. bad_plain number one other input was old new end opened left is same (stopped.bad number line) };
+    stopped = record {
+      why = stopped.why;
+      cause = stopped.cause;
+      unread = λ line. all_plain one other was old new end opened left is same (stopped.unread line);
+      unwritten = stopped.unwritten;
+      reached = stopped.reached;
+      bad = λ number line. bad_plain number one other input was old new end opened left is same (stopped.bad number line);
+    };
   })
 
 module _ {D : Type 0} {g : sectors.Ghosts D} {T L : Type 0} (M : CallModel T) (N : ListenerModel L T) where
@@ -243,7 +291,7 @@ module _ {D : Type 0} {g : sectors.Ghosts D} {T L : Type 0} (M : CallModel T) (N
     stops_opened (Ok done) stopped = tt
     stops_opened (Err fault) (text, appends, why) = inr (record { opened = opened; left = left; kept = kept; stopped = (text, plain one other was old new end text is same appends, why) })
 
-module _ {D : Type 0} (g : sectors.Ghosts D) {O : Type 0} (stores : StoresModel O (Store D g)) (At : List ℕ → Store D g → Type 0) {T L : Type 0} (M : CallModel T) (N : ListenerModel L T) (Bound : List ℕ → ℕ → L → Type 0) (Failed : Type 0) (Connects : List ℕ → Type 0) (Lost : Store D g → Store D g → Type 0) (was now : O) where
+module _ {D : Type 0} (g : sectors.Ghosts D) {O : Type 0} (stores : StoresModel O (Store D g)) (At : List ℕ → Store D g → Type 0) {T L : Type 0} (M : CallModel T) (N : ListenerModel L T) (Bound : List ℕ → ℕ → L → Type 0) (Failed : FailedCalls) (Connects : List ℕ → Type 0) (Lost : Store D g → Store D g → Type 0) (was now : O) where
   pub loop_performed : (input before after : Option (List ℕ)) (request : Request) (file socket : Bor (List ℕ)) (socket_mode : Option (Bor (List ℕ))) (mode : ℕ) (done : Ending) → request ≡ Loop file socket socket_mode → (socket_mode ≡ None → mode ≡ OWNER_ONLY) → IfSome socket_mode (λ word. IsMode word.now mode)
       → OnOk done (LoopsOpened g stores At Bound Connects file.now socket.now mode was now input before after) → IfErr done (λ fault. IsUnopened stores file.now was now before after fault ⊎ LoopStopsOpened g stores At Failed Lost file.now was now input before after fault) → IsServingDone g stores At M N Bound Failed Connects Lost request was now input before after done
   loop_performed input before after request file socket socket_mode mode done is owner mode_is looped stopped = subst (λ (one : Request). IsServingDone g stores At M N Bound Failed Connects Lost one was now input before after done) (sym is) (by done looped stopped)
@@ -253,20 +301,28 @@ module _ {D : Type 0} (g : sectors.Ghosts D) {O : Type 0} (stores : StoresModel 
       by (Err fault) looped stopped = stopped
 
   pub performed : (input before after : Option (List ℕ)) (file socket rounds : Bor (List ℕ)) (sessions socket_mode : Option (Bor (List ℕ))) (count each mode : ℕ) (done : Ending) → rounds_asked rounds.now ≡ Ok count → sessions_wanted sessions ≡ Ok each → (socket_mode ≡ None → mode ≡ OWNER_ONLY) → IfSome socket_mode (λ word. IsMode word.now mode)
-      → OnOk done (ServesOpened g stores At M N Bound file.now socket.now mode each count was now before after) → IfErr done (λ fault. IsUnopened stores file.now was now before after fault ⊎ StopsOpened g stores At M N Bound file.now socket.now mode each was now before after fault) → (done ≡ Err (Command File) → IsUnopened stores file.now was now before after (Command File) ⊎ Failed) → IsServingDone g stores At M N Bound Failed Connects Lost (Serve file socket rounds sessions socket_mode) was now input before after done
-  performed input before after file socket rounds sessions socket_mode count each mode (Ok done) asked wanted owner mode_is served stopped failed = record { count = count; rounds_are = asked; each = each; sessions_are = wanted; mode = mode; owner = owner; mode_is = mode_is; served = served }
-  performed input before after file socket rounds sessions socket_mode count each mode (Err (Command File)) asked wanted owner mode_is served stopped failed = by stopped (failed refl)
+      → OnOk done (ServesOpened g stores At M N Bound file.now socket.now mode each count was now before after) → IfErr done (λ fault. IsUnopened stores file.now was now before after fault ⊎ StopsOpened g stores At M N Bound file.now socket.now mode each was now before after fault) → (done ≡ Err (Command File) → IsUnopened stores file.now was now before after (Command File) ⊎ Failed.of_system) → (done ≡ Err (Command (Lines Write)) → IsUnopened stores file.now was now before after (Command (Lines Write)) ⊎ Failed.of_output)
+      → IsServingDone g stores At M N Bound Failed Connects Lost (Serve file socket rounds sessions socket_mode) was now input before after done
+  performed input before after file socket rounds sessions socket_mode count each mode (Ok done) asked wanted owner mode_is served stopped failed unwritten = record { count = count; rounds_are = asked; each = each; sessions_are = wanted; mode = mode; owner = owner; mode_is = mode_is; served = served }
+  performed input before after file socket rounds sessions socket_mode count each mode (Err (Command File)) asked wanted owner mode_is served stopped failed unwritten = by stopped (failed refl)
     where
-      by : IsUnopened stores file.now was now before after (Command File) ⊎ StopsOpened g stores At M N Bound file.now socket.now mode each was now before after (Command File) → IsUnopened stores file.now was now before after (Command File) ⊎ Failed
+      by : IsUnopened stores file.now was now before after (Command File) ⊎ StopsOpened g stores At M N Bound file.now socket.now mode each was now before after (Command File) → IsUnopened stores file.now was now before after (Command File) ⊎ Failed.of_system
           → IsServingDone g stores At M N Bound Failed Connects Lost (Serve file socket rounds sessions socket_mode) was now input before after (Err (Command File))
       by stops (inl unopened) = inl unopened
       by (inl unopened) (inr why) = inl unopened
-      by (inr stops) (inr why) = inr ((λ file_fault. why), (each, wanted, (mode, stops)))
-  performed input before after file socket rounds sessions socket_mode count each mode (Err fault) asked wanted owner mode_is served (inl unopened) failed = inl unopened
-  performed input before after file socket rounds sessions socket_mode count each mode (Err fault) asked wanted owner mode_is served (inr stopped) failed = inr ((λ file_fault. absurd (cc file_fault)), (each, wanted, (mode, stopped)))
+      by (inr stops) (inr why) = inr ((λ file_fault. why), (λ line. absurd (cc line)), (each, wanted, (mode, stops)))
+  performed input before after file socket rounds sessions socket_mode count each mode (Err (Command (Lines Write))) asked wanted owner mode_is served stopped failed unwritten = by stopped (unwritten refl)
+    where
+      by : IsUnopened stores file.now was now before after (Command (Lines Write)) ⊎ StopsOpened g stores At M N Bound file.now socket.now mode each was now before after (Command (Lines Write)) → IsUnopened stores file.now was now before after (Command (Lines Write)) ⊎ Failed.of_output
+          → IsServingDone g stores At M N Bound Failed Connects Lost (Serve file socket rounds sessions socket_mode) was now input before after (Err (Command (Lines Write)))
+      by stops (inl unopened) = inl unopened
+      by (inl unopened) (inr why) = inl unopened
+      by (inr stops) (inr why) = inr ((λ file_fault. absurd (cc file_fault)), (λ line. why), (each, wanted, (mode, stops)))
+  performed input before after file socket rounds sessions socket_mode count each mode (Err fault) asked wanted owner mode_is served (inl unopened) failed unwritten = inl unopened
+  performed input before after file socket rounds sessions socket_mode count each mode (Err fault) asked wanted owner mode_is served (inr stopped) failed unwritten = inr ((λ file_fault. absurd (cc file_fault)), (λ line. absurd (cc line)), (each, wanted, (mode, stopped)))
 
 -- an error before a store was opened
-pub unopened : {D : Type 0} (g : sectors.Ghosts D) {O : Type 0} (stores : StoresModel O (Store D g)) (At : List ℕ → Store D g → Type 0) {T L : Type 0} (M : CallModel T) (N : ListenerModel L T) (Bound : List ℕ → ℕ → L → Type 0) (Failed : Type 0) (Connects : List ℕ → Type 0) (Lost : Store D g → Store D g → Type 0) (was : O) (request : Request) (cause : CommandError) (done : Ending) (input before : Option (List ℕ)) → done ≡ Err (Command cause) → IsServingDone g stores At M N Bound Failed Connects Lost request was was input before before done
+pub unopened : {D : Type 0} (g : sectors.Ghosts D) {O : Type 0} (stores : StoresModel O (Store D g)) (At : List ℕ → Store D g → Type 0) {T L : Type 0} (M : CallModel T) (N : ListenerModel L T) (Bound : List ℕ → ℕ → L → Type 0) (Failed : FailedCalls) (Connects : List ℕ → Type 0) (Lost : Store D g → Store D g → Type 0) (was : O) (request : Request) (cause : CommandError) (done : Ending) (input before : Option (List ℕ)) → done ≡ Err (Command cause) → IsServingDone g stores At M N Bound Failed Connects Lost request was was input before before done
 unopened g stores At M N Bound Failed Connects Lost was request cause done input before is = subst (λ (ending : Ending). IsServingDone g stores At M N Bound Failed Connects Lost request was was input before before ending) (sym is) (inl (cause, refl, (inl (stores.nothing_called was), kept_bytes before)))
 
 -- the opening failed

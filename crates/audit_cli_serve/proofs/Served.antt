@@ -23,6 +23,7 @@ use Rattle.audit_serve_passes.specs.declared.serve_end.ServeFault.TheVariants as
 use Rattle.audit_serve_passes.specs.Transition.{Transition, EndsAs, Reached, IsServed, IsCut, AnySteps}
 use Rattle.audit_serve_sockets.specs.Listening.{ListenerModel}
 use Rattle.audit_serve_sockets.specs.Looping.{AreLinePasses, BringsLines, CutsFrameOff, LoopTransition, LoopReached}
+use Rattle.audit_serve_sockets.specs.LoopFaults.{IsLineFault, IsLoopError}
 use Rattle.audit_serve_sockets.specs.declared.loop_fault.LoopError.{LoopError}
 use Rattle.audit_serve_sockets.specs.declared.loop_fault.LoopError.TheVariants as looping
 use Rattle.audit_text.specs.declared.fault.LinesError.{LinesError}
@@ -32,7 +33,7 @@ use Rattle.audit_cli_serve.specs.declared.fault.ServingError.{ServingError}
 use Rattle.audit_cli_serve.specs.declared.fault.ServingError.TheVariants.{Command, BadFrameLine}
 use Rattle.audit_cli_serve.specs.Faults.{of_serving, of_loop}
 use Rattle.audit_server.specs.NewCore.{IsNewCore}
-use Rattle.audit_cli_serve.specs.Served.{plain_terms, CutsFrameOver, LoopsOver, ServesRound, ServesRounds, LoopReachesOver, ReachesByRound, IsOpen, AreAccepted, AreLetGo, IsLineLost, HasRefused, StopsRound, StopsLoop}
+use Rattle.audit_cli_serve.specs.Served.{plain_terms, CutsFrameOver, LoopsOver, ServesRound, ServesRounds, LoopReachesOver, ReachesByRound, IsOpen, AreAccepted, AreLetGo, AreLinesLost, IsLineLost, HasRefused, StopsRound, StopsLoop}
 
 -- no other fault is reported as a line that spells no bytes
 pub bad_of_loop : (fault : LoopError StoreError) (number : ℕ) → of_loop fault ≡ BadFrameLine number → fault ≡ looping.BadLine number
@@ -53,6 +54,14 @@ lines_of_loop looping.Connection cause is = absurd (cc is)
 lines_of_loop (looping.Lines fault) cause is = cc is
 lines_of_loop (looping.BadLine line) cause is = absurd (cc is)
 lines_of_loop (looping.Core error) cause is = absurd (cc is)
+
+-- which errors a session over lines has of them
+lines_lost : (cause : LinesError) → IsLineFault cause → AreLinesLost (Command (Lines cause))
+lines_lost lines.Read is = inl refl
+lines_lost lines.Write is = inr (inl refl)
+lines_lost lines.Memory is = inr (inr refl)
+lines_lost lines.InputTooLong is = absurd is
+lines_lost (lines.Line line cause) is = absurd is
 
 -- a refused step is no file fault
 pub serving_no_file : (fault : ServeFault StoreError) → of_serving fault ≡ Command File → ⊥
@@ -114,12 +123,12 @@ module _ {D : Type 0} {g : sectors.Ghosts D} where
   core_refused old new core last error made left refused =
       subst (λ (store : Store D g). IsRefusedAs error old store) (sym left) (subst (λ (store : Store D g). IsRefusedAs error store (store_of (committer_of last))) made.store_is refused)
 
-  pub loop_stopped : (old new : Store D g) (core last : Core D g) (fault : LoopError StoreError) → IsNewCore plain_terms old core → new ≡ store_of (committer_of last)
+  pub loop_stopped : (old new : Store D g) (core last : Core D g) (fault : LoopError StoreError) → IsNewCore plain_terms old core → new ≡ store_of (committer_of last) → IsLoopError fault
       → ((error : StoreError) → fault ≡ looping.Core error → Refuses core last error) → StopsLoop old new (of_loop fault)
-  loop_stopped old new core last looping.Connection made left refused = inr (inl refl)
-  loop_stopped old new core last (looping.Lines cause) made left refused = inr (inr (inl (cause, refl)))
-  loop_stopped old new core last (looping.BadLine number) made left refused = inr (inr (inr (number, refl)))
-  loop_stopped old new core last (looping.Core error) made left refused = inl (error, refl, core_refused old new core last error made left (refused error refl))
+  loop_stopped old new core last looping.Connection made left kind refused = inr (inl refl)
+  loop_stopped old new core last (looping.Lines cause) made left kind refused = inr (inr (inl (lines_lost cause kind)))
+  loop_stopped old new core last (looping.BadLine number) made left kind refused = inr (inr (inr (number, refl)))
+  loop_stopped old new core last (looping.Core error) made left kind refused = inl (error, refl, core_refused old new core last error made left (refused error refl))
 
 -- one more element
 pub all_and : {X : Type 0} (P : X → Type 0) (xs : List X) (x : X) → AllByRecursion P xs → P x → AllByRecursion P (xs ++ x ∷ [])

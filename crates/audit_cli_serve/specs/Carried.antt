@@ -1,24 +1,27 @@
 -- The effect of carrying out a request.
 use denote.Ref.{Bor}
-use Rattle.std.specs.Prelude.{◌≡◌, ◌⊎◌, ◌+◌, ℕ, Option, None, Result, Ok, Err, List, [], length, IfSome}
+use Rattle.std.specs.Prelude.{◌≡◌, ◌⊎◌, ◌≤◌, ◌+◌, ◌^◌, ℕ, Option, None, Result, Ok, Err, List, [], length, IfSome}
 use Rattle.std.specs.Io.KnownBytes.{Keeps, Appends}
 use Rattle.audit_disk_model.specs.declared.sectors.Sectors as sectors
+use Rattle.audit_disk.specs.FileFacts.{FileFacts}
 use Rattle.audit_disk.specs.declared.files.TheConstants.{OWNER_ONLY}
 use Rattle.audit_store.specs.declared.store.Store.{Store}
 use Rattle.audit_serve_passes.specs.Streams.{CallModel}
+use Rattle.audit_serve_sockets.specs.Bound.{CallFailed}
 use Rattle.audit_serve_sockets.specs.Carrying.{LosesSome, client_end, server_end}
 use Rattle.audit_serve_sockets.specs.Input.{SpellsInput, SpellsUpToBad}
 use Rattle.audit_serve_sockets.specs.Listening.{ListenerModel}
 use Rattle.audit_serve_sockets.specs.Looping.{AreLinePasses, IsWholeLoop}
 use Rattle.audit_serve_sockets.specs.declared.link.Link.{Link}
 use Rattle.audit_server_model.specs.Serving.{StoreKeepsOn}
+use Rattle.audit_text.specs.declared.fault.LinesError.TheVariants.{Read, Write}
 use Rattle.audit_cli_base.specs.Arguments.{RefusesWords}
 use Rattle.audit_cli_calls.specs.StoreCalls.{StoresModel, OpensAndLetsGo, OpensNone}
 use Rattle.audit_cli_base.specs.Mode.{IsMode}
 use Rattle.audit_cli_base.specs.declared.status.Status.{Status}
 use Rattle.audit_cli_base.specs.declared.status.Status.TheVariants as ends
 use Rattle.audit_cli_base.specs.declared.fault.CommandError.{CommandError}
-use Rattle.audit_cli_base.specs.declared.fault.CommandError.TheVariants.{File, Replaced}
+use Rattle.audit_cli_base.specs.declared.fault.CommandError.TheVariants.{File, Lines, Replaced}
 use Rattle.audit_cli_serve.specs.Arguments.{rounds_asked, sessions_wanted}
 use Rattle.audit_cli_serve.specs.Faults.{serving_status}
 use Rattle.audit_cli_serve.specs.Rounds.{round_lines, AreCutOff}
@@ -40,6 +43,24 @@ file_named (Loop file socket mode) = file.now
 abbrev pub serving_end_status : Result (Unit {0}) ServingError → Status
 serving_end_status (Ok done) = ends.Done
 serving_end_status (Err fault) = serving_status fault
+
+-- a call of one of these failed, as `Failed` says of its last call
+abbrev pub HasFailed : {T : Type 0} → (T → Type 0) → Type 0
+HasFailed {T = T} Failed = (it : T) × Failed it
+
+-- What is known because calls failed: some of the system or of files, some of the input, and some of the output.
+pub record FailedCalls : Type 1 where
+  pub of_system : Type 0
+  pub of_input : Type 0
+  pub of_output : Type 0
+
+-- these calls, as `Unread` says of an input and `Unwritten` of an output
+abbrev pub failed_calls : {F R W : Type 0} → Type 0 → (F → FileFacts) → (R → Type 0) → (W → Type 0) → FailedCalls
+failed_calls Failed facts Unread Unwritten = record {
+  of_system = CallFailed Failed facts;
+  of_input = HasFailed Unread;
+  of_output = HasFailed Unwritten;
+}
 
 -- `Met` says how many connections of others came in a search for one's own, and the others of an end of a connection
 -- that its last call failed, or read these bytes.
@@ -74,13 +95,22 @@ module _ {D : Type 0} {g : sectors.Ghosts D} where
     pub looped : LoopsOver opened left before after (AreLinePasses lines)
     pub spelled : IfSome input (SpellsUpToBad lines)
 
+  -- As many lines as are counted were served, and their replies written.
+  pub record LoopsThroughAll (before after : Option (List ℕ)) (opened left : Store D g) : Type 0 where
+    pub lines : List (List ℕ)
+    pub all : 2 ^ 64 ≤ length lines + 2
+    pub looped : LoopsOver opened left before after (AreLinePasses lines)
+
   -- Why a loop over a store ended with an error: the store wasn't in its place at the end, or the session stopped. A
-  -- file fault needs a call that failed, or the connection, as `Failed` and `Lost` say. Nothing was fed but a prefix of
-  -- what the first lines spell; if one spells no bytes, all earlier ones were served.
-  pub record IsLoopStopped (Failed Lost : Type 0) (input before after : Option (List ℕ)) (opened left : Store D g)
-      (fault : ServingError) : Type 0 where
+  -- fault of files, of reading or of writing needs a call that failed, as `Failed` says; that of files may also be the
+  -- connection's, as `Lost` says, and that of reading comes after as many lines as are counted. Nothing was fed but a
+  -- prefix of what the first lines spell; if one spells no bytes, all earlier ones were served.
+  pub record IsLoopStopped (Failed : FailedCalls) (Lost : Type 0) (input before after : Option (List ℕ))
+      (opened left : Store D g) (fault : ServingError) : Type 0 where
     pub why : (fault ≡ Command Replaced) ⊎ StopsLoop opened left fault
-    pub cause : fault ≡ Command File → Failed ⊎ Lost
+    pub cause : fault ≡ Command File → Failed.of_system ⊎ Lost
+    pub unread : fault ≡ Command (Lines Read) → Failed.of_input ⊎ LoopsThroughAll before after opened left
+    pub unwritten : fault ≡ Command (Lines Write) → Failed.of_output
     pub reached : (left ≡ opened) ⊎ LoopReachesOver opened left input
     pub bad : (number : ℕ) → fault ≡ BadFrameLine number → LoopsToBad number input before after opened left
 
@@ -142,8 +172,8 @@ module _ {D : Type 0} (g : sectors.Ghosts D) {O : Type 0} (stores : StoresModel 
     pub kept : StoreKeepsOn opened left
 
   -- the same, and a loop over it ended with an error
-  pub record LoopStopsOpened (Failed : Type 0) (Lost : Store D g → Store D g → Type 0) (path : List ℕ) (was now : O)
-      (input before after : Option (List ℕ)) (fault : ServingError) : Type 0 where
+  pub record LoopStopsOpened (Failed : FailedCalls) (Lost : Store D g → Store D g → Type 0) (path : List ℕ)
+      (was now : O) (input before after : Option (List ℕ)) (fault : ServingError) : Type 0 where
     pub opened : Store D g
     pub left : Store D g
     pub kept : KeepsOpened path was now opened left
@@ -206,18 +236,19 @@ module _ {D : Type 0} (g : sectors.Ghosts D) {O : Type 0} (stores : StoresModel 
     pub kept : KeepsOpened g stores At path was now opened left
     pub stopped : IsStoppedWith M N (Bound socket mode) sessions opened left before after fault
 
--- `Failed` says that a call failed, and `Lost` that a loop's connection did.
+-- `Failed` says which calls failed, and `Lost` that a loop's connection did.
 module _ {D : Type 0} (g : sectors.Ghosts D) {O : Type 0} (stores : StoresModel O (Store D g))
     (At : List ℕ → Store D g → Type 0) {T L : Type 0} (M : CallModel T) (N : ListenerModel L T)
-    (Bound : List ℕ → ℕ → L → Type 0) (Failed : Type 0) (Connects : List ℕ → Type 0)
+    (Bound : List ℕ → ℕ → L → Type 0) (Failed : FailedCalls) (Connects : List ℕ → Type 0)
     (Lost : Store D g → Store D g → Type 0) where
   -- A store was opened in the file that was named, and let go with its events. As many sessions as asked for were served
-  -- in each round over it, on a socket at the path that was asked for, up to this error. A file fault needs a call that
-  -- failed.
+  -- in each round over it, on a socket at the path that was asked for, up to this error. A fault of files or of writing
+  -- needs a call that failed.
   abbrev pub StopsAsked : Request → O → O → Option (List ℕ) → Option (List ℕ) → Option (List ℕ) → ServingError
       → Type 0
   StopsAsked (Serve file socket rounds sessions mode) was now input before after fault =
-      (fault ≡ Command File → Failed) × ((each : ℕ) × (sessions_wanted sessions ≡ Ok each)
+      (fault ≡ Command File → Failed.of_system) × (fault ≡ Command (Lines Write) → Failed.of_output)
+      × ((each : ℕ) × (sessions_wanted sessions ≡ Ok each)
       × ((bits : ℕ) × StopsOpened g stores At M N Bound file.now socket.now bits each was now before after fault))
   StopsAsked (Loop file socket mode) was now input before after fault =
       LoopStopsOpened g stores At Failed Lost file.now was now input before after fault

@@ -4,3 +4,4 @@ pub mod Rounds
 pub mod Served
 pub mod Words
 pub mod Carried
+pub mod WatchedLines

@@ -15,8 +15,7 @@ use Rattle.audit_server.specs.declared.server_core.Core.{Core}
 use Rattle.audit_server.specs.Core.{committer_of}
 use Rattle.audit_server.specs.CoreModel.{core_model}
 use Rattle.audit_server.specs.NewCore.{CoreTerms, IsNewCore}
-use Rattle.audit_text.specs.declared.fault.LinesError.{LinesError}
-use Rattle.audit_text.specs.declared.fault.LinesError.TheVariants.{Write, Memory}
+use Rattle.audit_text.specs.declared.fault.LinesError.TheVariants.{Read, Write, Memory}
 use Rattle.audit_serve_sockets.specs.Listening.{ListenerModel}
 use Rattle.audit_serve_sockets.specs.Looping.{BringsLines, CutsFrameOff, LoopTransition, LoopReached}
 use Rattle.audit_cli_base.specs.declared.fault.CommandError.TheVariants.{File, Lines, Refused}
@@ -31,6 +30,10 @@ plain_terms = record { reserve = 0; counted = [] }
 -- memory was refused for the line of a round, or the line couldn't be written whole
 abbrev pub IsLineLost : ServingError → Type 0
 IsLineLost fault = (fault ≡ Command (Lines Write)) ⊎ (fault ≡ Command (Lines Memory))
+
+-- lines couldn't be read or written, or memory was refused
+abbrev pub AreLinesLost : ServingError → Type 0
+AreLinesLost fault = (fault ≡ Command (Lines Read)) ⊎ IsLineLost fault
 
 module _ {D : Type 0} {g : sectors.Ghosts D} where
   -- a session over lines, whose steps have this shape
@@ -67,7 +70,7 @@ module _ {D : Type 0} {g : sectors.Ghosts D} where
   abbrev pub StopsLoop : Store D g → Store D g → ServingError → Type 0
   StopsLoop old new fault = HasRefused old new fault
       ⊎ ((fault ≡ Command File)
-      ⊎ (((cause : LinesError) × (fault ≡ Command (Lines cause))) ⊎ ((number : ℕ) × (fault ≡ BadFrameLine number))))
+      ⊎ (AreLinesLost fault ⊎ ((number : ℕ) × (fault ≡ BadFrameLine number))))
 
 -- no write has failed on the stream
 abbrev pub IsOpen : {T : Type 0} → DuplexStream T → Type 0

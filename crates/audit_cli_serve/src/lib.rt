@@ -7,6 +7,7 @@ mod looping;
 mod own_connections;
 mod request;
 mod rounds;
+mod watched_lines;
 
 pub use arguments::{rounds_asked, sessions_asked};
 pub use fault::ServingError;

@@ -11,11 +11,10 @@ ghost use Rattle.audit_cli_serve.specs.Served.{CutsFrameOver, LoopsOver, LoopRea
 
 use crate::fault::{ServingError, fault_of_loop, no_memory};
 use audit_disk_model::Sectors;
-use audit_serve_sockets::{Link, TriedRead, TriedWrite, run_lines};
+use audit_serve_sockets::{LineInput, LineOutput, Link, TriedRead, TriedWrite, run_lines};
 use audit_server::Core;
 use audit_store::Store;
 use std::alloc::Global;
-use std::io::BufRead;
 
 /// Serves a session whose bytes are given as lines of hex digits, through a connection, by a core over the store. Each
 /// frame of the replies is written as a line. The store is returned as the session left it.
@@ -30,8 +29,8 @@ where
     D: Sectors + Drop,
     A: TriedRead + TriedWrite + Drop,
     B: TriedRead + TriedWrite + Drop,
-    R: BufRead + TriedRead,
-    W: TriedWrite,
+    R: LineInput,
+    W: LineOutput,
     // A crash at any moment keeps the events that the store held, and so does the returned store.
     ensures kept { StoreKeepsOn store result.0 }
     // If a core was made, it did steps that feed a prefix of what the first lines spell.
@@ -55,10 +54,10 @@ where
         → LosesSome A.unwritten B.unread B.gave (client_end link.new) (server_end link.new)
         ⊎ (LosesSome B.unwritten A.unread A.gave (server_end link.new) (client_end link.new)
         ⊎ CutsFrameOver store result.0) }
-    ensures unread { result.1 ≡ Err (Command (Lines NotRead)) → R.unread reader.new
+    ensures unread { result.1 ≡ Err (Command (Lines NotRead)) → R.failed reader.new
         ⊎ ((lines : List (List ℕ)) × (2 ^ 64 ≤ length lines + 2)
         × LoopsOver store result.0 (W.contents writer.old) (W.contents writer.new) (AreLinePasses lines)) }
-    ensures unwritten { result.1 ≡ Err (Command (Lines NotWritten)) → W.unwritten writer.new }
+    ensures unwritten { result.1 ≡ Err (Command (Lines NotWritten)) → W.failed writer.new }
 {
     let mut core = match Core::new(alloc, store) {
         Ok(core) => core,

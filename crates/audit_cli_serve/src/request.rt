@@ -4,15 +4,17 @@ ghost use Rattle.std.specs.Prelude.{IfOk, IfErr, OnOk, OnErr};
 ghost use Rattle.std.specs.Io.KnownBytes.{Keeps, Appends};
 ghost use Rattle.audit_base.specs.declared.limits.TheConstants.{SESSIONS};
 ghost use Rattle.audit_cli_base.specs.Arguments.{RefusesWords};
-ghost use Rattle.audit_cli_base.specs.declared.fault.CommandError.TheVariants.{File, Replaced};
+ghost use Rattle.audit_cli_base.specs.declared.fault.CommandError.TheVariants.{File, Lines, Replaced};
+ghost use Rattle.audit_text.specs.declared.fault.LinesError.TheVariants.{Read as NotRead, Write as NotWritten};
 ghost use Rattle.audit_serve_sockets.specs.Bound.{CallFailed, IsBound};
 ghost use Rattle.audit_serve_sockets.specs.declared.socket_file.SocketFile.{SocketFile};
 ghost use Rattle.audit_cli_serve.specs.Arguments.{rounds_asked, sessions_wanted};
 ghost use Rattle.audit_server_model.specs.Serving.{StoreKeepsOn};
-ghost use Rattle.audit_cli_base.specs.Watched.{watched_bytes};
+ghost use Rattle.audit_cli_serve.specs.WatchedLines.{watched_lines};
 ghost use Rattle.audit_cli_serve.specs.Carried.{ServesAt, ServesOpened, IsStoppedWith, StopsOpened, LoopsAt};
 ghost use Rattle.audit_cli_serve.specs.Carried.{LoopsOpened, LoopStopsOpened, IsLoopStopped, IsUnopened};
-ghost use Rattle.audit_cli_serve.specs.Carried.{LoopsToBad, LosesLoop, MeetsOthers};
+ghost use Rattle.audit_cli_serve.specs.Carried.{LoopsToBad, LoopsThroughAll, LosesLoop, MeetsOthers};
+ghost use Rattle.audit_cli_serve.specs.Carried.{HasFailed, failed_calls};
 ghost use Rattle.audit_cli_serve.specs.Carried.{IsServingDone, IsServingCarriedOut};
 ghost use Rattle.audit_cli_serve.specs.Rounds.{round_lines};
 ghost use Rattle.audit_cli_serve.specs.Served.{LoopReachesOver, StopsLoop};
@@ -25,8 +27,9 @@ use crate::fault::ServingError;
 use crate::looping::loop_over;
 use crate::own_connections::OwnConnections;
 use crate::rounds::serve_rounds;
+use crate::watched_lines::WatchedLines;
 use audit_cli_base::{
-    CommandError, FileDevice, FileStore, Opened, Status, StoreWatch, WatchedOutput, report_flush,
+    CommandError, FileDevice, FileStore, Opened, Status, StoreWatch, report_flush,
     socket_mode_asked, socket_path_asked,
 };
 use audit_cli_calls::{FlushedOutput, Stores};
@@ -34,14 +37,13 @@ use audit_disk::{SystemFile, SystemFiles};
 use audit_disk_model::Sectors;
 use audit_serve_passes::Duplex;
 use audit_serve_sockets::{
-    Link, Listener, SocketFile, SocketLock, SystemSockets, TriedRead, TriedWrite,
+    LineInput, LineOutput, Link, Listener, PieceInput, SocketFile, SocketLock, SystemSockets,
+    TriedRead, TriedWrite,
 };
 use audit_store::Store;
-use audit_text::LinesError;
 use std::alloc::Global;
-use std::io::{self, BufRead, BufReader, Read, Write};
+use std::io::{self, Write};
 use std::os::unix::net::UnixStream;
-use std::time::Clock;
 
 // How many connections of other clients are closed before the program gives up.
 const STRANGERS: usize = 64;
@@ -75,8 +77,8 @@ pub enum Request<'a> {
 
 /// Carries out a request over the stores of a system, `stores`, which are those of `rt`. Lines that begin with `audit: `
 /// are written to `messages`, all others to `output`. The output is flushed after each round, after the replies to each
-/// line, and at the end. Once the store isn't in its place, no line is written any more ([`WatchedOutput`]), and that is
-/// the fault. Returns the status with which the program exits.
+/// line, and at the end. Once the store isn't in its place, no line is written any more, and that is the fault. Returns
+/// the status with which the program exits.
 pub fn run<F, E, S, O, R, W, M>(
     rt: &F,
     stores: &mut O,
@@ -87,13 +89,13 @@ pub fn run<F, E, S, O, R, W, M>(
     messages: &mut M,
 ) -> Status
 where
-    F: SystemFiles + OwnConnections<E, S> + Clock,
+    F: SystemFiles + OwnConnections<E, S>,
     E: TriedRead + TriedWrite + Drop,
     S: Drop,
     F::File: SystemFile,
     O: Stores<FileStore<F::File>>,
-    R: Read,
-    W: FlushedOutput,
+    R: TriedRead,
+    W: FlushedOutput + TriedWrite,
     M: Write,
     // A wrong word ends the program before a store is opened or anything is written. An output that can't be flushed is
     // another fault.
@@ -104,10 +106,10 @@ where
     // The status is that of the result, or the output couldn't be flushed. On success what was asked for was served,
     // over the store that was opened in the file that was named; whatever happens, the output has the lines of what was
     // served, in order. After an error no store was opened, or that store was let go with its events. Nothing else was
-    // done to a store.
+    // done to a store. An error of files, of reading or of writing needs a call that failed, once the store was opened.
     ensures carried { IsServingCarriedOut ⟦<FileDevice<F::File> as Sectors>⟧ O.calls (O.at stores.old)
         ⟦<UnixStream as Duplex>⟧.calls ⟦<SocketFile as Listener<UnixStream>>⟧.model (IsBound (F.sockets rt.now))
-        (CallFailed (F.call_failed rt.now) F.File.facts) (F.sockets rt.now).connects
+        (failed_calls (F.call_failed rt.now) F.File.facts R.unread W.unwritten) (F.sockets rt.now).connects
         (LosesLoop F.met E.unwritten E.unread E.gave)
         request.entry stores.old stores.new (R.remaining input.old) (W.contents output.old) (W.contents output.new)
         (W.flushed output.new) (W.unflushed output.new) result }
@@ -132,19 +134,19 @@ fn perform<F, E, S, O, R, W>(
     output: &mut W,
 ) -> Result<(), ServingError>
 where
-    F: SystemFiles + OwnConnections<E, S> + Clock,
+    F: SystemFiles + OwnConnections<E, S>,
     E: TriedRead + TriedWrite + Drop,
     S: Drop,
     F::File: SystemFile,
     O: Stores<FileStore<F::File>>,
-    R: Read,
-    W: Write,
+    R: TriedRead,
+    W: TriedWrite,
     ensures words { RefusesWords (IsServingFault request.entry) (W.contents output.old) (W.contents output.new) result }
     ensures only { result ≡ Err (ServingError.Command CommandError.BadArgument) → HasWrongWord request.entry }
     ensures unopened { HasWrongWord request.entry → O.calls.DidCalls stores.old stores.new [] }
     ensures served { IsServingDone ⟦<FileDevice<F::File> as Sectors>⟧ O.calls (O.at stores.old)
         ⟦<UnixStream as Duplex>⟧.calls ⟦<SocketFile as Listener<UnixStream>>⟧.model (IsBound (F.sockets rt.now))
-        (CallFailed (F.call_failed rt.now) F.File.facts) (F.sockets rt.now).connects
+        (failed_calls (F.call_failed rt.now) F.File.facts R.unread W.unwritten) (F.sockets rt.now).connects
         (LosesLoop F.met E.unwritten E.unread E.gave)
         request.entry stores.old stores.new (R.remaining input.old) (W.contents output.old) (W.contents output.new)
         result }
@@ -201,10 +203,10 @@ fn serve_file<F, O, W>(
     output: &mut W,
 ) -> Result<(), ServingError>
 where
-    F: SystemFiles + SystemSockets + Clock,
+    F: SystemFiles + SystemSockets,
     F::File: SystemFile,
     O: Stores<FileStore<F::File>>,
-    W: Write,
+    W: TriedWrite,
     requires { sessions ≤ SESSIONS }
     ensures words { IfErr result IsNoWordError }
     ensures served { OnOk result (ServesOpened ⟦<FileDevice<F::File> as Sectors>⟧ O.calls (O.at stores.old)
@@ -220,10 +222,13 @@ where
     ensures failed { result ≡ Err (Command File) → IsUnopened O.calls
         file.now stores.old stores.new (W.contents output.old) (W.contents output.new) (Command File)
         ⊎ CallFailed (F.call_failed rt.now) F.File.facts }
+    ensures unwritten { result ≡ Err (Command (Lines NotWritten)) → IsUnopened O.calls
+        file.now stores.old stores.new (W.contents output.old) (W.contents output.new) (Command (Lines NotWritten))
+        ⊎ HasFailed W.unwritten }
 {
     let Opened { content, identity } = stores.open(alloc, file)?;
     let watch = StoreWatch::new(rt, file, identity, content.sectors());
-    let mut watched = WatchedOutput::new(watch, output);
+    let mut watched = WatchedLines::new(&watch, output);
     let (store, served) = serve_store(
         rt,
         alloc,
@@ -239,7 +244,7 @@ where
 }
 
 // Whatever happens, the store is returned as the rounds left it. It stays locked until the socket's file is removed.
-fn serve_store<F: SystemFiles + SystemSockets + Clock, D: Sectors + Drop, W: Write>(
+fn serve_store<F: SystemFiles + SystemSockets, D: Sectors + Drop, W: TriedWrite>(
     rt: &F,
     alloc: Global,
     store: Store<D>,
@@ -247,7 +252,7 @@ fn serve_store<F: SystemFiles + SystemSockets + Clock, D: Sectors + Drop, W: Wri
     mode: u32,
     rounds: u64,
     sessions: usize,
-    output: &mut WatchedOutput<'_, '_, F, W>,
+    output: &mut WatchedLines<'_, '_, F, W>,
 ) -> (Store<D>, Result<(), ServingError>)
 where
     F::File: SystemFile,
@@ -258,11 +263,12 @@ where
     ensures served { OnOk result.1 ((turns : List ℕ) × (length turns ≡ rounds)
         × ServesAt ⟦<UnixStream as Duplex>⟧.calls ⟦<SocketFile as Listener<UnixStream>>⟧.model
         (IsBound (F.sockets rt.now) socket.now mode) sessions turns store result.0
-        × Appends (watched_bytes W.contents output.old) (watched_bytes W.contents output.new) (round_lines 1 turns)) }
+        × Appends (watched_lines W.contents output.old) (watched_lines W.contents output.new) (round_lines 1 turns)) }
     ensures stopped { IfErr result.1 (IsStoppedWith ⟦<UnixStream as Duplex>⟧.calls
         ⟦<SocketFile as Listener<UnixStream>>⟧.model (IsBound (F.sockets rt.now) socket.now mode) sessions store
-        result.0 (watched_bytes W.contents output.old) (watched_bytes W.contents output.new)) }
+        result.0 (watched_lines W.contents output.old) (watched_lines W.contents output.new)) }
     ensures failed { result.1 ≡ Err (Command File) → CallFailed (F.call_failed rt.now) F.File.facts }
+    ensures unwritten { result.1 ≡ Err (Command (Lines NotWritten)) → HasFailed W.unwritten }
 {
     match SocketFile::bind(rt, alloc, socket, mode) {
         Ok((bound, lock)) => serve_bound(
@@ -272,7 +278,7 @@ where
     }
 }
 
-fn serve_bound<F: SystemFiles + SystemSockets + Clock, D: Sectors + Drop, W: Write>(
+fn serve_bound<F: SystemFiles + SystemSockets, D: Sectors + Drop, W: TriedWrite>(
     rt: &F,
     alloc: Global,
     store: Store<D>,
@@ -282,7 +288,7 @@ fn serve_bound<F: SystemFiles + SystemSockets + Clock, D: Sectors + Drop, W: Wri
     mode: u32,
     rounds: u64,
     sessions: usize,
-    output: &mut WatchedOutput<'_, '_, F, W>,
+    output: &mut WatchedLines<'_, '_, F, W>,
 ) -> (Store<D>, Result<(), ServingError>)
 where
     F::File: SystemFile,
@@ -293,11 +299,12 @@ where
     ensures served { OnOk result.1 ((turns : List ℕ) × (length turns ≡ rounds)
         × ServesAt ⟦<UnixStream as Duplex>⟧.calls ⟦<SocketFile as Listener<UnixStream>>⟧.model
         (IsBound (F.sockets rt.now) socket.now mode) sessions turns store result.0
-        × Appends (watched_bytes W.contents output.old) (watched_bytes W.contents output.new) (round_lines 1 turns)) }
+        × Appends (watched_lines W.contents output.old) (watched_lines W.contents output.new) (round_lines 1 turns)) }
     ensures stopped { IfErr result.1 (IsStoppedWith ⟦<UnixStream as Duplex>⟧.calls
         ⟦<SocketFile as Listener<UnixStream>>⟧.model (IsBound (F.sockets rt.now) socket.now mode) sessions store
-        result.0 (watched_bytes W.contents output.old) (watched_bytes W.contents output.new)) }
+        result.0 (watched_lines W.contents output.old) (watched_lines W.contents output.new)) }
     ensures failed { result.1 ≡ Err (Command File) → CallFailed (F.call_failed rt.now) F.File.facts }
+    ensures unwritten { result.1 ≡ Err (Command (Lines NotWritten)) → HasFailed W.unwritten }
 {
     let mut bound = bound;
     let (store, served) = serve_rounds(rt, alloc, store, &mut bound, rounds, sessions, output);
@@ -343,13 +350,13 @@ fn loop_file<F, E, S, O, R, W>(
     output: &mut W,
 ) -> Result<(), ServingError>
 where
-    F: SystemFiles + OwnConnections<E, S> + Clock,
+    F: SystemFiles + OwnConnections<E, S>,
     E: TriedRead + TriedWrite + Drop,
     S: Drop,
     F::File: SystemFile,
     O: Stores<FileStore<F::File>>,
-    R: Read,
-    W: Write,
+    R: TriedRead,
+    W: TriedWrite,
     ensures words { IfErr result IsNoWordError }
     ensures looped { OnOk result (LoopsOpened ⟦<FileDevice<F::File> as Sectors>⟧ O.calls (O.at stores.old)
         (IsBound (F.sockets rt.now)) (F.sockets rt.now).connects file.now socket.now mode stores.old stores.new
@@ -357,13 +364,14 @@ where
     ensures stopped { IfErr result (λ fault. IsUnopened O.calls
         file.now stores.old stores.new (W.contents output.old) (W.contents output.new) fault
         ⊎ LoopStopsOpened ⟦<FileDevice<F::File> as Sectors>⟧ O.calls (O.at stores.old)
-        (CallFailed (F.call_failed rt.now) F.File.facts) (LosesLoop F.met E.unwritten E.unread E.gave)
+        (failed_calls (F.call_failed rt.now) F.File.facts R.unread W.unwritten)
+        (LosesLoop F.met E.unwritten E.unread E.gave)
         file.now stores.old stores.new (R.remaining input.old) (W.contents output.old) (W.contents output.new)
         fault) }
 {
     let Opened { content, identity } = stores.open(alloc, file)?;
     let watch = StoreWatch::new(rt, file, identity, content.sectors());
-    let mut watched = WatchedOutput::new(watch, output);
+    let mut watched = WatchedLines::new(&watch, output);
     let (store, served) = loop_store(rt, alloc, content, socket, mode, input, &mut watched);
     stores.let_go(store);
     served
@@ -377,32 +385,29 @@ fn loop_store<F, E, S, D, R, W>(
     socket: &str,
     mode: u32,
     input: &mut R,
-    output: &mut WatchedOutput<'_, '_, F, W>,
+    output: &mut WatchedLines<'_, '_, F, W>,
 ) -> (Store<D>, Result<(), ServingError>)
 where
-    F: SystemFiles + OwnConnections<E, S> + Clock,
+    F: SystemFiles + OwnConnections<E, S>,
     F::File: SystemFile,
     E: TriedRead + TriedWrite + Drop,
     S: Drop,
     D: Sectors + Drop,
-    R: Read,
-    W: Write,
+    R: TriedRead,
+    W: TriedWrite,
     ensures words { IfErr result.1 IsNoWordError }
     // Nothing else is done to the store.
     ensures kept { StoreKeepsOn store result.0 }
-    ensures looped { OnOk result.1 (LoopsAt (R.remaining input.old) (watched_bytes W.contents output.old)
-        (watched_bytes W.contents output.new) store result.0) }
+    ensures looped { OnOk result.1 (LoopsAt (R.remaining input.old) (watched_lines W.contents output.old)
+        (watched_lines W.contents output.new) store result.0) }
     ensures bound { OnOk result.1 ((bound : SocketFile) × IsBound (F.sockets rt.now) socket.now mode bound) }
     ensures connected { OnOk result.1 ((F.sockets rt.now).connects socket.now) }
-    ensures stopped { IfErr result.1 (IsLoopStopped (CallFailed (F.call_failed rt.now) F.File.facts)
+    ensures stopped { IfErr result.1 (IsLoopStopped
+        (failed_calls (F.call_failed rt.now) F.File.facts R.unread W.unwritten)
         (LosesLoop F.met E.unwritten E.unread E.gave store result.0) (R.remaining input.old)
-        (watched_bytes W.contents output.old) (watched_bytes W.contents output.new) store result.0) }
+        (watched_lines W.contents output.old) (watched_lines W.contents output.new) store result.0) }
 {
-    // The input's buffer is allocated before the socket's file is made, so that the file is removed whatever is
-    // refused later.
-    let Ok(mut reader) = BufReader::new(alloc, input) else {
-        return (store, Err(LinesError::Memory.into()));
-    };
+    let mut reader = PieceInput::new(input);
     let (bound, lock) = match SocketFile::bind(rt, alloc, socket, mode) {
         Ok(made) => made,
         Err(error) => return (store, Err(error.into())),
@@ -427,8 +432,8 @@ where
     E: TriedRead + TriedWrite + Drop,
     S: Drop,
     D: Sectors + Drop,
-    R: BufRead,
-    W: Write,
+    R: LineInput,
+    W: LineOutput,
     ensures words { IfErr result.1 IsNoWordError }
     ensures kept { StoreKeepsOn store result.0 }
     ensures looped { OnOk result.1 (LoopsAt (R.remaining reader.old) (W.contents output.old) (W.contents output.new)
@@ -437,6 +442,9 @@ where
     ensures stopped { IfErr result.1 (StopsLoop store result.0) }
     ensures failed { result.1 ≡ Err (Command File) → F.call_failed rt.now
         ⊎ LosesLoop F.met E.unwritten E.unread E.gave store result.0 }
+    ensures unread { result.1 ≡ Err (Command (Lines NotRead)) → R.failed reader.new
+        ⊎ LoopsThroughAll (W.contents output.old) (W.contents output.new) store result.0 }
+    ensures unwritten { result.1 ≡ Err (Command (Lines NotWritten)) → W.failed output.new }
     ensures reached { (result.0 ≡ store) ⊎ LoopReachesOver store result.0 (R.remaining reader.old) }
     ensures bad { (number : ℕ) → result.1 ≡ Err (BadFrameLine number) → LoopsToBad number (R.remaining reader.old)
         (W.contents output.old) (W.contents output.new) store result.0 }

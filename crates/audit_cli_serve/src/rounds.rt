@@ -14,7 +14,7 @@ ghost use Rattle.audit_cli_serve.specs.Served.{StopsRounds, AreAccepted, AreLetG
 use crate::fault::{ServingError, fault_of_serving, no_memory};
 use audit_disk_model::Sectors;
 use audit_serve_passes::{Duplex, DuplexStream, serve};
-use audit_serve_sockets::{Listener, SystemSockets, TriedWrite, write_round};
+use audit_serve_sockets::{LineOutput, Listener, SystemSockets, write_round};
 use audit_server::Core;
 use audit_store::Store;
 use std::alloc::Global;
@@ -39,7 +39,7 @@ where
     D: Sectors + Drop,
     T: Duplex + Drop,
     L: Listener<T>,
-    W: TriedWrite,
+    W: LineOutput,
     requires { sessions ≤ SESSIONS }
     // Whatever happens, a stop at any moment keeps the events that the store held, and so does the returned store.
     ensures kept { StoreKeepsOn store result.0 }
@@ -58,7 +58,7 @@ where
         × StopsRounds T.calls L.model sessions store result.0 socket.old socket.new text fault) }
     // `File` needs a call of the system that failed, and `Write` a call of the writer.
     ensures unaccepted { result.1 ≡ Err (Command File) → F.call_failed rt.now }
-    ensures unwritten { result.1 ≡ Err (Command (Lines NotWritten)) → W.unwritten writer.new }
+    ensures unwritten { result.1 ≡ Err (Command (Lines NotWritten)) → W.failed writer.new }
 {
     let mut store = store;
     for round in 0..rounds {

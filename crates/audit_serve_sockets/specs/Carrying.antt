@@ -1,5 +1,5 @@
 -- How a piece that was sent through a connection is lost.
-use Rattle.std.specs.Prelude.{◌≡◌, ◌≢◌, ◌⊎◌, ℕ, List}
+use Rattle.std.specs.Prelude.{◌≢◌, ◌⊎◌, ℕ, List}
 use Rattle.audit_serve_sockets.specs.declared.link.Link.{Link}
 
 -- A call failed at the end that sends or at the end that reads, or what was read isn't what was sent. The arguments before

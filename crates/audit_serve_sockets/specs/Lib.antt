@@ -7,3 +7,4 @@ pub mod RoundLine
 pub mod Listening
 pub mod Bound
 pub mod Carrying
+pub mod PieceInput

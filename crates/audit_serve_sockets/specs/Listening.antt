@@ -1,5 +1,5 @@
 -- The connections that a socket accepts.
-use Rattle.std.specs.Prelude.{ℕ, Result, Ok, Err, List, [], ◌∷◌, ◌++◌}
+use Rattle.std.specs.Prelude.{Result, Ok, Err, List, [], ◌∷◌, ◌++◌}
 
 -- How contracts see a socket on which connections arrive.
 pub record ListenerModel (L T : Type 0) : Type 1 where

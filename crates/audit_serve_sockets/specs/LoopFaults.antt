@@ -1,6 +1,6 @@
 -- Errors of a session over lines.
 use Rattle.audit_text.specs.declared.fault.LinesError.{LinesError}
-use Rattle.audit_text.specs.declared.fault.LinesError.TheVariants.{Write, Memory}
+use Rattle.audit_text.specs.declared.fault.LinesError.TheVariants.{Read, Write, Memory}
 use Rattle.audit_serve_sockets.specs.declared.loop_fault.RelayError.{RelayError}
 use Rattle.audit_serve_sockets.specs.declared.loop_fault.RelayError.TheVariants as reply
 use Rattle.audit_serve_sockets.specs.declared.loop_fault.LoopError.{LoopError}
@@ -40,3 +40,17 @@ IsSendingError Connection = Unit {0}
 IsSendingError (Lines fault) = ⊥
 IsSendingError (BadLine number) = ⊥
 IsSendingError (Core error) = Unit {0}
+
+-- the errors of lines: a failed read or write, or refused memory
+abbrev pub IsLineFault : LinesError → Type 0
+IsLineFault Read = Unit {0}
+IsLineFault Write = Unit {0}
+IsLineFault Memory = Unit {0}
+IsLineFault _ = ⊥
+
+-- the errors of a session over lines
+abbrev pub IsLoopError : {E : Type 0} → LoopError E → Type 0
+IsLoopError Connection = Unit {0}
+IsLoopError (Lines fault) = IsLineFault fault
+IsLoopError (BadLine number) = Unit {0}
+IsLoopError (Core error) = Unit {0}

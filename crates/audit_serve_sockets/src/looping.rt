@@ -9,10 +9,11 @@ ghost use Rattle.audit_serve_sockets.specs.Looping.{Brings, BringsFront, BringsL
 ghost use Rattle.audit_serve_sockets.specs.declared.loop_fault.RelayError.TheVariants as relay;
 ghost use Rattle.audit_serve_sockets.specs.Carrying.{LosesSome};
 ghost use Rattle.audit_serve_sockets.specs.Looping.{LoopTransition, LoopReached, CutsFrameOff};
-ghost use Rattle.audit_serve_sockets.specs.LoopFaults.{IsReplyError, IsSendingError, IsSendingBackError};
+ghost use Rattle.audit_serve_sockets.specs.LoopFaults.{IsLoopError, IsReplyError, IsSendingError, IsSendingBackError};
 
 use crate::frame_line::bytes_of_line;
 use crate::input_line::next_line;
+use crate::line_streams::{LineInput, LineOutput};
 use crate::link::Link;
 use crate::loop_fault::{LoopError, RelayError};
 use crate::replying::write_frames;
@@ -20,7 +21,6 @@ use crate::tried::{TriedRead, TriedWrite};
 use audit_serve_passes::{MAX_PIECE, SessionCore};
 use audit_text::LinesError;
 use std::alloc::Global;
-use std::io::BufRead;
 
 // The session that the lines belong to.
 const SESSION: usize = 0;
@@ -42,8 +42,8 @@ where
     C: SessionCore,
     A: TriedRead + TriedWrite + Drop,
     B: TriedRead + TriedWrite + Drop,
-    R: BufRead + TriedRead,
-    W: TriedWrite,
+    R: LineInput,
+    W: LineOutput,
     // Whatever happens, the core did steps that feed a prefix of what the first lines spell, in order.
     ensures reaches { LoopReached C.model core.old core.new (BringsLines (R.remaining reader.old)) }
     // If the core refused a step, what its refusal states holds.
@@ -58,17 +58,19 @@ where
         → (lines : List (List ℕ)) × (length lines + 1 ≡ number) × LoopTransition C.model core.old core.new
         (W.contents writer.old) (W.contents writer.new) (AreLinePasses lines)
         × IfSome (R.remaining reader.old) (SpellsUpToBad lines) }
-    // `Connection` needs a call that failed at an end of the link, bytes that were read there and weren't sent, or output
-    // of the core that isn't whole frames. `Read` needs a call of the reader that failed, or as many lines as are
+    // The only errors of lines are `Read`, `Write` and `Memory`.
+    ensures fault { IfErr result IsLoopError }
+    // `Connection` needs a call that failed at an end of the link, bytes that were read there and weren't sent, or
+    // output of the core that isn't whole frames. `Read` needs a call of the reader that failed, or as many lines as are
     // counted; `Write` a call of the writer that failed.
     ensures lost { result ≡ Err fault.Connection
         → LosesSome A.unwritten B.unread B.gave link.new.client link.new.server
         ⊎ (LosesSome B.unwritten A.unread A.gave link.new.server link.new.client
         ⊎ CutsFrameOff C.model core.old core.new) }
-    ensures unread { result ≡ Err (fault.Lines NotRead) → R.unread reader.new
+    ensures unread { result ≡ Err (fault.Lines NotRead) → R.failed reader.new
         ⊎ ((lines : List (List ℕ)) × (2 ^ 64 ≤ length lines + 2) × LoopTransition C.model core.old core.new
         (W.contents writer.old) (W.contents writer.new) (AreLinePasses lines)) }
-    ensures unwritten { result ≡ Err (fault.Lines NotWritten) → W.unwritten writer.new }
+    ensures unwritten { result ≡ Err (fault.Lines NotWritten) → W.failed writer.new }
 {
     let mut buffer = [0; MAX_PIECE];
     serve_lines(alloc, core, link, &mut buffer, reader, writer)?;
@@ -91,8 +93,8 @@ where
     C: SessionCore,
     A: TriedRead + TriedWrite + Drop,
     B: TriedRead + TriedWrite + Drop,
-    R: BufRead + TriedRead,
-    W: TriedWrite,
+    R: LineInput,
+    W: LineOutput,
     requires room { length buffer.old ≡ MAX_PIECE }
     ensures reaches { LoopReached C.model core.old core.new (BringsLines (R.remaining reader.old)) }
     ensures refused { (error : C.Error) → result ≡ Err (fault.Core error) → C.refuses core.old core.new error }
@@ -103,14 +105,15 @@ where
         → (lines : List (List ℕ)) × (length lines + 1 ≡ number) × LoopTransition C.model core.old core.new
         (W.contents writer.old) (W.contents writer.new) (AreLinePasses lines)
         × IfSome (R.remaining reader.old) (SpellsUpToBad lines) }
+    ensures fault { IfErr result IsLoopError }
     ensures lost { result ≡ Err fault.Connection
         → LosesSome A.unwritten B.unread B.gave link.new.client link.new.server
         ⊎ (LosesSome B.unwritten A.unread A.gave link.new.server link.new.client
         ⊎ CutsFrameOff C.model core.old core.new) }
-    ensures unread { result ≡ Err (fault.Lines NotRead) → R.unread reader.new
+    ensures unread { result ≡ Err (fault.Lines NotRead) → R.failed reader.new
         ⊎ ((lines : List (List ℕ)) × (2 ^ 64 ≤ length lines + 2) × LoopTransition C.model core.old core.new
         (W.contents writer.old) (W.contents writer.new) (AreLinePasses lines)) }
-    ensures unwritten { result ≡ Err (fault.Lines NotWritten) → W.unwritten writer.new }
+    ensures unwritten { result ≡ Err (fault.Lines NotWritten) → W.failed writer.new }
 {
     let mut line = Vec::new(alloc);
     for number in 1..u64::MAX {
@@ -169,7 +172,7 @@ where
     C: SessionCore,
     A: TriedRead + TriedWrite + Drop,
     B: TriedRead + TriedWrite + Drop,
-    W: TriedWrite,
+    W: LineOutput,
     requires room { length buffer.old ≡ MAX_PIECE }
     ensures reaches { LoopReached C.model core.old core.new (IsPartOf a_flush) }
     ensures refused { (error : C.Error) → result ≡ Err (fault.Core error) → C.refuses core.old core.new error }
@@ -179,7 +182,7 @@ where
     ensures lost { result ≡ Err fault.Connection
         → LosesSome B.unwritten A.unread A.gave link.new.server link.new.client
         ⊎ CutsFrameOff C.model core.old core.new }
-    ensures unwritten { result ≡ Err (fault.Lines NotWritten) → W.unwritten writer.new }
+    ensures unwritten { result ≡ Err (fault.Lines NotWritten) → W.failed writer.new }
 {
     if let Err(error) = core.flush() {
         return Err(LoopError::Core(error));

@@ -7,14 +7,14 @@ ghost use Rattle.audit_serve_sockets.specs.declared.loop_fault.RelayError.TheVar
 ghost use Rattle.audit_serve_sockets.specs.Frames.{frame_line, AreUnfinished, HasLines};
 ghost use Rattle.audit_serve_sockets.specs.LoopFaults.{IsRelayError};
 
+use crate::line_streams::LineOutput;
 use crate::loop_fault::RelayError;
-use crate::tried::TriedWrite;
 use audit_text::push_hex;
 use audit_wire::{LENGTH_BYTES, first_frame};
 use std::alloc::{AllocError, Global};
 
 /// Writes a line of hex digits for each frame in the bytes. Bytes after the last complete frame are an error.
-pub fn write_frames<W: TriedWrite>(
+pub fn write_frames<W: LineOutput>(
     alloc: Global,
     bytes: &[u8],
     writer: &mut W,
@@ -23,7 +23,7 @@ pub fn write_frames<W: TriedWrite>(
     // `Connection` needs bytes that aren't whole frames, and `Write` a call of the writer that failed.
     ensures fault { IfErr result IsRelayError }
     ensures cut_off { result ≡ Err relay.Connection → AreUnfinished bytes.now }
-    ensures unwritten { result ≡ Err (relay.Lines NotWritten) → W.unwritten writer.new }
+    ensures unwritten { result ≡ Err (relay.Lines NotWritten) → W.failed writer.new }
 {
     let mut line = Vec::new(alloc);
     let mut rest = bytes;

@@ -4,6 +4,9 @@ use Rattle.audit_cli_serve.specs.declared.fault.ServingError.TheVariants.{BadFra
 use Rattle.audit_text.specs.declared.fault.LinesError.TheVariants.{Read, Write}
 use Rattle.audit_cli_base.specs.declared.fault.CommandError.TheVariants.{File, Lines}
 use Rattle.audit_server.specs.NewCore.{IsNewCore}
+use Rattle.audit_serve_sockets.specs.LoopFaults.{IsLoopError}
+use Rattle.audit_serve_sockets.specs.declared.loop_fault.LoopError.{LoopError}
+use Rattle.audit_store.specs.declared.store_error.StoreError.{StoreError}
 use Rattle.audit_cli_serve.specs.Served.{plain_terms, StopsLoop}
 use Rattle.audit_cli_serve.proofs.Served.{bad_of_loop, cut_over, file_of_loop, lines_of_loop, on_ok, on_err, kept_as, kept_by, looped, loop_reached, loop_stopped, unread_over}
 use Rattle.audit_cli_serve.proofs.looping.loop_over.Goals.{in-Ok-run_lines, in-Err-run_lines}
@@ -51,6 +54,7 @@ returns-clause-fault g c =
           subst (λ (answer : Result (Unit {0}) ServingError). IfErr answer (StopsLoop c.args.store c.into_store.result)) (sym w.done-is)
           (subst (StopsLoop c.args.store c.into_store.result) (sym w.fault_of_loop.ensures)
           (loop_stopped c.args.store c.into_store.result c.in-Ok.core c.run_lines.new.core w.in-Err-run_lines.fault made c.into_store.ensures
+          (subst (λ (answer : Result (Unit {0}) (LoopError StoreError)). IfErr answer IsLoopError) w.in-Err-run_lines.is c.run_lines.ensures.fault)
           (λ error is. c.run_lines.ensures.refused error (w.in-Err-run_lines.is ∙ ap Err is))))
     ]
 

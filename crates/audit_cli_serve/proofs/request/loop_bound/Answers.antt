@@ -1,6 +1,6 @@
 use Rattle.audit_server_model.proofs.Serving.{kept_none}
 use Rattle.std.proofs.Common.{inr}
-use Rattle.audit_cli_serve.proofs.Carried.{bad_at, lost_on, loops_at}
+use Rattle.audit_cli_serve.proofs.Carried.{bad_at, lost_on, loops_at, through_all}
 use Rattle.audit_cli_serve.proofs.request.loop_bound.Goals as goal
 
 pub returns-in-Ok-clause-looped : goal.returns-in-Ok-clause-looped
@@ -14,3 +14,6 @@ returns-in-Ok-clause-bad g c = λ number is. bad_at _ _ _ c.args.store c.loop_ov
 
 pub returns-in-Ok-clause-failed : goal.returns-in-Ok-clause-failed
 returns-in-Ok-clause-failed g c = λ is. inr (lost_on _ _ _ _ c.args.store c.loop_over.result.0 c.loop_over.new.link (c.loop_over.ensures.lost is))
+
+pub returns-in-Ok-clause-unread : goal.returns-in-Ok-clause-unread
+returns-in-Ok-clause-unread g c = λ is. through_all _ _ c.args.store c.loop_over.result.0 (c.loop_over.ensures.unread is)

@@ -1,6 +1,6 @@
 use Rattle.std.proofs.Common.{rules}
-use Rattle.audit_serve_sockets.specs.Bound.{CallFailed, IsBound}
-use Rattle.audit_cli_serve.specs.Carried.{LosesLoop}
+use Rattle.audit_serve_sockets.specs.Bound.{IsBound}
+use Rattle.audit_cli_serve.specs.Carried.{LosesLoop, failed_calls}
 use Rattle.audit_cli_serve.proofs.Carried.{keeps_opened, loops_opened, loops_stopped}
 use Rattle.audit_cli_serve.proofs.request.loop_file.Goals as goal
 
@@ -12,6 +12,6 @@ returns-clause-looped g c =
 
 pub returns-clause-stopped : goal.returns-clause-stopped
 returns-clause-stopped g c =
-    loops_stopped g.O.Stores.calls (g.O.Stores.at c.args.stores.now) (CallFailed (g.F.SystemSockets.call_failed c.args.rt.now) g.F.File.SystemFile.facts) (LosesLoop g.F.OwnConnections.met g.E.TriedWrite.unwritten g.E.TriedRead.unread g.E.TriedRead.gave) c.args.file.now c.args.stores.now c.let_go.new.self _ c.loop_store-store.new.output.output.ghost_name _ _ (g.W.Write.contents c.args.output.now) (g.W.Write.contents c.loop_store-store.new.output.output.now) _ _ _ c.loop_store-store.result.1
+    loops_stopped g.O.Stores.calls (g.O.Stores.at c.args.stores.now) (failed_calls (g.F.SystemSockets.call_failed c.args.rt.now) g.F.File.SystemFile.facts g.R.TriedRead.unread g.W.TriedWrite.unwritten) (LosesLoop g.F.OwnConnections.met g.E.TriedWrite.unwritten g.E.TriedRead.unread g.E.TriedRead.gave) c.args.file.now c.args.stores.now c.let_go.new.self _ c.loop_store-store.new.output.output.ghost_name _ _ (g.W.Write.contents c.args.output.now) (g.W.Write.contents c.loop_store-store.new.output.output.now) _ _ _ c.loop_store-store.result.1
     (keeps_opened g.O.Stores.calls (g.O.Stores.at c.args.stores.now) c.args.file.now c.args.stores.now _ c.let_go.new.self _ _ c.in_ok-content.ensures.at c.in_ok-content.ensures.did c.let_go.ensures c.loop_store-store.ensures.kept)
     c.new-watched.ensures.bytes (search rules) c.loop_store-store.ensures.stopped

@@ -3,7 +3,7 @@ use Rattle.audit_server_model.proofs.Serving.{kept_none}
 use Rattle.audit_serve_passes.specs.Pairs.{unknown_calls}
 use Rattle.audit_serve_sockets.specs.Bound.{IsBound}
 use Rattle.audit_serve_sockets.specs.Listening.{unknown_connections}
-use Rattle.audit_cli_base.specs.Watched.{watched_bytes}
+use Rattle.audit_cli_serve.specs.WatchedLines.{watched_lines}
 use Rattle.audit_cli_serve.proofs.Carried.{no_socket}
 use Rattle.audit_cli_serve.proofs.request.serve_store.Goals as goal
 
@@ -12,4 +12,4 @@ returns-in-Err-clause-kept g c = kept_none c.args.store
 
 pub returns-in-Err-clause-stopped : goal.returns-in-Err-clause-stopped
 returns-in-Err-clause-stopped g c =
-    no_socket unknown_calls unknown_connections (IsBound (g.F.SystemSockets.sockets c.args.rt.now) c.args.socket.now c.args.mode) c.args.sessions c.args.store (watched_bytes g.W.Write.contents c.args.output.now) (Err c.into.result) (search rules)
+    no_socket unknown_calls unknown_connections (IsBound (g.F.SystemSockets.sockets c.args.rt.now) c.args.socket.now c.args.mode) c.args.sessions c.args.store (watched_lines g.W.Write.contents c.args.output.now) (Err c.into.result) (search rules)

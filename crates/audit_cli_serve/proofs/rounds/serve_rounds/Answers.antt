@@ -16,7 +16,7 @@ use Rattle.audit_cli_serve.proofs.rounds.serve_rounds.Goals as goal
 pub loop-round-init : goal.loop-round-init
 loop-round-init g c = record {
   kept = kept_none c.args.store;
-  served = ([], refl, (refl, refl), Appends-nil (g.W.Write.contents c.args.writer.now));
+  served = ([], refl, (refl, refl), Appends-nil (g.W.LineOutput.contents c.args.writer.now));
 }
 
 pub returns-in-Err-clause-kept : goal.returns-in-Err-clause-kept
@@ -65,7 +65,7 @@ returns-in-Err-write_round-clause-fault g c =
     let round : ServesRound M N c.args.sessions c.in-Ok.turns c.loop-round.store left between after =
     subst (λ (answer : Result ℕ ServingError). IfOk answer (λ turns. ServesRound M N c.args.sessions turns c.loop-round.store left between after)) c.in-Ok.is c.serve_round-kept.ensures.served in
     let cut =
-    cut_off (g.W.Write.contents c.args.writer.now) (g.W.Write.contents c.loop-round.writer) (g.W.Write.contents c.write_round.new.writer) before.0 c.in-Ok.turns (c.loop-round.round + 1) before.3 (omega (arith, before.1)) c.in-Err-write_round.ensures.part in (
+    cut_off (g.W.LineOutput.contents c.args.writer.now) (g.W.LineOutput.contents c.loop-round.writer) (g.W.LineOutput.contents c.write_round.new.writer) before.0 c.in-Ok.turns (c.loop-round.round + 1) before.3 (omega (arith, before.1)) c.in-Err-write_round.ensures.part in (
       cut.0,
       cut.1,
       record {
@@ -93,7 +93,7 @@ loop-round-preserved g c =
         before.0 ++ c.in-Ok.turns ∷ [],
         omega (arith, before.1, length-append before.0 (c.in-Ok.turns ∷ [])),
         rounds_more M N c.args.sessions c.in-Ok.turns before.0 c.args.store c.loop-round.store left c.args.socket.now between after before.2 round,
-        round_more (g.W.Write.contents c.args.writer.now) (g.W.Write.contents c.loop-round.writer) (g.W.Write.contents c.write_round.new.writer) before.0 c.in-Ok.turns (c.loop-round.round + 1) before.3 (omega (arith, before.1)) c.in_default.ensures.written,
+        round_more (g.W.LineOutput.contents c.args.writer.now) (g.W.LineOutput.contents c.loop-round.writer) (g.W.LineOutput.contents c.write_round.new.writer) before.0 c.in-Ok.turns (c.loop-round.round + 1) before.3 (omega (arith, before.1)) c.in_default.ensures.written,
       );
     }
 

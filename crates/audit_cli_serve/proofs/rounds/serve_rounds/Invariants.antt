@@ -10,5 +10,5 @@ abbrev pub invariant-loop-round : goal.invariant-loop-round
 invariant-loop-round g l = record {
   kept : StoreKeepsOn l.fn.store l.store;
   served : (turns : List ℕ) × (length turns ≡ l.round) × ServesRounds g.T.Duplex.calls g.L.Listener.model l.sessions turns l.fn.store l.store l.fn.socket l.socket
-      × Appends (g.W.Write.contents l.fn.writer) (g.W.Write.contents l.writer) (round_lines 1 turns);
+      × Appends (g.W.LineOutput.contents l.fn.writer) (g.W.LineOutput.contents l.writer) (round_lines 1 turns);
 }

@@ -10,9 +10,9 @@ use Rattle.audit_serve_sockets.proofs.looping.reply.Goals as goal
 pub returns-clause-done : goal.returns-clause-done
 returns-clause-done g c =
     let same : c.deref-2.result.now ≡ c.take_output-output.result.items = search rules in
-    let kept : Keeps (g.W.Write.contents c.write_frames.new.writer) (g.W.Write.contents c.flush_text.new.self) = search rules in
-    replied c.args.core.now c.flush.new.self c.take_output-output.new.self (g.W.Write.contents c.args.writer.now) (g.W.Write.contents c.flush_text.new.self) c.take_output-output.result.items c.in_default.ensures.did c.take_output-output.ensures.did
-    (lines_kept _ _ _ _ (subst (HasLines (g.W.Write.contents c.args.writer.now) (g.W.Write.contents c.write_frames.new.writer)) same c.in_ok-write_frames.ensures.written) kept)
+    let kept : Keeps (g.W.LineOutput.contents c.write_frames.new.writer) (g.W.LineOutput.contents c.flush_text.new.self) = search rules in
+    replied c.args.core.now c.flush.new.self c.take_output-output.new.self (g.W.LineOutput.contents c.args.writer.now) (g.W.LineOutput.contents c.flush_text.new.self) c.take_output-output.result.items c.in_default.ensures.did c.take_output-output.ensures.did
+    (lines_kept _ _ _ _ (subst (HasLines (g.W.LineOutput.contents c.args.writer.now) (g.W.LineOutput.contents c.write_frames.new.writer)) same c.in_ok-write_frames.ensures.written) kept)
 
 pub returns-in_err-replies-clause-reaches : goal.returns-in_err-replies-clause-reaches
 returns-in_err-replies-clause-reaches g c = output_taken c.args.core.now c.flush.new.self c.take_output-output.new.self c.take_output-output.result.items c.in_default.ensures.did c.take_output-output.ensures.did

@@ -8,12 +8,12 @@ use Rattle.audit_serve_sockets.proofs.looping.run_lines.Goals as goal
 pub returns-in-Err-clause-reaches : goal.returns-in-Err-clause-reaches
 returns-in-Err-clause-reaches g c =
     let served = c.in_ok-serve_lines.ensures.done in
-    end_refused c.args.core.now c.serve_lines.new.core c.end.new.self (g.R.Read.remaining c.args.reader.now) served.0 served.1 c.end.ensures.reaches (all_first _ served.0 served.2)
+    end_refused c.args.core.now c.serve_lines.new.core c.end.new.self (g.R.LineInput.remaining c.args.reader.now) served.0 served.1 c.end.ensures.reaches (all_first _ served.0 served.2)
 
 pub returns-clause-reaches : goal.returns-clause-reaches
 returns-clause-reaches g c =
     let served = c.in_ok-serve_lines.ensures.done in
-    last_reply_stopped c.args.core.now c.serve_lines.new.core c.end.new.self c.reply.new.core (g.R.Read.remaining c.args.reader.now) served.0 served.1 c.in_default.ensures.did c.reply.ensures.reaches
+    last_reply_stopped c.args.core.now c.serve_lines.new.core c.end.new.self c.reply.new.core (g.R.LineInput.remaining c.args.reader.now) served.0 served.1 c.in_default.ensures.did c.reply.ensures.reaches
     (all_first _ served.0 served.2)
 
 pub returns-clause-done : goal.returns-clause-done

@@ -9,7 +9,7 @@ use Rattle.audit_serve_sockets.proofs.looping.serve_lines.Goals as goal
 
 pub loop-number-init : goal.loop-number-init
 loop-number-init g c = record {
-  served = ([], refl, no_line c.args.core.now (g.W.Write.contents c.args.writer.now), none_spelled (g.R.Read.remaining c.args.reader.now));
+  served = ([], refl, no_line c.args.core.now (g.W.LineOutput.contents c.args.writer.now), none_spelled (g.R.LineInput.remaining c.args.reader.now));
   room = c.requires.room;
 }
 
@@ -31,23 +31,23 @@ pub returns-in_err-send-clause-reaches : goal.returns-in_err-send-clause-reaches
 returns-in_err-send-clause-reaches g c =
     let so_far = c.loop-number.invariant.served in
     let bytes = c.deref-in-loop-number.result.now in
-    let known = g.R.Read.remaining c.args.reader.now in
+    let known = g.R.LineInput.remaining c.args.reader.now in
     let read = c.in_ok-next_line.ensures.read (search rules) in
     let says : bytes_of_line c.next_line.new.line.items ≡ Some bytes = search rules in
     send_stopped c.args.core.now c.loop-number.core c.send.new.core known so_far.0 bytes so_far.2 c.send.ensures.reaches
-    (spelled_first known (g.R.Read.remaining c.next_line.new.reader) (so_far.0 ++ bytes ∷ [])
-    (line_spelled known (g.R.Read.remaining c.loop-number.reader) (g.R.Read.remaining c.next_line.new.reader) so_far.0 c.next_line.new.line.items bytes so_far.3 read says))
+    (spelled_first known (g.R.LineInput.remaining c.next_line.new.reader) (so_far.0 ++ bytes ∷ [])
+    (line_spelled known (g.R.LineInput.remaining c.loop-number.reader) (g.R.LineInput.remaining c.next_line.new.reader) so_far.0 c.next_line.new.line.items bytes so_far.3 read says))
 
 pub returns-in_err-reply-clause-reaches : goal.returns-in_err-reply-clause-reaches
 returns-in_err-reply-clause-reaches g c =
     let so_far = c.loop-number.invariant.served in
     let bytes = c.deref-in-loop-number.result.now in
-    let known = g.R.Read.remaining c.args.reader.now in
+    let known = g.R.LineInput.remaining c.args.reader.now in
     let read = c.in_ok-next_line.ensures.read (search rules) in
     let says : bytes_of_line c.next_line.new.line.items ≡ Some bytes = search rules in
     reply_stopped c.args.core.now c.loop-number.core c.send.new.core c.reply.new.core known so_far.0 bytes so_far.2 c.in_ok-send.ensures.done c.reply.ensures.reaches
-    (spelled_first known (g.R.Read.remaining c.next_line.new.reader) (so_far.0 ++ bytes ∷ [])
-    (line_spelled known (g.R.Read.remaining c.loop-number.reader) (g.R.Read.remaining c.next_line.new.reader) so_far.0 c.next_line.new.line.items bytes so_far.3 read says))
+    (spelled_first known (g.R.LineInput.remaining c.next_line.new.reader) (so_far.0 ++ bytes ∷ [])
+    (line_spelled known (g.R.LineInput.remaining c.loop-number.reader) (g.R.LineInput.remaining c.next_line.new.reader) so_far.0 c.next_line.new.line.items bytes so_far.3 read says))
 
 pub loop-number-preserved : goal.loop-number-preserved
 loop-number-preserved g c =
@@ -60,7 +60,7 @@ loop-number-preserved g c =
         so_far.0 ++ bytes ∷ [],
         omega (arith, so_far.1, length-append so_far.0 (bytes ∷ [])),
         line_served c.args.core.now c.loop-number.core c.send.new.core c.reply.new.core _ _ _ so_far.0 bytes so_far.2 c.in_ok-send.ensures.done c.in_ok-reply.ensures.done,
-        line_spelled (g.R.Read.remaining c.args.reader.now) (g.R.Read.remaining c.loop-number.reader) (g.R.Read.remaining c.next_line.new.reader) so_far.0 c.next_line.new.line.items bytes so_far.3 read says,
+        line_spelled (g.R.LineInput.remaining c.args.reader.now) (g.R.LineInput.remaining c.loop-number.reader) (g.R.LineInput.remaining c.next_line.new.reader) so_far.0 c.next_line.new.line.items bytes so_far.3 read says,
       );
       room = search rules;
     }
@@ -68,27 +68,27 @@ loop-number-preserved g c =
 pub returns-in_err-next_line-clause-reaches : goal.returns-in_err-next_line-clause-reaches
 returns-in_err-next_line-clause-reaches g c =
     let so_far = c.loop-number.invariant.served in
-    lines_reached c.args.core.now c.loop-number.core (g.R.Read.remaining c.args.reader.now) so_far.0 so_far.2 (spelled_first _ (g.R.Read.remaining c.loop-number.reader) so_far.0 so_far.3)
+    lines_reached c.args.core.now c.loop-number.core (g.R.LineInput.remaining c.args.reader.now) so_far.0 so_far.2 (spelled_first _ (g.R.LineInput.remaining c.loop-number.reader) so_far.0 so_far.3)
 
 pub returns-then-not-branch-clause-reaches : goal.returns-then-not-branch-clause-reaches
 returns-then-not-branch-clause-reaches g c =
     let so_far = c.loop-number.invariant.served in
-    lines_reached c.args.core.now c.loop-number.core (g.R.Read.remaining c.args.reader.now) so_far.0 so_far.2 (spelled_first _ (g.R.Read.remaining c.loop-number.reader) so_far.0 so_far.3)
+    lines_reached c.args.core.now c.loop-number.core (g.R.LineInput.remaining c.args.reader.now) so_far.0 so_far.2 (spelled_first _ (g.R.LineInput.remaining c.loop-number.reader) so_far.0 so_far.3)
 
 pub returns-in_err-bytes-clause-reaches : goal.returns-in_err-bytes-clause-reaches
 returns-in_err-bytes-clause-reaches g c =
     let so_far = c.loop-number.invariant.served in
-    lines_reached c.args.core.now c.loop-number.core (g.R.Read.remaining c.args.reader.now) so_far.0 so_far.2 (spelled_first _ (g.R.Read.remaining c.loop-number.reader) so_far.0 so_far.3)
+    lines_reached c.args.core.now c.loop-number.core (g.R.LineInput.remaining c.args.reader.now) so_far.0 so_far.2 (spelled_first _ (g.R.LineInput.remaining c.loop-number.reader) so_far.0 so_far.3)
 
 pub returns-in_default-clause-reaches : goal.returns-in_default-clause-reaches
 returns-in_default-clause-reaches g c =
     let so_far = c.loop-number.invariant.served in
-    lines_reached c.args.core.now c.loop-number.core (g.R.Read.remaining c.args.reader.now) so_far.0 so_far.2 (spelled_first _ (g.R.Read.remaining c.loop-number.reader) so_far.0 so_far.3)
+    lines_reached c.args.core.now c.loop-number.core (g.R.LineInput.remaining c.args.reader.now) so_far.0 so_far.2 (spelled_first _ (g.R.LineInput.remaining c.loop-number.reader) so_far.0 so_far.3)
 
 pub returns-clause-reaches : goal.returns-clause-reaches
 returns-clause-reaches g c =
     let so_far = c.loop-number.invariant.served in
-    lines_reached c.args.core.now c.loop-number.core (g.R.Read.remaining c.args.reader.now) so_far.0 so_far.2 (spelled_first _ (g.R.Read.remaining c.loop-number.reader) so_far.0 so_far.3)
+    lines_reached c.args.core.now c.loop-number.core (g.R.LineInput.remaining c.args.reader.now) so_far.0 so_far.2 (spelled_first _ (g.R.LineInput.remaining c.loop-number.reader) so_far.0 so_far.3)
 
 pub returns-in_err-reply-clause-lost : goal.returns-in_err-reply-clause-lost
 returns-in_err-reply-clause-lost g c is =

@@ -8,7 +8,7 @@ use Rattle.audit_serve_sockets.proofs.looping.serve_lines.Given as goal
 abbrev pub invariant-loop-number : goal.invariant-loop-number
 invariant-loop-number g l = record {
   served : (lines : List (List ℕ)) × (length lines + 1 ≡ l.number)
-      × LoopTransition g.C.SessionCore.model l.fn.core l.core (g.W.Write.contents l.fn.writer) (g.W.Write.contents l.writer) (AreLinePasses lines)
-      × HasSpelled (g.R.Read.remaining l.fn.reader) (g.R.Read.remaining l.reader) lines;
+      × LoopTransition g.C.SessionCore.model l.fn.core l.core (g.W.LineOutput.contents l.fn.writer) (g.W.LineOutput.contents l.writer) (AreLinePasses lines)
+      × HasSpelled (g.R.LineInput.remaining l.fn.reader) (g.R.LineInput.remaining l.reader) lines;
   room : length l.buffer ≡ MAX_PIECE;
 }
