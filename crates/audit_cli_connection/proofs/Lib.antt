@@ -1,2 +1,3 @@
 pub mod BodyBytes
 pub mod SaidMessages
+mod ReturnLines

@@ -61,11 +61,6 @@ is_passing_fault (Server client.Ended) = true
 is_passing_fault (Server client.TimedOut) = true
 is_passing_fault _ = false
 
--- there is no connection, for any cause
-abbrev pub IsNoConnection : RemoteError → Type 0
-IsNoConnection (NoConnection kind) = Unit {0}
-IsNoConnection _ = ⊥
-
 -- the command's error with the same meaning
 abbrev pub of_sending : SendError → RemoteError
 of_sending (sending.Input cause) = Command (Lines cause)

@@ -3,3 +3,4 @@ pub mod Frames
 pub mod Dates
 pub mod Messages
 pub mod ServerCalls
+pub mod Dialing

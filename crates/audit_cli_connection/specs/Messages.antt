@@ -1,11 +1,13 @@
 -- What is said on the messages of a fault.
-use Rattle.std.specs.Prelude.{◌⊎◌, ℕ, Option, Some, None, List, ◌++◌, codes}
+use Rattle.std.specs.Prelude.{◌≡◌, ◌⊎◌, ℕ, Bool, true, false, Option, Some, None, List, ◌++◌, codes}
 use Rattle.std.specs.Io.KnownBytes.{Appends, Keeps}
+use Rattle.httpdate.specs.declared.date.HttpDate.{HttpDate as Date}
 use Rattle.audit_text.specs.Writing.{WritesInPart}
 use Rattle.audit_wire_ask.specs.declared.fault.ClientError.{ClientError}
 use Rattle.audit_wire_ask.specs.declared.fault.ClientError.TheVariants as client
 use Rattle.audit_link.specs.declared.checking.LinkJudgment.{LinkJudgment}
 use Rattle.audit_link.specs.declared.checking.LinkJudgment.TheVariants as link
+use Rattle.audit_cli_connection.specs.Dates.{date_or_dash}
 use Rattle.audit_cli_connection.specs.declared.fault.RemoteError.{RemoteError}
 use Rattle.audit_cli_connection.specs.declared.fault.RemoteError.TheVariants.{NoConnection, StateInUse, ReaderInUse, Server, NotLed, NotLinked}
 
@@ -49,8 +51,26 @@ abbrev pub SaysFirst : Option (List ℕ) → Option (List ℕ) → Type 0 → Li
 SaysFirst old new failed text =
     ((later : List ℕ) × Appends old new (text ++ later)) ⊎ (failed × WritesInPart old new text)
 
+-- a line with the name of a file, as it is printed for people, what is said of it, and a date
+abbrev pub IsMomentLine : List ℕ → Option Date → List ℕ → Type 0
+IsMomentLine what date line = (name : List ℕ)
+    × (line ≡ codes "audit: " ++ name ++ codes ": " ++ what ++ codes ", " ++ date_or_dash date ++ codes "\n")
+
+-- such a line of a server that answers again; if memory for it was refused, one without a name
+abbrev pub IsReturnLine : Option Date → List ℕ → Type 0
+IsReturnLine date line =
+    IsMomentLine (codes "answers again") date line ⊎ (line ≡ codes "audit: answers again\n")
+
+-- it was reported that a server isn't there, or doesn't answer
+abbrev pub was_absent : Option RemoteError → Bool
+was_absent (Some (NoConnection kind)) = true
+was_absent (Some (Server error)) = true
+was_absent reported = false
+
+abbrev pub SaysReturned : Bool → Option Date → Option (List ℕ) → Option (List ℕ) → Type 0 → Type 0
+SaysReturned true date old new failed = (line : List ℕ) × IsReturnLine date line × Says old new failed line
+SaysReturned false date old new failed = Keeps old new
+
 -- the return of a server is said if its absence was reported, and nothing else is
-abbrev pub SaysAnswersAgain : Option RemoteError → Option (List ℕ) → Option (List ℕ) → Type 0
-SaysAnswersAgain (Some (NoConnection kind)) old new = (line : List ℕ) × Appends old new line
-SaysAnswersAgain (Some (Server error)) old new = (line : List ℕ) × Appends old new line
-SaysAnswersAgain reported old new = Keeps old new
+abbrev pub SaysAnswersAgain : Option RemoteError → Option Date → Option (List ℕ) → Option (List ℕ) → Type 0 → Type 0
+SaysAnswersAgain reported date old new failed = SaysReturned (was_absent reported) date old new failed

@@ -52,9 +52,13 @@ unknown_servers = record {
 pub record NamedFiles : Type 1 where
   -- what is at this path isn't a regular file
   pub is_no_file : List ℕ → Type 0
-  -- a file that was opened at this path, to read, has no key
+  -- a file that was opened at this path, to read, has a key
+  pub has_key : List ℕ → Type 0
+  -- such a file has no key
   pub has_no_key : List ℕ → Type 0
-  -- a file that was opened at this path, to read, has no bookmark
+  -- a file that was opened at this path, to read, has a bookmark
+  pub has_bookmark : List ℕ → Type 0
+  -- such a file has no bookmark
   pub has_no_bookmark : List ℕ → Type 0
 
 -- an export is asked for that is to go to standard output, or to something that isn't a regular file
@@ -66,6 +70,11 @@ IsUnfitExport files _ = ⊥
 -- the word for kinds lists none
 abbrev pub AreNoKinds : Option (Bor (List ℕ)) → Type 0
 AreNoKinds word = IsSomeAnd word (λ given. (kinds : List ℕ) → AreKindsInWord given.now kinds → ⊥)
+
+-- a file has the first key or the bookmark from which reading begins
+abbrev pub HasBeginning : NamedFiles → ReadTask → Type 0
+HasBeginning files task =
+    IsSomeAnd task.first (λ path. files.has_key path.now) ⊎ files.has_bookmark task.state.now
 
 -- a file has no first key or no bookmark, where reading begins from it
 abbrev pub HasNoBeginning : NamedFiles → ReadTask → Type 0

@@ -5,6 +5,7 @@
 mod connection;
 mod contradiction;
 mod dates;
+mod dialing;
 mod fault;
 mod frames;
 mod line;
@@ -18,6 +19,7 @@ mod task;
 pub use connection::{connect, socket_identity};
 pub use contradiction::Contradiction;
 pub use dates::{date_of_now, push_date};
+pub use dialing::Dialing;
 pub use fault::{RemoteError, no_memory, without_words};
 pub use line::{Line, LineEnd, Pace};
 pub use passing::{report_passing, report_return};

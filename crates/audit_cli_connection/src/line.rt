@@ -32,8 +32,14 @@ pub struct Line<'a, R> {
 pub struct LineEnd<'a, R>(&'a Line<'a, R>);
 
 impl<'a, R: Clock> Line<'a, R> {
+    ghost use Rattle.std.specs.Prelude.{◌≡◌};
+
     /// Limits the times of a connection.
-    pub(crate) fn new(rt: &'a R, stream: UnixStream, limit: Duration, pace: Pace) -> Line<'a, R> {
+    pub(crate) fn new(rt: &'a R, stream: UnixStream, limit: Duration, pace: Pace) -> Line<'a, R>
+        ensures stream { result.stream ≡ stream }
+        ensures limit { result.limit ≡ limit }
+        ensures pace { result.pace ≡ pace }
+    {
         Line {
             rt,
             stream,

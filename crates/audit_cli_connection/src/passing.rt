@@ -1,7 +1,8 @@
 //! What is reported of a passing fault, and of its end.
-ghost use Rattle.std.specs.Prelude.{ℕ, List, IfSome};
+ghost use Rattle.std.specs.Prelude.{◌≡◌, ℕ, List, codes, IfOk, IfErr, IfSome};
 ghost use Rattle.std.specs.Io.KnownBytes.{Appends};
-ghost use Rattle.audit_cli_connection.specs.Messages.{message_of, SaysAnswersAgain, SaysFirst};
+ghost use Rattle.audit_cli_connection.specs.Messages.{message_of, IsMomentLine, Says, SaysFirst};
+ghost use Rattle.audit_cli_connection.specs.Messages.{was_absent, SaysAnswersAgain};
 
 use crate::dates::push_date;
 use crate::fault::RemoteError;
@@ -9,9 +10,10 @@ use audit_text::Shown;
 use audit_wire_ask::{ClientError, FallibleWrite};
 use httpdate::HttpDate;
 use std::alloc::Global;
-use std::io::{self, Write};
+use std::io;
 
-/// Reports the return of a server that was reported not to be there.
+/// Reports the return of a server that was reported not to be there. If memory for the line is refused, a line without
+/// the socket and the date is printed.
 pub fn report_return<M: FallibleWrite>(
     alloc: Global,
     date: Option<HttpDate>,
@@ -19,12 +21,35 @@ pub fn report_return<M: FallibleWrite>(
     reported: Option<RemoteError>,
     messages: &mut M,
 )
-    ensures { SaysAnswersAgain reported (M.contents messages.old) (M.contents messages.new) }
+    ensures { SaysAnswersAgain reported date (M.contents messages.old) (M.contents messages.new)
+        (M.failed messages.new) }
 {
-    if let Some(RemoteError::NoConnection(_) | RemoteError::Server(_)) = reported {
-        let line = moment_line(alloc, date, socket, "answers again");
-        print_if_made(line, messages);
+    if was_absent(reported) {
+        print_return(moment_line(alloc, date, socket, "answers again"), messages);
     }
+}
+
+// Whether it was reported that a server isn't there, or doesn't answer.
+fn was_absent(reported: Option<RemoteError>) -> bool
+    ensures { result ≡ was_absent reported }
+{
+    matches!(
+        reported,
+        Some(RemoteError::NoConnection(_) | RemoteError::Server(_))
+    )
+}
+
+// Prints the line of a server that answers again, or a line without its name.
+fn print_return<M: FallibleWrite>(line: io::Result<Vec<u8>>, messages: &mut M)
+    ensures made { IfOk line (λ line. Says (M.contents messages.old) (M.contents messages.new)
+        (M.failed messages.new) line.items) }
+    ensures unmade { IfErr line (λ _. Says (M.contents messages.old) (M.contents messages.new)
+        (M.failed messages.new) (codes "audit: answers again\n")) }
+{
+    let _ = match &line {
+        Ok(line) => messages.write_text(line),
+        Err(_) => messages.write_text(b"audit: answers again\n"),
+    };
 }
 
 /// Reports a passing fault of a command with this socket and this file: what it is, and then of what, why and when.
@@ -81,15 +106,16 @@ fn passing_line(
 }
 
 // A line with the name of a file, what is said of it, and the date.
-fn moment_line(
-    alloc: Global,
-    date: Option<HttpDate>,
-    name: &str,
-    what: &str,
-) -> io::Result<Vec<u8>> {
-    let mut line = Vec::new(alloc);
-    write!(line, "audit: {}: {what}, ", Shown(name))?;
+fn moment_line(alloc: Global, date: Option<HttpDate>, name: &str, what: &str) -> io::Result<Vec<u8>>
+    ensures { IfOk result (λ line. IsMomentLine what.now date line.items) }
+{
+    let shown = format!(in alloc; "{}", Shown(name))?;
+    let mut line = Vec::from_slice(alloc, b"audit: ")?;
+    line.extend_from_slice(shown.as_bytes())?;
+    line.extend_from_slice(b": ")?;
+    line.extend_from_slice(what.as_bytes())?;
+    line.extend_from_slice(b", ")?;
     push_date(&mut line, date)?;
-    line.push(b'\n')?;
+    line.extend_from_slice(b"\n")?;
     Ok(line)
 }

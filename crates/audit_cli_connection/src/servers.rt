@@ -1,11 +1,11 @@
 //! Systems on which servers are asked.
-ghost use Rattle.std.specs.Prelude.{◌≡◌, [], ◌∷◌, Ok, Err, IfErr};
+ghost use Rattle.std.specs.Prelude.{◌≡◌, [], ◌∷◌, Ok, Err, IfErr, OnOk};
 ghost use Rattle.audit_cli_base.specs.declared.fault.CommandError.TheVariants.{BadArgument};
 ghost use Rattle.audit_cli_base.specs.declared.status.Status.TheVariants.{Usage};
 ghost use Rattle.audit_cli_connection.specs.declared.fault.RemoteError.TheVariants.{Command};
 ghost use Rattle.audit_cli_connection.specs.Faults.{IsNoBadArgument};
 ghost use Rattle.audit_cli_connection.specs.ServerCalls.{ServersModel, CommandStreams, NamedFiles};
-ghost use Rattle.audit_cli_connection.specs.ServerCalls.{IsUnfitExport, IsUnfitReading};
+ghost use Rattle.audit_cli_connection.specs.ServerCalls.{IsUnfitExport, HasBeginning, IsUnfitReading};
 ghost use Rattle.audit_cli_connection.specs.ServerCalls.{a_query, a_sending, a_look, a_reading, a_rest};
 
 use crate::fault::RemoteError;
@@ -72,8 +72,9 @@ pub trait Servers {
         ensures did { calls.DidCalls self.old self.new (a_look post.entry result ∷ []) }
         ensures bad { IfErr result IsNoBadArgument };
 
-    /// Reads a log on, prints its events, and keeps the bookmark after them. The error is `BadArgument` only if the
-    /// word for kinds lists none, or the file for the first key or the bookmark has none.
+    /// Reads a log on, prints its events, and keeps the bookmark after them. It begins from the bookmark that a file
+    /// has, or from the first key. The error is `BadArgument` only if the word for kinds lists none, or the file for the
+    /// first key or the bookmark has none.
     fn read<W: FallibleWrite, M: Write>(
         &mut self,
         alloc: Global,
@@ -83,6 +84,7 @@ pub trait Servers {
     ) -> Result<(), RemoteError>
         ensures did { calls.DidCalls self.old self.new (a_reading task.entry (W.contents output.old)
             (W.contents output.new) result ∷ []) }
+        ensures begun { OnOk result (HasBeginning (files self.new) task.entry) }
         ensures bad { result ≡ Err (Command BadArgument) → IsUnfitReading (files self.new) task.entry };
 
     /// Pauses for this many seconds.
