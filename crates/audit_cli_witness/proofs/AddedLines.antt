@@ -23,12 +23,12 @@ use Rattle.audit_cli_offline.specs.CommitmentWord.{is_colon, commitment_with, co
 use Rattle.audit_cli_witness.specs.State.{IsStored, commitment_word, lacks_feed, line_after}
 
 -- neither a line feed nor a colon
-IsWordByte : ℕ → Type 0
+unfoldable pub IsWordByte : ℕ → Type 0
 IsWordByte byte = ((byte == line_feed) ≡ false) × (is_colon byte ≡ false)
 
 -- ---- digits
 
-digits_word : (digits : List ℕ) → AllDigits 10 digits → AllByRecursion IsWordByte digits
+pub digits_word : (digits : List ℕ) → AllDigits 10 digits → AllByRecursion IsWordByte digits
 unfolding IsWordByte
 digits_word [] all = tt
 digits_word (digit ∷ digits) all =
@@ -64,7 +64,7 @@ unfolding IsWordByte
 hex_word digit value is =
     (ne_eqb digit line_feed (λ h. none-some value (ap hex_digit_value (sym h) ∙ is)), ne_eqb digit 58 (λ h. none-some value (ap hex_digit_value (sym h) ∙ is)))
 
-root_word : (bytes : List ℕ) → AreBytes bytes → AllByRecursion IsWordByte (encode_lower bytes)
+pub root_word : (bytes : List ℕ) → AreBytes bytes → AllByRecursion IsWordByte (encode_lower bytes)
 unfolding encode_with
 root_word [] all = tt
 root_word (byte ∷ bytes) all =

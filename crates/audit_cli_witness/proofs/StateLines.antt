@@ -1,5 +1,5 @@
 -- The lines of a witness's file, read one after another.
-use Rattle.std.specs.Prelude.{◌<◌, ◌≤◌, ◌+◌, ◌-◌, map, not, true, false, Bool, Some, None, Option, Result, Ok, Err, IfErr, IfOk, slice_get, IfSome}
+use Rattle.std.specs.Prelude.{◌<◌, ◌≤◌, ◌+◌, ◌-◌, map, not, true, false, Bool, Some, None, Option, Result, Ok, Err, IfOk, slice_get, IfSome}
 use Rattle.std.specs.List.{position_or_len, before_first, after_first}
 use Rattle.std.proofs.Common.{◌≡◌, ◌∙◌, inl, inr, ℕ, suc, List, [], ◌∷◌, ◌++◌, length, take, drop, get_or, append_assoc, append-nil, length-append, sym, ap, subst, refl, arith}
 use Rattle.audit_wire_ask.specs.Keeping.{last_kept}
@@ -14,7 +14,7 @@ use Rattle.audit_text.proofs.FirstLine.{first_of_lines}
 use Rattle.audit_cli_offline.specs.CommitmentWord.{commitment_in_word}
 use Rattle.audit_cli_connection.specs.declared.fault.RemoteError.{RemoteError}
 use Rattle.audit_cli_witness.specs.declared.state_lines.Tail.{Tail}
-use Rattle.audit_cli_witness.specs.State.{HasReadCause, AreLinesOf, ReadsLastLine, ReadsTail, HoldsLines, HoldsState, IsCutOffAfter, IsStored, lacks_feed, line_after, commitment_word, onto_kept, kept_in_lines, kept_in}
+use Rattle.audit_cli_witness.specs.State.{AreLinesOf, ReadsLastLine, ReadsTail, HoldsLines, HoldsState, IsCutOffAfter, IsStored, lacks_feed, line_after, commitment_word, onto_kept, kept_in_lines, kept_in}
 use Rattle.audit_cli_witness.proofs.AddedLines.{no_lines, after_whole, line_added, word_read}
 
 -- whole lines of these commitments were read, and the rest remains
@@ -44,17 +44,17 @@ lacks_at_end [] byte bytes = refl
 lacks_at_end (first ∷ []) byte bytes = refl
 lacks_at_end (first ∷ second ∷ front) byte bytes = lacks_at_end (second ∷ front) byte bytes
 
-lacks_end : (front line : List ℕ) → 0 < length line → lacks_feed (front ++ line) ≡ lacks_feed line
+pub lacks_end : (front line : List ℕ) → 0 < length line → lacks_feed (front ++ line) ≡ lacks_feed line
 lacks_end front [] some = absurd (omega arith)
 lacks_end front (byte ∷ bytes) some = lacks_at_end front byte bytes
 
-lacks_none : (bytes : List ℕ) → 0 < length bytes → ((k : ℕ) → k < length bytes → is_line_feed (get_or bytes k 0) ≡ false) → lacks_feed bytes ≡ true
+pub lacks_none : (bytes : List ℕ) → 0 < length bytes → ((k : ℕ) → k < length bytes → is_line_feed (get_or bytes k 0) ≡ false) → lacks_feed bytes ≡ true
 lacks_none [] some none = absurd (omega arith)
 lacks_none (byte ∷ []) some none = ap not (none 0 (omega arith))
 lacks_none (byte ∷ next ∷ bytes) some none = lacks_none (next ∷ bytes) (omega arith) (λ k small. none (suc k) (omega arith))
 
 -- a line that ends in a line feed
-line_cut : (rest line after : List ℕ) → IsCutInLines rest line after → (length line ≡ length rest → ⊥) → rest ≡ line ++ line_feed ∷ after
+pub line_cut : (rest line after : List ℕ) → IsCutInLines rest line after → (length line ≡ length rest → ⊥) → rest ≡ line ++ line_feed ∷ after
 line_cut rest line after cut other =
     let place = position_or_len is_line_feed rest in
     let within : place < length rest = omega (arith, ap length cut.first, length-take place rest, other) in
@@ -97,12 +97,12 @@ all_lines_read text kept [] so_far none = record {
 all_lines_read text kept (byte ∷ rest) so_far none = absurd (omega (arith, none))
 
 -- nothing is left after a line that is as long as what was left
-none_left : (rest line after : List ℕ) → IsCutInLines rest line after → length line ≡ length rest → length after ≡ 0
+pub none_left : (rest line after : List ℕ) → IsCutInLines rest line after → length line ≡ length rest → length after ≡ 0
 none_left rest line after cut whole =
     let place = position_or_len is_line_feed rest in
     omega (arith, whole, ap length cut.first, length-take place rest, ap length cut.after, length-drop (place + 1) rest)
 
-after_none : (after : List ℕ) → length after ≡ 0 → lines_of after ≡ []
+pub after_none : (after : List ℕ) → length after ≡ 0 → lines_of after ≡ []
 after_none [] none = no_lines
 after_none (byte ∷ after) none = absurd (omega (arith, none))
 
@@ -174,12 +174,12 @@ none_torn front rest (inr torn) =
     kept_after front rest torn.0 ∙ ap (λ (l : List (List ℕ)). kept_in front ++ kept_in_lines l) torn.1
     ∙ ap (λ (o : Option Commitment). kept_in front ++ onto_kept o []) torn.3 ∙ append-nil (kept_in front)
 
-text_kept : (text : List ℕ) (kept : List Commitment) (torn : ℕ) (lacks : Bool) → HoldsLines text kept torn lacks → kept_in text ≡ kept
+pub text_kept : (text : List ℕ) (kept : List Commitment) (torn : ℕ) (lacks : Bool) → HoldsLines text kept torn lacks → kept_in text ≡ kept
 text_kept text kept torn lacks holds = ap kept_in holds.whole ∙ none_torn holds.front holds.rest holds.cut ∙ lines_kept (lines_of holds.front) kept holds.lines
 
 -- ---- the whole file
 
-lacks_after : (before front : List ℕ) → lacks_feed before ≡ false → lacks_feed (before ++ front) ≡ lacks_feed front
+pub lacks_after : (before front : List ℕ) → lacks_feed before ≡ false → lacks_feed (before ++ front) ≡ lacks_feed front
 lacks_after before [] whole = ap lacks_feed (append-nil before) ∙ whole
 lacks_after before (byte ∷ bytes) whole = lacks_at_end before byte bytes
 
@@ -326,13 +326,3 @@ last_place (only ∷ []) = refl
 last_place (first ∷ second ∷ later) =
     let place : length (first ∷ second ∷ later) - 1 ≡ suc (length (second ∷ later) - 1) = omega arith in
     ap (slice_get (first ∷ second ∷ later)) place ∙ last_place (second ∷ later)
-
--- an error of lines is one of the file that they are in
-pub from_lines : (Failed : Type 0) (fault : RemoteError) → HasReadCause ⊥ fault → HasReadCause Failed fault
-from_lines Failed fault (inl (inl none)) = absurd none
-from_lines Failed fault (inl (inr memory)) = inl (inr memory)
-from_lines Failed fault (inr line) = inr line
-
-pub errors_from_lines : {A : Type 0} (Failed : Type 0) (result : Result A RemoteError) → IfErr result (HasReadCause ⊥) → IfErr result (HasReadCause Failed)
-errors_from_lines Failed (Ok tail) lines = tt
-errors_from_lines Failed (Err fault) lines = from_lines Failed fault lines

@@ -1,4 +1,5 @@
 pub mod State
+pub mod StateFaults
 pub mod Alarm
 pub mod Beginning
 pub mod Looking

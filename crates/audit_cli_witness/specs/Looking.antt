@@ -2,6 +2,7 @@
 use Rattle.std.specs.Prelude.{◌≡◌, ◌⊎◌, ℕ, Bool, true, false, not, ◌&&◌, Option, Some, None, IfSome, Result, Ok, Err}
 use Rattle.std.specs.Prelude.{List, [], ◌++◌, codes}
 use Rattle.std.specs.Io.KnownBytes.{Appends, Keeps}
+use Rattle.httpdate.specs.declared.date.HttpDate.{HttpDate as Date}
 use Rattle.audit_wire_ask.specs.declared.watching.Sight.{Sight}
 use Rattle.audit_wire_ask.specs.declared.watching.Sight.TheVariants.{Began, Same, Grew}
 use Rattle.audit_text.specs.declared.fault.LinesError.TheVariants.{Write}
@@ -76,6 +77,7 @@ SaysPassing is_reported (Err fault) old new failed =
     SaysFault (is_passing_fault fault && not (is_reported fault)) fault old new failed
 
 -- After a look that saw something, only the return of a server is said.
-abbrev pub SaysReturn : Option RemoteError → Result Sight RemoteError → Option (List ℕ) → Option (List ℕ) → Type 0
-SaysReturn reported (Err fault) old new = Unit {0}
-SaysReturn reported (Ok sight) old new = SaysAnswersAgain reported old new
+abbrev pub SaysReturn : Option RemoteError → Option Date → Result Sight RemoteError → Option (List ℕ)
+    → Option (List ℕ) → Type 0 → Type 0
+SaysReturn reported date (Err fault) old new failed = Unit {0}
+SaysReturn reported date (Ok sight) old new failed = SaysAnswersAgain reported date old new failed

@@ -1,27 +1,15 @@
 -- The lines of a witness's file: a commitment each, the newest last.
 use Rattle.std.specs.Prelude.{◌≡◌, ◌⊎◌, ℕ, Bool, true, false, Option, Some, None, IsSome, List, [], ◌∷◌, ◌++◌}
-use Rattle.std.specs.Prelude.{◌-◌, ◌<◌, ◌≤◌, ◌^◌, ◌==◌, not, map, take, length, codes}
+use Rattle.std.specs.Prelude.{◌-◌, ◌<◌, ◌≤◌, ◌^◌, ◌==◌, nat_le, not, if◌then◌else◌, map, take, length, codes}
+use Rattle.std.specs.List.{flat_map, position_or_len}
 use Rattle.std.specs.Fmt.{decimal}
 use Rattle.hex.specs.Hex.{encode_lower}
 use Rattle.audit_base.specs.Bytes.{AreBytes}
 use Rattle.audit_base.specs.declared.limits.TheConstants.{HASH_LEN}
 use Rattle.audit_text.specs.Lines.{lines_of, line_feed}
-use Rattle.audit_text.specs.declared.fault.LinesError.TheVariants.{Memory}
 use Rattle.audit_proof.specs.declared.commitment.Commitment.{Commitment}
-use Rattle.audit_cli_base.specs.declared.fault.CommandError.TheVariants.{Lines}
-use Rattle.audit_cli_connection.specs.Faults.{no_memory}
-use Rattle.audit_cli_connection.specs.declared.fault.RemoteError.{RemoteError}
-use Rattle.audit_cli_connection.specs.declared.fault.RemoteError.TheVariants.{Command, BadStateLine}
-use Rattle.audit_cli_offline.specs.CommitmentWord.{commitment_in_word}
+use Rattle.audit_cli_offline.specs.CommitmentWord.{is_colon, commitment_in_word}
 use Rattle.audit_cli_witness.specs.declared.state_lines.Tail.{Tail}
-
--- an error of the file has a cause: a call failed, as `Failed` says, or memory was refused
-abbrev pub HasStateCause : Type 0 → RemoteError → Type 0
-HasStateCause Failed fault = Failed ⊎ ((fault ≡ no_memory) ⊎ (fault ≡ Command (Lines Memory)))
-
--- so has one of reading it, or it is about a line
-abbrev pub HasReadCause : Type 0 → RemoteError → Type 0
-HasReadCause Failed fault = HasStateCause Failed fault ⊎ ((line : ℕ) × (fault ≡ BadStateLine line))
 
 -- COUNT:ROOT
 abbrev pub commitment_word : Commitment → List ℕ
@@ -47,12 +35,13 @@ onto_kept (Some one) kept = one ∷ kept
 abbrev pub AreLinesOf : List (List ℕ) → List Commitment → Type 0
 AreLinesOf lines kept = map commitment_in_word lines ≡ map (λ one. Some one) kept
 
-abbrev pub IsBegunWith : List ℕ → List ℕ → Type 0
-IsBegunWith part line = (more : List ℕ) × (line ≡ part ++ more)
-
 -- further bytes make a line of these, which are none yet
 abbrev pub IsTorn : List ℕ → Type 0
 IsTorn part = (more : List ℕ) × IsSome (commitment_in_word (part ++ more))
+
+-- bytes without a colon get one at their end
+abbrev pub with_colon : List ℕ → List ℕ
+with_colon part = if nat_le (length part) (position_or_len is_colon part) then part ++ codes ":" else part
 
 -- a last line without a line feed, after those of some commitments, is one of a commitment, or was cut off
 abbrev pub ReadsLastLine : List Commitment → List ℕ → Tail → Type 0
@@ -103,3 +92,7 @@ pub record HoldsState (file : List ℕ) (kept : List Commitment) (end : ℕ) (la
 abbrev pub line_after : Bool → Commitment → List ℕ
 line_after true seen = line_feed ∷ commitment_word seen ++ codes "\n"
 line_after false seen = commitment_word seen ++ codes "\n"
+
+-- the lines of these commitments, one after another
+abbrev pub commitment_lines : List Commitment → List ℕ
+commitment_lines kept = flat_map (line_after false) kept

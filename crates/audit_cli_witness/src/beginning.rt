@@ -1,10 +1,14 @@
 //! Beginning a witness's file for a log that goes on from another one.
-ghost use Rattle.std.specs.Prelude.{◌≡◌, ◌⊎◌, ◌∷◌, ◌++◌, [], IfOk, IfErr, OnOk, OnErr};
+ghost use Rattle.std.specs.Prelude.{◌≡◌, ◌⊎◌, ◌∷◌, ◌++◌, [], Some, take, IfOk, IfErr, IfSome, OnOk, OnErr};
 ghost use Rattle.audit_proof.specs.declared.commitment.Commitment.{Commitment};
 ghost use Rattle.audit_link.specs.LinkBytes.{SpellsLink};
 ghost use Rattle.audit_link.specs.Links.{link_in};
 ghost use Rattle.audit_cli_witness.specs.Beginning.{IsLinkedStart, IsUnlinked, IsNoLink};
+ghost use Rattle.audit_cli_witness.specs.State.{line_after};
+ghost use Rattle.audit_cli_witness.specs.StateFaults.{HasAddCause};
 
+use crate::state_file::StateFile;
+use crate::state_text::StateText;
 use audit_cli_base::CommandError;
 use audit_cli_connection::{RemoteError, no_memory};
 use audit_link::{Link, LinkError, LinkJudgment, check_link, next_commitment, read_link};
@@ -39,24 +43,30 @@ fn link_of(alloc: Global, bytes: &[u8]) -> Result<Link, RemoteError>
     }
 }
 
-/// Begins what a witness keeps of a log with the commitment to its first two entries, which a link joins to the last
+/// Begins the file of a witness with the commitment to the first two entries of its log, which a link joins to the last
 /// commitment of the log before.
 ///
-/// Errors: those of [`linked_start`], after which nothing is added, and those of adding it.
-pub fn begin_after<K: Kept<Error = RemoteError>>(
+/// Errors: those of [`linked_start`], after which nothing is added. If the link is accepted, only those of adding a line:
+/// a call of the file failed, or memory was refused.
+pub fn begin_after<T: StateText>(
     alloc: Global,
     old: &Commitment,
     link: &[u8],
-    kept: &mut K,
+    state: &mut StateFile<T>,
 ) -> Result<(), RemoteError>
     ensures begun { OnOk result ((start : Commitment) × IsLinkedStart old.now link.now start
-        × (K.kept kept.new ≡ K.kept kept.old ++ start ∷ [])) }
-    ensures part { OnErr result ((K.kept kept.new ≡ K.kept kept.old) ⊎ ((start : Commitment)
-        × IsLinkedStart old.now link.now start × (K.kept kept.new ≡ K.kept kept.old ++ start ∷ []))) }
-    // A link that isn't accepted has its own error.
+        × (state.new.kept.items ≡ state.old.kept.items ++ start ∷ [])
+        × T.synced state.new.file state.old.end (line_after state.old.lacks_feed start)) }
+    ensures part { OnErr result ((state.new.kept.items ≡ state.old.kept.items) ⊎ ((start : Commitment)
+        × IsLinkedStart old.now link.now start × (state.new.kept.items ≡ state.old.kept.items ++ start ∷ []))) }
+    ensures written { OnOk result (IfSome (T.text state.old.file) (λ bytes. (start : Commitment)
+        × IsLinkedStart old.now link.now start
+        × (T.text state.new.file ≡ Some (take state.old.end bytes ++ line_after state.old.lacks_feed start)))) }
+    // A link that isn't accepted has its own error, and one that is has none.
     ensures fault { IfErr result (λ fault. IsUnlinked old.now link.now fault
-        ⊎ ((start : Commitment) × IsLinkedStart old.now link.now start)) }
+        ⊎ ((start : Commitment) × IsLinkedStart old.now link.now start
+        × HasAddCause (T.failed state.new.file) state.old.end state.old.lacks_feed start fault)) }
 {
     let start = linked_start(alloc, old, link)?;
-    kept.add(&start)
+    state.add(&start)
 }

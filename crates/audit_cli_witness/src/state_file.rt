@@ -1,8 +1,10 @@
 //! The file of a witness: a line for each commitment that it saw, the newest last.
-ghost use Rattle.std.specs.Prelude.{◌≡◌, ◌⊎◌, ◌∷◌, ◌++◌, [], ◌+◌, ◌-◌, ◌^◌, ◌≤◌, ℕ, List, Some, length, take};
+ghost use Rattle.std.specs.Prelude.{◌≡◌, ◌⊎◌, ◌∷◌, ◌++◌, [], ◌+◌, ◌-◌, ◌^◌, ◌<◌, ℕ, List, Some, length, take};
 ghost use Rattle.std.specs.Prelude.{IfOk, IfErr, IfSome, OnOk, OnErr};
 ghost use Rattle.audit_wire_ask.specs.Keeping.{last_kept};
-ghost use Rattle.audit_cli_witness.specs.State.{HoldsState, IsStored, kept_in, line_after, HasStateCause, HasReadCause};
+ghost use Rattle.audit_cli_witness.specs.State.{HoldsState, IsStored, kept_in, line_after};
+ghost use Rattle.audit_cli_witness.specs.StateFaults.{HasStateCause, HasReadCause, HasAddCause};
+ghost use Rattle.audit_cli_witness.specs.StateFaults.{HasNoBadLine, IsRefusedLine, line_feeds};
 
 use crate::state_lines::{Tail, line_after, tail_in};
 use crate::state_text::StateText;
@@ -33,12 +35,14 @@ pub struct StateFile<T: StateText> {
 
 impl<T: StateText> StateFile<T> {
     /// Reads the end of an open file, which the caller has locked. The newest commitment is that of its last line, but
-    /// for one that was cut off. It fails only if a call of the file did, memory was refused, or a line isn't one.
+    /// for one that was cut off. It fails only if a call of the file did, memory was refused, or a line isn't one; and if
+    /// one isn't, it fails, with the number of the first such line.
     pub fn read(alloc: Global, file: T) -> Result<StateFile<T>, RemoteError>
         ensures kept { IfOk result (λ state. T.text state.file ≡ T.text file) }
         ensures newest { IfOk result (λ state. (bytes : List ℕ) → T.text file ≡ Some bytes
             → last_kept (kept_in bytes) ≡ last_kept state.kept.items) }
-        ensures failed { IfErr result (HasReadCause ((last : T) × T.failed last)) }
+        ensures sound { IfOk result (λ _. IfSome (T.text file) HasNoBadLine) }
+        ensures failed { IfErr result (HasReadCause ((last : T) × T.failed last) (T.text file)) }
     {
         let mut file = file;
         let size = file.length()?;
@@ -75,8 +79,7 @@ impl<T: StateText> Kept for StateFile<T> {
             ≡ Some (take self.old.end bytes ++ line_after self.old.lacks_feed seen.now))) }
         ensures synced { OnOk result (T.synced self.new.file self.old.end
             (line_after self.old.lacks_feed seen.now)) }
-        ensures failed { IfErr result (λ fault. HasStateCause (T.failed self.new.file) fault
-            ⊎ (2 ^ 64 ≤ self.old.end + length (line_after self.old.lacks_feed seen.now))) }
+        ensures failed { IfErr result (HasAddCause (T.failed self.new.file) self.old.end self.old.lacks_feed seen.now) }
     {
         let seen = stored(seen.count, seen.root);
         let line = line_after(self.alloc, self.lacks_feed, &seen)?;
@@ -105,7 +108,10 @@ fn tail_of<T: StateText>(alloc: Global, file: &mut T, size: u64) -> Result<Tail,
     ensures kept { T.text file.new ≡ T.text file.old }
     ensures read { IfOk result (λ tail. IfSome (T.text file.old) (λ bytes. size ≡ length bytes
         → HoldsState bytes tail.kept.items (size - tail.torn) tail.lacks_feed)) }
-    ensures failed { IfErr result (HasReadCause (T.failed file.new)) }
+    ensures sound { IfOk result (λ _. IfSome (T.text file.old) (λ bytes. size ≡ length bytes → HasNoBadLine bytes)) }
+    ensures failed { IfErr result (λ fault. HasStateCause (T.failed file.new) fault
+        ⊎ ((line : ℕ) × (fault ≡ RemoteError.BadStateLine line)
+        × IfSome (T.text file.old) (λ bytes. size ≡ length bytes → IsRefusedLine bytes line))) }
 {
     let start = size.saturating_sub(TAIL_LEN);
     let text = file.read_from(alloc, start)?;
@@ -127,7 +133,10 @@ fn tail_of<T: StateText>(alloc: Global, file: &mut T, size: u64) -> Result<Tail,
 // The fault of a line that isn't one of a witness: the number of the line, which is counted from a place on.
 fn bad_line<T: StateText>(file: &mut T, before: u64, line: u64) -> RemoteError
     ensures kept { T.text file.new ≡ T.text file.old }
-    ensures failed { HasReadCause (T.failed file.new) result }
+    ensures failed { HasStateCause (T.failed file.new) result
+        ⊎ ((number : ℕ) × (result ≡ RemoteError.BadStateLine number)
+        × IfSome (T.text file.old) (λ bytes. line_feeds (take before bytes) + line < 2 ^ 64
+        → number ≡ line_feeds (take before bytes) + line)) }
 {
     match file.feeds_before(before) {
         Ok(lines) => RemoteError::BadStateLine(lines.saturating_add(line)),

@@ -1,7 +1,10 @@
 //! The lines at the end of a witness's file: a commitment each, the newest last.
-ghost use Rattle.std.specs.Prelude.{◌≡◌, ◌++◌, codes, true, IfOk, IfErr, OnOk};
-ghost use Rattle.audit_cli_witness.specs.State.{ReadsTail, ReadsLastLine, IsBegunWith, IsTorn, HasReadCause};
+ghost use Rattle.std.specs.Prelude.{◌≡◌, ◌⊎◌, ◌<◌, ◌+◌, ◌++◌, length, codes, true, false, None, IfOk, IfErr, OnOk};
+ghost use Rattle.audit_cli_offline.specs.CommitmentWord.{commitment_in_word};
+ghost use Rattle.audit_cli_connection.specs.Faults.{no_memory};
+ghost use Rattle.audit_cli_witness.specs.State.{ReadsTail, ReadsLastLine, IsTorn, with_colon};
 ghost use Rattle.audit_cli_witness.specs.State.{commitment_word, line_after};
+ghost use Rattle.audit_cli_witness.specs.StateFaults.{HasLineCause};
 
 use audit_cli_connection::RemoteError;
 use audit_cli_offline::commitment_in_word;
@@ -27,7 +30,7 @@ pub struct Tail {
 /// `BadStateLine`, with its number in this text; only the last may be cut off.
 pub fn tail_in(alloc: Global, text: &[u8]) -> Result<Tail, RemoteError>
     ensures read { IfOk result (ReadsTail text.now) }
-    ensures failed { IfErr result (HasReadCause ⊥) }
+    ensures bad { IfErr result (HasLineCause text.now) }
 {
     let mut kept = Vec::new(alloc);
     let mut rest = text;
@@ -52,7 +55,9 @@ pub fn tail_in(alloc: Global, text: &[u8]) -> Result<Tail, RemoteError>
 // Reads a last line without a line feed, after those of which the commitments are kept.
 fn last_in(alloc: Global, kept: Vec<Commitment>, line: &[u8]) -> Result<Tail, RemoteError>
     ensures read { IfOk result (ReadsLastLine kept.items line.now) }
-    ensures failed { IfErr result (HasReadCause ⊥) }
+    ensures bad { IfErr result (λ fault. (fault ≡ no_memory)
+        ⊎ ((fault ≡ RemoteError.BadStateLine (length kept.items + 1)) × (commitment_in_word line.now ≡ None)
+        × (0 < length line.now → IsTorn line.now → ⊥))) }
 {
     let mut kept = kept;
     if let Some(last) = commitment_in_word(line) {
@@ -75,11 +80,12 @@ fn last_in(alloc: Global, kept: Vec<Commitment>, line: &[u8]) -> Result<Tail, Re
 
 // Whether bytes are the beginning of a line: zeros in place of the digits that they lack make them one.
 fn is_torn(alloc: Global, part: &[u8]) -> Result<bool, AllocError>
-    ensures { IfOk result (λ torn. torn ≡ true → IsTorn part.now) }
+    ensures torn { IfOk result (λ torn. torn ≡ true → IsTorn part.now) }
+    ensures other { IfOk result (λ torn. torn ≡ false → 0 < length part.now → IsTorn part.now → ⊥) }
 {
     let (_, root) = split_at_first(part, b':');
     let mut line = with_colon(alloc, part)?;
-    for _ in root.len()..ROOT_DIGITS {
+    for digits in root.len()..ROOT_DIGITS {
         line.push(b'0')?;
     }
     Ok(commitment_in_word(&line).is_some())
@@ -87,10 +93,11 @@ fn is_torn(alloc: Global, part: &[u8]) -> Result<bool, AllocError>
 
 // The bytes, and a colon if they have none.
 fn with_colon(alloc: Global, part: &[u8]) -> Result<Vec<u8>, AllocError>
-    ensures { IfOk result (λ line. IsBegunWith part.now line.items) }
+    ensures { IfOk result (λ line. line.items ≡ with_colon part.now) }
 {
+    let (count, _) = split_at_first(part, b':');
     let mut line = Vec::from_slice(alloc, part)?;
-    if !part.contains(&b':') {
+    if count.len() == part.len() {
         line.push(b':')?;
     }
     Ok(line)

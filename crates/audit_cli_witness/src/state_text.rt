@@ -1,7 +1,7 @@
 //! The bytes of a witness's file.
 ghost use Rattle.std.specs.Prelude.{◌≡◌, ◌⊎◌, ◌++◌, Option, Some, None, List, ℕ, length, take, drop};
 ghost use Rattle.std.specs.Prelude.{IfOk, IfErr, IfSome, OnOk, OnErr};
-ghost use Rattle.audit_cli_witness.specs.State.{HasStateCause};
+ghost use Rattle.audit_cli_witness.specs.StateFaults.{HasStateCause, line_feeds};
 
 use crate::state_lock::sync_folder;
 use audit_cli_connection::RemoteError;
@@ -39,6 +39,8 @@ pub trait StateText: Drop {
     /// Returns how many line feeds are among the first bytes.
     fn feeds_before(&mut self, place: u64) -> io::Result<u64>
         ensures kept { text self.new ≡ text self.old }
+        ensures found { IfOk result (λ number. IfSome (text self.old)
+            (λ bytes. number ≡ line_feeds (take place bytes))) }
         ensures failed { OnErr result (failed self.new) };
 
     /// Puts bytes in place of those from a place on, and syncs them. After an error they are as before, or cut off

@@ -17,7 +17,7 @@ use crate::look_error::fault_of_look;
 use crate::state_file::StateFile;
 use crate::state_lines::push_commitment_line;
 use crate::state_lock::{Locked, lock_state, remove_made};
-use crate::state_text::StateAt;
+use crate::state_text::{StateAt, StateText};
 use crate::witnessed::witnessed_at;
 use audit_cli_base::CommandError;
 use audit_cli_connection::{
@@ -162,7 +162,8 @@ pub fn follow_look<W: FallibleWrite, M: FallibleWrite>(
     // A passing fault is said unless it was reported. No other fault is said here.
     ensures said { SaysPassing (λ fault. ⟦<Option<RemoteError> as PartialEq>⟧.eq reported (Some fault)) looked
         (M.contents messages.old) (M.contents messages.new) (M.failed messages.new) }
-    ensures returned { SaysReturn reported looked (M.contents messages.old) (M.contents messages.new) }
+    ensures returned { SaysReturn reported date looked (M.contents messages.old) (M.contents messages.new)
+        (M.failed messages.new) }
 {
     match looked {
         Ok(sight) => {
@@ -231,11 +232,11 @@ where
 }
 
 // Begins a file without a line by the log before, if one is named, and looks.
-fn look_on<F: Files + Dial + Clock, K: Kept<Error = RemoteError>>(
+fn look_on<F: Files + Dial + Clock, T: StateText>(
     rt: &F,
     alloc: Global,
     post: Post<'_>,
-    kept: &mut K,
+    kept: &mut StateFile<T>,
 ) -> Result<Sight, RemoteError> {
     if let Some(before) = post.before
         && kept.newest().is_none()

@@ -1,7 +1,8 @@
 //! The newest commitment in the file of a witness, which is only read.
-ghost use Rattle.std.specs.Prelude.{◌≡◌, ℕ, Some, List, IfOk, IfErr};
+ghost use Rattle.std.specs.Prelude.{◌≡◌, ℕ, Some, List, IfOk, IfErr, IfSome};
 ghost use Rattle.audit_wire_ask.specs.Keeping.{last_kept};
-ghost use Rattle.audit_cli_witness.specs.State.{kept_in, HasReadCause};
+ghost use Rattle.audit_cli_witness.specs.State.{kept_in};
+ghost use Rattle.audit_cli_witness.specs.StateFaults.{HasNewestCause, HasNoBadLine};
 
 use crate::state_file::StateFile;
 use crate::state_text::{StateAt, StateText};
@@ -34,7 +35,8 @@ pub fn witnessed_at<F: Files>(
 pub fn witnessed_in<T: StateText>(alloc: Global, file: T) -> Result<Commitment, RemoteError>
     ensures newest { IfOk result (λ newest. (bytes : List ℕ) → T.text file ≡ Some bytes
         → last_kept (kept_in bytes) ≡ Some newest) }
-    ensures failed { IfErr result (HasReadCause ((last : T) × T.failed last)) }
+    ensures sound { IfOk result (λ _. IfSome (T.text file) HasNoBadLine) }
+    ensures failed { IfErr result (HasNewestCause ((last : T) × T.failed last) (T.text file)) }
 {
     let kept = StateFile::read(alloc, file)?;
     match kept.newest() {
