@@ -21,6 +21,7 @@ mod store_state_line;
 mod system_servers;
 
 pub use asking::answer;
+pub use read_file::bookmark_in;
 pub use request::{Request, run};
 pub use seen_files::SeenFiles;
 pub use system_servers::SystemServers;

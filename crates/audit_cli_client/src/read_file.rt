@@ -1,10 +1,14 @@
 //! Reading a log on by the bookmark in a file.
-ghost use Rattle.std.specs.Prelude.{◌≡◌, Err, IfErr, IfSome};
+ghost use Rattle.std.specs.Prelude.{◌≡◌, ◌⊎◌, ℕ, List, Option, Some, Err, IfOk, IfErr, IfSome, OnOk, MatchResult};
+ghost use Rattle.audit_proof.specs.declared.commitment.Commitment.{Commitment};
+ghost use Rattle.audit_verify.specs.State.{StateData};
+ghost use Rattle.audit_verify.specs.Bookmark.{AreSoundParts, bookmark_text};
 ghost use Rattle.audit_cli_base.specs.declared.fault.CommandError.TheVariants.{BadArgument};
 ghost use Rattle.audit_cli_connection.specs.declared.fault.RemoteError.TheVariants.{Command};
 ghost use Rattle.audit_cli_connection.specs.Faults.{IsNoBadArgument};
-ghost use Rattle.audit_cli_connection.specs.ServerCalls.{AreNoKinds, HasNoBeginning, IsUnfitReading};
-ghost use Rattle.audit_cli_client.specs.NamedFiles.{files_named, HasNoBookmarkAt, IsNoBookmark};
+ghost use Rattle.audit_cli_connection.specs.ServerCalls.{AreNoKinds, HasBeginning, HasNoBeginning, IsUnfitReading};
+ghost use Rattle.audit_cli_client.specs.NamedFiles.{files_named, HasBookmarkAt, HasNoBookmarkAt, IsNoBookmark};
+ghost use Rattle.audit_cli_client.specs.NamedFiles.{IsReadFailure};
 
 use crate::left_files::remove_left;
 use crate::printed_file::PrintedFile;
@@ -43,7 +47,9 @@ pub(crate) fn read_by_file<F: SystemFiles + SeenFiles + Dial + Clock, W: Fallibl
 ) -> Result<(), RemoteError>
 where
     F::File: SystemFile,
-    ensures { result ≡ Err (Command BadArgument)
+    ensures begun { OnOk result (HasBeginning (files_named F.File.facts F.File.remaining (F.is_no_file rt.now))
+        task.entry) }
+    ensures bad { result ≡ Err (Command BadArgument)
         → IsUnfitReading (files_named F.File.facts F.File.remaining (F.is_no_file rt.now)) task.entry }
 {
     let printing = printing_asked(alloc, task)?;
@@ -111,7 +117,9 @@ fn read_alone<F: SystemFiles + SeenFiles + Dial + Clock, W: FallibleWrite>(
 ) -> Result<Reading, RemoteError>
 where
     F::File: SystemFile,
-    ensures { result ≡ Err (Command BadArgument)
+    ensures begun { OnOk result (HasBeginning (files_named F.File.facts F.File.remaining (F.is_no_file rt.now))
+        task.entry) }
+    ensures bad { result ≡ Err (Command BadArgument)
         → HasNoBeginning (files_named F.File.facts F.File.remaining (F.is_no_file rt.now)) task.entry }
 {
     let found = metadata_if_any(rt, task.state)?;
@@ -201,7 +209,9 @@ fn bookmark_of<F: SystemFiles + SeenFiles>(
 ) -> Result<Bookmark, RemoteError>
 where
     F::File: SystemFile,
-    ensures { result ≡ Err (Command BadArgument)
+    ensures begun { OnOk result (HasBeginning (files_named F.File.facts F.File.remaining (F.is_no_file rt.now))
+        task.entry) }
+    ensures bad { result ≡ Err (Command BadArgument)
         → HasNoBeginning (files_named F.File.facts F.File.remaining (F.is_no_file rt.now)) task.entry }
 {
     match (found, task.first) {
@@ -220,14 +230,23 @@ where
 fn bookmark_at<F: SystemFiles>(rt: &F, alloc: Global, path: &str) -> Result<Bookmark, RemoteError>
 where
     F::File: SystemFile,
-    ensures { result ≡ Err (Command BadArgument) → HasNoBookmarkAt F.File.facts F.File.remaining path.now }
+    ensures some { OnOk result (HasBookmarkAt F.File.facts F.File.remaining path.now) }
+    ensures none { result ≡ Err (Command BadArgument) → HasNoBookmarkAt F.File.facts F.File.remaining path.now }
 {
     let mut file = rt.open_to_read(path)?;
     bookmark_in(alloc, &mut file)
 }
 
-fn bookmark_in<R: Read>(alloc: Global, file: &mut R) -> Result<Bookmark, RemoteError>
-    ensures { result ≡ Err (Command BadArgument) → IfSome (R.remaining file.old) IsNoBookmark }
+/// Reads the bookmark that is all of a file's bytes. Of the text that a run kept these are again the state and the
+/// commitment that it kept. Errors: `BadArgument` if it is the text of none; a file fault; memory.
+pub fn bookmark_in<R: Read>(alloc: Global, file: &mut R) -> Result<Bookmark, RemoteError>
+    ensures read { IfOk result (λ mark. IfSome (R.remaining file.old)
+        (λ text. text ≡ bookmark_text mark.state mark.newest)) }
+    // No text of a bookmark is refused: what a run kept is read by the next one, unless reading fails.
+    ensures only { (state : StateData) (newest : Option Commitment) → AreSoundParts state newest
+        → R.remaining file.old ≡ Some (bookmark_text state newest)
+        → MatchResult result (λ mark. (mark.state ≡ state) × (mark.newest ≡ newest)) IsReadFailure }
+    ensures none { result ≡ Err (Command BadArgument) → IfSome (R.remaining file.old) IsNoBookmark }
 {
     let text = read_input(alloc, file)?;
     match read_bookmark(alloc, &text) {
