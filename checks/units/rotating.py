@@ -53,7 +53,7 @@ def scene_full(machine):
     for number in range(STORES):
         prepare(machine, FILLED, "%03d" % number, number + 1, SECTORS)
     machine.good("mv", FILLED + "/prepared/000.store", FILLED + "/current.store")
-    machine.write("/etc/default/audit-filled", "STORE=%s/current.store\nOPTIONS=--until-free 2\n" % FILLED)
+    machine.write("/etc/default/audit-filled", "STORE=%s/current.store\nOPTIONS=--writer 9:/run/audit-filled/bound --until-free 2\n" % FILLED)
     machine.start("audit-daemon@filled")
     senders = [machine.begun("audit", "send", "/run/audit-filled/writers/socket", "--text", str(kind), "--retry", "120",
                              data=b"".join(b"%d\n" % number for number in range(SENT))) for kind in KINDS]
