@@ -1,8 +1,8 @@
 ghost use Rattle.std.specs.Prelude.{◌≡◌, ◌⊎◌, ◌++◌, [], ◌∷◌, ℕ, List, map, false, IfOk, IfErr, IfSome, OnOk, OnErr};
-ghost use Rattle.std.specs.Prelude.{string_bytes, codes};
+ghost use Rattle.std.specs.Prelude.{string_bytes, codes, MatchOption};
 ghost use Rattle.audit_serve_door.specs.Entrances.{rights_of, mode_of, descriptor_of};
 ghost use Rattle.audit_serve_door.specs.Finishing.{descriptor_of_orders};
-ghost use Rattle.audit_serve_sockets.specs.Bound.{ListensAt, IsNameGone};
+ghost use Rattle.audit_serve_sockets.specs.Bound.{ListensAt, IsNameGone, mode_of_name};
 ghost use Rattle.audit_cli_daemon.specs.Rights.{modes_at, source_rights};
 ghost use Rattle.audit_cli_daemon.specs.Sockets.{rights_served, paths_served, path_of_source, ListenAt, IsRemoved};
 ghost use Rattle.audit_cli_daemon.specs.Sockets.{AreRemoved, BindFailed, IsBindFault, prompt_sockets};
@@ -138,6 +138,7 @@ impl<'a> Sockets<'a> {
         // So does the socket on which orders to stop come, at the path beside that of the clients, for the owner alone.
         ensures stop { IfOk result (λ listening. ListensAt (prompt_sockets (R.sockets rt.now) (R.prompt rt.now))
             (string_bytes self.now.stop) OWNER_ONLY (descriptor_of_orders listening.orders)) }
+        ensures stop_mode { OnOk result (MatchOption made.new.stop ⊥ (λ name. mode_of_name name ≡ OWNER_ONLY)) }
         ensures fault { IfErr result
             (IsBindFault (BindFailed (R.call_failed rt.now) (R.unprompted rt.now) R.File.facts)) }
     {
@@ -164,6 +165,7 @@ impl<'a> Sockets<'a> {
         R::File: SystemFile,
         ensures listens { IfOk result (λ orders. ListensAt (prompt_sockets (R.sockets rt.now) (R.prompt rt.now))
             (string_bytes self.now.stop) OWNER_ONLY (descriptor_of_orders orders)) }
+        ensures mode { OnOk result (MatchOption made.new.stop ⊥ (λ name. mode_of_name name ≡ OWNER_ONLY)) }
         ensures fault { IfErr result
             (IsBindFault (BindFailed (R.call_failed rt.now) (R.unprompted rt.now) R.File.facts)) }
     {
