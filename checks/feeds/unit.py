@@ -42,7 +42,7 @@ def unit_of(folder):
 def command_of(settings, name):
     """The words of a command, without options of the store's own."""
     command = settings[name][0].lstrip("-").replace("${STORE}", settings["Environment"][0].split("=", 1)[1])
-    return command.replace(" $OPTIONS", "").split()
+    return shlex.split(command.replace(" $OPTIONS", ""))
 
 
 def make_folders(settings):

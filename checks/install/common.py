@@ -9,7 +9,7 @@ from checks.parts.places import AUDITOR, TOP, at_top
 from checks.parts.wrong import expect
 
 UNITS = """alarm@.service anchor@.service anchor@.timer daemon@.service failover@.service forward@.service journal@.service
-mark@.service mark@.timer metrics@.service metrics@.timer read@.service rotate@.service rotate@.timer tail@.service
+mark@.service mark@.timer metrics@.service metrics@.timer read@.service rotate@.path rotate@.service rotate@.timer tail@.service
 watch@.service watch@.timer""".split()
 TOOLS = """witness-git fleet metrics journal-feed file-feed failover fence-ceph send-confirming into-sqlite verify-chain
 format-sealed anchor anchor-check mark event-times rotate-log rotate-full audit-log""".split()

@@ -54,6 +54,7 @@ def scene_full(machine):
         prepare(machine, FILLED, "%03d" % number, number + 1, SECTORS)
     machine.good("mv", FILLED + "/prepared/000.store", FILLED + "/current.store")
     machine.write("/etc/default/audit-filled", "STORE=%s/current.store\nOPTIONS=--writer 9:/run/audit-filled/bound --until-free 2\n" % FILLED)
+    machine.start("audit-rotate@filled.path")
     machine.start("audit-daemon@filled")
     senders = [machine.begun("audit", "send", "/run/audit-filled/writers/socket", "--text", str(kind), "--retry", "120",
                              data=b"".join(b"%d\n" % number for number in range(SENT))) for kind in KINDS]
@@ -63,6 +64,7 @@ def scene_full(machine):
     expect([row[0] for row in rows], ["closed"] * (STORES - 1) + ["current", "prepared"], "the stores of a log that was full")
     expect({row[-1] for row in rows if row[0] == "closed"}, {"accepted"}, "the links between them")
     machine.stop("audit-daemon@filled")
+    machine.stop("audit-rotate@filled.path")
     time.sleep(3)
     expect(machine.property("audit-daemon@filled", "ActiveState"), "inactive", "a daemon that was stopped")
     events = events_over(machine, FILLED)
