@@ -1,5 +1,7 @@
 """Every edit of must-fail/ and attacks/ can be applied: the text of each line `old:` is exactly once in the file that
-the line `file:` before it names. bin/attack alone would show it for those of attacks/.
+the line `file:` before it names, and its line `new:` has another. After `file:` no line is anything else but a comment,
+since rt reads no other: a text of two lines would lose its second one. bin/attack alone would show it for those of
+attacks/.
 
 usage: bin/check edits
 """
@@ -10,6 +12,9 @@ import os
 from checks.parts.files import read_text
 from checks.parts.places import CRATES, TOP
 from checks.parts.wrong import Usage
+
+
+COMMENTS = "#", "--", "//"
 
 
 @functools.lru_cache(maxsize=None)
@@ -30,8 +35,12 @@ def faults(edit):
             if text.count(old) != 1:
                 yield "%d times in %s: %s" % (text.count(old), os.path.relpath(file or TOP, TOP), old)
                 old = None
-        elif line.startswith("new:") and old is not None:
-            text, old = text.replace(old, line[5:]), None
+        elif line.startswith("new:"):
+            if old == line[5:]:
+                yield "it changes nothing: %s" % old
+            text, old = text.replace(old, line[5:]) if old is not None else text, None
+        elif file is not None and line.strip() and not line.startswith(COMMENTS):
+            yield "a line that isn't read: %s" % line
     if file is None:
         yield "no file"
 
