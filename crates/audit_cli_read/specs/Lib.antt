@@ -1,2 +1,3 @@
 pub mod EventCalls
 pub mod EventModel
+pub mod EventLaws

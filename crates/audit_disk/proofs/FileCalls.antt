@@ -5,7 +5,8 @@ use Rattle.audit_disk_model.specs.Image.{Sector, Image, sector_at, with_sector}
 use Rattle.audit_disk_model.specs.View.{View, last_count}
 use Rattle.audit_disk_model.specs.Calls.{Outcome, Continues, CountsFailure, HasRisen, Ticks, IsRead, IsWrite, IsSync}
 use Rattle.audit_disk.specs.File.{overlaid, sectors_of, FileView, FileContinues, IsReadThrough, IsFileWrite, IsFileSync}
-use Rattle.audit_disk.specs.FileView.{with_row, MayHaveRow, IsWholeRow, LeftWithRow, row_view, IsSameDevice, IsCallRefused}
+use Rattle.audit_disk.specs.FileView.{LeftWithRow, row_view, IsSameDevice, IsCallRefused}
+use Rattle.audit_disk.specs.Rows.{with_row, MayHaveRow, IsWholeRow}
 use Rattle.audit_base.specs.declared.limits.TheConstants.{SECTOR_SIZE}
 use Rattle.audit_disk.proofs.FileSectors.{sectors_of-overlaid, sector_at-sectors_of}
 use Rattle.audit_disk.proofs.KeptRows.{row_nothing, nothing_row, row_push_old, row_push_new, row_pop, with_row-push, with_row-other}

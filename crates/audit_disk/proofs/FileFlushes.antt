@@ -7,7 +7,8 @@ use Rattle.audit_disk_model.specs.View.{View, last_count}
 use Rattle.audit_disk_model.specs.Calls.{HasRisen}
 use Rattle.audit_disk_model.specs.declared.fault.DeviceFault.{DeviceFault}
 use Rattle.audit_disk.specs.File.{FileView, FileContinues, sectors_of, IsRowWrite}
-use Rattle.audit_disk.specs.FileView.{with_row, IsWholeRow, LeftWithRow, file_moment, row_at, file_view, IsSameDevice}
+use Rattle.audit_disk.specs.FileView.{LeftWithRow, file_view, IsSameDevice}
+use Rattle.audit_disk.specs.Rows.{with_row, IsWholeRow, file_moment, row_at}
 use Rattle.audit_disk.proofs.RowTries.{IsTried, left_kept, left_no_other, left_nothing, left_at_same, row_reached, row_came, row_content, row_lost, row_lost_only, row_lost_content, each_reached, each_came}
 use Rattle.audit_disk.proofs.RowTries.{moment_below, moment_above, row_below, row_above, moment_rows, row_rows, not_tried}
 use Rattle.audit_base.specs.declared.limits.TheConstants.{SECTOR_SIZE}
@@ -16,10 +17,10 @@ module _ (old new : FileView) (sectors start start' clock failures : ℕ) (kept 
     (in_range in_range' : clock < 2 ^ 64) (in_order : split ≤ reached) (in_order' : split' ≤ reached') (le : reached ≤ clock) (le' : reached' ≤ clock) (whole : IsWholeRow kept) (whole' : IsWholeRow kept')
     (whole_now : IsWholeRow active) (whole_now' : IsWholeRow active') (sized : old.honest → SECTOR_SIZE * sectors ≤ length old.bytes) (sized' : new.honest → SECTOR_SIZE * sectors ≤ length new.bytes) where
   abbrev before : View
-  before = file_view old sectors start kept active base split reached clock failures fits in_range in_order le whole whole_now sized
+  before = file_view old (record { sectors = sectors; clock = clock; failures = failures; start = start; kept = kept; active = active; base = base; split = split; reached = reached; fits = fits; in_range = in_range; in_order = in_order; le = le; whole = whole; whole_active = whole_now; sized = sized })
 
   abbrev after : View
-  after = file_view new sectors start' kept' active' base' split' reached' clock failures fits' in_range' in_order' le' whole' whole_now' sized'
+  after = file_view new (record { sectors = sectors; clock = clock; failures = failures; start = start'; kept = kept'; active = active'; base = base'; split = split'; reached = reached'; fits = fits'; in_range = in_range'; in_order = in_order'; le = le'; whole = whole'; whole_active = whole_now'; sized = sized' })
 
   -- what a crash leaves at a moment of the clock
   abbrev Before : ℕ → Image → Type 0

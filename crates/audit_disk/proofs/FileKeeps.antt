@@ -3,7 +3,8 @@ use Rattle.std.proofs.Common.{⊎_elim, ◌≡◌, ◌⊎◌, ℕ, ◌+◌, ◌-
 use Rattle.std.proofs.lemmas.List.{take-append-le, take_all}
 use Rattle.audit_disk_model.specs.Image.{Sector, Image}
 use Rattle.audit_disk.specs.File.{FileView, sectors_of}
-use Rattle.audit_disk.specs.FileView.{with_row, LeftWithRow, file_moment, row_at}
+use Rattle.audit_disk.specs.FileView.{LeftWithRow}
+use Rattle.audit_disk.specs.Rows.{with_row, file_moment, row_at}
 use Rattle.audit_disk.proofs.RowTries.{left_nothing, left_at_same, moment_below, moment_above, row_below, row_above, moment_rows, row_rows}
 
 module _ (file : FileView) (sectors start start' clock reached reached' base base' split split' : ℕ) (kept active kept' active' : List Sector) (bytes : Sector) (here : reached ≡ clock) (split_now : split ≡ reached)

@@ -4,7 +4,8 @@ use Rattle.std.proofs.lemmas.List.{take_all}
 use Rattle.std.proofs.lemmas.Bool.{cases_lt}
 use Rattle.audit_disk_model.specs.Image.{Sector, Image}
 use Rattle.audit_disk.specs.File.{FileView, FileContinues}
-use Rattle.audit_disk.specs.FileView.{LeftWithRow, file_moment, row_at, active_row}
+use Rattle.audit_disk.specs.FileView.{LeftWithRow}
+use Rattle.audit_disk.specs.Rows.{file_moment, row_at, active_row}
 use Rattle.audit_disk_model.specs.View.{last_count}
 use Rattle.audit_disk.specs.FileDisk.{end_from}
 use Rattle.audit_disk.specs.declared.read_ahead.TheConstants.{ROW_SECTORS}

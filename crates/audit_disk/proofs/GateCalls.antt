@@ -4,7 +4,8 @@ use Rattle.std.proofs.lemmas.Bool.{cases_lt}
 use Rattle.audit_disk_model.specs.Image.{Sector}
 use Rattle.audit_disk_model.specs.View.{View, last_count}
 use Rattle.audit_disk_model.specs.Calls.{HasRisen, Ticks, IsRead, IsWrite, IsSync}
-use Rattle.audit_disk.specs.Shifted.{inner_moment, shifted}
+use Rattle.audit_disk.specs.Shifted.{inner_moment}
+use Rattle.audit_disk.specs.ShiftedView.{shifted}
 use Rattle.audit_disk.specs.Gate.{gate_view, MayShut, IsBelowEnd, Misses}
 use Rattle.audit_disk.specs.declared.gate.Gate.{Gate}
 use Rattle.audit_disk_model.specs.declared.fault.DeviceFault.{DeviceFault}

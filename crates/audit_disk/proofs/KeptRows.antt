@@ -5,7 +5,8 @@ use Rattle.std.proofs.Math.Seq.{take-set-lt}
 use Rattle.std.proofs.lemmas.Bool.{cases_eq, cases_lt}
 use Rattle.audit_disk_model.specs.Image.{Sector, Image, sector_at, with_sector}
 use Rattle.audit_disk.specs.File.{overlaid, overlaid_row, sectors_of, SomeWritten}
-use Rattle.audit_disk.specs.FileView.{with_row, StandsInRow, IsWholeRow, MayHaveRow, row_cons}
+use Rattle.audit_disk.specs.RowLaws.{row_cons}
+use Rattle.audit_disk.specs.Rows.{with_row, StandsInRow, IsWholeRow, MayHaveRow}
 use Rattle.audit_disk.proofs.FileSectors.{length-overlaid, sectors_of-overlaid}
 use Rattle.audit_base.specs.declared.limits.TheConstants.{SECTOR_SIZE}
 

@@ -6,7 +6,9 @@ use Rattle.audit_disk_model.specs.Image.{Sector}
 use Rattle.audit_disk_model.specs.View.{View, last_count}
 use Rattle.audit_disk_model.specs.Calls.{Outcome, IsRead, IsWrite, IsSync}
 use Rattle.audit_disk.specs.Held.{Held, settled, content_of, bytes_of_blocks, after_write, after_sync}
-use Rattle.audit_disk.specs.Memory.{after_calls, memory_view, length-after_calls}
+use Rattle.audit_disk.specs.Memory.{after_calls}
+use Rattle.audit_disk.specs.MemoryView.{memory_view}
+use Rattle.audit_disk.specs.MemoryLaws.{length-after_calls}
 use Rattle.audit_disk.specs.CallLog.{Notes, RefusesCall}
 use Rattle.audit_disk.specs.MemDisk.{HoldsWrite, HoldsSync}
 use Rattle.audit_disk.specs.declared.block.Block.{Block}

@@ -6,7 +6,9 @@ use Rattle.audit_disk_model.specs.Image.{Sector, Image, IsWhole, sector_at, with
 use Rattle.audit_disk_model.specs.View.{View}
 use Rattle.audit_disk_model.specs.Calls.{Outcome, Continues, IsRead, IsWrite, IsSync}
 use Rattle.audit_disk.specs.File.{IsUnusedFile, overlaid, FileContinues, IsFileRead, IsFileWrite, IsFileSync}
-use Rattle.audit_disk.specs.MemFile.{bytes_of_image, length-joined, joined_view}
+use Rattle.audit_disk.specs.MemFile.{bytes_of_image}
+use Rattle.audit_disk.specs.MemFileView.{joined_view}
+use Rattle.audit_disk.specs.MemFileLaws.{length-joined}
 use Rattle.audit_disk.specs.MemDisk.{IsFresh}
 use Rattle.audit_base.specs.declared.limits.TheConstants.{SECTOR_SIZE}
 

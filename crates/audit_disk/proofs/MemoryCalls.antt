@@ -4,7 +4,8 @@ use Rattle.audit_disk_model.specs.Image.{Sector, Image, sector_at}
 use Rattle.audit_disk_model.specs.View.{View, last_count}
 use Rattle.audit_disk_model.specs.Calls.{Continues, HasRisen, Ticks, IsRead, IsWrite, IsSync}
 use Rattle.audit_disk.specs.Held.{Held, settled, content_of, IsImageOf}
-use Rattle.audit_disk.specs.Memory.{after_call, after_calls, held_at, latest, memory_view}
+use Rattle.audit_disk.specs.Memory.{after_call, after_calls, held_at, latest}
+use Rattle.audit_disk.specs.MemoryView.{memory_view}
 use Rattle.audit_disk.specs.declared.block.Block.{Block}
 use Rattle.audit_disk.specs.declared.call.Call.{Call}
 use Rattle.audit_disk.specs.declared.call.Effect.{Effect}

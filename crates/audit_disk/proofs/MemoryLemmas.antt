@@ -5,7 +5,8 @@ use Rattle.std.proofs.lemmas.Bool.{lt-leb}
 use Rattle.std.proofs.lemmas.List.{append-nil}
 use Rattle.std.proofs.lemmas.List.Elements.{filter-append}
 use Rattle.audit_disk.specs.Held.{Held, settled}
-use Rattle.audit_disk.specs.Memory.{after_call, after_calls, held_at, latest, calls_until_all}
+use Rattle.audit_disk.specs.Memory.{after_call, after_calls, held_at, latest}
+use Rattle.audit_disk.specs.MemoryLaws.{calls_until_all}
 use Rattle.audit_disk.specs.declared.block.Block.{Block}
 use Rattle.audit_disk.specs.declared.call.Call.{Call}
 

@@ -4,7 +4,8 @@ use Rattle.std.proofs.lemmas.List.{take_at, drop_at}
 use Rattle.audit_disk_model.specs.Image.{Sector, Image, sector_at}
 use Rattle.audit_disk_model.specs.View.{View}
 use Rattle.audit_disk.specs.File.{sectors_of}
-use Rattle.audit_disk.specs.MemFile.{bytes_of_image, joined_view}
+use Rattle.audit_disk.specs.MemFile.{bytes_of_image}
+use Rattle.audit_disk.specs.MemFileView.{joined_view}
 use Rattle.audit_disk.specs.MemDisk.{IsFresh}
 use Rattle.audit_base.specs.declared.limits.TheConstants.{SECTOR_SIZE}
 

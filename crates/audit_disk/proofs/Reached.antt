@@ -1,7 +1,7 @@
 -- The last call of a device that reached its file.
 use Rattle.std.proofs.Common.{◌≡◌, ℕ, Option, Some, None, is_some, unwrap_or, List, [], take, true, false, refl, sym, ap}
 use Rattle.audit_disk_model.specs.Image.{Sector}
-use Rattle.audit_disk.specs.FileView.{active_row}
+use Rattle.audit_disk.specs.Rows.{active_row}
 use Rattle.audit_disk.specs.KeptRow.{kept_sectors}
 use Rattle.audit_disk.specs.declared.kept_row.KeptRow.{KeptRow}
 use Rattle.std.proofs.lemmas.Bool.{false≢true}

@@ -9,9 +9,11 @@ use Rattle.audit_disk_model.specs.View.{View, last_count}
 use Rattle.audit_disk_model.specs.Calls.{Outcome, Continues, HasRisen, CountsFailure, Ticks, IsRead, IsWrite, IsSync}
 use Rattle.audit_disk_model.specs.declared.fault.DeviceFault.{DeviceFault}
 use Rattle.audit_disk.specs.CallLog.{Notes, RefusesCall}
-use Rattle.audit_disk.specs.Memory.{calls_until, calls_until_all}
+use Rattle.audit_disk.specs.Memory.{calls_until}
+use Rattle.audit_disk.specs.MemoryLaws.{calls_until_all}
 use Rattle.audit_disk.specs.SectorSource.{SourceView, IsSameSource}
-use Rattle.audit_disk.specs.ReadOnly.{content_by, content_over, images_after, left_over, overlay_view, bytes_or, IsLastWritten, IsReadThrough}
+use Rattle.audit_disk.specs.ReadOnly.{content_by, content_over, images_after, left_over, bytes_or, IsLastWritten, IsReadThrough}
+use Rattle.audit_disk.specs.OverlayView.{overlay_view}
 use Rattle.audit_disk.specs.declared.block.Block.{Block}
 use Rattle.audit_disk.specs.declared.call.Call.{Call}
 use Rattle.audit_disk.specs.declared.call.Effect.{Effect}

@@ -6,7 +6,9 @@ use Rattle.audit_disk_model.specs.Image.{Sector, Image}
 use Rattle.audit_disk_model.specs.View.{last_count}
 use Rattle.audit_disk_model.specs.declared.fault.DeviceFault.{DeviceFault}
 use Rattle.audit_disk.specs.File.{FileView, FileContinues, SomeWritten, sectors_of, IsRowWrite}
-use Rattle.audit_disk.specs.FileView.{with_row, MayHaveRow, IsWholeRow, LeftWithRow, file_moment, row_at, whole_take}
+use Rattle.audit_disk.specs.FileView.{LeftWithRow}
+use Rattle.audit_disk.specs.RowLaws.{whole_take}
+use Rattle.audit_disk.specs.Rows.{with_row, MayHaveRow, IsWholeRow, file_moment, row_at}
 use Rattle.audit_disk.proofs.KeptRows.{row_same, row_nothing, nothing_row, row_trans, row_of_some, some_of_row, sectors_of-overlaid_row, with_row-over}
 use Rattle.audit_disk.proofs.RowWrites.{some_all, goes_then, same_length_after}
 use Rattle.audit_base.specs.declared.limits.TheConstants.{SECTOR_SIZE}

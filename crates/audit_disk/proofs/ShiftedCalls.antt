@@ -4,7 +4,9 @@ use Rattle.std.proofs.lemmas.Bool.{false≢true, cases_lt}
 use Rattle.audit_disk_model.specs.Image.{Sector, Image, with_sector}
 use Rattle.audit_disk_model.specs.View.{View, last_count}
 use Rattle.audit_disk_model.specs.Calls.{Outcome, Continues, CountsFailure, HasRisen, Ticks, IsRead, IsWrite, IsSync}
-use Rattle.audit_disk.specs.Shifted.{inner_moment, inner_moment_now, shifted, MayMiss}
+use Rattle.audit_disk.specs.Shifted.{inner_moment, MayMiss}
+use Rattle.audit_disk.specs.ShiftedView.{shifted}
+use Rattle.audit_disk.specs.ShiftedLaws.{inner_moment_now}
 
 -- an image now is one of the inner device now
 now_in : (view : View) (place missed : ℕ) (image : Image) → place ≤ view.clock → view.left_at (inner_moment place missed (view.clock + missed)) image → view.left_at view.clock image

@@ -1,7 +1,6 @@
 -- A file of bytes that is written in whole sectors.
 use Rattle.std.specs.Prelude.{◌≡◌, ◌≢◌, ◌⊎◌, ℕ, zero, suc, ◌+◌, ◌*◌, ◌%◌, ◌^◌, ◌<◌, ◌≤◌, min, List, [], ◌∷◌, ◌++◌}
 use Rattle.std.specs.Prelude.{length, take, drop, Result, OnOk, OnErr}
-use Rattle.std.proofs.Props.{props}
 use Rattle.audit_disk_model.specs.Image.{Sector, Image, sector_at}
 use Rattle.audit_disk_model.specs.View.{last_count}
 use Rattle.audit_disk_model.specs.Calls.{CountsFailure, HasRisen}
@@ -82,9 +81,6 @@ pub record HasRow (file : FileView) (offset count : ℕ) (sectors : Image) : Typ
   pub given : (at : ℕ) → at < count → file.gave (offset + SECTOR_SIZE * at) (sector_at sectors at)
   pub found : file.honest → (at : ℕ) → at < count
       → sector_at sectors at ≡ take SECTOR_SIZE (drop (offset + SECTOR_SIZE * at) file.bytes)
-
-pub HasRow-prop : (file : FileView) (offset count : ℕ) (sectors : Image) → IsProp (HasRow file offset count sectors)
-HasRow-prop file offset count sectors = Prim.hlevel (file.given_once, props)
 
 -- What reads returned at offsets outside the row remains valid.
 abbrev pub KeepsOutside : FileView → FileView → ℕ → ℕ → Type 0

@@ -6,8 +6,11 @@ use Rattle.audit_disk_model.specs.Image.{Sector, Image}
 use Rattle.audit_disk_model.specs.View.{View, last_count}
 use Rattle.audit_disk_model.specs.Calls.{Outcome}
 use Rattle.audit_disk.specs.File.{FileView, sectors_of}
-use Rattle.audit_disk.specs.FileView.{file_view, sectors_fit, active_row, whole_active}
-use Rattle.audit_disk.specs.KeptRow.{kept_sectors, whole_kept, TakesSector}
+use Rattle.audit_disk.specs.FileView.{file_view}
+use Rattle.audit_disk.specs.RowLaws.{sectors_fit, whole_active}
+use Rattle.audit_disk.specs.Rows.{active_row}
+use Rattle.audit_disk.specs.KeptRow.{kept_sectors, TakesSector}
+use Rattle.audit_disk.specs.KeptRowLaws.{whole_kept}
 use Rattle.audit_disk.specs.declared.file_disk.FileDisk.{FileDisk}
 use Rattle.audit_disk.specs.declared.file_disk.TheConstants.{LAST_SINGLE}
 use Rattle.audit_disk.specs.declared.sector_file.SectorFile as files
@@ -38,12 +41,24 @@ module _ {F : Type 0} {g : files.Ghosts F} where
   -- everything that is known of it as a device
   abbrev pub file_disk_view : FileDisk F g → View
   file_disk_view disk =
-      file_view (g.file disk.file.inner) disk.sectors disk.kept.start (kept_sectors disk.kept)
-      (active_row disk.single_from (kept_sectors disk.kept))
-      (unwrap_or disk.single_from (unwrap_or disk.failed_at disk.clock) - disk.kept.count)
-      (unwrap_or disk.single_from (unwrap_or disk.failed_at disk.clock)) (unwrap_or disk.failed_at disk.clock)
-      disk.clock disk.failures (sectors_fit disk.sectors disk.fits) disk.in_range disk.split_in_order disk.in_order
-      (whole_kept disk.kept) (whole_active disk.single_from (kept_sectors disk.kept) (whole_kept disk.kept)) disk.sized
+      file_view (g.file disk.file.inner) (record {
+        sectors = disk.sectors;
+        clock = disk.clock;
+        failures = disk.failures;
+        start = disk.kept.start;
+        kept = kept_sectors disk.kept;
+        active = active_row disk.single_from (kept_sectors disk.kept);
+        base = unwrap_or disk.single_from (unwrap_or disk.failed_at disk.clock) - disk.kept.count;
+        split = unwrap_or disk.single_from (unwrap_or disk.failed_at disk.clock);
+        reached = unwrap_or disk.failed_at disk.clock;
+        fits = sectors_fit disk.sectors disk.fits;
+        in_range = disk.in_range;
+        in_order = disk.split_in_order;
+        le = disk.in_order;
+        whole = whole_kept disk.kept;
+        whole_active = whole_active disk.single_from (kept_sectors disk.kept) (whole_kept disk.kept);
+        sized = disk.sized;
+      })
 
   -- its file
   abbrev pub file_inside : FileDisk F g → F

@@ -1,7 +1,8 @@
 -- A device behind a gate.
 use Rattle.std.specs.Prelude.{◌≡◌, ◌+◌, ◌<◌, ◌≤◌}
 use Rattle.audit_disk_model.specs.View.{View, last_count}
-use Rattle.audit_disk.specs.Shifted.{shifted, MayMiss}
+use Rattle.audit_disk.specs.Shifted.{MayMiss}
+use Rattle.audit_disk.specs.ShiftedView.{shifted}
 use Rattle.audit_disk.specs.declared.gate.Gate.{Gate}
 use Rattle.audit_disk_model.specs.declared.sectors.Sectors as sectors
 

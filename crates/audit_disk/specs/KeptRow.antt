@@ -1,8 +1,6 @@
 -- Sectors that were written to a device and not yet to its file.
-use Rattle.std.specs.Prelude.{◌≡◌, ◌⊎◌, ℕ, ◌+◌, ◌<◌, ◌≤◌, List, [], ◌∷◌, ◌++◌, length, take}
-use Rattle.std.proofs.lemmas.List.{length-take-le}
+use Rattle.std.specs.Prelude.{◌≡◌, ◌⊎◌, ℕ, ◌+◌, ◌<◌, ◌≤◌, List, [], ◌∷◌, ◌++◌, take}
 use Rattle.audit_disk_model.specs.Image.{Sector}
-use Rattle.audit_disk.specs.FileView.{IsWholeRow, whole_take}
 use Rattle.audit_disk.specs.declared.kept_row.KeptRow.{KeptRow}
 use Rattle.audit_disk.specs.declared.kept_row.TheConstants.{KEPT_FROM}
 use Rattle.audit_disk.specs.declared.read_ahead.TheConstants.{ROW_SECTORS}
@@ -10,12 +8,6 @@ use Rattle.audit_disk.specs.declared.read_ahead.TheConstants.{ROW_SECTORS}
 -- the kept sectors in order
 abbrev pub kept_sectors : KeptRow → List Sector
 kept_sectors kept = take kept.count kept.row.items
-
-pub whole_kept : (kept : KeptRow) → IsWholeRow (kept_sectors kept)
-whole_kept kept = whole_take kept.count kept.row.items kept.whole
-
-pub length-kept : (kept : KeptRow) → length (kept_sectors kept) ≡ kept.count
-length-kept kept = length-take-le kept.count kept.row.items kept.in_row
 
 -- nothing is kept
 pub record IsEmptyRow (kept : KeptRow) : Type 0 where

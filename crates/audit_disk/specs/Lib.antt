@@ -21,15 +21,27 @@ pub mod Positioned
 pub mod ReadOnlyView
 pub mod Reading
 pub mod SectorSource
--- Views of devices and files, with their laws.
+-- Views of devices and files.
 pub mod FileView
 pub mod Folder
-pub mod HeldLaws
 pub mod KeptRow
 pub mod MemFile
 pub mod Memory
+pub mod MemoryView
+pub mod OverlayView
 pub mod ReadOnly
+pub mod Rows
 pub mod Shifted
+pub mod ShiftedView
+-- Laws that these views have as fields, or that functions above use.
+pub mod FileLaws
+pub mod HeldLaws
+pub mod KeptRowLaws
+pub mod MemFileLaws
+pub mod MemoryLaws
+pub mod ReadOnlyLaws
+pub mod RowLaws
+pub mod ShiftedLaws
 -- Needed only by bodies.
 pub mod CallLog
 pub mod Contents

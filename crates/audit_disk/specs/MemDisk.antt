@@ -5,9 +5,10 @@ use Rattle.audit_disk_model.specs.View.{View}
 use Rattle.audit_disk_model.specs.Calls.{Outcome}
 use Rattle.audit_disk_model.specs.Moments.{IsSettled}
 use Rattle.audit_disk.specs.Held.{Held, settled, bytes_of_blocks, crashed, after_write, after_sync}
-use Rattle.audit_disk.specs.Memory.{after_calls, memory_view}
+use Rattle.audit_disk.specs.Memory.{after_calls}
 use Rattle.audit_disk.specs.declared.block.Block.{Block}
 use Rattle.audit_disk.specs.declared.mem_disk.MemDisk.{MemDisk}
+use Rattle.audit_disk.specs.MemoryView.{memory_view}
 
 -- everything that is known of it as a device
 abbrev pub disk_view : MemDisk → View

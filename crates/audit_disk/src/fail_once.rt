@@ -2,7 +2,7 @@ ghost use Rattle.std.specs.Prelude.{◌≡◌, ◌<◌, IsSome};
 ghost use Rattle.audit_disk_model.specs.View.{last_count};
 ghost use Rattle.audit_disk_model.specs.Moments.{IsUnused, LooksLike};
 ghost use Rattle.audit_disk_model.specs.Calls.{IsRead, IsWrite, IsSync};
-ghost use Rattle.audit_disk.specs.Shifted.{shifted};
+ghost use Rattle.audit_disk.specs.ShiftedView.{shifted};
 ghost use Rattle.audit_disk.specs.Countdown.{one_less, is_passing};
 ghost use Rattle.audit_disk.specs.Passing.{PassesOn};
 

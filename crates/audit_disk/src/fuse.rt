@@ -2,7 +2,8 @@ ghost use Rattle.std.specs.Prelude.{◌≡◌, ◌-◌, ◌<◌};
 ghost use Rattle.audit_disk_model.specs.View.{last_count};
 ghost use Rattle.audit_disk_model.specs.Moments.{IsUnused, LooksLike};
 ghost use Rattle.audit_disk_model.specs.Calls.{IsRead, IsWrite, IsSync};
-ghost use Rattle.audit_disk.specs.Shifted.{shifted, MayMiss};
+ghost use Rattle.audit_disk.specs.Shifted.{MayMiss};
+ghost use Rattle.audit_disk.specs.ShiftedView.{shifted};
 
 use crate::gate::Gate;
 use crate::{DeviceFault, SECTOR_SIZE, Sectors};

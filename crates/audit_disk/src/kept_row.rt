@@ -1,6 +1,6 @@
 ghost use Rattle.std.specs.Prelude.{◌≡◌, ◌+◌, ◌*◌, ◌^◌, ◌<◌, ◌≤◌, length};
 ghost use Rattle.audit_base.specs.declared.limits.TheConstants.{SECTOR_SIZE};
-ghost use Rattle.audit_disk.specs.FileView.{IsWholeRow};
+ghost use Rattle.audit_disk.specs.Rows.{IsWholeRow};
 ghost use Rattle.audit_disk.specs.declared.read_ahead.TheConstants.{ROW_SECTORS};
 
 use crate::SECTOR_SIZE;

@@ -1,7 +1,8 @@
 ghost use Rattle.std.specs.Prelude.{◌≡◌, ◌*◌, ◌^◌, ◌<◌, length, map};
 ghost use Rattle.audit_base.specs.declared.limits.TheConstants.{SECTOR_SIZE};
 ghost use Rattle.audit_disk.specs.Held.{settled, content_of, bytes_of_blocks};
-ghost use Rattle.audit_disk.specs.Memory.{after_calls, memory_view};
+ghost use Rattle.audit_disk.specs.Memory.{after_calls};
+ghost use Rattle.audit_disk.specs.MemoryView.{memory_view};
 
 use crate::block::Block;
 use crate::call::Effect;

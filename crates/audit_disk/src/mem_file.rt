@@ -1,4 +1,4 @@
-ghost use Rattle.audit_disk.specs.MemFile.{joined_view};
+ghost use Rattle.audit_disk.specs.MemFileView.{joined_view};
 
 use crate::{DeviceFault, MemDisk, SECTOR_SIZE, SectorFile, Sectors};
 

@@ -1,8 +1,9 @@
 ghost use Rattle.std.specs.Prelude.{◌≡◌, ◌*◌, ◌%◌, ◌<◌, ◌≤◌, length, IfOk};
 ghost use Rattle.audit_base.specs.declared.limits.TheConstants.{SECTOR_SIZE};
 ghost use Rattle.audit_disk.specs.declared.read_ahead.TheConstants.{ROW_SECTORS, ROWS_FROM};
-ghost use Rattle.audit_disk.specs.FileView.{IsWholeRow};
-ghost use Rattle.audit_disk.specs.File.{HasRow, HasRow-prop, IsRowOffset, OnlyFileReads};
+ghost use Rattle.audit_disk.specs.Rows.{IsWholeRow};
+ghost use Rattle.audit_disk.specs.File.{HasRow, IsRowOffset, OnlyFileReads};
+ghost use Rattle.audit_disk.specs.FileLaws.{HasRow-prop};
 
 use crate::sector_file::write_each;
 use crate::{DeviceFault, SECTOR_SIZE, SectorFile};

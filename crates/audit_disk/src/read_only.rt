@@ -54,7 +54,7 @@ impl<S: SectorSource> Sectors for ReadOnly<'_, S> {
     ghost use Rattle.std.specs.Prelude.{◌+◌, ◌≤◌, IsOk, OnErr};
     ghost use Rattle.audit_disk_model.specs.View.{last_count};
     ghost use Rattle.audit_disk_model.specs.Calls.{IsRead, IsWrite, IsSync};
-    ghost use Rattle.audit_disk.specs.ReadOnly.{overlay_view};
+    ghost use Rattle.audit_disk.specs.OverlayView.{overlay_view};
     ghost use Rattle.audit_disk.specs.ReadOnlyView.{read_only_view, source_under, spare_calls};
 
     ghost view = { λ disk. overlay_view (S.source disk.source.now) disk.log.calls.items disk.log.clock

@@ -1,15 +1,14 @@
 -- The calls of a door over sockets: who comes in, who waits, and who is given a place.
-use Rattle.std.specs.Prelude.{◌≡◌, ◌⊎◌, ℕ, ◌&&◌, not, Bool, true, Option, Some, None, List, [], ◌∷◌, ◌++◌, length}
+use Rattle.std.specs.Prelude.{◌≡◌, ◌⊎◌, ℕ, ◌&&◌, not, Bool, true, Option, Some, None, List, [], ◌∷◌, length}
 use Rattle.std.specs.Prelude.{Contains}
 use Rattle.std.specs.List.{list_all}
 use Rattle.std.specs.declared.time.Instant.{Instant}
-use Rattle.std.proofs.Common.{refl, subst}
 use Rattle.audit_serve_passes.specs.declared.rights.Rights.{Rights}
 use Rattle.audit_serve_ready.specs.declared.departure.Departure.{Departure}
 use Rattle.audit_serve_ready.specs.declared.newcomer.Newcomer.{Newcomer}
 use Rattle.audit_serve_ready.specs.declared.next.Next.{Next}
 use Rattle.audit_serve_ready.specs.declared.next.Next.TheVariants as next
-use Rattle.audit_serve_ready.specs.Door.{DoorCall, a_judging, a_release, an_offer, a_parting, a_pause, DoorModel}
+use Rattle.audit_serve_ready.specs.Door.{DoorCall, a_judging, a_release, an_offer, a_parting, a_pause}
 use Rattle.audit_serve_passes.specs.Rights.{only_reads}
 use Rattle.audit_serve_door.specs.Accepting.{AcceptModel}
 use Rattle.audit_serve_door.specs.Notes.{NoteModel, a_note}
@@ -197,17 +196,3 @@ module _ {C J W L S : Type 0} (A : AcceptModel L S) (N : NoteModel J) (Left : W 
   AreDoorCalls old [] new = new ≡ old
   AreDoorCalls old (call ∷ calls) new =
       (mid : SocketDoor C J W L S) × IsDoorCall old call mid × AreDoorCalls mid calls new
-
-  pub are-append : (old mid new : SocketDoor C J W L S) (calls later : List (DoorCall (Metered (Nonblocking S))))
-      → AreDoorCalls old calls mid → AreDoorCalls mid later new → AreDoorCalls old (calls ++ later) new
-  are-append old mid new [] later first second =
-      subst (λ (door : SocketDoor C J W L S). AreDoorCalls door later new) first second
-  are-append old mid new (call ∷ calls) later first second =
-      (first.0, first.1, are-append first.0 mid new calls later first.2 second)
-
-  abbrev pub socket_door_calls : DoorModel (SocketDoor C J W L S) (Metered (Nonblocking S))
-  socket_door_calls = record {
-    DidCalls = λ old new calls. AreDoorCalls old calls new;
-    nothing_called = λ door. refl;
-    more_called = λ old mid new calls later first second. are-append old mid new calls later first second;
-  }

@@ -2,6 +2,7 @@ pub mod Accepting
 pub mod Notes
 pub mod Entrances
 pub mod Moves
+pub mod MovesLaws
 pub mod Metered
 pub mod Orders
 pub mod Choice
@@ -11,3 +12,5 @@ pub mod Finishing
 pub mod Idle
 pub mod Entering
 pub mod Comings
+pub mod ComingsLaws
+pub mod DoorCalls

@@ -3,7 +3,8 @@ use Rattle.std.specs.Prelude.{◌≡◌, ℕ, List}
 use Rattle.std.proofs.Common.{refl}
 use Rattle.audit_serve_passes.specs.Streams.{StreamCall, CallModel}
 use Rattle.audit_serve_door.specs.declared.metered.Metered.{Metered}
-use Rattle.audit_serve_door.specs.Moves.{count_after_calls, counted_more}
+use Rattle.audit_serve_door.specs.Moves.{count_after_calls}
+use Rattle.audit_serve_door.specs.MovesLaws.{counted_more}
 
 abbrev pub inner_of_metered : {S : Type 0} → Metered S → S
 inner_of_metered stream = stream.inner

@@ -626,7 +626,7 @@ where
     L: Accepts<S> + Watched + Drop,
     S: Prompt + Watched + Drop,
 {
-    ghost use Rattle.audit_serve_door.specs.Comings.{socket_door_calls};
+    ghost use Rattle.audit_serve_door.specs.DoorCalls.{socket_door_calls};
 
     ghost calls = { socket_door_calls L.model J.notes W.left };
 

@@ -3,7 +3,8 @@ ghost use Rattle.std.specs.Prelude.{◌≡◌, ◌<◌, ◌≤◌, ℕ, true, []
 ghost use Rattle.audit_base.specs.declared.limits.TheConstants.{SESSIONS};
 ghost use Rattle.audit_serve_passes.specs.Steps.{a_piece, an_end, a_flush};
 ghost use Rattle.audit_serve_passes.specs.Core.{CoreModel, no_bytes, bytes_for};
-ghost use Rattle.audit_test_serve.specs.Recorder.{recorder_model, IsRecorderIdle, recorded_owed};
+ghost use Rattle.audit_test_serve.specs.Recorder.{IsRecorderIdle, recorded_owed};
+ghost use Rattle.audit_test_serve.specs.RecorderModel.{recorder_model};
 
 use audit_base::SESSIONS;
 use audit_serve_passes::{Allowance, Demand, Rights, SessionCore};

@@ -3,8 +3,9 @@ use Rattle.std.proofs.lemmas.Bool.{false≢true}
 use Rattle.audit_disk_model.specs.Image.{Sector}
 use Rattle.audit_disk_model.specs.declared.fault.DeviceFault.{DeviceFault}
 use Rattle.audit_disk.specs.File.{IsRowWrite}
-use Rattle.audit_disk.specs.FileView.{active_row}
-use Rattle.audit_disk.specs.KeptRow.{kept_sectors, whole_kept, length-kept}
+use Rattle.audit_disk.specs.Rows.{active_row}
+use Rattle.audit_disk.specs.KeptRow.{kept_sectors}
+use Rattle.audit_disk.specs.KeptRowLaws.{whole_kept, length-kept}
 use Rattle.audit_disk.proofs.FileFlushes.{flush_done, flush_singly, flush_lost, row_ok, row_failed}
 use Rattle.audit_disk.proofs.Reached.{reached_now, none_of, active_rows, kept_nothing}
 use Rattle.audit_disk.proofs.RowTries.{not_tried, tried_again}

@@ -1,6 +1,7 @@
 use Rattle.std.proofs.Common.{◌+◌, ◌-◌, ◌≡◌, ◌⊎◌, ℕ, Option, length, inl, inr, ⊎_elim, min, is_some, false, unwrap_or, refl, ap, arith}
-use Rattle.audit_disk.specs.FileView.{file_moment, row_at, active_row}
-use Rattle.audit_disk.specs.KeptRow.{kept_sectors, length-kept}
+use Rattle.audit_disk.specs.Rows.{file_moment, row_at, active_row}
+use Rattle.audit_disk.specs.KeptRow.{kept_sectors}
+use Rattle.audit_disk.specs.KeptRowLaws.{length-kept}
 use Rattle.audit_disk.proofs.FileCalls.{write_kept}
 use Rattle.audit_disk.proofs.FileKeeps.{keep_then, keep_was, keep_now_in, keep_now_out, keep_next_in, keep_next_out, row_now, row_next, same_content}
 use Rattle.audit_disk.proofs.FileTimes.{below_end}

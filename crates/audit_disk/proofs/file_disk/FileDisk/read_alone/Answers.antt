@@ -1,7 +1,8 @@
 use Rattle.std.proofs.Common.{◌+◌, ◌-◌, ◌<◌, ◌≤◌, ◌≡◌, ◌⊎◌, ℕ, List, length, min, is_some, true, false, unwrap_or, refl, sym, ap, subst, arith}
 use Rattle.audit_disk_model.specs.Image.{Sector}
-use Rattle.audit_disk.specs.FileView.{file_moment, row_at, active_row}
-use Rattle.audit_disk.specs.KeptRow.{kept_sectors, length-kept}
+use Rattle.audit_disk.specs.Rows.{file_moment, row_at, active_row}
+use Rattle.audit_disk.specs.KeptRow.{kept_sectors}
+use Rattle.audit_disk.specs.KeptRowLaws.{length-kept}
 use Rattle.audit_disk.proofs.FileCalls.{read_file}
 use Rattle.audit_disk.proofs.FileTimes.{moment_most, row_active, earlier_then, earlier_was, apart_active}
 use Rattle.audit_disk.proofs.Reached.{reached_now, none_of}

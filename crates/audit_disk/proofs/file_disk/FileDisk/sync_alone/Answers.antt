@@ -1,6 +1,7 @@
 use Rattle.std.proofs.Common.{Ok, Err, ◌+◌, ◌-◌, ◌≤◌, ◌≡◌, ℕ, min, is_some, true, false, unwrap_or, refl, arith}
-use Rattle.audit_disk.specs.FileView.{file_moment, row_at, active_row}
-use Rattle.audit_disk.specs.KeptRow.{kept_sectors, length-kept}
+use Rattle.audit_disk.specs.Rows.{file_moment, row_at, active_row}
+use Rattle.audit_disk.specs.KeptRow.{kept_sectors}
+use Rattle.audit_disk.specs.KeptRowLaws.{length-kept}
 use Rattle.audit_disk.proofs.FileCalls.{sync_counted}
 use Rattle.audit_disk.proofs.FileTimes.{moment_kept, row_kept, moment_most, row_none, earlier_then, earlier_was, below_last, below_end, split_up}
 use Rattle.audit_disk.proofs.Reached.{reached_now, none_of}

@@ -1,7 +1,7 @@
 use Rattle.std.proofs.Common.{◌≡◌, ◌-◌, ℕ, List, [], refl, sym, ◌∙◌, ap, subst, arith}
 use Rattle.audit_disk_model.specs.Image.{Sector}
 use Rattle.audit_disk.specs.File.{sectors_of}
-use Rattle.audit_disk.specs.FileView.{with_row, MayHaveRow, row_at, file_moment}
+use Rattle.audit_disk.specs.Rows.{with_row, MayHaveRow, row_at, file_moment}
 use Rattle.audit_disk.specs.KeptRow.{kept_sectors}
 use Rattle.audit_disk.proofs.KeptRows.{row_nothing, nothing_row}
 use Rattle.audit_disk.proofs.Reached.{kept_nothing}

@@ -1,7 +1,8 @@
 use Rattle.std.proofs.Common.{ℕ, refl, sym, ◌∙◌, ap, subst, take, min, unwrap_or, ◌-◌, arith}
 use Rattle.audit_disk_model.specs.Image.{Image}
 use Rattle.audit_disk.specs.File.{sectors_of}
-use Rattle.audit_disk.specs.FileView.{with_row, MayHaveRow, row_at, active_row, length-sectors_of}
+use Rattle.audit_disk.specs.RowLaws.{length-sectors_of}
+use Rattle.audit_disk.specs.Rows.{with_row, MayHaveRow, row_at, active_row}
 use Rattle.audit_disk.specs.KeptRow.{kept_sectors}
 use Rattle.audit_disk.proofs.FileSectors.{take-sectors_of}
 use Rattle.audit_disk.proofs.KeptRows.{take-with_row, row_front, row_back}

@@ -1,6 +1,6 @@
 use Rattle.std.proofs.Common.{◌≡◌, length, arith}
 use Rattle.audit_disk.specs.MemDisk.{disk_view}
-use Rattle.audit_disk.specs.MemFile.{length-joined}
+use Rattle.audit_disk.specs.MemFileLaws.{length-joined}
 use Rattle.audit_disk.specs.MemFileView.{mem_file_view}
 use Rattle.audit_disk.specs.Positioned.{counted_file, uncounted}
 use Rattle.audit_disk.proofs.RowReads.{only_none}
