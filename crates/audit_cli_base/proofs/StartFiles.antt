@@ -11,9 +11,12 @@ use Rattle.sha2.specs.Sha256.{sha256}
 use Rattle.sha2.proofs.Facts256.{length-sha256}
 use Rattle.audit_text.specs.declared.input.TheConstants.{INPUT_LIMIT}
 use Rattle.audit_verify.specs.State.{StateData}
-use Rattle.audit_verify.specs.StateText.{IsSoundState, IsHash, field_line, node_lines, log_word, state_lines, state_text}
+use Rattle.audit_verify.specs.StateText.{IsSoundState, node_lines, log_word, state_lines, state_text}
+use Rattle.audit_proof.specs.SoundCommitment.{IsHash}
+use Rattle.audit_text.specs.Fields.{field_line}
 use Rattle.audit_proof.specs.declared.commitment.Commitment.{Commitment}
-use Rattle.audit_verify.specs.Bookmark.{AreSoundParts, IsSoundNewest, newest_lines, marked_lines, bookmark_text}
+use Rattle.audit_verify.specs.Bookmark.{AreSoundParts, newest_lines, marked_lines, bookmark_text}
+use Rattle.audit_proof.specs.SoundCommitment.{IsSoundCommitment}
 use Rattle.audit_cli_base.specs.KeyFile.{key_of_file}
 use Rattle.audit_cli_base.specs.StartFile.{IsNoStart}
 use Rattle.audit_cli_base.proofs.KeyFiles.{no_key_if_long, too_long_for_a_key}
@@ -80,7 +83,7 @@ length-state : (state : StateData) → length (state_text state) ≡ length (sta
 unfolding state_text
 length-state state = omega (arith, length-append (state_lines state) (field_line (codes "sha256") (encode_lower (sha256 (state_lines state)))), length-digest (state_lines state))
 
-length-newest : (newest : Commitment) → IsSoundNewest newest → length (newest_lines newest) ≤ 200
+length-newest : (newest : Commitment) → IsSoundCommitment newest → length (newest_lines newest) ≤ 200
 length-newest newest is = omega (
   arith,
   length-append (field_line (codes "newest") (decimal newest.count)) (field_line (codes "root") (encode_lower newest.root)),

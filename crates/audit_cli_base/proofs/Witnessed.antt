@@ -10,9 +10,9 @@ use Rattle.audit_tree.specs.Subtree.{leaf_hash_of, root_of}
 use Rattle.audit_proof.specs.Acceptance.{commitment_to}
 use Rattle.audit_proof.specs.declared.commitment.Commitment.{Commitment}
 use Rattle.audit_store.specs.Extending.{ExtendsCommitment}
-use Rattle.audit_verify.specs.TreesCollide.{TreesCollide}
+use Rattle.audit_proof.specs.TreesCollide.{TreesCollide}
 use Rattle.audit_verify.proofs.Commitments.{same_commitment}
-use Rattle.audit_verify.proofs.SameEntries.{same_entries}
+use Rattle.audit_proof.proofs.SameEntries.{same_entries}
 
 module _ (older : Commitment) (witnessed : List (List ℕ)) (first_key : List ℕ) (events : List EventData) {leaves : List (List ℕ)}
     (are : leaves ≡ map leaf_hash_of (log_entries first_key events)) (extends : ExtendsCommitment older leaves) (of_them : older ≡ commitment_to witnessed) where

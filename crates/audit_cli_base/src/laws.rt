@@ -7,7 +7,7 @@ ghost use Rattle.audit_proof.specs.declared.commitment.Commitment.{Commitment};
 ghost use Rattle.audit_store_commit.specs.Origin.{Origin};
 ghost use Rattle.audit_store.specs.Extending.{ExtendsCommitment};
 ghost use Rattle.audit_store.specs.Store.{index_of, Holds};
-ghost use Rattle.audit_verify.specs.TreesCollide.{TreesCollide};
+ghost use Rattle.audit_proof.specs.TreesCollide.{TreesCollide};
 
 use audit_disk_model::Sectors;
 use audit_store::Store;

@@ -16,7 +16,8 @@ use Rattle.audit_disclosure.specs.declared.disclosure.DisclosedKey.{DisclosedKey
 use Rattle.audit_disclosure.specs.Choosing.{chosen_keys, is_chosen, start_after}
 use Rattle.audit_disclosure.specs.DisclosureText.{AreKeysFrom, IsSoundStart}
 use Rattle.audit_verify.specs.State.{StateData}
-use Rattle.audit_verify.specs.StateText.{IsHash, IsSoundState}
+use Rattle.audit_verify.specs.StateText.{IsSoundState}
+use Rattle.audit_proof.specs.SoundCommitment.{IsHash}
 
 -- ---- a digest has bytes
 

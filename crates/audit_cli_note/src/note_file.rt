@@ -1,6 +1,6 @@
 //! Words of a command line that name a file with a note.
 ghost use Rattle.std.specs.Prelude.{◌≡◌, None, Some, IfOk, IfErr, IfSome, MatchOption, string_bytes};
-ghost use Rattle.audit_verify.specs.Bookmark.{IsSoundNewest};
+ghost use Rattle.audit_proof.specs.SoundCommitment.{IsSoundCommitment};
 ghost use Rattle.audit_note.specs.CommitmentWord.{commitment_in_word};
 ghost use Rattle.audit_cli_note.specs.NoteWords.{path_after_sign, IsNoteAt, IsNoteAtFault, IsNoteFileFault, IsNoteTo};
 
@@ -44,7 +44,7 @@ where
 // The commitment in the note that a reader has.
 fn read_commitment<R: Read>(alloc: Global, reader: &mut R) -> Result<Commitment, NoteError>
     ensures note { IfOk result (λ commitment. IfSome (R.remaining reader.old) (λ text. IsNoteTo text commitment)) }
-    ensures sound { IfOk result IsSoundNewest }
+    ensures sound { IfOk result IsSoundCommitment }
     ensures fault { IfErr result (IsNoteFileFault (R.remaining reader.old)) }
 {
     match read_input(alloc, reader) {
@@ -59,7 +59,7 @@ fn read_commitment<R: Read>(alloc: Global, reader: &mut R) -> Result<Commitment,
 
 // COUNT:ROOT.
 fn commitment_word(alloc: Global, commitment: &Commitment) -> Result<String, AllocError>
-    ensures { IsSoundNewest commitment.now
+    ensures { IsSoundCommitment commitment.now
         → IfOk result (λ word. commitment_in_word (string_bytes word) ≡ Some commitment.now) }
 {
     let mut digits = Buffer::new();

@@ -13,8 +13,9 @@ use Rattle.hex.specs.Hex.{encode_lower, decode_sized}
 use Rattle.audit_base.specs.declared.limits.TheConstants.{HASH_LEN}
 use Rattle.audit_text.specs.Number.{number_in_text}
 use Rattle.audit_text.specs.NumberedLine.{numbered_line}
-use Rattle.audit_verify.specs.StateText.{field_line}
-use Rattle.audit_verify.proofs.Fields.{NoFeed, NoSpace, field_read, digits_feedless, hash_feedless, number_read, hash_read}
+use Rattle.audit_text.specs.Fields.{field_line}
+use Rattle.audit_verify.proofs.Fields.{hash_read}
+use Rattle.audit_text.proofs.FieldLines.{NoFeed, NoSpace, field_read, digits_feedless, hash_feedless, number_read}
 use Rattle.audit_disclosure.specs.declared.disclosure.DisclosedKey.{DisclosedKey}
 use Rattle.audit_disclosure.specs.ShownEntries.{key_at}
 use Rattle.audit_disclosure.specs.DisclosureText.{IsDisclosedKey, AreKeysFrom, disclosed_line, disclosed_lines}

@@ -7,7 +7,7 @@ use Rattle.sha2.specs.Sha256.{sha256}
 use Rattle.audit_chain.specs.EventData.{EventData}
 use Rattle.audit_chain.specs.Entry.{link_of}
 use Rattle.audit_chain.specs.EntryForm.{EntryParts, AreParts}
-use Rattle.audit_verify.proofs.EachVerdict.{same_or_other}
+use Rattle.audit_proof.proofs.SameEntries.{same_or_other}
 use Rattle.audit_disclosure.specs.LinkedEntries.{AreLinkedFrom, last_link_of, sealed_event, sealed_events}
 use Rattle.audit_disclosure.specs.SameSealed.{sealed_link_text, SealedLinksCollide, AreSameSealed}
 

@@ -13,8 +13,10 @@ use Rattle.audit_tree.specs.Frontier.{FrontierData, IsSized}
 use Rattle.audit_tree.specs.Continued.{no_hash, empty_frontier}
 use Rattle.audit_chain.specs.Entries.{first_link}
 use Rattle.audit_text.specs.NumberedLine.{numbered_line}
-use Rattle.audit_verify.specs.StateText.{field_line, node_lines}
-use Rattle.audit_verify.proofs.Fields.{Splits, digits_feedless, hash_feedless}
+use Rattle.audit_verify.specs.StateText.{node_lines}
+use Rattle.audit_text.specs.Fields.{field_line}
+use Rattle.audit_text.proofs.FieldLines.{digits_feedless, hash_feedless}
+use Rattle.audit_text.specs.Fields.{Splits}
 use Rattle.audit_disclosure.specs.declared.disclosure.DisclosedKey.{DisclosedKey}
 use Rattle.audit_disclosure.specs.declared.disclosure.Start.{Start}
 use Rattle.audit_disclosure.specs.DisclosureText.{IsSoundStart, disclosed_lines, later_lines, start_lines, disclosure_text}

@@ -6,7 +6,9 @@ use Rattle.hex.specs.Hex.{encode_lower}
 use Rattle.audit_chain.specs.Entries.{first_link}
 use Rattle.audit_text.specs.NumberedLine.{numbered_line}
 use Rattle.audit_tree.specs.Frontier.{IsSized}
-use Rattle.audit_verify.specs.StateText.{IsHash, field_line, node_lines}
+use Rattle.audit_verify.specs.StateText.{node_lines}
+use Rattle.audit_proof.specs.SoundCommitment.{IsHash}
+use Rattle.audit_text.specs.Fields.{field_line}
 use Rattle.audit_disclosure.specs.declared.reading.TheConstants.{INDEX_LIMIT}
 use Rattle.audit_disclosure.specs.declared.disclosure.DisclosedKey.{DisclosedKey}
 use Rattle.audit_disclosure.specs.declared.disclosure.Start.{Start}

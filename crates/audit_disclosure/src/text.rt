@@ -1,7 +1,8 @@
 //! Disclosures written as text.
 ghost use Rattle.std.specs.Prelude.{◌≡◌, ◌++◌, IfOk, OnOk, codes};
 ghost use Rattle.hex.specs.Hex.{encode_lower};
-ghost use Rattle.audit_verify.specs.StateText.{field_line, node_lines};
+ghost use Rattle.audit_verify.specs.StateText.{node_lines};
+ghost use Rattle.audit_text.specs.Fields.{field_line};
 ghost use Rattle.audit_disclosure.specs.DisclosureText.{disclosed_line, disclosed_lines, start_lines, disclosure_text};
 
 use crate::disclosure::{DisclosedKey, Start};

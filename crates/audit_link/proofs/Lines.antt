@@ -9,7 +9,7 @@ use Rattle.std.proofs.lemmas.Fmt.{decimal_is_IsNumeral, length-decimal-le}
 use Rattle.std.proofs.Math.Seq.{take-append_seam}
 use Rattle.audit_base.specs.declared.limits.TheConstants.{RESERVED_KIND}
 use Rattle.audit_text.specs.Number.{number_in_text}
-use Rattle.audit_verify.proofs.Fields.{NoFeed, NoSpace, before_feed, field_read, digits_feedless, number_read}
+use Rattle.audit_text.proofs.FieldLines.{NoFeed, NoSpace, before_feed, field_read, digits_feedless, number_read}
 use Rattle.audit_link.specs.declared.kind_count.KindCount.{KindCount}
 use Rattle.audit_link.specs.Counts.{IsCount, Ascends, AreCounts}
 use Rattle.audit_link.specs.CountsText.{kind_line, kind_lines, version_line, counts_text, SpellsCounts}

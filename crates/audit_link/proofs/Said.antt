@@ -17,10 +17,11 @@ use Rattle.audit_chain.specs.Key.{next_key}
 use Rattle.audit_chain.proofs.Opening.{sealed_parts_fit, opened_event-cipher_of}
 use Rattle.audit_proof.specs.Acceptance.{commitment_to}
 use Rattle.audit_proof.specs.declared.commitment.Commitment.{Commitment}
-use Rattle.audit_verify.specs.Bookmark.{IsSoundNewest}
-use Rattle.audit_verify.specs.TreesCollide.{TreesCollide}
-use Rattle.audit_verify.proofs.Fields.{number_read, hash_read, same_some, same_number}
-use Rattle.audit_verify.proofs.SameEntries.{same_entries}
+use Rattle.audit_proof.specs.SoundCommitment.{IsSoundCommitment}
+use Rattle.audit_proof.specs.TreesCollide.{TreesCollide}
+use Rattle.audit_text.proofs.FieldLines.{hex_read}
+use Rattle.audit_text.proofs.FieldLines.{number_read, same_some, same_number}
+use Rattle.audit_proof.proofs.SameEntries.{same_entries}
 use Rattle.audit_link.specs.declared.kind_count.KindCount.{KindCount}
 use Rattle.audit_link.specs.declared.link.ClosingEntry.{ClosingEntry}
 use Rattle.audit_link.specs.Counts.{AreCounts}
@@ -68,7 +69,7 @@ given : ℕ → List ℕ → Commitment
 given count root = record { count = count; root = root }
 
 -- a text is that of one commitment
-commitment_alike : (old other : Commitment) → IsSoundNewest old → IsSoundNewest other → commitment_payload old ≡ commitment_payload other → old ≡ other
+commitment_alike : (old other : Commitment) → IsSoundCommitment old → IsSoundCommitment other → commitment_payload old ≡ commitment_payload other → old ≡ other
 unfolding given
 commitment_alike old other is also same =
     let front : List ℕ = decimal old.count ++ codes ":" in
@@ -82,13 +83,13 @@ commitment_alike old other is also same =
     omega (arith, fronts, length-append (decimal old.count) (codes ":"), length-append (decimal other.count) (codes ":")) in
     let counts = (cut_alike (decimal old.count) (decimal other.count) (codes ":") (codes ":") digits cut.0).0 in
     let count : Some old.count ≡ Some other.count = sym (number_read old.count is.count) ∙ ap number_in_text counts ∙ number_read other.count also.count in
-    let root : Some old.root ≡ Some other.root = sym (hash_read old.root is.root) ∙ ap (λ d. result_ok (decode_sized d HASH_LEN)) cut.1 ∙ hash_read other.root also.root in
+    let root : Some old.root ≡ Some other.root = sym (hex_read old.root is.root.long is.root.bytes) ∙ ap (λ d. result_ok (decode_sized d HASH_LEN)) cut.1 ∙ hex_read other.root also.root.long also.root.bytes in
     ap (λ k. given k old.root) (same_number old.count other.count count) ∙ ap (λ r. given other.count r) (same_some old.root other.root root)
 
 payload_alike : (event another : EventData) → event ≡ another → event.payload ≡ another.payload
 payload_alike event another same = ap (λ (e : EventData). e.payload) same
 
-pub one_old : (old other new : Commitment) (link another : LinkData) → IsSoundNewest old → IsSoundNewest other → AcceptsLink old new link → AcceptsLink other new another
+pub one_old : (old other new : Commitment) (link another : LinkData) → IsSoundCommitment old → IsSoundCommitment other → AcceptsLink old new link → AcceptsLink other new another
     → (old ≡ other) ⊎ (TreesCollide (entries_in link) (entries_in another) ⊎ ShowTwoTexts link.first another.first (commitment_event old) (commitment_event other))
 one_old old other new link another is also first second =
     let says = first.new_half.1 in

@@ -2,7 +2,7 @@
 use Rattle.std.specs.Prelude.{◌≡◌, ℕ, Option, Some, None, List, ◌++◌, codes}
 use Rattle.std.specs.List.{flat_map}
 use Rattle.std.specs.Fmt.{decimal}
-use Rattle.audit_verify.specs.StateText.{field_line}
+use Rattle.audit_text.specs.Fields.{field_line}
 use Rattle.audit_link.specs.declared.kind_count.KindCount.{KindCount}
 use Rattle.audit_link.specs.Counts.{AreCounts}
 

@@ -1,8 +1,8 @@
 //! Laws of links. Each function does nothing: its contract is the law, which may stand on another one.
 ghost use Rattle.std.specs.Prelude.{◌≡◌, ◌⊎◌, ◌≤◌, ℕ, List, length};
 ghost use Rattle.audit_proof.specs.declared.commitment.Commitment.{Commitment};
-ghost use Rattle.audit_verify.specs.Bookmark.{IsSoundNewest};
-ghost use Rattle.audit_verify.specs.TreesCollide.{TreesCollide};
+ghost use Rattle.audit_proof.specs.SoundCommitment.{IsSoundCommitment};
+ghost use Rattle.audit_proof.specs.TreesCollide.{TreesCollide};
 ghost use Rattle.audit_link.specs.declared.kind_count.KindCount.{KindCount};
 ghost use Rattle.audit_link.specs.Counts.{AreCounts};
 ghost use Rattle.audit_link.specs.CountsText.{SpellsCounts, counts_text};
@@ -15,7 +15,7 @@ ghost use Rattle.audit_link.specs.Accepted.{AcceptsLink, SaysCounts, ShowTwoText
 /// texts, or one entry reads as two events under two keys.
 pub fn logs_go_on_from_one()
     ensures commitment { (old other new : Commitment) (link another : LinkData)
-        → IsSoundNewest old → IsSoundNewest other → AcceptsLink old new link → AcceptsLink other new another
+        → IsSoundCommitment old → IsSoundCommitment other → AcceptsLink old new link → AcceptsLink other new another
         → (old ≡ other) ⊎ (TreesCollide (entries_in link) (entries_in another)
         ⊎ ShowTwoTexts link.first another.first (commitment_event old) (commitment_event other)) }
     ensures counts { (old other new : Commitment) (link another : LinkData) (counts others : List KindCount)

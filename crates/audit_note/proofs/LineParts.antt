@@ -1,17 +1,11 @@
--- The parts of a line, and of the lines of a note, one after another.
-use Rattle.std.proofs.Common.{◌≡◌, ◌∙◌, ℕ, List, [], ◌∷◌, ◌++◌, sym, ap, append_assoc}
+-- The lines of a note, one after another.
+use Rattle.std.proofs.Common.{◌≡◌, ◌∙◌, ℕ, List, ◌++◌, sym, ap, append_assoc}
 use Rattle.std.specs.Prelude.{codes}
 use Rattle.std.specs.Fmt.{decimal}
 use Rattle.hex.specs.Hex.{encode_lower}
 use Rattle.audit_proof.specs.declared.commitment.Commitment.{Commitment}
-use Rattle.audit_verify.specs.StateText.{field_line}
+use Rattle.audit_text.specs.Fields.{field_line}
 use Rattle.audit_note.specs.NoteText.{note_text}
-
-abbrev pub parts_of_line : List ℕ → List ℕ → List ℕ → List ℕ
-parts_of_line word value rest = word ++ ((32 ∷ []) ++ (value ++ ((10 ∷ []) ++ rest)))
-
-pub line_split : (word value rest : List ℕ) → field_line word value ++ rest ≡ parts_of_line word value rest
-line_split word value rest = simp append_assoc
 
 abbrev pub lines_of_note : List ℕ → List ℕ → List ℕ → List ℕ → List ℕ
 lines_of_note name count root rest =

@@ -16,10 +16,12 @@ use Rattle.audit_base.specs.declared.limits.TheConstants.{HASH_LEN}
 use Rattle.audit_text.specs.declared.input.TheConstants.{INPUT_LIMIT}
 use Rattle.audit_text.specs.Number.{number_in_text}
 use Rattle.audit_proof.specs.declared.commitment.Commitment.{Commitment}
-use Rattle.audit_verify.specs.StateText.{field_line}
-use Rattle.audit_verify.specs.Bookmark.{IsSoundNewest}
-use Rattle.audit_verify.proofs.Fields.{NoFeed, field_read, digits_feedless, hash_feedless, number_read, hash_read, same_some, same_number}
-use Rattle.audit_note.specs.NoteText.{is_name_byte, is_log_name, note_text, IsNote, SpellsNote, IsNoNote, Splits}
+use Rattle.audit_text.specs.Fields.{field_line}
+use Rattle.audit_proof.specs.SoundCommitment.{IsSoundCommitment}
+use Rattle.audit_text.proofs.FieldLines.{hex_read}
+use Rattle.audit_text.proofs.FieldLines.{NoFeed, field_read, digits_feedless, hash_feedless, number_read, same_some, same_number}
+use Rattle.audit_note.specs.NoteText.{is_name_byte, is_log_name, note_text, IsNote, SpellsNote, IsNoNote}
+use Rattle.audit_text.specs.Fields.{Splits}
 use Rattle.audit_note.specs.declared.name.TheConstants.{MAX_NAME}
 
 -- a name has no line feed
@@ -81,12 +83,12 @@ given : ℕ → List ℕ → Commitment
 given count root = record { count = count; root = root }
 
 -- the commitment of two numbers and hashes that were written alike
-pub same_commitment : (count : ℕ) (root : List ℕ) (commitment : Commitment) → IsSoundNewest commitment → Some count ≡ number_in_text (decimal commitment.count)
+pub same_commitment : (count : ℕ) (root : List ℕ) (commitment : Commitment) → IsSoundCommitment commitment → Some count ≡ number_in_text (decimal commitment.count)
     → Some root ≡ result_ok (decode_sized (encode_lower commitment.root) HASH_LEN) → record { count = count; root = root } ≡ commitment
 unfolding given
 same_commitment count root commitment is count_is root_is =
     ap (λ k. given k root) (same_number count commitment.count (count_is ∙ number_read commitment.count is.count))
-    ∙ ap (λ r. given commitment.count r) (same_some root commitment.root (root_is ∙ hash_read commitment.root is.root))
+    ∙ ap (λ r. given commitment.count r) (same_some root commitment.root (root_is ∙ hex_read commitment.root is.root.long is.root.bytes))
 
 pub one_note : (text name other : List ℕ) (commitment another : Commitment) → SpellsNote text name commitment → SpellsNote text other another → (name ≡ other) × (commitment ≡ another)
 one_note text name other commitment another first second =
@@ -94,7 +96,7 @@ one_note text name other commitment another first second =
     let two = fields_in text other another second in
     let is = first.note_is.commitment_is in
     let count : Some commitment.count ≡ number_in_text (decimal another.count) = sym (number_read commitment.count is.count) ∙ ap number_in_text (sym one.count_is ∙ two.count_is) in
-    let root : Some commitment.root ≡ result_ok (decode_sized (encode_lower another.root) HASH_LEN) = sym (hash_read commitment.root is.root) ∙ ap (λ d. result_ok (decode_sized d HASH_LEN)) (sym one.root_is ∙ two.root_is) in
+    let root : Some commitment.root ≡ result_ok (decode_sized (encode_lower another.root) HASH_LEN) = sym (hex_read commitment.root is.root.long is.root.bytes) ∙ ap (λ d. result_ok (decode_sized d HASH_LEN)) (sym one.root_is ∙ two.root_is) in
     (sym one.name_is ∙ two.name_is, same_commitment commitment.count commitment.root another second.note_is.commitment_is count root)
 
 below : (n : ℕ) → n < 2 ^ 64 → n < 10 ^ 20
@@ -136,7 +138,7 @@ colon_at [] rest all = refl
 colon_at (byte ∷ front) rest all =
     ap (λ (b : Bool). cond (not b) (1 + position_or_len is_colon (front ++ 58 ∷ rest)) 0) all.0 ∙ ap (λ n. 1 + n) (colon_at front rest all.1) ∙ omega arith
 
-pub word_found : (commitment : Commitment) (word : List ℕ) → IsSoundNewest commitment → word ≡ (decimal commitment.count ++ codes ":") ++ encode_lower commitment.root → commitment_in_word word ≡ Some commitment
+pub word_found : (commitment : Commitment) (word : List ℕ) → IsSoundCommitment commitment → word ≡ (decimal commitment.count ++ codes ":") ++ encode_lower commitment.root → commitment_in_word word ≡ Some commitment
 word_found commitment word is word_is =
     let front = decimal commitment.count in
     let rest = encode_lower commitment.root in
@@ -147,7 +149,7 @@ word_found commitment word is word_is =
     let second : after_first is_colon word ≡ rest =
     ap (after_first is_colon) whole ∙ ap (λ (n : ℕ). drop (n + 1) (front ++ 58 ∷ rest)) place ∙ drop-append-add front (58 ∷ rest) 1 in
     ap (λ (o : Option ℕ). commitment_with o (result_ok (decode_sized (after_first is_colon word) HASH_LEN))) (ap number_in_text first ∙ number_read commitment.count is.count)
-    ∙ ap (λ (o : Option (List ℕ)). commitment_with (Some commitment.count) o) (ap (λ (digits : List ℕ). result_ok (decode_sized digits HASH_LEN)) second ∙ hash_read commitment.root is.root)
+    ∙ ap (λ (o : Option (List ℕ)). commitment_with (Some commitment.count) o) (ap (λ (digits : List ℕ). result_ok (decode_sized digits HASH_LEN)) second ∙ hex_read commitment.root is.root.long is.root.bytes)
 
 -- ---- what is no note
 

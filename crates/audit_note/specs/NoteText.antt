@@ -1,11 +1,11 @@
 -- A note as lines of text, each a word, a space and a value.
-use Rattle.std.specs.Prelude.{◌≡◌, ℕ, ◌==◌, Bool, true, false, ◌&&◌, nat_le, List, ◌++◌, length, codes}
+use Rattle.std.specs.Prelude.{◌≡◌, ℕ, Bool, true, ◌&&◌, nat_le, List, ◌++◌, length, codes}
 use Rattle.std.specs.Fmt.{decimal}
-use Rattle.std.specs.List.{list_all, AllByRecursion}
+use Rattle.std.specs.List.{list_all}
 use Rattle.hex.specs.Hex.{encode_lower}
 use Rattle.audit_proof.specs.declared.commitment.Commitment.{Commitment}
-use Rattle.audit_verify.specs.StateText.{field_line}
-use Rattle.audit_verify.specs.Bookmark.{IsSoundNewest}
+use Rattle.audit_text.specs.Fields.{field_line}
+use Rattle.audit_proof.specs.SoundCommitment.{IsSoundCommitment}
 use Rattle.audit_note.specs.declared.name.TheConstants.{MAX_NAME}
 
 -- a byte of ASCII that is printed, and no space
@@ -24,7 +24,7 @@ note_text name commitment =
 -- a note has a name, a number of eight bytes, and a hash
 pub record IsNote (name : List ℕ) (commitment : Commitment) : Type 0 where
   pub name_is : is_log_name name ≡ true
-  pub commitment_is : IsSoundNewest commitment
+  pub commitment_is : IsSoundCommitment commitment
 
 -- this text is the note
 pub record SpellsNote (text name : List ℕ) (commitment : Commitment) : Type 0 where
@@ -34,9 +34,3 @@ pub record SpellsNote (text name : List ℕ) (commitment : Commitment) : Type 0 
 -- the text is that of no note
 abbrev pub IsNoNote : List ℕ → Type 0
 IsNoNote text = (name : List ℕ) (commitment : Commitment) → ¬ SpellsNote text name commitment
-
--- a step of a reader: if a line with this word and value starts the text, this is its value, and this follows
-abbrev pub Splits : List ℕ → List ℕ → List ℕ → Type 0
-Splits text value after = (word given rest : List ℕ) → AllByRecursion (λ byte. (byte == 32) ≡ false) word
-    → AllByRecursion (λ byte. (byte == 10) ≡ false) word → AllByRecursion (λ byte. (byte == 10) ≡ false) given
-    → text ≡ field_line word given ++ rest → (value ≡ given) × (after ≡ rest)

@@ -3,11 +3,9 @@
 
 mod commitment_word;
 pub mod laws;
-mod line;
 mod name;
 mod note;
 
 pub use commitment_word::commitment_in_word;
-pub use line::{after_line, decimal_of, digits_of, field, hash_in};
 pub use name::{MAX_NAME, is_log_name};
 pub use note::{Note, read_note};

@@ -1,14 +1,13 @@
 //! Notes: a commitment with the name of its log, as lines of text that may be signed and dated.
 ghost use Rattle.std.specs.Prelude.{◌≡◌, ◌↔◌, ◌++◌, ℕ, List, [], IsTrue, IfSome, MatchOption};
 ghost use Rattle.audit_proof.specs.declared.commitment.Commitment.{Commitment};
-ghost use Rattle.audit_verify.specs.Bookmark.{IsSoundNewest};
+ghost use Rattle.audit_proof.specs.SoundCommitment.{IsSoundCommitment};
 ghost use Rattle.audit_note.specs.NoteText.{SpellsNote, IsNoNote, note_text};
 
-use crate::line::{after_line, decimal_of, digits_of, field, hash_in};
 use crate::name::is_log_name;
 use audit_base::Hash;
 use audit_proof::Commitment;
-use audit_text::number_in_text;
+use audit_text::{after_line, decimal_of, digits_of, field, hash_in, number_in_text};
 use itoa::Buffer;
 
 /// A commitment with the name of its log.
@@ -35,7 +34,7 @@ pub fn read_note<'a>(text: &'a [u8]) -> Option<Note<'a>>
 fn parse<'a>(text: &'a [u8]) -> Option<Note<'a>>
     ensures only { (name : List ℕ) (commitment : Commitment) → SpellsNote text.now name commitment
         → MatchOption result ⊥ (λ note. (note.name.now ≡ name) × (note.commitment ≡ commitment)) }
-    ensures sound { IfSome result (λ note. IsSoundNewest note.commitment) }
+    ensures sound { IfSome result (λ note. IsSoundCommitment note.commitment) }
 {
     let (_, rest) = field(text);
     let (name, rest) = field(rest);
@@ -47,7 +46,7 @@ fn parse<'a>(text: &'a [u8]) -> Option<Note<'a>>
 
 fn commitment_with(count: u64, root: Hash) -> Commitment
     ensures parts { result ≡ record { count = count; root = root } }
-    ensures sound { IsSoundNewest result }
+    ensures sound { IsSoundCommitment result }
 {
     Commitment { count, root }
 }

@@ -9,3 +9,4 @@ pub mod MadeMembership
 pub mod SharedNodes
 pub mod AcrossIncrement
 pub mod Leads
+pub mod SameEntries

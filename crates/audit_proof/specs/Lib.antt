@@ -6,3 +6,5 @@ pub mod MemoryNeeds
 pub mod ProofBytes
 pub mod Reached
 pub mod SharedNode
+pub mod SoundCommitment
+pub mod TreesCollide

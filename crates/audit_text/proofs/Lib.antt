@@ -1,4 +1,5 @@
 pub mod FirstLine
+pub mod FieldLines
 pub mod Decimal
 pub mod EventWords
 pub mod EventLines

@@ -1,5 +1,6 @@
 pub mod HexErrors
 pub mod Lines
+pub mod Fields
 pub mod Answers
 pub mod EventLine
 pub mod Reading

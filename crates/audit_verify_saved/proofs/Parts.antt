@@ -7,8 +7,10 @@ use Rattle.hex.specs.Hex.{encode_lower}
 use Rattle.sha2.specs.Sha256.{sha256}
 use Rattle.audit_proof.specs.declared.commitment.Commitment.{Commitment}
 use Rattle.audit_verify.specs.State.{StateData}
-use Rattle.audit_verify.specs.StateText.{field_line, node_lines, log_word, state_lines, state_text}
-use Rattle.audit_verify.specs.Bookmark.{IsSoundNewest, newest_lines, marked_lines, bookmark_text}
+use Rattle.audit_verify.specs.StateText.{node_lines, log_word, state_lines, state_text}
+use Rattle.audit_text.specs.Fields.{field_line}
+use Rattle.audit_verify.specs.Bookmark.{newest_lines, marked_lines, bookmark_text}
+use Rattle.audit_proof.specs.SoundCommitment.{IsSoundCommitment}
 use Rattle.audit_verify.proofs.TextParts.{text_parts}
 use Rattle.audit_verify.proofs.Marks.{rest_of}
 use Rattle.audit_verify_saved.specs.Saved.{mark_lines}
@@ -60,9 +62,9 @@ rest_split state (Some newest) = refl
 
 pub record Finds (text : List ℕ) (found : Option Commitment) : Type 0 where
   pub none : (digits : List ℕ) → text ≡ field_line (codes "sha256") digits → found ≡ None
-  pub some : (newest : Commitment) (rest : List ℕ) → IsSoundNewest newest → text ≡ newest_lines newest ++ rest → found ≡ Some newest
+  pub some : (newest : Commitment) (rest : List ℕ) → IsSoundCommitment newest → text ≡ newest_lines newest ++ rest → found ≡ Some newest
 
-pub found_in : (state : StateData) (newest : Option Commitment) → IfSome newest IsSoundNewest → (text : List ℕ) (found : Option Commitment) → Finds text found → text ≡ rest_of state newest → found ≡ newest
+pub found_in : (state : StateData) (newest : Option Commitment) → IfSome newest IsSoundCommitment → (text : List ℕ) (found : Option Commitment) → Finds text found → text ≡ rest_of state newest → found ≡ newest
 found_in state None is text found finds rest = finds.none (encode_lower (sha256 (state_lines state))) rest
 found_in state (Some newest) is text found finds rest = finds.some newest (field_line (codes "sha256") (encode_lower (sha256 (marked_lines state newest)))) is rest
 

@@ -5,7 +5,7 @@ ghost use Rattle.audit_verify_saved.specs.Saved.{shown};
 
 use crate::saved::Saved;
 use audit_base::Hash;
-use audit_note::{after_line, decimal_of, digits_of};
+use audit_text::{after_line, decimal_of, digits_of};
 use itoa::Buffer;
 
 /// What follows the lines of a state, if the text begins with them.

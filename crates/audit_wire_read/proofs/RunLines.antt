@@ -16,7 +16,7 @@ use Rattle.audit_proof.specs.Acceptance.{commitment_to}
 use Rattle.audit_verify.specs.State.{StateData, first_state, next_state, commitment_after}
 use Rattle.audit_verify.proofs.Commitments.{length-leaves, commitment_first, commitment_end, commitment_then, count_then, state_then}
 use Rattle.audit_verify.proofs.Following.{all_append}
-use Rattle.audit_verify.proofs.SameEntries.{same_entries}
+use Rattle.audit_proof.proofs.SameEntries.{same_entries}
 use Rattle.audit_wire_ask.specs.Joined.{IsVouchedFor}
 use Rattle.audit_wire_read.specs.Front.{kept_after_calls}
 use Rattle.audit_wire_read.specs.Outlet.{OutletCall, a_keeping, a_printing}

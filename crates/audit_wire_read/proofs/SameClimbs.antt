@@ -11,7 +11,7 @@ use Rattle.audit_proof.specs.Climb.{Climbed, climb, one_value, two_values, up_al
 use Rattle.audit_proof.specs.Collision.{IsCollision}
 use Rattle.audit_proof.proofs.ClimbLemmas.{climb-none, climb-alone, climb-right, climb-left}
 use Rattle.audit_proof.proofs.SharedNodes.{same_reached}
-use Rattle.audit_verify.proofs.EachVerdict.{same_or_other}
+use Rattle.audit_proof.proofs.SameEntries.{same_or_other}
 use Rattle.audit_wire_read.specs.Increments.{text_alone, text_beside, texts_above, TextsCollide}
 
 -- what one layer up came from

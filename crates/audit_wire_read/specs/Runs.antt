@@ -4,7 +4,7 @@ use Rattle.audit_chain.specs.EventData.{EventData}
 use Rattle.audit_proof.specs.declared.commitment.Commitment.{Commitment}
 use Rattle.audit_proof.specs.Acceptance.{commitment_to}
 use Rattle.audit_verify.specs.State.{StateData}
-use Rattle.audit_verify.specs.TreesCollide.{TreesCollide}
+use Rattle.audit_proof.specs.TreesCollide.{TreesCollide}
 use Rattle.audit_wire_read.specs.Front.{kept_after_calls}
 use Rattle.audit_wire_read.specs.Increments.{IncrementCollides}
 use Rattle.audit_wire_read.specs.Newest.{Extends}

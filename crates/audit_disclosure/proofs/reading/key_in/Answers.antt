@@ -1,6 +1,6 @@
 use Rattle.std.proofs.Common.{◌≡◌, ◌∙◌, sym, arith}
 use Rattle.std.proofs.lemmas.Option.{none-some}
-use Rattle.audit_verify.proofs.Fields.{same_number, same_some}
+use Rattle.audit_text.proofs.FieldLines.{same_number, same_some}
 use Rattle.audit_disclosure.proofs.KeyLines.{key_read, same_key}
 use Rattle.audit_disclosure.proofs.reading.key_in.Goals as goal
 use Rattle.audit_disclosure.proofs.reading.key_in.Goals.{then-index-least-via-then-index-least, then-index-least-via-else-index-least+then-index-ge-INDEX_LIMIT}

@@ -7,7 +7,8 @@ use Rattle.audit_base.specs.declared.limits.TheConstants.{HASH_LEN}
 use Rattle.audit_text.specs.Number.{number_in_text}
 use Rattle.audit_tree.specs.Frontier.{FrontierData, IsSized}
 use Rattle.audit_verify.specs.StateText.{node_lines}
-use Rattle.audit_verify.proofs.Fields.{number_read, hash_read, same_some, same_number}
+use Rattle.audit_verify.proofs.Fields.{hash_read}
+use Rattle.audit_text.proofs.FieldLines.{number_read, same_some, same_number}
 use Rattle.audit_disclosure.specs.declared.disclosure.Start.{Start}
 use Rattle.audit_disclosure.proofs.StartLines.{start_made, start_fields}
 use Rattle.audit_disclosure.proofs.reading.later_start.Goals as goal

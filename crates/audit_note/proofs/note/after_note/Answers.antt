@@ -1,6 +1,6 @@
 use Rattle.std.proofs.Common.{◌∙◌, ◌++◌, sym, ap}
 use Rattle.std.specs.Prelude.{codes}
-use Rattle.audit_verify.specs.StateText.{field_line}
+use Rattle.audit_text.specs.Fields.{field_line}
 use Rattle.audit_note.proofs.LineParts.{note_split}
 use Rattle.audit_note.proofs.note.after_note.Goals as goal
 

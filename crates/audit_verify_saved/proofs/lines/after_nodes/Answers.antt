@@ -1,6 +1,7 @@
 use Rattle.std.proofs.Common.{◌≡◌, ◌++◌, ◌+◌, ◌/◌, ℕ, List, [], drop, get_or, refl, sym, ap, ◌∙◌, append_assoc}
 use Rattle.std.specs.Prelude.{codes}
-use Rattle.audit_verify.specs.StateText.{node_lines, field_line}
+use Rattle.audit_verify.specs.StateText.{node_lines}
+use Rattle.audit_text.specs.Fields.{field_line}
 use Rattle.audit_verify.proofs.Nodes.{node_more, node_some, node_none, no_lines}
 use Rattle.audit_verify_saved.proofs.lines.after_nodes.Goals as goal
 use Rattle.audit_verify_saved.proofs.lines.after_nodes.Goals.{then-ones-eq1+in_ok-rest, else-ones-eq1}

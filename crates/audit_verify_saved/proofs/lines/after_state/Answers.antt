@@ -1,7 +1,8 @@
 use Rattle.std.proofs.Common.{◌∙◌, ◌++◌, ℕ, List, sym, ap}
 use Rattle.std.specs.Prelude.{codes}
 use Rattle.std.specs.Fmt.{decimal}
-use Rattle.audit_verify.specs.StateText.{field_line, node_lines}
+use Rattle.audit_verify.specs.StateText.{node_lines}
+use Rattle.audit_text.specs.Fields.{field_line}
 use Rattle.audit_verify_saved.specs.Saved.{shown}
 use Rattle.audit_verify_saved.proofs.Parts.{state_split}
 use Rattle.audit_verify_saved.proofs.lines.after_state.Goals as goal

@@ -1,6 +1,6 @@
 use Rattle.std.proofs.Common.{◌∙◌, ◌++◌, sym, ap}
 use Rattle.std.specs.Prelude.{codes}
-use Rattle.audit_verify.specs.StateText.{field_line}
+use Rattle.audit_text.specs.Fields.{field_line}
 use Rattle.audit_verify_saved.proofs.Parts.{mark_split}
 use Rattle.audit_verify_saved.proofs.mark.after_mark.Goals as goal
 

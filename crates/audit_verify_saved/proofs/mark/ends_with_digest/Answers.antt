@@ -2,7 +2,7 @@ use Rattle.std.proofs.Common.{◌≡◌, ◌∙◌, ◌++◌, ◌-◌, [], lengt
 use Rattle.std.specs.Prelude.{codes}
 use Rattle.hex.specs.Hex.{encode_lower}
 use Rattle.sha2.specs.Sha256.{sha256}
-use Rattle.audit_verify.specs.StateText.{field_line}
+use Rattle.audit_text.specs.Fields.{field_line}
 use Rattle.audit_verify_saved.proofs.Parts.{digest_line}
 use Rattle.audit_verify_saved.proofs.mark.ends_with_digest.Goals as goal
 

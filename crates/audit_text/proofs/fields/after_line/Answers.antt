@@ -1,7 +1,7 @@
 use Rattle.std.proofs.Common.{◌∙◌, ◌++◌, ◌∷◌, [], sym, ap}
 use Rattle.std.proofs.lemmas.List.{append_cancel_left}
-use Rattle.audit_note.proofs.LineParts.{line_split}
-use Rattle.audit_note.proofs.line.after_line.Goals as goal
+use Rattle.audit_text.proofs.FieldLines.{line_split}
+use Rattle.audit_text.proofs.fields.after_line.Goals as goal
 
 pub returns-in_err-after_word-clause-only : goal.returns-in_err-after_word-clause-only
 returns-in_err-after_word-clause-only c = λ rest is.

@@ -1,14 +1,13 @@
-//! Lines of a text, each a word, a space and a value.
+//! Fields of a text: lines of a word, a space and a value.
 ghost use Rattle.std.specs.Prelude.{◌≡◌, ◌≢◌, ◌++◌, ℕ, List, IfSome, MatchOption};
 ghost use Rattle.std.specs.Fmt.{decimal};
 ghost use Rattle.std.specs.Result.{result_ok};
 ghost use Rattle.hex.specs.Hex.{decode_sized, encode_lower};
 ghost use Rattle.audit_base.specs.declared.limits.TheConstants.{HASH_LEN};
-ghost use Rattle.audit_verify.specs.StateText.{field_line};
-ghost use Rattle.audit_note.specs.NoteText.{Splits};
+ghost use Rattle.audit_text.specs.Fields.{field_line, Splits};
 
+use crate::split::{split_at_first, split_line};
 use audit_base::{HASH_LEN, Hash};
-use audit_text::{split_at_first, split_line};
 use hex::{FromHex, encode_to_slice};
 use itoa::Buffer;
 
